@@ -1,0 +1,10 @@
+pub mod Rising
+pub mod Halving
+pub mod Holding
+pub mod Ending
+pub mod Parts
+pub mod Segment
+pub mod Diverging
+pub mod Digits
+pub mod Spelling
+pub mod Refusing

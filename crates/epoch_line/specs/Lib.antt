@@ -1,0 +1,4 @@
+pub mod Line
+pub mod Meet
+pub mod Number
+pub mod Text

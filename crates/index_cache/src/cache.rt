@@ -1,0 +1,73 @@
+//! The cache: a bounded list of pairs, the most recently used first.
+
+ghost use Rattle.std.specs.Prelude.{◌≡◌, ◌≤◌, [], length, option_copied, IsSome, IsOk, IfOk, OnOk, OnErr};
+ghost use Rattle.std.specs.Borrow.{sem};
+ghost use Rattle.index_cache.specs.Cache.{IsCache, found, kept};
+
+use lru::LruCache;
+use sparse_index::OffsetIndex;
+use std::alloc::{AllocError, Global};
+use std::marker::Model;
+use std::num::NonZeroUsize;
+use uuid::Uuid;
+
+/// The offset indexes of the remote segments that were used last.
+#[derive(Debug, Drop)]
+pub struct IndexCache {
+    pairs: LruCache<Uuid, OffsetIndex>,
+}
+
+impl Model for IndexCache {
+    ghost use Rattle.index_cache.specs.Cache.{Cache};
+
+    ghost Value = { Cache };
+
+    ghost view = { λ c. record { size = c.pairs.cap; pairs = c.pairs.entries } };
+}
+
+impl IndexCache {
+    ghost use Rattle.index_cache.specs.Lending.{EndsBroughtFront};
+
+    /// An empty cache of at most so many indexes.
+    pub fn new(alloc: Global, size: usize) -> Result<IndexCache, AllocError>
+        requires { 1 ≤ size }
+        ensures { IfOk result (λ cache. cache ≡ record { size = size; pairs = [] }) }
+    {
+        let cap = NonZeroUsize::MIN.saturating_add(size - 1);
+        let pairs = LruCache::new(alloc, cap)?;
+        Ok(IndexCache { pairs })
+    }
+
+    /// The index that is held under an id, which is now the most recently used.
+    pub fn get(&mut self, id: Uuid) -> Option<&OffsetIndex>
+        ensures* order { sem 𝓛 (EndsBroughtFront self.entry id) }
+        ensures answer { option_copied result ≡ found id self.old.pairs }
+    {
+        self.pairs.get(&id)
+    }
+
+    /// Keeps an index under an id, as the most recently used.
+    pub fn keep(&mut self, id: Uuid, index: OffsetIndex) -> Result<(), AllocError>
+        ensures ok { OnOk result (self.new ≡ kept self.old id index) }
+        ensures err { OnErr result (self.new ≡ self.old) }
+        ensures again { IsSome (found id self.old.pairs) → IsOk result }
+    {
+        self.pairs.put(id, index)?;
+        Ok(())
+    }
+
+    /// Counts the indexes.
+    pub fn len(&self) -> usize
+        ensures count { result ≡ length self.now.pairs }
+        ensures holds { IsCache self.now }
+    {
+        self.pairs.len()
+    }
+
+    /// The most indexes that it can hold.
+    pub fn size(&self) -> usize
+        ensures { result ≡ self.now.size }
+    {
+        self.pairs.cap().get()
+    }
+}

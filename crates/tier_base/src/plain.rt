@@ -1,0 +1,43 @@
+//! Plain types that crates side by side name: a log's settings, its retention, a closed segment's
+//! sums, why a run ends.
+
+/// How a log is cut into segments and how dense its indexes are.
+#[derive(Clone, Copy, Debug, PartialEq, Eq)]
+pub struct Settings {
+    /// The greatest size of a log segment in bytes (Kafka's `segment.bytes`).
+    pub segment_bytes: u32,
+    /// The bytes of batches between two index entries (Kafka's `index.interval.bytes`).
+    pub index_interval: u32,
+}
+
+/// How long and how much of a log is kept. -1 is no bound; for the local log -2 is the whole log's
+/// bound.
+#[derive(Clone, Copy, Debug, PartialEq, Eq)]
+pub struct Keep {
+    /// The greatest age in milliseconds (Kafka's `retention.ms` and `local.retention.ms`).
+    pub ms: i64,
+    /// The greatest size in bytes (Kafka's `retention.bytes` and `local.retention.bytes`).
+    pub bytes: i64,
+}
+
+/// What retention asks about a closed segment.
+#[derive(Clone, Copy, Debug, PartialEq, Eq)]
+pub struct Item {
+    /// The segment's last offset.
+    pub last: u64,
+    /// Its size in bytes.
+    pub size: u64,
+    /// The greatest timestamp of its batches.
+    pub max_ts: i64,
+}
+
+/// Why a run of batches that a fetch gives ends where it does.
+#[derive(Clone, Copy, Debug, PartialEq, Eq)]
+pub enum Stop {
+    /// The high watermark: what follows isn't committed yet.
+    Mark,
+    /// The end of the log segment that the run lies in, here or in the remote tier.
+    Piece,
+    /// The fetch's limit (Kafka's `max.partition.fetch.bytes`): the next batch would pass it.
+    Limit,
+}

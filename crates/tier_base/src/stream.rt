@@ -1,0 +1,54 @@
+//! Sources and sinks of bytes: the ends through which all input comes and all output goes.
+//!
+//! A stream may tell its bytes to contracts, as those in memory do, and no call changes whether it
+//! does. It always tells its count of faults, which generic code can't raise by itself, so an answer
+//! of a fault has its cause there.
+
+ghost use Rattle.std.specs.Prelude.{◌≡◌, ℕ, ◌+◌, ◌-◌, ◌^◌, ◌<◌, ◌≤◌, List, length, is_some, IfOk};
+ghost use Rattle.std.specs.declared.option.Option.{Option};
+ghost use Rattle.std.specs.Result.{result_unwrap_or};
+ghost use Rattle.std.specs.Io.{ReadsAtMost, WritesAtMost};
+ghost use Rattle.std.specs.Io.KnownBytes.{ReadConsumes, WriteAppends};
+ghost use Rattle.tier_base.specs.Counts.{counted, HasCause};
+
+use crate::fault::Failed;
+
+/// A source of bytes.
+pub trait Source {
+    /// The bytes that are left, where the source tells.
+    ghost left: { Self → Option (List ℕ) };
+
+    /// How many calls have failed.
+    ghost faults: { Self → ℕ };
+
+    /// How many bytes it has given.
+    ghost given: { Self → ℕ };
+
+    /// Gives the next bytes. `Ok(0)` for a buffer that isn't empty is the end of the input.
+    fn read(&mut self, buf: &mut [u8]) -> Result<usize, Failed>
+        ensures bound { ReadsAtMost result buf.new }
+        ensures bytes { ReadConsumes (left self.old) (left self.new) result buf.new }
+        ensures count { given self.new ≡ counted (given self.old) (result_unwrap_or result 0) }
+        ensures tells { is_some (left self.new) ≡ is_some (left self.old) }
+        ensures cause { HasCause (faults self.old) (faults self.new) result };
+
+    /// The count of bytes stands still at its type's end.
+    ghost given_fits: { (s : Self) → given s ≤ 2 ^ 64 - 1 };
+}
+
+/// A sink of bytes.
+pub trait Sink {
+    /// The bytes that were written, where the sink tells.
+    ghost written: { Self → Option (List ℕ) };
+
+    /// How many calls have failed.
+    ghost faults: { Self → ℕ };
+
+    /// Takes a front of the piece, at least a byte of one that isn't empty.
+    fn write(&mut self, piece: &[u8]) -> Result<usize, Failed>
+        ensures bound { WritesAtMost result piece.now }
+        ensures some { 0 < length piece.now → IfOk result (λ count. 0 < count) }
+        ensures bytes { WriteAppends (written self.old) (written self.new) result piece.now }
+        ensures tells { is_some (written self.new) ≡ is_some (written self.old) }
+        ensures cause { HasCause (faults self.old) (faults self.new) result };
+}
