@@ -1,0 +1,10 @@
+pub mod State
+pub mod Orders
+pub mod Rows
+pub mod Fetch
+pub mod Step
+pub mod Runs
+pub mod Fresh
+pub mod Safe
+pub mod Committed
+pub mod Laws

@@ -1,0 +1,41 @@
+-- What lists of orders must meet to be run: what a script's reader gives, and what a world takes.
+use Rattle.std.specs.Prelude.{◌≤◌, ◌<◌, ◌^◌, List, [], ◌∷◌, length, All}
+use Rattle.record_batch.specs.Build.{IsBuildable}
+use Rattle.plain_log.specs.declared.command.Command.{Command}
+use Rattle.plain_log.specs.declared.command.Command.TheVariants.{Append, Fetch}
+use Rattle.plain_log.specs.declared.command.Order.{Order}
+use Rattle.plain_log.specs.declared.command.ActorList.{ActorList}
+use Rattle.plain_log.specs.declared.command.Config.{Config}
+
+-- a command's numbers are in range, and the records of an append make a batch
+abbrev pub IsInRange : Command → Type 0
+IsInRange (Append recs) = IsBuildable recs
+IsInRange (Fetch offset limit) = (offset ≤ 4611686018427387904) × (limit ≤ 2147483647)
+IsInRange other = Unit {0}
+
+-- the order is in range, and goes to a broker of the configuration
+pub record IsOrderFor (config : Config) (order : Order) : Type 0 where
+  pub broker : order.broker.0 < config.brokers
+  pub command : IsInRange order.command
+
+-- the list is of one of 64 actors, and its orders can be numbered
+pub record IsListFor (config : Config) (l : ActorList) : Type 0 where
+  pub actor : l.actor.0 < 64
+  pub few : length l.orders < 2 ^ 32
+  pub orders : All (IsOrderFor config) l.orders
+
+-- each list is of a later actor than the one before it
+abbrev pub AreRising : List ActorList → Type 0
+AreRising [] = Unit {0}
+AreRising (l ∷ []) = Unit {0}
+AreRising (l ∷ m ∷ lists) = (l.actor.0 < m.actor.0) × AreRising (m ∷ lists)
+
+-- lists that a world of this configuration can run
+pub record AreListsFor (config : Config) (lists : List ActorList) : Type 0 where
+  pub rising : AreRising lists
+  pub each : All (IsListFor config) lists
+
+-- there are 1 to 8 brokers
+pub record IsConfig (config : Config) : Type 0 where
+  pub some : 1 ≤ config.brokers
+  pub few : config.brokers ≤ 8

@@ -1,0 +1,60 @@
+-- Which journal entries are a step of the plain log, and the state after each.
+--
+-- An entry is its actor's next command, by its number, or the answer to the command that has begun. The row of the
+-- command decides the answer (Rows); the actor's number rises with each answer and with nothing else.
+use Rattle.std.specs.Prelude.{ℕ, ◌+◌, ◌==◌, ◌&&◌, Bool, true, false, Option, Some, None, slice_get, is_none, option_map}
+use Rattle.std.specs.Option.{option_and_then}
+use Rattle.log_terms.specs.Log.{end_of}
+use Rattle.plain_log.specs.declared.command.Command.{Command}
+use Rattle.plain_log.specs.declared.command.Command.TheVariants.{Fetch}
+use Rattle.plain_log.specs.declared.command.Order.{Order}
+use Rattle.plain_log.specs.declared.journal.Event.{Event}
+use Rattle.plain_log.specs.declared.journal.Event.TheVariants.{Begins, Answers}
+use Rattle.plain_log.specs.declared.journal.JournalEntry.{JournalEntry}
+use Rattle.plain_log.specs.declared.state.State.{State}
+use Rattle.plain_log.specs.declared.state.Replica.{Replica}
+use Rattle.plain_log.specs.declared.state.Broker.{Broker}
+use Rattle.plain_log.specs.declared.state.Actor.{Actor}
+use Rattle.plain_log.specs.declared.state.Noted.{Noted}
+use Rattle.plain_log.specs.State.{when, put_broker, actor_at, with_actor}
+use Rattle.plain_log.specs.Fetch.{gives_run}
+use Rattle.plain_log.specs.Rows.{row}
+
+-- the broker where a command of several turns begins
+abbrev pub begins : State → Broker → Command → Option ℕ → Option Broker
+begins p x (Fetch offset limit) None = when (gives_run p x offset None) x
+begins p x command cut = None
+
+-- two commands of several turns are one
+abbrev pub same_command : Command → Command → Bool
+same_command (Fetch offset limit) (Fetch other most) = (offset == other) && (limit == most)
+same_command command other = false
+
+-- what is noted where the order's command begins
+abbrev pub noted_of : State → Order → Broker → Noted
+noted_of p order x = record { order = order; stops = x.stops; role = x.role; end = end_of x.log; start = p.registry.start }
+
+-- a command that has begun is the noted one
+abbrev pub is_noted : Option Noted → Order → Bool
+is_noted None order = true
+is_noted (Some noted) order = (noted.order.broker.0 == order.broker.0) && same_command noted.order.command order.command
+
+-- a command of actor a, whose next number is y's, begins or is answered
+abbrev pub event_step : State → ℕ → Actor → Order → Broker → Replica → Event → Option State
+event_step p a y order x s (Begins cut) =
+    option_map (λ z. with_actor a (record y { begun = Some (noted_of p order z) }) (put_broker p order.broker.0 z))
+    (option_and_then (λ z. when (is_none y.begun) z) (begins p x order.command cut))
+event_step p a y order x s (Answers answer) =
+    option_map (with_actor a (record { number = y.number + 1; begun = None })) (row p order.broker.0 x s y.begun order.command answer)
+
+-- the entry has the actor's next number, and is of the command that has begun, if one has
+abbrev pub next_actor : State → Order → JournalEntry → Option Actor
+next_actor p order entry =
+    when ((entry.number == (actor_at p.actors entry.actor.0).number) && is_noted (actor_at p.actors entry.actor.0).begun order)
+    (actor_at p.actors entry.actor.0)
+
+-- the next state, or none where the entry isn't allowed
+abbrev pub step : State → Order → JournalEntry → Option State
+step p order entry =
+    option_and_then (λ x. option_and_then (λ s. option_and_then (λ y. event_step p entry.actor.0 y order x s entry.event)
+    (next_actor p order entry)) (slice_get p.registry.replicas order.broker.0)) (slice_get p.brokers order.broker.0)

@@ -1,0 +1,33 @@
+//! Laws of the plain log. Each is the contract of a function that does nothing: calling it cites the law.
+
+ghost use Rattle.plain_log.specs.Laws.{StepsKeepSafe, ReplaysKeepSafe, FreshIsSafe, RunsAnswerInOrder, CommittedGrows, RunsAreCommitted};
+
+/// Each step keeps the safety rules.
+pub fn steps_keep_safe()
+    ensures { StepsKeepSafe }
+{}
+
+/// The safety rules hold where nothing has happened yet.
+pub fn fresh_is_safe()
+    ensures { FreshIsSafe }
+{}
+
+/// The safety rules hold after each journal that is replayed from a state in which they hold.
+pub fn replays_keep_safe()
+    ensures { ReplaysKeepSafe }
+{}
+
+/// A run answers each actor's commands once and in the order of its list.
+pub fn runs_answer_in_order()
+    ensures { RunsAnswerInOrder }
+{}
+
+/// No step to a state of clean elections takes back what is committed.
+pub fn committed_grows()
+    ensures { CommittedGrows }
+{}
+
+/// While elections are clean, each run that a fetch was given is a part of one committed list.
+pub fn runs_are_committed()
+    ensures { RunsAreCommitted }
+{}

@@ -1,0 +1,104 @@
+//! The state of the plain log.
+
+use crate::command::Order;
+use bytes::Bytes;
+use tier_base::{BrokerId, Row};
+
+/// What a broker does, and in which leader epoch.
+#[derive(Clone, Copy, Debug, PartialEq, Eq)]
+pub enum Role {
+    /// Nothing: it has not learned who leads since it came up.
+    Idle,
+    /// It leads this epoch.
+    Leads(u32),
+    /// Another broker leads this epoch, and the logs have not met yet.
+    Follows(u32),
+    /// Another broker leads this epoch, and the log is a beginning of its log.
+    Joined(u32),
+}
+
+/// A broker.
+#[derive(Debug, Drop)]
+pub struct Broker {
+    pub up: bool,
+    /// How often it has stopped.
+    pub stops: u64,
+    pub role: Role,
+    /// Its record batches from offset 0 on.
+    pub log: Row<Bytes>,
+    /// The offset up to which the log survives a stop.
+    pub stable: u64,
+    /// It stopped in the middle of a write, so more than what is stable may come back.
+    pub loose: bool,
+    /// The high watermark that it knows.
+    pub known: u64,
+}
+
+/// What the registry holds of one broker.
+#[derive(Clone, Copy, Debug, PartialEq, Eq)]
+pub struct Replica {
+    pub in_sync: bool,
+    /// The stable end that it acknowledged last in this epoch.
+    pub acked: u64,
+}
+
+/// The registry, which stands for the controller quorum.
+#[derive(Debug, Drop)]
+pub struct Registry {
+    /// The leader epoch.
+    pub epoch: u32,
+    pub leader: BrokerId,
+    /// The high watermark.
+    pub mark: u64,
+    /// The log start offset.
+    pub start: u64,
+    /// The brokers in order.
+    pub replicas: Row<Replica>,
+}
+
+/// The log that the leader of one epoch has.
+#[derive(Debug, Drop)]
+pub struct Path {
+    pub epoch: u32,
+    pub log: Row<Bytes>,
+}
+
+/// What was noted where a command of several turns began.
+#[derive(Debug, Drop)]
+pub struct Noted {
+    pub order: Order,
+    /// How often its broker had stopped.
+    pub stops: u64,
+    /// Its broker's role.
+    pub role: Role,
+    /// Its broker's log end offset.
+    pub end: u64,
+    /// The log start offset.
+    pub start: u64,
+}
+
+/// How far an actor has come.
+#[derive(Debug, Drop)]
+pub struct Actor {
+    /// The number of its next command, or of the one that has begun.
+    pub number: u32,
+    /// What was noted of the command, where it has begun.
+    pub begun: Option<Noted>,
+}
+
+/// The whole state.
+#[derive(Debug, Drop)]
+pub struct State {
+    pub registry: Registry,
+    /// What is committed: the batches below the high watermark.
+    pub committed: Row<Bytes>,
+    /// The paths of the epochs whose lead was taken.
+    pub paths: Row<Path>,
+    /// The epochs in which taking the lead broke off.
+    pub broken: Row<u32>,
+    /// An unclean election was answered with a new epoch.
+    pub unclean: bool,
+    pub brokers: Row<Broker>,
+    /// The actors by their number; those past the end have not begun.
+    pub actors: Row<Actor>,
+}

@@ -1,0 +1,11 @@
+pub mod Again
+pub mod BuildLaws
+pub mod BuiltChecked
+pub mod Counts
+pub mod HeadersCopied
+pub mod Passing
+pub mod RecordsCopied
+pub mod Skipping
+pub mod StampChecked
+pub mod StampLaws
+pub mod Walks
