@@ -1,0 +1,5 @@
+pub mod Splitting
+pub mod Capped
+pub mod FromFront
+pub mod SmallBatch
+pub mod Fitting

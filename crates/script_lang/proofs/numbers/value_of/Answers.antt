@@ -1,0 +1,15 @@
+use Rattle.std.proofs.Common.{◌∙◌, sym, ap, refl, ℕ, ◌+◌, min, List, drop, arith, get_or}
+use Rattle.std.proofs.lemmas.List.{drop_more}
+use Rattle.script_lang.specs.Words.{value_of}
+use Rattle.script_lang.proofs.Capped.{value_of-step}
+use Rattle.script_lang.proofs.numbers.value_of.Goals as goal
+
+pub loop-digit-preserved : goal.loop-digit-preserved
+loop-digit-preserved c =
+    let ds = c.args.digits.now in
+    let i = c.loop-digit.digit-index in
+    let n = c.loop-digit.number in (
+      omega (arith, c.saturating_add-number.ensures),
+      value_of-step (drop (i + 1) ds) n 18446744073709551615 (get_or ds i 0) c.saturating_add-number.result (rw (c.saturating_add-number.ensures, c.saturating_mul.ensures, c.saturating_sub.ensures) refl)
+          ∙ (ap (λ (t : List ℕ). min (value_of n t) 18446744073709551615) (sym (drop_more ds i 0 c.loop-digit-test.true)) ∙ c.loop-digit.invariant.1),
+    )

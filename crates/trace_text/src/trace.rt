@@ -1,0 +1,56 @@
+//! The text of a partition's journal.
+
+ghost use Rattle.std.specs.Prelude.{◌≡◌, ◌++◌, OnOk, IfOk};
+ghost use Rattle.trace_text.specs.Trace.{line_head, event_text, entry_line, journal_text};
+
+use crate::answers::write_event;
+use crate::page::Page;
+use crate::room::room;
+use plain_log::{Journal, JournalEntry};
+use std::alloc::{AllocError, Global};
+use tier_base::PartitionId;
+
+/// Writes whose entry it is.
+#[tactic(auto, unfolding(crate::specs::Trace::line_head))]
+fn write_head(
+    page: &mut Page,
+    partition: PartitionId,
+    entry: &JournalEntry,
+) -> Result<(), AllocError>
+    ensures { OnOk result (page.new ≡ page.old ++ line_head partition.0 entry.now) }
+{
+    page.number(u64::from(partition.0))?;
+    page.then_number(u64::from(entry.actor.0))?;
+    page.then_number(u64::from(entry.number))?;
+    page.word(" ")
+}
+
+/// Writes an entry's line.
+#[tactic(auto, unfolding(crate::specs::Trace::entry_line))]
+fn write_entry(
+    page: &mut Page,
+    partition: PartitionId,
+    entry: &JournalEntry,
+) -> Result<(), AllocError>
+    ensures { OnOk result (page.new ≡ page.old ++ entry_line partition.0 entry.now) }
+{
+    write_head(page, partition, entry)?;
+    write_event(page, &entry.event)?;
+    page.word("\n")
+}
+
+/// Writes the lines of a partition's journal.
+pub fn print(
+    alloc: Global,
+    partition: PartitionId,
+    journal: &Journal,
+) -> Result<Vec<u8>, AllocError>
+    ensures { IfOk result (λ text. text.items ≡ journal_text partition.0 journal.now.items) }
+{
+    let entries = journal.items();
+    let mut page = Page::with_room(alloc, room(partition, entries))?;
+    for entry in entries {
+        write_entry(&mut page, partition, entry)?;
+    }
+    Ok(page.into_text())
+}
