@@ -1,0 +1,3 @@
+mod OneWord
+mod OneActor
+mod Running

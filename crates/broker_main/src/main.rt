@@ -1,0 +1,100 @@
+//! The program: runs a script of log commands, and writes what each was answered.
+//!
+//! `top.rt` has the call with the headline. What stands here hands it the words, standard input and standard output,
+//! prints the status's line to standard error, and ends with its number.
+#![tactic(auto)]
+
+mod status;
+mod top;
+
+pub use script_lang::Why;
+pub use status::Status;
+use std::process::ExitCode;
+use std::{env, io};
+use tier_base::{StdSink, StdSource};
+pub use top::tiered;
+
+/// What `--help` prints.
+const HELP: &str = "\
+tiered: a partition's log, run by a script
+
+usage:
+  tiered sim      reads a script from standard input, runs it, and writes the trace to standard output
+  tiered --help
+  tiered --version
+
+exit status:
+  0  done
+  2  the words have none of these forms
+  3  a line of the script has no reading
+  4  standard input failed
+  5  standard output failed
+  6  out of memory
+  7  the script has more than 16777216 bytes
+";
+
+/// What `--version` prints.
+const VERSION: &str = "tiered 0.1.0\n";
+
+/// Collects the words behind the program's name. A word that isn't text has no form.
+fn words(rt: &HostRuntime) -> Result<Vec<String>, Status> {
+    let args = match env::args(rt) {
+        Ok(args) => args,
+        Err(error) => return Err(refused(&error)),
+    };
+    let mut words = Vec::new(rt.alloc());
+    for word in args.skip(1) {
+        if words.push(word).is_err() {
+            return Err(Status::NoMemory);
+        }
+    }
+    Ok(words)
+}
+
+/// The status where the words could not be had.
+fn refused(error: &io::Error) -> Status {
+    match error.kind() {
+        io::ErrorKind::OutOfMemory => Status::NoMemory,
+        _ => Status::Usage,
+    }
+}
+
+/// What the words of the program itself print, if they are such.
+fn printed(words: &[String]) -> Option<&'static str> {
+    match words {
+        [word] => match word.as_str() {
+            "--help" => Some(HELP),
+            "--version" => Some(VERSION),
+            _ => None,
+        },
+        _ => None,
+    }
+}
+
+fn main(rt: HostRuntime) -> ExitCode {
+    let words = match words(&rt) {
+        Ok(words) => words,
+        Err(status) => return told(&rt, status),
+    };
+    if let Some(text) = printed(words.as_slice()) {
+        return match print!(rt; "{text}") {
+            Ok(()) => ExitCode::from(0),
+            Err(_) => told(&rt, Status::WriteFault),
+        };
+    }
+    let mut script = StdSource::new(rt.reader());
+    let mut out = StdSink::new(io::writer(&rt));
+    let status = tiered(&rt, words.as_slice(), &mut script, &mut out);
+    told(&rt, status)
+}
+
+/// Prints a status's line to standard error, and gives its number.
+fn told(rt: &HostRuntime, status: Status) -> ExitCode {
+    if let Ok(text) = status.line(rt.alloc()) {
+        let _ = eprint!(rt; "{text}");
+    }
+    ExitCode::from(status.number())
+}
+
+#[cfg(test)]
+mod tests;

@@ -1,0 +1,119 @@
+//! The call that the program makes: a script's bytes in, the trace's bytes out.
+//!
+//! The trace is made whole before its first byte is written, so that nothing is written where the script has no reading
+//! or memory runs out.
+
+ghost use Rattle.std.specs.Prelude.{◌≡◌, ◌≢◌, ◌↔◌, ℕ, ◌+◌, ◌-◌, ◌<◌, ◌≤◌, ◌^◌, List, Some, Err, length, IsOk, IfOk, IsErrOf, IsTrue};
+ghost use Rattle.tier_base.specs.Counts.{counted, Rose};
+ghost use Rattle.tier_base.specs.Stream.{Gave};
+ghost use Rattle.plain_log.specs.Orders.{AreListsFor};
+ghost use Rattle.script_lang.specs.declared.refusal.Why.{Why};
+ghost use Rattle.script_lang.specs.Script.{commands_in};
+ghost use Rattle.broker_main.specs.Words.{IsSim};
+ghost use Rattle.broker_main.specs.Headline.{AreListsOf, IsRunText, IsTrace, WritesTrace, WritesFront, ReadsBad};
+ghost use Rattle.broker_main.specs.Endings.{IsDoneOrNoMemory, IsRefusedOrNoMemory};
+
+use crate::status::Status;
+use partition_world::{World, ends_are_complete, run_to_end};
+use plain_log::{ActorList, Config, runs_are_committed};
+use script_lang::{ScriptRefusal, Why, parse};
+use std::alloc::{AllocError, Global};
+use tier_base::{PartitionId, ReadRefusal, Row, Sink, Source, read_all, write_all};
+use trace_text::print;
+
+/// The most bytes that a script may have.
+pub const SCRIPT_LIMIT: usize = 16_777_216;
+
+/// Runs the lists on a fresh partition, and answers the trace.
+fn run_text(alloc: Global, config: Config, lists: Row<ActorList>) -> Result<Vec<u8>, AllocError>
+    requires brokers { config.brokers ≡ 1 }
+    requires fit { AreListsFor config lists }
+    requires actor { AreListsOf 0 lists }
+    ensures { IfOk result (λ text. IsRunText config lists text.items) }
+{
+    ends_are_complete();
+    runs_are_committed();
+    let mut world = World::fresh(alloc, PartitionId(0), config, lists)?;
+    run_to_end(alloc, &mut world)?;
+    print(alloc, PartitionId(0), world.journal())
+}
+
+/// Reads a script, runs it, and answers the trace.
+fn trace_of(alloc: Global, script: &[u8]) -> Result<Vec<u8>, ScriptRefusal>
+    requires { length script.now < 2 ^ 32 - 1 }
+    ensures trace { IfOk result (λ text. IsTrace script.now text.items) }
+    ensures bad { (line : ℕ) (why : Why) → IsErrOf result (ScriptRefusal.Bad line why) → commands_in script.now ≡ Err line }
+{
+    let script = parse(alloc, script)?;
+    match run_text(alloc, script.config, script.lists) {
+        Ok(text) => Ok(text),
+        Err(_) => Err(ScriptRefusal::NoMemory),
+    }
+}
+
+/// Whether the words are the one form.
+fn is_sim(words: &[String]) -> bool
+    ensures { IsTrue result ↔ IsSim words.now }
+{
+    match words {
+        [word] => word.as_str() == "sim",
+        _ => false,
+    }
+}
+
+/// Does what the words ask for: runs the script, and writes what each of its commands was answered.
+pub fn tiered<H: AllocGlobal, R: Source, W: Sink>(
+    rt: &H,
+    words: &[String],
+    script: &mut R,
+    out: &mut W,
+) -> Status
+    // Every command of the script is answered once and in order, as the plain log allows, and all of that is written.
+    ensures trace { result ≡ Status.Ok → WritesTrace (R.left script.old) (R.left script.new)
+        (W.written out.old) (W.written out.new) }
+
+    // Each other status has its cause. Want of memory alone is free.
+    ensures usage { result ≡ Status.Usage ↔ ¬ IsSim words.now }
+    ensures read_fault { result ≡ Status.ReadFault → Rose (R.faults script.old) (R.faults script.new) }
+    ensures long { result ≡ Status.TooLong → R.given script.new ≡ counted (R.given script.old) (SCRIPT_LIMIT + 1) }
+    ensures long_bytes { result ≡ Status.TooLong → Gave (R.left script.old) (R.left script.new) (SCRIPT_LIMIT + 1) }
+    ensures not_long { result ≢ Status.TooLong → R.given script.new ≤ R.given script.old + SCRIPT_LIMIT }
+    ensures bad { (line : ℕ) (why : Why) → result ≡ Status.BadScript line why
+        → ReadsBad (R.left script.old) (R.left script.new) line }
+    ensures write_fault { result ≡ Status.WriteFault → Rose (W.faults out.old) (W.faults out.new) }
+    ensures front { result ≡ Status.WriteFault → WritesFront (R.left script.old) (R.left script.new)
+        (W.written out.old) (W.written out.new) }
+
+    // Where nothing fails, a script with a reading is run, unless memory runs out.
+    ensures complete { IsSim words.now
+        → ¬ Rose (R.faults script.old) (R.faults script.new) → ¬ Rose (W.faults out.old) (W.faults out.new)
+        → (bytes : List ℕ) → R.left script.old ≡ Some bytes → length bytes ≤ SCRIPT_LIMIT → IsOk (commands_in bytes)
+        → IsDoneOrNoMemory result }
+
+    // And one without is refused, at its first line that has none.
+    ensures refused { IsSim words.now → ¬ Rose (R.faults script.old) (R.faults script.new)
+        → (bytes : List ℕ) (number : ℕ) → R.left script.old ≡ Some bytes → length bytes ≤ SCRIPT_LIMIT
+        → commands_in bytes ≡ Err number → IsRefusedOrNoMemory number result }
+
+    // Nothing else writes.
+    ensures unwritten { result ≢ Status.Ok → result ≢ Status.WriteFault → W.written out.new ≡ W.written out.old }
+{
+    if !is_sim(words) {
+        return Status::Usage;
+    }
+    let bytes = match read_all(rt.alloc(), script, SCRIPT_LIMIT) {
+        Ok(bytes) => bytes,
+        Err(ReadRefusal::Failed) => return Status::ReadFault,
+        Err(ReadRefusal::TooLong) => return Status::TooLong,
+        Err(ReadRefusal::NoMemory) => return Status::NoMemory,
+    };
+    let text = match trace_of(rt.alloc(), bytes.as_slice()) {
+        Ok(text) => text,
+        Err(ScriptRefusal::Bad { line, why }) => return Status::BadScript { line, why },
+        Err(ScriptRefusal::NoMemory) => return Status::NoMemory,
+    };
+    match write_all(out, text.as_slice()) {
+        Ok(()) => Status::Ok,
+        Err(_) => Status::WriteFault,
+    }
+}

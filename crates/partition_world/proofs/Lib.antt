@@ -1,0 +1,9 @@
+mod Search
+mod LongestRun
+mod Lists
+mod PlainRows
+mod CentralLaw
+mod FreshSound
+mod SoundLaw
+mod LaterLaw
+mod Writes

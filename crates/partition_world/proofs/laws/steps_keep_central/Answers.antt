@@ -1,0 +1,5 @@
+use Rattle.partition_world.proofs.CentralLaw.{step_central}
+use Rattle.partition_world.proofs.laws.steps_keep_central.Goals as goal
+
+pub returns : goal.returns
+returns c = step_central

@@ -1,0 +1,10 @@
+pub mod Held
+pub mod Log
+pub mod Rows
+pub mod Sound
+pub mod Whole
+pub mod Turn
+pub mod Central
+pub mod Later
+pub mod Fresh
+pub mod Laws

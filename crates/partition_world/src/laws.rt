@@ -1,0 +1,18 @@
+//! Laws of worlds. Each is the contract of a function that does nothing: calling it cites the law.
+
+ghost use Rattle.partition_world.specs.Laws.{StepsKeepCentral, FreshIsCentral, EndsAreComplete};
+
+/// Each step keeps the central fact, for each opening state.
+pub fn steps_keep_central()
+    ensures { StepsKeepCentral }
+{}
+
+/// A fresh world has it.
+pub fn fresh_is_central()
+    ensures { FreshIsCentral }
+{}
+
+/// Where each actor is at its end, the journal is a complete run of the plain log.
+pub fn ends_are_complete()
+    ensures { EndsAreComplete }
+{}

@@ -1,0 +1,21 @@
+//! How far an actor has come, and what a step of it comes to.
+
+/// An actor's place at the desk.
+#[derive(Clone, Copy, Debug, PartialEq, Eq)]
+pub struct Seat {
+    /// The number of its next order.
+    pub number: u32,
+}
+
+/// What a step of an actor came to.
+#[derive(Clone, Copy, Debug, PartialEq, Eq)]
+pub enum Stepped {
+    /// A turn that left its command unanswered.
+    Ran,
+    /// A turn that answered its command.
+    Done,
+    /// The actor is at the end of its list, or has none.
+    Nothing,
+    /// There was no memory, and nothing has changed.
+    NoMemory,
+}
