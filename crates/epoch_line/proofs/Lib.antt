@@ -5,6 +5,5 @@ pub mod Ending
 pub mod Parts
 pub mod Segment
 pub mod Diverging
-pub mod Digits
 pub mod Spelling
 pub mod Refusing

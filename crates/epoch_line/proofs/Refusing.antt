@@ -6,10 +6,10 @@ use Rattle.std.specs.Fmt.{decimal}
 use Rattle.std.proofs.lemmas.Fmt.{decimal_digit}
 use Rattle.std.proofs.lemmas.List.{length-map, length-append, length_push}
 use Rattle.epoch_line.specs.Line.{IsLine}
-use Rattle.epoch_line.specs.Number.{number_text}
+use Rattle.tier_base.specs.Number.{number_text}
 use Rattle.epoch_line.specs.Text.{version_line, count_line, entry_line, entry_text, text_of, CanBegin, IsFirstBad}
 use Rattle.epoch_line.proofs.Rising.{length-line}
-use Rattle.epoch_line.proofs.Digits.{number-unique}
+use Rattle.tier_base.proofs.Digits.{number-unique}
 use Rattle.epoch_line.proofs.Spelling.{line-front, longer-text, one-more}
 
 -- the number 0 and its line feed are the version's line

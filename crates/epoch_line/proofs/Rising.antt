@@ -83,6 +83,19 @@ line-follows line last entry h get fits fits' epochs starts =
     (epochs_below line entry.0 h (λ n e. let same : last.0 ≡ n = cc (ap (option_map (λ x. x.0)) is) in omega (arith, epochs, same)))
     (starts_below line entry h (λ n e. let same : last ≡ n = cc in rw (← same) starts))
 
+-- what the last entry says of its epoch
+last_epochs : (line : List (ℕ × ℕ)) (entry : ℕ × ℕ) → ForSome (last_entry line) (λ last. (last.0 < entry.0) × (last.1 < entry.1)) → ForSome (last_epoch line) (λ last. last < entry.0)
+last_epochs [] entry above = λ n e. absurd (cc)
+last_epochs (one ∷ []) entry above = λ n e. let same : one.0 ≡ n = cc in rw (← same) (above one refl).0
+last_epochs (one ∷ two ∷ line) entry above = last_epochs (two ∷ line) entry above
+
+-- the same, told of the last entry
+pub line_above : (line : List (ℕ × ℕ)) (entry : ℕ × ℕ) → IsLine line → entry.0 < 2 ^ 31 → entry.1 ≤ 2 ^ 62 → ForSome (last_entry line) (λ last. (last.0 < entry.0) × (last.1 < entry.1)) → IsLine (line ++ entry ∷ [])
+line_above line entry h fits fits' above =
+    IsLine-push line entry h fits fits'
+    (epochs_below line entry.0 h (last_epochs line entry above))
+    (starts_below line entry h (λ last e. (above last e).1))
+
 -- and only that
 above-last : (line : List (ℕ × ℕ)) (last entry : ℕ × ℕ) → last_entry line ≡ Some last → IsLine (line ++ entry ∷ []) → (last.0 < entry.0) × (last.1 < entry.1)
 above-last [] last entry is h = absurd (cc)

@@ -2,9 +2,9 @@
 use Rattle.std.proofs.Common.{◌≡◌, ◌∙◌, sym, ap, refl, ℕ, ◌^◌, ◌<◌, ◌≤◌, List, [], ◌∷◌, ◌++◌, length, map, arith, append_assoc}
 use Rattle.std.specs.List.{concat}
 use Rattle.epoch_line.specs.Line.{IsLine}
-use Rattle.epoch_line.specs.Number.{number_text}
+use Rattle.tier_base.specs.Number.{number_text}
 use Rattle.epoch_line.specs.Text.{entry_line, entry_text}
-use Rattle.epoch_line.proofs.Digits.{number-unique}
+use Rattle.tier_base.proofs.Digits.{number-unique}
 
 -- an epoch, a space, a start, a line feed
 pub entry-parts : (entry : ℕ × ℕ) (rest : List ℕ) → entry_text entry rest ≡ number_text 32 entry.0 (number_text 10 entry.1 rest)

@@ -1,4 +1,3 @@
 pub mod Line
 pub mod Meet
-pub mod Number
 pub mod Text

@@ -8,7 +8,6 @@
 mod entries;
 mod line;
 mod meeting;
-mod number;
 mod refusal;
 #[cfg(test)]
 mod tests;

@@ -6,7 +6,7 @@
 ghost use Rattle.std.specs.Prelude.{◌≡◌, ◌≤◌, ◌<◌, ◌^◌, [], ◌∷◌, ◌++◌, min, OnOk, OnErr, IfOk};
 ghost use Rattle.std.specs.Option.{ForSome};
 ghost use Rattle.log_terms.specs.Line.{epoch_at};
-ghost use Rattle.epoch_line.specs.Line.{IsLine, last_epoch, cut_end, assign, end_of, within, SaysSame};
+ghost use Rattle.epoch_line.specs.Line.{IsLine, last_entry, last_epoch, cut_end, assign, end_of, within, SaysSame};
 ghost use Rattle.epoch_line.specs.Meet.{IsMeetBelow};
 
 use crate::entries::{count_below, end_of, epoch_at, last_epoch, part};
@@ -55,6 +55,17 @@ impl Line {
         ensures line { IsLine self.now }
     {
         self.pairs.as_slice()
+    }
+
+    /// The last entry, epoch and start.
+    #[tactic(auto, using(crate::proofs::Rising::last_entry_get))]
+    pub fn last(&self) -> Option<(u32, u64)>
+        ensures { result ≡ last_entry self.now }
+    {
+        match self.entries().last() {
+            Some(entry) => Some(*entry),
+            None => None,
+        }
     }
 
     /// The epoch of the last entry.
@@ -110,8 +121,20 @@ impl Line {
         Ok(())
     }
 
-    /// Adds an entry above all others.
-    pub(crate) fn push(&mut self, entry: (u32, u64)) -> Result<(), AllocError>
+    /// Adds an entry above the last one.
+    pub fn push(&mut self, epoch: u32, start: u64) -> Result<(), AllocError>
+        requires epoch_fits { epoch < 2 ^ 31 }
+        requires start_fits { start ≤ 2 ^ 62 }
+        requires above { ForSome (last_entry self.old) (λ last. (last.0 < epoch) × (last.1 < start)) }
+        ensures ok { OnOk result (self.new ≡ self.old ++ (epoch, start) ∷ []) }
+        ensures err { OnErr result (self.new ≡ self.old) }
+    {
+        let _rises = self.entries();
+        self.add((epoch, start))
+    }
+
+    /// Adds an entry that makes a line of it.
+    pub(crate) fn add(&mut self, entry: (u32, u64)) -> Result<(), AllocError>
         requires { IsLine (self.old ++ entry ∷ []) }
         ensures ok { OnOk result (self.new ≡ self.old ++ entry ∷ []) }
         ensures err { OnErr result (self.new ≡ self.old) }

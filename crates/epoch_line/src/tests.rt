@@ -32,6 +32,8 @@ fn calls_answer_as_the_rows_say(rt: HostRuntime) -> Result<(), Fail> {
     copy.cut_end(5);
     assert!(rt; copy.entries() == [(0, 0)].as_slice(), "the cut");
     assert_eq!(rt; own.last_epoch(), Some(3), "a copy is a line of its own");
+    copy.push(2, 4)?;
+    assert_eq!(rt; copy.last(), Some((2, 4)), "an entry more");
     Ok(())
 }
 

@@ -2,15 +2,15 @@
 
 ghost use Rattle.std.specs.Prelude.{◌≡◌, ◌≤◌, ◌<◌, ◌^◌, ◌++◌, ◌∷◌, [], ◌↔◌, OnOk, IfOk, IsTrue, string_bytes};
 ghost use Rattle.epoch_line.specs.Line.{IsLine};
-ghost use Rattle.epoch_line.specs.Number.{ReadsFront};
+ghost use Rattle.tier_base.specs.Number.{ReadsFront};
 ghost use Rattle.epoch_line.specs.Text.{entry_line, entry_text, text_of, ReadsHead, ReadsText};
 
 use crate::entries::may_follow;
 use crate::line::Line;
-use crate::number::number;
 use crate::refusal::TextRefusal;
 use std::alloc::{AllocError, Global};
 use std::fmt::Write;
+use tier_base::number;
 
 /// Epochs are below 2^31.
 const LAST_EPOCH: u64 = (1 << 31) - 1;
@@ -45,7 +45,7 @@ impl Line {
             let Some((entry, behind)) = entry_behind(&line, rest) else {
                 return Err(TextRefusal::BadText { line: number + 3 });
             };
-            match line.push(entry) {
+            match line.add(entry) {
                 Ok(()) => {}
                 Err(_) => return Err(TextRefusal::NoMemory),
             }

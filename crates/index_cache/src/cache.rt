@@ -9,6 +9,7 @@ use sparse_index::OffsetIndex;
 use std::alloc::{AllocError, Global};
 use std::marker::Model;
 use std::num::NonZeroUsize;
+use tier_base::SegmentId;
 use uuid::Uuid;
 
 /// The offset indexes of the remote segments that were used last.
@@ -39,20 +40,20 @@ impl IndexCache {
     }
 
     /// The index that is held under an id, which is now the most recently used.
-    pub fn get(&mut self, id: Uuid) -> Option<&OffsetIndex>
-        ensures* order { sem 𝓛 (EndsBroughtFront self.entry id) }
-        ensures answer { option_copied result ≡ found id self.old.pairs }
+    pub fn get(&mut self, id: SegmentId) -> Option<&OffsetIndex>
+        ensures* order { sem 𝓛 (EndsBroughtFront self.entry id.0) }
+        ensures answer { option_copied result ≡ found id.0 self.old.pairs }
     {
-        self.pairs.get(&id)
+        self.pairs.get(&id.0)
     }
 
     /// Keeps an index under an id, as the most recently used.
-    pub fn keep(&mut self, id: Uuid, index: OffsetIndex) -> Result<(), AllocError>
-        ensures ok { OnOk result (self.new ≡ kept self.old id index) }
+    pub fn keep(&mut self, id: SegmentId, index: OffsetIndex) -> Result<(), AllocError>
+        ensures ok { OnOk result (self.new ≡ kept self.old id.0 index) }
         ensures err { OnErr result (self.new ≡ self.old) }
-        ensures again { IsSome (found id self.old.pairs) → IsOk result }
+        ensures again { IsSome (found id.0 self.old.pairs) → IsOk result }
     {
-        self.pairs.put(id, index)?;
+        self.pairs.put(id.0, index)?;
         Ok(())
     }
 

@@ -3,6 +3,7 @@
 use crate::IndexCache;
 use sparse_index::OffsetIndex;
 use std::test::Fail;
+use tier_base::SegmentId;
 use uuid::Uuid;
 
 /// A call of a row.
@@ -62,17 +63,22 @@ fn the_index_used_least_recently_goes(rt: HostRuntime) -> Result<(), Fail> {
         for call in calls {
             match *call {
                 Call::Keep(id, base) => {
-                    cache.keep(Uuid::from_u128(id), OffsetIndex::new(alloc, base as u64))?;
+                    cache.keep(
+                        SegmentId(Uuid::from_u128(id)),
+                        OffsetIndex::new(alloc, base as u64),
+                    )?;
                 }
                 Call::Get(id) => {
-                    let _used = cache.get(Uuid::from_u128(id));
+                    let _used = cache.get(SegmentId(Uuid::from_u128(id)));
                 }
             }
         }
         assert_eq!(rt; cache.len(), size, "{row}");
         for answer in answers {
             let (id, want) = *answer;
-            let base = cache.get(Uuid::from_u128(id)).map(|index| index.find(0).0);
+            let base = cache
+                .get(SegmentId(Uuid::from_u128(id)))
+                .map(|index| index.find(0).0);
             assert_eq!(rt; base, want, "{row}: id {id}");
         }
     }

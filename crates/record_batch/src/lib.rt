@@ -32,6 +32,7 @@ pub use laws::{
 pub use reading::records;
 pub use rec::{Header, HeaderList, Rec};
 pub use refusal::{BatchRefusal, BuildRefusal, HeadRefusal};
+pub use sizes::built_size;
 pub use stamping::stamp;
 
 #[cfg(test)]

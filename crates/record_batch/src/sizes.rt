@@ -148,9 +148,9 @@ fn records_size(recs: &[Rec], base_ts: i64) -> Option<usize>
     Some(size)
 }
 
-/// The size of the batch of these records.
+/// Reckons the size of the batch of these records in bytes, or none where it is larger than a batch may be.
 #[tactic(auto, using(crate::proofs::Counts::length_built), unfolding(crate::specs::Build::all_bytes))]
-pub(crate) fn built_size(recs: &[Rec]) -> Option<usize>
+pub fn built_size(recs: &[Rec]) -> Option<usize>
     ensures { IsSize result (length (built recs.now)) }
 {
     let records = records_size(recs, first_ts(recs))?;

@@ -1,4 +1,9 @@
-//! The numbers by which partitions, brokers and actors are named.
+//! The names of partitions, brokers, actors and remote segments.
+
+ghost use Rattle.std.specs.Prelude.{◌≡◌, ◌<◌, length, All};
+ghost use Rattle.tier_base.specs.Key.{id_bytes, id_text, ReadsId};
+
+use uuid::Uuid;
 
 /// A partition's number.
 #[derive(Clone, Copy, Debug, PartialEq, Eq, PartialOrd, Ord)]
@@ -11,3 +16,61 @@ pub struct BrokerId(pub u16);
 /// The number of an actor, who runs a list of orders against one partition.
 #[derive(Clone, Copy, Debug, PartialEq, Eq, PartialOrd, Ord)]
 pub struct ActorId(pub u16);
+
+/// The id of a remote segment (Kafka's RemoteLogSegmentId).
+#[derive(Clone, Copy, Debug, PartialEq, Eq, PartialOrd, Ord)]
+pub struct SegmentId(pub Uuid);
+
+/// Makes the id of one attempt to copy a segment, which no other attempt has.
+#[tactic(auto, unfolding(crate::specs::Key::id_bytes))]
+pub fn segment_id(
+    partition: PartitionId,
+    broker: BrokerId,
+    incarnation: u32,
+    attempt: u64,
+) -> SegmentId
+    ensures { result.0 ≡ id_bytes partition.0 broker.0 incarnation attempt }
+{
+    let mut bytes = [0u8; 16];
+    bytes[..2].copy_from_slice(partition.0.to_be_bytes().as_slice());
+    bytes[2..4].copy_from_slice(broker.0.to_be_bytes().as_slice());
+    bytes[4..8].copy_from_slice(incarnation.to_be_bytes().as_slice());
+    bytes[8..].copy_from_slice(attempt.to_be_bytes().as_slice());
+    SegmentId(Uuid::from_bytes(bytes))
+}
+
+/// Sixteen bytes are an id's.
+fn are_sixteen(bytes: &[u8; 16])
+    ensures { (length bytes.now ≡ 16) × All (λ b. b < 256) bytes.now }
+{
+    for i in 0..16 {
+        let _ = bytes[i];
+    }
+}
+
+impl SegmentId {
+    /// Writes the text to the front of a buffer, and lends it.
+    #[tactic(auto, unfolding(crate::specs::Key::id_text))]
+    pub fn write_text<'b>(&self, buffer: &'b mut [u8; 36]) -> &'b str
+        ensures { result.now ≡ id_text self.now }
+    {
+        self.0.hyphenated().encode_lower(buffer)
+    }
+
+    /// Reads an id.
+    pub fn from_text(text: &[u8]) -> Option<SegmentId>
+        ensures { ReadsId text.now result }
+    {
+        let Ok(id) = Uuid::try_parse_ascii(text) else {
+            return None;
+        };
+        are_sixteen(id.as_bytes());
+        let id = SegmentId(id);
+        let mut buffer = [0u8; 36];
+        if id.write_text(&mut buffer).as_bytes() == text {
+            Some(id)
+        } else {
+            None
+        }
+    }
+}

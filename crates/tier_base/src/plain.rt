@@ -1,5 +1,5 @@
 //! Plain types that crates side by side name: a log's settings, its retention, a closed segment's
-//! sums, why a run ends.
+//! sums, why a run ends, a remote segment's states and parts, a broker's files.
 
 /// How a log is cut into segments and how dense its indexes are.
 #[derive(Clone, Copy, Debug, PartialEq, Eq)]
@@ -40,4 +40,43 @@ pub enum Stop {
     Piece,
     /// The fetch's limit (Kafka's `max.partition.fetch.bytes`): the next batch would pass it.
     Limit,
+}
+
+/// The state of a remote segment (Kafka's RemoteLogSegmentState).
+#[derive(Clone, Copy, Debug, PartialEq, Eq)]
+pub enum State {
+    /// A copy has begun. Its objects may stand, and nothing is read from them.
+    CopyStarted,
+    /// The copy is whole, and the segment can be read.
+    CopyFinished,
+    /// A deletion has begun. Objects may still stand, and nothing is read from them.
+    DeleteStarted,
+    /// The deletion is whole, and no object stands.
+    DeleteFinished,
+}
+
+/// The objects of a remote segment.
+#[derive(Clone, Copy, Debug, PartialEq, Eq)]
+pub enum Part {
+    /// The log segment: its record batches.
+    Log,
+    /// The offset index.
+    Index,
+    /// The time index.
+    TimeIndex,
+    /// The leader epochs up to the segment's end.
+    Epochs,
+}
+
+/// A file of a broker's partition.
+#[derive(Clone, Copy, Debug, PartialEq, Eq)]
+pub enum FileName {
+    /// What is stable of the log: `manifest`.
+    Manifest,
+    /// The log segment with this base offset: 20 digits and `.log`.
+    Log(u64),
+    /// The metadata log's notes: `notes`.
+    Notes,
+    /// How many bytes of the notes count: `gate`.
+    Gate,
 }

@@ -1,6 +1,6 @@
 use Rattle.std.proofs.Common.{sym, ◌∙◌, refl, arith}
-use Rattle.epoch_line.specs.Number.{number_text}
-use Rattle.epoch_line.proofs.Digits.{number-unique}
+use Rattle.tier_base.specs.Number.{number_text}
+use Rattle.tier_base.proofs.Digits.{number-unique}
 use Rattle.epoch_line.proofs.Spelling.{entry-parts}
 use Rattle.epoch_line.proofs.text.entry.Goals as goal
 

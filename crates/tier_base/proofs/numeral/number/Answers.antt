@@ -1,8 +1,8 @@
 use Rattle.std.proofs.Common.{◌≡◌, ◌∙◌, sym, ap, arith, length, List, ℕ, ◌∷◌, true, false}
 use Rattle.std.proofs.lemmas.Fmt.{digits_value-decimal}
-use Rattle.epoch_line.specs.Number.{value_of, is_shortest}
-use Rattle.epoch_line.proofs.Digits.{own, number-found, number-read, shortest-decimal}
-use Rattle.epoch_line.proofs.number.number.Goals as goal
+use Rattle.tier_base.specs.Number.{value_of, is_shortest}
+use Rattle.tier_base.proofs.Digits.{own, number-found, number-read, shortest-decimal}
+use Rattle.tier_base.proofs.numeral.number.Goals as goal
 
 pub returns-in_default : goal.returns-in_default
 returns-in_default c x rest low e =

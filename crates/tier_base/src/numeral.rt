@@ -2,7 +2,7 @@
 
 ghost use Rattle.std.specs.Prelude.{◌≡◌, ◌-◌, ◌<◌, ◌≤◌, ◌^◌, min, length, false};
 ghost use Rattle.std.specs.Char.{is_ascii_digit};
-ghost use Rattle.epoch_line.specs.Number.{digits_len, is_shortest, value_of, ReadsFront, number_text};
+ghost use Rattle.tier_base.specs.Number.{digits_len, is_shortest, value_of, ReadsFront, number_text};
 
 /// How many digits stand at the front.
 fn count_digits(bytes: &[u8]) -> usize

@@ -8,7 +8,7 @@ use Rattle.std.proofs.lemmas.List.{take_at, drop_at, take-append-drop}
 use Rattle.std.proofs.lemmas.Bool.{and_parts, ne_eqb}
 use Rattle.std.proofs.lemmas.Fmt.{digits_decimal, decimal_nonempty, first_decimal, decimal_digit, decimal-digits_value, decimal_injective}
 use Rattle.std.proofs.lemmas.Str.Parse.{IsNumeralModel, numerals_by_fold, tells_all_ascii_digits}
-use Rattle.epoch_line.specs.Number.{digits_len, is_shortest, value_of, number_text}
+use Rattle.tier_base.specs.Number.{digits_len, is_shortest, value_of, number_text}
 
 -- numbers are read from the left
 pub own : IsNumeralModel (λ ds. all_ascii_digits ds ≡ true) (value_of 0)

@@ -1,6 +1,6 @@
 use Rattle.std.proofs.Common.{◌≡◌, ◌-◌, ◌^◌, ◌≤◌, drop, min}
-use Rattle.epoch_line.specs.Number.{value_of}
-use Rattle.epoch_line.proofs.number.value.Given as goal
+use Rattle.tier_base.specs.Number.{value_of}
+use Rattle.tier_base.proofs.numeral.value.Given as goal
 
 abbrev pub invariant-loop-digit : goal.invariant-loop-digit
 invariant-loop-digit l = record {

@@ -1,8 +1,8 @@
 use Rattle.std.proofs.Common.{◌∙◌, sym, ap, refl, arith, List, ℕ, min, get_or, drop, ◌+◌}
 use Rattle.std.proofs.lemmas.List.{drop_more}
-use Rattle.epoch_line.specs.Number.{value_of}
-use Rattle.epoch_line.proofs.Digits.{value_of-step}
-use Rattle.epoch_line.proofs.number.value.Goals as goal
+use Rattle.tier_base.specs.Number.{value_of}
+use Rattle.tier_base.proofs.Digits.{value_of-step}
+use Rattle.tier_base.proofs.numeral.value.Goals as goal
 
 pub loop-digit-preserved : goal.loop-digit-preserved
 loop-digit-preserved c =

@@ -1,0 +1,142 @@
+-- What every device tells beside its content: its faults, its plan of calls that are to fail, and the calls made.
+--
+--   form                        says
+--   Control code                what is told, for the kinds of call that `code` tells apart
+--   Ran call fate old new       a call of this kind ended so
+--   RanQuietly call fate ..     and it leaves the bytes that were handed
+--   MayBeDone call fate old b   whether it may have been done
+--   Rests old new               no call
+--   Lasts old new               any calls but `arm`
+--   Arms old new                from now on planned calls fail
+--   IsFresh c                   as the device is handed out
+--
+-- Planned calls are counted from the first `arm` on. A device is calm while no call can fail. It is ruled
+-- where its plan alone decides which calls fail.
+use Rattle.std.specs.Prelude.{◌≡◌, ◌≢◌, ◌↔◌, ℕ, ◌≤◌, Bool, false, ◌&&◌, ◌==◌, if◌then◌else◌, List, [], ◌∷◌, IsTrue, IsFalse, IsSome, Option, Some, None, Ok, Err}
+use Rattle.std.specs.declared.result.Result.{Result}
+use Rattle.tier_base.specs.declared.fault.Failed.{Failed}
+use Rattle.tier_base.specs.declared.fault.Trouble.{Trouble}
+use Rattle.tier_base.specs.declared.fault.Trouble.TheVariants as trouble
+use Rattle.tier_base.specs.declared.planned.Planned.{Planned}
+use Rattle.tier_base.specs.Counts.{counted, Rose}
+
+-- how a call ended: it went well; it failed, done or not; it found no memory
+pub data Fate : Type 0 where
+  Went : Fate
+  Fault : Fate
+  Dry : Fate
+
+-- how a call with this trouble ended
+abbrev pub fate_of_trouble : Trouble → Fate
+fate_of_trouble trouble.Failed = Fault
+fate_of_trouble trouble.NoMemory = Dry
+
+-- how a call that takes memory ended
+abbrev pub fate_of : {T : Type 0} → Result T Trouble → Fate
+fate_of (Ok x) = Went
+fate_of (Err e) = fate_of_trouble e
+
+-- how a call that takes no memory ended
+abbrev pub failing : {T : Type 0} → Result T Failed → Fate
+failing (Ok x) = Went
+failing (Err e) = Fault
+
+-- what a device tells
+pub record Control {K : Type 0} (code : K → ℕ) : Type 0 where
+  -- how many calls failed
+  pub faults : ℕ
+  -- the calls that are to fail
+  pub plan : List (Planned K)
+  pub armed : Bool
+  -- how many calls of each kind were made since it was armed
+  pub made : K → ℕ
+  pub calm : Bool
+  pub ruled : Bool
+  -- the bytes that the last read gave
+  pub handed : List ℕ
+
+module _ {K : Type 0} (code : K → ℕ) where
+  -- the first item of a plan that names the call with this number: whether that call is done all the same
+  abbrev pub planned : K → ℕ → List (Planned K) → Option Bool
+  planned call number [] = None
+  planned call number (p ∷ ps) =
+      if (code p.call == code call) && (p.number == number)
+      then Some p.after
+      else planned call number ps
+
+  -- how many calls of a kind were made after one that ended so
+  abbrev pub made_after : K → Fate → Bool → K → ℕ → ℕ
+  made_after call Went armed kind n = if armed && (code call == code kind) then counted n 1 else n
+  made_after call Fault armed kind n = if armed && (code call == code kind) then counted n 1 else n
+  made_after call Dry armed kind n = n
+
+module _ {K : Type 0} {code : K → ℕ} where
+  -- what the plan says of the next call of this kind
+  abbrev pub due : K → Control code → Option Bool
+  due call c = if c.armed then planned code call (counted (c.made call) 1) c.plan else None
+
+  -- as want of memory leaves it
+  pub record Untouched (old new : Control code) : Type 0 where
+    pub faults : new.faults ≡ old.faults
+    pub calm : new.calm ≡ old.calm
+
+  -- a call of one kind that ended so
+  pub record Ran (call : K) (fate : Fate) (old new : Control code) : Type 0 where
+    pub plan : new.plan ≡ old.plan
+    pub armed : new.armed ≡ old.armed
+    pub ruled : new.ruled ≡ old.ruled
+    pub made : (kind : K) → new.made kind ≡ made_after code call fate old.armed kind (old.made kind)
+    pub never_falls : old.faults ≤ new.faults
+    pub cause : fate ≡ Fault → Rose old.faults new.faults
+    pub dry : fate ≡ Dry → Untouched old new
+    pub stays_calm : IsTrue old.calm → IsTrue new.calm
+    pub calm : IsTrue old.calm → (fate ≢ Fault) × (new.faults ≡ old.faults)
+    pub by_plan : IsTrue old.ruled → fate ≢ Dry → (fate ≡ Fault) ↔ IsSome (due call old)
+
+  -- a call that leaves what was handed
+  pub record RanQuietly (call : K) (fate : Fate) (old new : Control code) : Type 0 where
+    pub ran : Ran call fate old new
+    pub handed : new.handed ≡ old.handed
+
+  -- whether a call that ended so may have been done
+  pub record MayBeDone (call : K) (fate : Fate) (old : Control code) (done : Bool) : Type 0 where
+    pub went : fate ≡ Went → IsTrue done
+    pub dry : fate ≡ Dry → IsFalse done
+    pub planned : IsTrue old.ruled → fate ≡ Fault → due call old ≡ Some done
+
+  -- no call
+  pub record Rests (old new : Control code) : Type 0 where
+    pub plan : new.plan ≡ old.plan
+    pub armed : new.armed ≡ old.armed
+    pub ruled : new.ruled ≡ old.ruled
+    pub calm : new.calm ≡ old.calm
+    pub faults : new.faults ≡ old.faults
+    pub made : (kind : K) → new.made kind ≡ old.made kind
+    pub handed : new.handed ≡ old.handed
+
+  -- any calls but `arm`
+  pub record Lasts (old new : Control code) : Type 0 where
+    pub plan : new.plan ≡ old.plan
+    pub armed : new.armed ≡ old.armed
+    pub ruled : new.ruled ≡ old.ruled
+    pub never_falls : old.faults ≤ new.faults
+    pub stays_calm : IsTrue old.calm → IsTrue new.calm
+    pub no_fault : IsTrue old.calm → new.faults ≡ old.faults
+
+  -- the first `arm`; a further one changes nothing
+  pub record Arms (old new : Control code) : Type 0 where
+    pub plan : new.plan ≡ old.plan
+    pub armed : IsTrue new.armed
+    pub ruled : new.ruled ≡ old.ruled
+    pub faults : new.faults ≡ old.faults
+    pub made : (kind : K) → new.made kind ≡ old.made kind
+    pub handed : new.handed ≡ old.handed
+    pub again : IsTrue old.armed → new.calm ≡ old.calm
+    pub still_calm : IsTrue old.ruled → IsTrue old.calm → old.plan ≡ [] → IsTrue new.calm
+
+  -- a device as it is handed out: no fault, no call counted, nothing handed
+  pub record IsFresh (c : Control code) : Type 0 where
+    pub faults : c.faults ≡ 0
+    pub armed : c.armed ≡ false
+    pub made : (kind : K) → c.made kind ≡ 0
+    pub handed : c.handed ≡ []

@@ -1,0 +1,76 @@
+-- The faults of a device in memory: those that its plan and its fuse have in store, and those it had.
+use Rattle.std.specs.Prelude.{ℕ, ◌==◌, Bool, true, false, not, ◌&&◌, ◌||◌, if◌then◌else◌, List, [], ◌∷◌, Option, Some, None}
+use Rattle.std.proofs.Math.ListN.{get_or}
+use Rattle.tier_base.specs.declared.planned.Planned.{Planned}
+use Rattle.tier_base.specs.declared.ending.Ending.{Ending}
+use Rattle.tier_base.specs.declared.ending.Ending.TheVariants.{Done, DoneAndFailed, Undone}
+use Rattle.tier_base.specs.Counts.{counted}
+use Rattle.tier_base.specs.Device.{Control, planned}
+
+-- a plan, and how far it has come
+pub record Faults (K : Type 0) : Type 0 where
+  pub plan : List (Planned K)
+  pub armed : Bool
+  -- how many calls were made, by the kind's code
+  pub counts : List ℕ
+  -- how many more calls pass before each one fails
+  pub fuse : Option ℕ
+  pub faults : ℕ
+
+-- none is told
+abbrev pub has_none : {X : Type 0} → Option X → Bool
+has_none None = true
+has_none (Some x) = false
+
+-- nothing is listed
+abbrev pub is_empty : {X : Type 0} → List X → Bool
+is_empty [] = true
+is_empty (x ∷ xs) = false
+
+-- a fuse that has burnt down
+abbrev pub is_blown : Option ℕ → Bool
+is_blown None = false
+is_blown (Some n) = n == 0
+
+-- how a call ends of which the plan says this
+abbrev pub ending_from : Option Bool → Ending
+ending_from None = Done
+ending_from (Some true) = DoneAndFailed
+ending_from (Some false) = Undone
+
+-- the call is done
+abbrev pub is_done : Ending → Bool
+is_done Done = true
+is_done DoneAndFailed = true
+is_done Undone = false
+
+-- the call is done, and doesn't fail
+abbrev pub goes_well : Ending → Bool
+goes_well Done = true
+goes_well DoneAndFailed = false
+goes_well Undone = false
+
+module _ {K : Type 0} (code : K → ℕ) where
+  -- how many calls of a kind were made
+  abbrev pub count_of : Faults K → K → ℕ
+  count_of f kind = get_or f.counts (code kind) 0
+
+  -- how the next call of a kind ends
+  abbrev pub ending_at : Faults K → K → Ending
+  ending_at f call =
+      if is_blown f.fuse
+      then Undone
+      else (if f.armed then ending_from (planned code call (counted (count_of f call) 1) f.plan) else Done)
+
+  -- what a device with these faults tells, where the last read gave these bytes
+  abbrev pub control_of : Faults K → List ℕ → Control code
+  control_of f handed =
+      record {
+        faults = f.faults;
+        plan = f.plan;
+        armed = f.armed;
+        made = count_of f;
+        calm = has_none f.fuse && (not f.armed || is_empty f.plan);
+        ruled = has_none f.fuse;
+        handed = handed;
+      }
