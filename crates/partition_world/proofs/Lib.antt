@@ -1,3 +1,4 @@
+pub mod Counted
 mod Search
 mod LongestRun
 mod Lists

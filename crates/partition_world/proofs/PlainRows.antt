@@ -1,17 +1,20 @@
 -- Each turn's row is the plain log's row of the same answer.
-use Rattle.std.proofs.Common.{◌≡◌, ◌≢◌, ◌⊎◌, inl, inr, ◌∙◌, sym, ap, refl, ℕ, zero, suc, ◌+◌, ◌-◌, ◌<◌, ◌≤◌, ◌==◌, nat_lt, List, [], ◌∷◌, ◌++◌, length, take, slice_get, slice_set, Some, None, Option, IsSomeAnd, Bool, true, false, not, ◌&&◌, min, arith, append-nil, length-append}
+use Rattle.std.proofs.Common.{◌≡◌, ◌≢◌, ◌⊎◌, inl, inr, ◌∙◌, sym, ap, refl, ℕ, zero, suc, ◌+◌, ◌-◌, ◌<◌, ◌≤◌, ◌==◌, nat_lt, List, [], ◌∷◌, ◌++◌, length, take, slice_get, slice_set, Some, None, Option, Result, Ok, Err, IsOk, IsSomeAnd, Bool, true, false, not, ◌&&◌, min, arith, append-nil, length-append}
 use Rattle.std.specs.Prelude.{nat_le, map}
 use Rattle.std.proofs.lemmas.Bool.Decides.{nat_tests}
+use Rattle.std.proofs.lemmas.Slice.Eq.{bytes_eq-Decides}
 use Rattle.tier_base.specs.declared.plain.Stop.{Stop}
 use Rattle.tier_base.specs.declared.plain.Stop.TheVariants.{Mark, Piece, Limit}
 use Rattle.log_terms.specs.Log.{end_of, joined, from_offset}
-use Rattle.record_batch.specs.declared.rec.Rec.{Rec}
+use Rattle.record_batch.specs.declared.refusal.BatchRefusal.{BatchRefusal}
+use Rattle.record_batch.specs.declared.refusal.BatchRefusal.TheVariants.{Short, BadMagic, BadLength, BadCrc, Compressed, Transactional, Control, BadRecords}
 use Rattle.record_batch.specs.Build.{built}
+use Rattle.record_batch.specs.Check.{Batch, checked}
 use Rattle.record_batch.specs.Stamp.{stamped}
 use Rattle.plain_log.specs.declared.answer.Answer.{Answer}
-use Rattle.plain_log.specs.declared.answer.Answer.TheVariants.{OkAt, OkSpan, Down, NotLeader, LastOffset, NotJoined, StaleEpoch, OutOfRange, Empty, Run}
+use Rattle.plain_log.specs.declared.answer.Answer.TheVariants.{OkAt, OkSpan, Down, NotLeader, Refused, LastOffset, NotJoined, StaleEpoch, OutOfRange, Empty, Run}
 use Rattle.plain_log.specs.declared.command.Command.{Command}
-use Rattle.plain_log.specs.declared.command.Command.TheVariants.{Append, Flush, Ack, Fetch}
+use Rattle.plain_log.specs.declared.command.Command.TheVariants.{Append, Raw, Flush, Ack, Fetch}
 use Rattle.plain_log.specs.declared.state.State.{State}
 use Rattle.plain_log.specs.declared.state.Registry.{Registry}
 use Rattle.plain_log.specs.declared.state.Replica.{Replica}
@@ -20,14 +23,15 @@ use Rattle.plain_log.specs.declared.state.Broker.{Broker}
 use Rattle.plain_log.specs.declared.state.Role.{Role}
 use Rattle.plain_log.specs.declared.state.Role.TheVariants.{Idle, Leads, Follows, Joined}
 use Rattle.plain_log.specs.State.{when, leads_in, acking, path_of, is_stale, mark_over, put_broker}
-use Rattle.plain_log.specs.Fetch.{in_range, same_bytes, fitting, run_of, stops_rightly, is_run}
-use Rattle.plain_log.specs.Rows.{offset_limit, gained, acknowledged, row}
+use Rattle.plain_log.specs.Causes.{same_cause}
+use Rattle.plain_log.specs.Fetch.{in_range, fitting, run_of, stops_rightly, is_run}
+use Rattle.plain_log.specs.Rows.{offset_limit, gained, append_row, raw_row, acknowledged, row}
 use Rattle.plain_log.specs.Safe.{RoleSafe}
 use Rattle.partition_world.specs.declared.held.Node.{Node}
 use Rattle.partition_world.specs.declared.held.Held.{Held}
 use Rattle.partition_world.specs.Held.{broker_of}
 use Rattle.partition_world.specs.Log.{HasBytes, StopIs, IsRunOf}
-use Rattle.partition_world.specs.Rows.{end_with, AppendRow, FlushRow, with_ack, acked, AckRow, IsInLog, FetchRow, Row}
+use Rattle.partition_world.specs.Rows.{end_with, AppendRow, RawRow, FlushRow, with_ack, acked, AckRow, IsInLog, FetchRow, Row}
 use Rattle.partition_world.proofs.LongestRun.{joined_append}
 
 -- the plain log allows the answer, and stands to the partition afterwards
@@ -114,22 +118,60 @@ silent h p b x r command answer h' st is same = record {
 leads_in_of : (e : ℕ) (r : Role) → r ≡ Leads e → leads_in e r ≡ true
 leads_in_of e r is = rw is (eq_same e e refl)
 
-append_allowed : (h : Held) (p : State) (b : ℕ) (x : Node) (r : Replica) (recs : List Rec) (answer : Answer) (h' : Held) → StandsHeld h p
-    → AppendRow h b x recs answer h' → Allowed p b x r (Append recs) answer h'
-append_allowed h p b x r recs Down h' st w = silent h p b x r _ _ h' st (rw w.0 refl) w.1
-append_allowed h p b x r recs NotLeader h' st w = silent h p b x r _ _ h' st (rw (w.0, w.1) refl) w.2
-append_allowed h p b x r recs LastOffset h' st w =
-    silent h p b x r _ _ h' st (when_true _ p (and_true _ _ (and_true _ _ w.0 w.1) (rw (le_false (end_with x recs) offset_limit w.2) refl))) w.3
-append_allowed h p b x r recs (OkSpan base last e) h' st w = record {
-  state = gained p b (broker_of x) e (stamped (built recs) base e);
-  is = when_true _ (gained p b (broker_of x) e (stamped (built recs) base e))
-      (and_true _ _ (and_true _ _ (and_true _ _ (and_true _ _ w.0 (leads_in_of e x.role w.1)) (le_true (end_with x recs) offset_limit w.2)) (eq_same _ _ w.3)) (eq_same _ _ w.4));
+append_allowed : (h : Held) (p : State) (b : ℕ) (x : Node) (r : Replica) (command : Command) (batch : List ℕ) (answer : Answer) (h' : Held) → StandsHeld h p
+    → row p b (broker_of x) r None command answer ≡ append_row p b (broker_of x) batch answer → AppendRow h b x batch answer h' → Allowed p b x r command answer h'
+append_allowed h p b x r command batch Down h' st to w = silent h p b x r _ _ h' st (to ∙ rw w.0 refl) w.1
+append_allowed h p b x r command batch NotLeader h' st to w = silent h p b x r _ _ h' st (to ∙ rw (w.0, w.1) refl) w.2
+append_allowed h p b x r command batch LastOffset h' st to w =
+    silent h p b x r _ _ h' st (to ∙ when_true _ p (and_true _ _ (and_true _ _ w.0 w.1) (rw (le_false (end_with x batch) offset_limit w.2) refl))) w.3
+append_allowed h p b x r command batch (OkSpan base last e) h' st to w = record {
+  state = gained p b (broker_of x) e (stamped batch base e);
+  is = to ∙ when_true _ (gained p b (broker_of x) e (stamped batch base e))
+      (and_true _ _ (and_true _ _ (and_true _ _ (and_true _ _ w.0 (leads_in_of e x.role w.1)) (le_true (end_with x batch) offset_limit w.2)) (eq_same _ _ w.3)) (eq_same _ _ w.4));
   registry = st.registry ∙ ap (λ (k : Held). k.registry) (sym w.5);
-  brokers = ap (λ (k : List Broker). slice_set k b (record (broker_of x) { log = x.log ++ stamped (built recs) base e ∷ [] })) st.brokers
-      ∙ (sym (map_set broker_of h.nodes b (record x { log = x.log ++ stamped (built recs) base e ∷ [] })) ∙ ap (λ (k : Held). map broker_of k.nodes) (sym w.5));
+  brokers = ap (λ (k : List Broker). slice_set k b (record (broker_of x) { log = x.log ++ stamped batch base e ∷ [] })) st.brokers
+      ∙ (sym (map_set broker_of h.nodes b (record x { log = x.log ++ stamped batch base e ∷ [] })) ∙ ap (λ (k : Held). map broker_of k.nodes) (sym w.5));
   actors = refl;
 }
-append_allowed h p b x r recs other h' st w = elim w [ ]
+append_allowed h p b x r command batch other h' st to w = elim w [ ]
+
+-- raw
+
+cause_same : (cause : BatchRefusal) → same_cause cause cause ≡ true
+cause_same Short = refl
+cause_same BadMagic = refl
+cause_same BadLength = refl
+cause_same (BadCrc kept computed) = and_true _ _ (eq_same kept kept refl) (eq_same computed computed refl)
+cause_same Compressed = refl
+cause_same Transactional = refl
+cause_same Control = refl
+cause_same (BadRecords at) = eq_same at at refl
+
+-- bytes that are a batch are appended
+read_row : (p : State) (b : ℕ) (y : Broker) (bytes : List ℕ) (reading : Result Batch BatchRefusal) (answer : Answer) → IsOk reading → raw_row p b y bytes reading answer ≡ append_row p b y bytes answer
+read_row p b y bytes (Ok batch) answer ok = refl
+read_row p b y bytes (Err why) answer ok = absurd cc
+
+-- what is answered before the bytes are looked at
+unread_down : (p : State) (b : ℕ) (y : Broker) (bytes : List ℕ) (reading : Result Batch BatchRefusal) → raw_row p b y bytes reading Down ≡ append_row p b y bytes Down
+unread_down p b y bytes (Ok batch) = refl
+unread_down p b y bytes (Err why) = refl
+
+unread_idle : (p : State) (b : ℕ) (y : Broker) (bytes : List ℕ) (reading : Result Batch BatchRefusal) → raw_row p b y bytes reading NotLeader ≡ append_row p b y bytes NotLeader
+unread_idle p b y bytes (Ok batch) = refl
+unread_idle p b y bytes (Err why) = refl
+
+raw_allowed : (h : Held) (p : State) (b : ℕ) (x : Node) (r : Replica) (bytes : List ℕ) (answer : Answer) (h' : Held) → StandsHeld h p
+    → RawRow h b x bytes answer h' → Allowed p b x r (Raw bytes) answer h'
+raw_allowed h p b x r bytes Down h' st w = append_allowed h p b x r (Raw bytes) bytes Down h' st (unread_down p b (broker_of x) bytes (checked bytes)) w
+raw_allowed h p b x r bytes NotLeader h' st w = append_allowed h p b x r (Raw bytes) bytes NotLeader h' st (unread_idle p b (broker_of x) bytes (checked bytes)) w
+raw_allowed h p b x r bytes (Refused cause) h' st w =
+    silent h p b x r _ _ h' st (rw w.2 (when_true _ p (and_true _ _ (and_true _ _ w.0 w.1) (cause_same cause)))) w.3
+raw_allowed h p b x r bytes LastOffset h' st w =
+    append_allowed h p b x r (Raw bytes) bytes LastOffset h' st (read_row p b (broker_of x) bytes (checked bytes) LastOffset w.0) w.1
+raw_allowed h p b x r bytes (OkSpan base last e) h' st w =
+    append_allowed h p b x r (Raw bytes) bytes (OkSpan base last e) h' st (read_row p b (broker_of x) bytes (checked bytes) (OkSpan base last e) w.0) w.1
+raw_allowed h p b x r bytes other h' st w = elim w [ ]
 
 -- flush
 
@@ -223,10 +265,6 @@ in_range_of h p x offset st w =
     let start : p.registry.start ≡ h.registry.start = ap (λ (k : Registry). k.start) st.registry in
     and_true _ _ (le_true p.registry.start offset (omega (arith, start, w.0))) (le_true offset (end_of x.log) w.1)
 
-same_self : (bytes : List ℕ) → same_bytes bytes bytes ≡ true
-same_self [] = refl
-same_self (b ∷ bytes) = rw (eq_same b b refl, same_self bytes) refl
-
 -- the batches whose sizes add to a run's are the run
 fitting_run : (run rest : List (List ℕ)) → HasBytes rest → fitting (length (joined run)) (run ++ rest) ≡ run
 fitting_run [] [] n = refl
@@ -260,7 +298,7 @@ run_allowed : (x : Node) (offset limit size : ℕ) (stop : Stop) (bytes : List �
 run_allowed x offset limit size stop bytes w =
     let count : size ≡ length (joined w.run) = w.size_is ∙ ap length w.is in
     let is : run_of (broker_of x) offset size ≡ w.run = rw (count, w.parts) (fitting_run w.run w.rest w.next) in
-    and_true _ _ (and_true _ _ (and_true _ _ (and_true _ _ (eq_same _ _ w.size_is) (rw (is, w.is) (same_self (joined w.run)))) (rw is w.within)) (rw is (le_true _ _ w.below)))
+    and_true _ _ (and_true _ _ (and_true _ _ (and_true _ _ (eq_same _ _ w.size_is) (rw (is, w.is) ((bytes_eq-Decides (joined w.run) (joined w.run)).1 refl))) (rw is w.within)) (rw is (le_true _ _ w.below)))
     (stop_allowed x offset limit size stop w.run w.rest is w.parts w.stop_is)
 
 fetch_allowed : (h : Held) (p : State) (b : ℕ) (x : Node) (r : Replica) (offset limit : ℕ) (answer : Answer) (h' : Held) → StandsHeld h p
@@ -281,7 +319,9 @@ fetch_allowed h p b x r offset limit other h' st w = elim w [ ]
 -- each row
 pub row_allowed : (h : Held) (p : State) (b : ℕ) (x : Node) (r : Replica) (command : Command) (answer : Answer) (h' : Held) → StandsHeld h p → slice_get p.registry.replicas b ≡ Some r
     → RoleSafe p.paths p.registry.epoch x.role x.log → Row h b x command answer h' → Allowed p b x r command answer h'
-row_allowed h p b x r (Append recs) answer h' st at s w = append_allowed h p b x r recs answer h' st w
+row_allowed h p b x r (Append recs) answer h' st at s w = append_allowed h p b x r (Append recs) (built recs) answer h' st refl w
+row_allowed h p b x r (Raw bytes) answer h' st at s w = raw_allowed h p b x r bytes answer h' st w
 row_allowed h p b x r Flush answer h' st at s w = flush_allowed h p b x r answer h' st w
 row_allowed h p b x r Ack answer h' st at s w = ack_allowed h p b x r answer h' st at s w
 row_allowed h p b x r (Fetch offset limit) answer h' st at s w = fetch_allowed h p b x r offset limit answer h' st w
+row_allowed h p b x r other answer h' st at s w = elim w [ ]

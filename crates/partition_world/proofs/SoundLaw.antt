@@ -6,19 +6,18 @@ use Rattle.std.proofs.lemmas.Option.{get_or_from_slice_get, slice_get_within}
 use Rattle.log_terms.specs.Log.{end_of, EndsAt}
 use Rattle.log_terms.proofs.Lists.{each-set, length-slice_set}
 use Rattle.log_terms.proofs.Logs.{ends_more, ends_at_zero, ends_at_end}
-use Rattle.record_batch.specs.declared.rec.Rec.{Rec}
 use Rattle.record_batch.specs.Build.{built}
 use Rattle.record_batch.specs.Stamp.{stamped}
 use Rattle.plain_log.specs.declared.answer.Answer.{Answer}
-use Rattle.plain_log.specs.declared.answer.Answer.TheVariants.{OkAt, OkSpan, Down, NotLeader, LastOffset, NotJoined, StaleEpoch, OutOfRange, Empty, Run}
+use Rattle.plain_log.specs.declared.answer.Answer.TheVariants.{OkAt, OkSpan, Down, NotLeader, Refused, LastOffset, NotJoined, StaleEpoch, OutOfRange, Empty, Run}
 use Rattle.plain_log.specs.declared.command.Command.{Command}
-use Rattle.plain_log.specs.declared.command.Command.TheVariants.{Append, Flush, Ack, Fetch}
+use Rattle.plain_log.specs.declared.command.Command.TheVariants.{Append, Raw, Flush, Ack, Fetch}
 use Rattle.plain_log.specs.declared.state.Replica.{Replica}
 use Rattle.plain_log.specs.State.{least_acked}
 use Rattle.partition_world.specs.declared.held.Node.{Node}
 use Rattle.partition_world.specs.declared.held.Held.{Held}
 use Rattle.partition_world.specs.Held.{put_node, AtNode}
-use Rattle.partition_world.specs.Rows.{AppendRow, FlushRow, with_ack, AckRow, FetchRow, Row}
+use Rattle.partition_world.specs.Rows.{AppendRow, RawRow, FlushRow, with_ack, AckRow, FetchRow, Row}
 use Rattle.partition_world.specs.Sound.{NodeSound, HeldSound}
 
 -- what holds of all holds of the one that stands at a place
@@ -39,19 +38,27 @@ put_sound h b x s own = record {
   nodes = each-set (NodeSound h.registry.mark) h.nodes b x s.nodes own;
 }
 
-append_sound : (h : Held) (b : ℕ) (x : Node) (recs : List Rec) (answer : Answer) (h' : Held) → slice_get h.nodes b ≡ Some x → HeldSound h → AppendRow h b x recs answer h' → HeldSound h'
-append_sound h b x recs Down h' at s w = same h h' w.1 s
-append_sound h b x recs NotLeader h' at s w = same h h' w.2 s
-append_sound h b x recs LastOffset h' at s w = same h h' w.3 s
-append_sound h b x recs (OkSpan base last e) h' at s w =
+append_sound : (h : Held) (b : ℕ) (x : Node) (batch : List ℕ) (answer : Answer) (h' : Held) → slice_get h.nodes b ≡ Some x → HeldSound h → AppendRow h b x batch answer h' → HeldSound h'
+append_sound h b x batch Down h' at s w = same h h' w.1 s
+append_sound h b x batch NotLeader h' at s w = same h h' w.2 s
+append_sound h b x batch LastOffset h' at s w = same h h' w.3 s
+append_sound h b x batch (OkSpan base last e) h' at s w =
     let n = s.nodes b x at in
-    let batch = stamped (built recs) base e in
-    subst HeldSound (sym w.5) (put_sound h b (record x { log = x.log ++ batch ∷ [] }) s (record {
-      stable = ends_more x.stable x.log (x.log ++ batch ∷ []) n.stable (batch ∷ [], refl);
-      known = ends_more x.known x.log (x.log ++ batch ∷ []) n.known (batch ∷ [], refl);
-      mark_end = ends_more h.registry.mark x.log (x.log ++ batch ∷ []) n.mark_end (batch ∷ [], refl);
+    let placed = stamped batch base e in
+    subst HeldSound (sym w.5) (put_sound h b (record x { log = x.log ++ placed ∷ [] }) s (record {
+      stable = ends_more x.stable x.log (x.log ++ placed ∷ []) n.stable (placed ∷ [], refl);
+      known = ends_more x.known x.log (x.log ++ placed ∷ []) n.known (placed ∷ [], refl);
+      mark_end = ends_more h.registry.mark x.log (x.log ++ placed ∷ []) n.mark_end (placed ∷ [], refl);
     }))
-append_sound h b x recs other h' at s w = elim w [ ]
+append_sound h b x batch other h' at s w = elim w [ ]
+
+raw_sound : (h : Held) (b : ℕ) (x : Node) (bytes : List ℕ) (answer : Answer) (h' : Held) → slice_get h.nodes b ≡ Some x → HeldSound h → RawRow h b x bytes answer h' → HeldSound h'
+raw_sound h b x bytes Down h' at s w = append_sound h b x bytes Down h' at s w
+raw_sound h b x bytes NotLeader h' at s w = append_sound h b x bytes NotLeader h' at s w
+raw_sound h b x bytes (Refused cause) h' at s w = same h h' w.3 s
+raw_sound h b x bytes LastOffset h' at s w = append_sound h b x bytes LastOffset h' at s w.1
+raw_sound h b x bytes (OkSpan base last e) h' at s w = append_sound h b x bytes (OkSpan base last e) h' at s w.1
+raw_sound h b x bytes other h' at s w = elim w [ ]
 
 flush_sound : (h : Held) (b : ℕ) (x : Node) (answer : Answer) (h' : Held) → slice_get h.nodes b ≡ Some x → HeldSound h → FlushRow h b x answer h' → HeldSound h'
 flush_sound h b x Down h' at s w = same h h' w.1 s
@@ -135,10 +142,12 @@ fetch_sound h x offset limit (Run tier size stop bytes) h' s w = same h h' w.6 s
 fetch_sound h x offset limit other h' s w = elim w [ ]
 
 row_sound : (h : Held) (b : ℕ) (x : Node) (command : Command) (answer : Answer) (h' : Held) → slice_get h.nodes b ≡ Some x → HeldSound h → Row h b x command answer h' → HeldSound h'
-row_sound h b x (Append recs) answer h' at s w = append_sound h b x recs answer h' at s w
+row_sound h b x (Append recs) answer h' at s w = append_sound h b x (built recs) answer h' at s w
+row_sound h b x (Raw bytes) answer h' at s w = raw_sound h b x bytes answer h' at s w
 row_sound h b x Flush answer h' at s w = flush_sound h b x answer h' at s w
 row_sound h b x Ack answer h' at s w = ack_sound h b x answer h' at s w
 row_sound h b x (Fetch offset limit) answer h' at s w = fetch_sound h x offset limit answer h' s w
+row_sound h b x other answer h' at s w = elim w [ ]
 
 pub turn_sound : (h : Held) (b : ℕ) (command : Command) (answer : Answer) (h' : Held) → HeldSound h → AtNode h b (λ x. Row h b x command answer h') → HeldSound h'
 turn_sound h b command answer h' s w = let x = some_of _ (slice_get h.nodes b) w in row_sound h b x.0 command answer h' x.1 s x.2

@@ -2,17 +2,17 @@
 --
 -- A row says for each answer exactly when it is given, the tests in their order, and the partition afterwards. In this
 -- stage each command is answered at its first turn.
-use Rattle.std.specs.Prelude.{◌≡◌, ℕ, ◌+◌, ◌<◌, ◌≤◌, ◌⊎◌, true, false, min, List, [], ◌∷◌, ◌++◌, None, slice_get, slice_set, IsSomeAnd}
+use Rattle.std.specs.Prelude.{◌≡◌, ℕ, ◌+◌, ◌<◌, ◌≤◌, ◌⊎◌, true, false, min, List, [], ◌∷◌, ◌++◌, None, Err, IsOk, slice_get, slice_set, IsSomeAnd}
 use Rattle.log_terms.specs.Batch.{last_offset_delta_of}
 use Rattle.log_terms.specs.Log.{end_of}
-use Rattle.record_batch.specs.declared.rec.Rec.{Rec}
 use Rattle.record_batch.specs.Build.{built}
+use Rattle.record_batch.specs.Check.{checked}
 use Rattle.record_batch.specs.Stamp.{stamped}
 use Rattle.plain_log.specs.declared.answer.Answer.{Answer}
-use Rattle.plain_log.specs.declared.answer.Answer.TheVariants.{OkAt, OkSpan, Down, NotLeader, LastOffset, NotJoined, StaleEpoch, OutOfRange, Empty, Run}
+use Rattle.plain_log.specs.declared.answer.Answer.TheVariants.{OkAt, OkSpan, Down, NotLeader, Refused, LastOffset, NotJoined, StaleEpoch, OutOfRange, Empty, Run}
 use Rattle.plain_log.specs.declared.answer.Tier.TheVariants.{Local}
 use Rattle.plain_log.specs.declared.command.Command.{Command}
-use Rattle.plain_log.specs.declared.command.Command.TheVariants.{Append, Flush, Ack, Fetch}
+use Rattle.plain_log.specs.declared.command.Command.TheVariants.{Append, Raw, Flush, Ack, Fetch}
 use Rattle.plain_log.specs.declared.state.Registry.{Registry}
 use Rattle.plain_log.specs.declared.state.Replica.{Replica}
 use Rattle.plain_log.specs.declared.state.Role.TheVariants.{Leads}
@@ -23,19 +23,26 @@ use Rattle.partition_world.specs.declared.held.Held.{Held}
 use Rattle.partition_world.specs.Held.{put_node}
 use Rattle.partition_world.specs.Log.{IsRunOf}
 
--- where the log would end with the batch of these records
-abbrev pub end_with : Node → List Rec → ℕ
-end_with x recs = end_of x.log + last_offset_delta_of (built recs) + 1
+-- where the log would end with the batch
+abbrev pub end_with : Node → List ℕ → ℕ
+end_with x batch = end_of x.log + last_offset_delta_of batch + 1
 
 -- append: the leader's log gains the batch, stamped with its end and its epoch
-abbrev pub AppendRow : Held → ℕ → Node → List Rec → Answer → Held → Type 0
-AppendRow h b x recs Down h' = (x.up ≡ false) × (h' ≡ h)
-AppendRow h b x recs NotLeader h' = (x.up ≡ true) × (leads x.role ≡ false) × (h' ≡ h)
-AppendRow h b x recs LastOffset h' = (x.up ≡ true) × (leads x.role ≡ true) × (offset_limit < end_with x recs) × (h' ≡ h)
-AppendRow h b x recs (OkSpan base last e) h' =
-    (x.up ≡ true) × (x.role ≡ Leads e) × (end_with x recs ≤ offset_limit) × (base ≡ end_of x.log) × (last ≡ base + last_offset_delta_of (built recs))
-    × (h' ≡ put_node h b (record x { log = x.log ++ stamped (built recs) base e ∷ [] }))
-AppendRow h b x recs other h' = ⊥
+abbrev pub AppendRow : Held → ℕ → Node → List ℕ → Answer → Held → Type 0
+AppendRow h b x batch Down h' = (x.up ≡ false) × (h' ≡ h)
+AppendRow h b x batch NotLeader h' = (x.up ≡ true) × (leads x.role ≡ false) × (h' ≡ h)
+AppendRow h b x batch LastOffset h' = (x.up ≡ true) × (leads x.role ≡ true) × (offset_limit < end_with x batch) × (h' ≡ h)
+AppendRow h b x batch (OkSpan base last e) h' =
+    (x.up ≡ true) × (x.role ≡ Leads e) × (end_with x batch ≤ offset_limit) × (base ≡ end_of x.log) × (last ≡ base + last_offset_delta_of batch)
+    × (h' ≡ put_node h b (record x { log = x.log ++ stamped batch base e ∷ [] }))
+AppendRow h b x batch other h' = ⊥
+
+-- raw: bytes from outside are appended where they are a batch, and else refused with the first test that they fail
+abbrev pub RawRow : Held → ℕ → Node → List ℕ → Answer → Held → Type 0
+RawRow h b x bytes (Refused cause) h' = (x.up ≡ true) × (leads x.role ≡ true) × (checked bytes ≡ Err cause) × (h' ≡ h)
+RawRow h b x bytes LastOffset h' = IsOk (checked bytes) × AppendRow h b x bytes LastOffset h'
+RawRow h b x bytes (OkSpan base last e) h' = IsOk (checked bytes) × AppendRow h b x bytes (OkSpan base last e) h'
+RawRow h b x bytes answer h' = AppendRow h b x bytes answer h'
 
 -- flush: all of the log is stable
 abbrev pub FlushRow : Held → ℕ → Node → Answer → Held → Type 0
@@ -81,9 +88,11 @@ FetchRow h x offset limit (Run tier size stop bytes) h' =
     × IsRunOf x.log offset limit x.known size stop bytes × (h' ≡ h)
 FetchRow h x offset limit other h' = ⊥
 
--- a turn of a command of broker b
+-- a turn of a command of broker b; the other commands have no turn yet
 abbrev pub Row : Held → ℕ → Node → Command → Answer → Held → Type 0
-Row h b x (Append recs) answer h' = AppendRow h b x recs answer h'
+Row h b x (Append recs) answer h' = AppendRow h b x (built recs) answer h'
+Row h b x (Raw bytes) answer h' = RawRow h b x bytes answer h'
 Row h b x Flush answer h' = FlushRow h b x answer h'
 Row h b x Ack answer h' = AckRow h b x answer h'
 Row h b x (Fetch offset limit) answer h' = FetchRow h x offset limit answer h'
+Row h b x other answer h' = ⊥

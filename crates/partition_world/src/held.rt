@@ -2,13 +2,17 @@
 //!
 //! Each method carries out one command of a broker, tests first, and leaves all as it was where it finds no memory.
 
-ghost use Rattle.std.specs.Prelude.{◌≡◌, ◌<◌, ◌≤◌, true, length, slice_get, Some, IfOk, OnErr};
-ghost use Rattle.record_batch.specs.Build.{IsBuildable};
+ghost use Rattle.std.specs.Prelude.{◌≡◌, ◌<◌, ◌≤◌, ◌+◌, true, length, slice_get, Some, Err, IsOk, IfOk, IsErrOf, OnErr};
+ghost use Rattle.log_terms.specs.Batch.{last_offset_delta_of};
+ghost use Rattle.record_batch.specs.declared.refusal.BatchRefusal.{BatchRefusal as BatchCause};
+ghost use Rattle.record_batch.specs.Build.{built, IsBuildable};
+ghost use Rattle.record_batch.specs.Check.{checked};
+ghost use Rattle.record_batch.specs.Stamp.{stamped, SetsBaseAndEpoch};
 ghost use Rattle.plain_log.specs.State.{leads as leads_some, acking as acking_epoch};
 ghost use Rattle.plain_log.specs.Orders.{IsInRange};
 ghost use Rattle.partition_world.specs.declared.held.Node.{Node};
 ghost use Rattle.partition_world.specs.Held.{AtNode};
-ghost use Rattle.partition_world.specs.Rows.{Row as RowOf, AppendRow, FlushRow, AckRow, FetchRow};
+ghost use Rattle.partition_world.specs.Rows.{Row as RowOf, AppendRow, RawRow, FlushRow, AckRow, FetchRow};
 ghost use Rattle.partition_world.specs.Sound.{HeldSound};
 ghost use Rattle.partition_world.specs.Fresh.{fresh_held};
 
@@ -16,7 +20,10 @@ use crate::log::Log;
 use crate::mark::mark_over;
 use crate::taking::take_run;
 use plain_log::{Answer, Command, Order, Registry, Replica, Role, Tier};
-use record_batch::{Rec, build, built_head_tells};
+use record_batch::{
+    BatchRefusal, Rec, build, built_head_tells, check, checked_is_batch, stamp,
+    stamp_sets_base_and_epoch,
+};
 use std::alloc::{AllocError, Global};
 use tier_base::{BrokerId, Row};
 
@@ -65,6 +72,28 @@ fn acking(role: Role) -> Option<u32>
     }
 }
 
+/// Checks bytes from outside, and answers how many records the batch has.
+fn count_checked(bytes: &[u8]) -> Result<u32, BatchRefusal>
+    ensures ok { IfOk result (λ count. IsOk (checked bytes.now) × (count ≡ last_offset_delta_of bytes.now + 1) × (61 ≤ length bytes.now)) }
+    ensures err { (cause : BatchCause) → IsErrOf result cause → checked bytes.now ≡ Err cause }
+{
+    checked_is_batch();
+    let head = check(bytes)?;
+    Ok(head.last_offset_delta.cast_unsigned() + 1)
+}
+
+/// Copies a batch, placed at a base offset and in a leader epoch.
+fn placed(alloc: Global, bytes: &[u8], base: u64, epoch: u32) -> Result<Vec<u8>, AllocError>
+    requires { 61 ≤ length bytes.now }
+    ensures is { IfOk result (λ batch. batch.items ≡ stamped bytes.now base epoch) }
+    ensures fields { IfOk result (λ batch. SetsBaseAndEpoch bytes.now base epoch) }
+{
+    stamp_sets_base_and_epoch();
+    let mut batch = Vec::from_slice(alloc, bytes)?;
+    stamp(batch.as_mut_slice(), base, epoch);
+    Ok(batch)
+}
+
 impl Held {
     /// Makes a partition of one broker, which leads epoch 0.
     pub(crate) fn fresh(alloc: Global) -> Result<Held, AllocError>
@@ -106,9 +135,12 @@ impl Held {
         let b = order.broker.0 as usize;
         match &order.command {
             Command::Append(recs) => self.append(alloc, b, recs.as_slice()),
+            Command::Raw(bytes) => self.raw(alloc, b, bytes.as_slice()),
             Command::Flush => Ok(self.flush(b)),
             Command::Ack => Ok(self.ack(b)),
             Command::Fetch { offset, limit } => self.fetch(alloc, b, *offset, *limit),
+            // No list of a world has another command, by the condition on its lists.
+            _ => Err(AllocError),
         }
     }
 
@@ -117,7 +149,7 @@ impl Held {
     fn append(&mut self, alloc: Global, b: usize, recs: &[Rec]) -> Result<Answer, AllocError>
         requires node { b < length self.old.nodes }
         requires fit { IsBuildable recs.now }
-        ensures row { IfOk result (λ answer. AtNode self.old b (λ x. AppendRow self.old b x recs.now answer self.new)) }
+        ensures row { IfOk result (λ answer. AtNode self.old b (λ x. AppendRow self.old b x (built recs.now) answer self.new)) }
         ensures err { OnErr result (self.new ≡ self.old) }
     {
         built_head_tells();
@@ -136,6 +168,34 @@ impl Held {
         let Ok(batch) = build(alloc, base, epoch, recs) else {
             return Err(AllocError);
         };
+        self.nodes.at_mut(b).log.push(batch, end)?;
+        Ok(Answer::OkSpan(base, end - 1, epoch as u64))
+    }
+
+    /// Appends bytes from outside to the leader's log, where they are a batch.
+    #[tactic(auto, using(crate::proofs::Writes::set_same))]
+    fn raw(&mut self, alloc: Global, b: usize, bytes: &[u8]) -> Result<Answer, AllocError>
+        requires node { b < length self.old.nodes }
+        ensures row { IfOk result (λ answer. AtNode self.old b (λ x. RawRow self.old b x bytes.now answer self.new)) }
+        ensures err { OnErr result (self.new ≡ self.old) }
+    {
+        let node = self.nodes.get(b);
+        if !node.up {
+            return Ok(Answer::Down);
+        }
+        let Role::Leads(epoch) = node.role else {
+            return Ok(Answer::NotLeader);
+        };
+        let count = match count_checked(bytes) {
+            Ok(count) => count,
+            Err(why) => return Ok(Answer::Refused(why)),
+        };
+        let base = node.log.end();
+        let end = base + count as u64;
+        if end > OFFSET_LIMIT {
+            return Ok(Answer::LastOffset);
+        }
+        let batch = placed(alloc, bytes, base, epoch)?;
         self.nodes.at_mut(b).log.push(batch, end)?;
         Ok(Answer::OkSpan(base, end - 1, epoch as u64))
     }

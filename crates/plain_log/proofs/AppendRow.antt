@@ -1,5 +1,5 @@
--- An append by a leader.
-use Rattle.std.proofs.Common.{◌≡◌, ◌≢◌, ◌⊎◌, inl, inr, subst, ℕ, ◌≤◌, ◌<◌, ◌^◌, ◌+◌, ◌==◌, List, [], ◌∷◌, ◌++◌, length, Some, Option, slice_get, Bool, true, false, ◌&&◌, if◌then◌else◌, refl, ap, sym, ◌∙◌, arith}
+-- An append by a leader, of records or of bytes from outside.
+use Rattle.std.proofs.Common.{◌≡◌, ◌≢◌, ◌⊎◌, inl, inr, subst, ℕ, ◌≤◌, ◌<◌, ◌^◌, ◌+◌, ◌==◌, List, [], ◌∷◌, ◌++◌, length, Some, Option, Result, Ok, Err, slice_get, Bool, true, false, ◌&&◌, if◌then◌else◌, refl, ap, sym, ◌∙◌, arith}
 use Rattle.std.specs.Prelude.{unwrap_or}
 use Rattle.std.proofs.lemmas.Bool.Decides.{nat_tests}
 use mathlib.Core.List.{IsPrefix}
@@ -7,17 +7,19 @@ use Rattle.log_terms.specs.Batch.{base_of, epoch_of, last_offset_delta_of}
 use Rattle.log_terms.specs.Log.{end_of}
 use Rattle.log_terms.proofs.Lists.{get-set, each-set, length-slice_set, prefix_self, prefix_trans, prefix_snoc, snoc_last}
 use Rattle.log_terms.proofs.Logs.{consecutive_snoc, ends_more}
+use Rattle.record_batch.specs.Check.{Batch}
 use Rattle.record_batch.specs.Stamp.{stamped}
+use Rattle.record_batch.specs.declared.refusal.BatchRefusal.{BatchRefusal}
 use Rattle.record_batch.proofs.StampLaws.{sets_base_and_epoch}
 use Rattle.plain_log.specs.declared.answer.Answer.{Answer}
-use Rattle.plain_log.specs.declared.answer.Answer.TheVariants.{Down, NotLeader, LastOffset, OkSpan}
+use Rattle.plain_log.specs.declared.answer.Answer.TheVariants.{Down, NotLeader, Refused, LastOffset, OkSpan}
 use Rattle.plain_log.specs.declared.state.State.{State}
 use Rattle.plain_log.specs.declared.state.Path.{Path}
 use Rattle.plain_log.specs.declared.state.Broker.{Broker}
 use Rattle.plain_log.specs.declared.state.Role.{Role}
 use Rattle.plain_log.specs.declared.state.Role.TheVariants.{Idle, Leads, Follows, Joined}
 use Rattle.plain_log.specs.State.{path_of, longer, leads_in, epoch_limit}
-use Rattle.plain_log.specs.Rows.{offset_limit, has_room, gained, append_row}
+use Rattle.plain_log.specs.Rows.{offset_limit, has_room, gained, append_row, raw_row}
 use Rattle.plain_log.specs.Safe.{Has, LogSafe, PathSafe, BrokerSafe, AckSafe, current, KnownSafe, NotedSafe, PlainSafe}
 use Rattle.plain_log.proofs.Options.{both, le_of, eq_of}
 use Rattle.plain_log.proofs.Silent.{silent, by_when}
@@ -241,3 +243,12 @@ append_safe p b x batch (OkSpan base last n) q at long e s =
     (x.up && leads_in n x.role && has_room x batch && (base == end_of x.log) && (last == base + last_offset_delta_of batch)) e
     (λ w. appended_safe p b x batch base n at long (appends_of x batch base last n w) s)
 append_safe p b x batch other q at long e s = absurd cc
+
+-- the row of raw
+pub raw_safe : (p : State) (b : ℕ) (x : Broker) (bytes : List ℕ) (reading : Result Batch BatchRefusal) (answer : Answer) (q : State) → slice_get p.brokers b ≡ Some x
+    → ((batch : Batch) → reading ≡ Ok batch → 61 ≤ length bytes) → raw_row p b x bytes reading answer ≡ Some q → PlainSafe p → PlainSafe q
+raw_safe p b x bytes (Ok batch) answer q at long e s = append_safe p b x bytes answer q at (long batch refl) e s
+raw_safe p b x bytes (Err why) Down q at long e s = silent p q _ e s
+raw_safe p b x bytes (Err why) NotLeader q at long e s = silent p q _ e s
+raw_safe p b x bytes (Err why) (Refused cause) q at long e s = silent p q _ e s
+raw_safe p b x bytes (Err why) other q at long e s = absurd cc

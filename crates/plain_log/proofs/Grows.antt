@@ -1,21 +1,24 @@
 -- What is committed only grows while elections are clean, and each run is a part of it.
-use Rattle.std.proofs.Common.{◌≡◌, ◌∙◌, sym, ap, subst, refl, ℕ, ◌+◌, ◌-◌, ◌<◌, ◌≤◌, ◌==◌, nat_lt, List, [], ◌∷◌, ◌++◌, length, Some, None, Option, slice_get, Bool, true, false, ◌&&◌, arith, append_assoc}
-use Rattle.std.specs.Prelude.{nat_le, is_none}
+use Rattle.std.proofs.Common.{◌≡◌, ◌∙◌, sym, ap, subst, refl, ℕ, ◌+◌, ◌-◌, ◌<◌, ◌≤◌, ◌==◌, nat_lt, List, [], ◌∷◌, ◌++◌, length, Some, None, Option, Result, Ok, Err, slice_get, Bool, true, false, ◌&&◌, arith, append_assoc}
+use Rattle.std.specs.Prelude.{nat_le, is_none, bytes_eq}
 use Rattle.std.specs.Option.{option_and_then}
 use Rattle.std.specs.List.{AllByRecursion}
 use Rattle.std.proofs.lemmas.Bool.Decides.{nat_tests}
+use Rattle.std.proofs.lemmas.Slice.Eq.{bytes_eq-Decides}
 use mathlib.Core.List.{IsPrefix}
 use Rattle.tier_base.specs.declared.plain.Stop.{Stop}
 use Rattle.log_terms.specs.Batch.{base_of, last_of}
 use Rattle.log_terms.specs.Log.{IsConsecutive, end_from, end_of, joined, from_offset}
 use Rattle.log_terms.proofs.Lists.{and_then_some, prefix_self, prefix_trans}
 use Rattle.log_terms.proofs.Logs.{nested, end_append}
+use Rattle.record_batch.specs.Check.{Batch, checked}
+use Rattle.record_batch.specs.declared.refusal.BatchRefusal.{BatchRefusal}
 use Rattle.plain_log.specs.declared.answer.Answer.{Answer}
-use Rattle.plain_log.specs.declared.answer.Answer.TheVariants.{OkAt, OkSpan, Down, NotLeader, LastOffset, NotJoined, StaleEpoch, Stopped, OutOfRange, Empty, Run}
+use Rattle.plain_log.specs.declared.answer.Answer.TheVariants.{OkAt, OkSpan, Down, NotLeader, Refused, LastOffset, NotJoined, StaleEpoch, Stopped, OutOfRange, Empty, Run}
 use Rattle.plain_log.specs.declared.answer.Tier.{Tier}
 use Rattle.plain_log.specs.declared.command.ActorList.{ActorList}
 use Rattle.plain_log.specs.declared.command.Command.{Command}
-use Rattle.plain_log.specs.declared.command.Command.TheVariants.{Append, Flush, Ack, Fetch}
+use Rattle.plain_log.specs.declared.command.Command.TheVariants.{Append, Raw, Flush, Ack, Fetch}
 use Rattle.plain_log.specs.declared.command.Order.{Order}
 use Rattle.plain_log.specs.declared.journal.Event.{Event}
 use Rattle.plain_log.specs.declared.journal.Event.TheVariants.{Begins, Answers}
@@ -26,8 +29,8 @@ use Rattle.plain_log.specs.declared.state.Broker.{Broker}
 use Rattle.plain_log.specs.declared.state.Actor.{Actor}
 use Rattle.plain_log.specs.declared.state.Noted.{Noted}
 use Rattle.plain_log.specs.State.{when, path_of, actor_at}
-use Rattle.plain_log.specs.Fetch.{same_bytes, fitting, run_of, is_within, stops_rightly, is_run}
-use Rattle.plain_log.specs.Rows.{append_row, flush_row, ack_row, fetch_row, row}
+use Rattle.plain_log.specs.Fetch.{fitting, run_of, is_within, stops_rightly, is_run}
+use Rattle.plain_log.specs.Rows.{append_row, raw_row, flush_row, ack_row, fetch_row, row}
 use Rattle.plain_log.specs.Step.{begins, event_step, step}
 use Rattle.plain_log.specs.Runs.{order_of, entry_step, replay}
 use Rattle.plain_log.specs.Safe.{PlainSafe}
@@ -50,6 +53,13 @@ append_goes p b x batch NotLeader q e = silent_goes p q _ e
 append_goes p b x batch LastOffset q e = silent_goes p q _ e
 append_goes p b x batch (OkSpan base last n) q e = subst (λ (k : State). Goes p k) (when_some _ _ q e).1 (record { grows = prefix_self p.committed; unclean = refl })
 append_goes p b x batch other q e = absurd cc
+
+raw_goes : (p : State) (b : ℕ) (x : Broker) (bytes : List ℕ) (reading : Result Batch BatchRefusal) (answer : Answer) (q : State) → raw_row p b x bytes reading answer ≡ Some q → Goes p q
+raw_goes p b x bytes (Ok batch) answer q e = append_goes p b x bytes answer q e
+raw_goes p b x bytes (Err why) Down q e = silent_goes p q _ e
+raw_goes p b x bytes (Err why) NotLeader q e = silent_goes p q _ e
+raw_goes p b x bytes (Err why) (Refused cause) q e = silent_goes p q _ e
+raw_goes p b x bytes (Err why) other q e = absurd cc
 
 flush_goes : (p : State) (b : ℕ) (x : Broker) (answer : Answer) (q : State) → flush_row p b x answer ≡ Some q → Goes p q
 flush_goes p b x Down q e = silent_goes p q _ e
@@ -84,9 +94,11 @@ fetch_goes p x offset limit (Some noted) other q e = absurd cc
 row_goes : (p : State) (b : ℕ) (x : Broker) (r : Replica) (noted : Option Noted) (command : Command) (answer : Answer) (q : State)
     → slice_get p.brokers b ≡ Some x → slice_get p.registry.replicas b ≡ Some r → PlainSafe p → row p b x r noted command answer ≡ Some q → Goes p q
 row_goes p b x r noted (Append recs) answer q bx br s e = append_goes p b x _ answer q e
+row_goes p b x r noted (Raw bytes) answer q bx br s e = raw_goes p b x bytes (checked bytes) answer q e
 row_goes p b x r noted Flush answer q bx br s e = flush_goes p b x answer q e
 row_goes p b x r noted Ack answer q bx br s e = ack_goes p b x r answer q bx br s e
 row_goes p b x r noted (Fetch offset limit) answer q bx br s e = fetch_goes p x offset limit noted answer q e
+row_goes p b x r noted other answer q bx br s e = absurd cc
 
 event_goes : (p : State) (a : ℕ) (y : Actor) (order : Order) (x : Broker) (r : Replica) (event : Event) (q : State)
     → slice_get p.brokers order.broker.0 ≡ Some x → slice_get p.registry.replicas order.broker.0 ≡ Some r → PlainSafe p → event_step p a y order x r event ≡ Some q → Goes p q
@@ -104,15 +116,6 @@ step_goes p order entry q e s =
     event_goes p entry.actor.0 (actor_at p.actors entry.actor.0) order h.broker h.replica entry.event q h.at h.place s h.event
 
 -- a run is a part of what its broker knows to be committed
-
-bytes_same : (bs cs : List ℕ) → same_bytes bs cs ≡ true → bs ≡ cs
-bytes_same [] [] e = refl
-bytes_same [] (c ∷ cs) e = absurd cc
-bytes_same (b ∷ bs) [] e = absurd cc
-bytes_same (b ∷ bs) (c ∷ cs) e =
-    let h = both (b == c) (same_bytes bs cs) e in
-    let here : b ≡ c = grind (arith, nat_tests, h.0) in
-    cc (here, bytes_same bs cs h.1)
 
 fitting_prefix : (room : ℕ) (log : List (List ℕ)) → IsPrefix (fitting room log) log
 fitting_prefix room [] = ([], refl)
@@ -169,11 +172,11 @@ pub record RunTests (x : Broker) (offset limit size : ℕ) (bytes : List ℕ) : 
 run_tests : (x : Broker) (offset limit size : ℕ) (stop : Stop) (bytes : List ℕ) → is_run x offset limit size stop bytes ≡ true → RunTests x offset limit size bytes
 run_tests x offset limit size stop bytes e =
     let run = run_of x offset size in
-    let t1 = both ((size == length bytes) && same_bytes (joined run) bytes && is_within limit run && nat_le (end_of run) x.known) (stops_rightly x offset limit size stop) e in
-    let t2 = both ((size == length bytes) && same_bytes (joined run) bytes && is_within limit run) (nat_le (end_of run) x.known) t1.0 in
-    let t3 = both ((size == length bytes) && same_bytes (joined run) bytes) (is_within limit run) t2.0 in
-    let t4 = both (size == length bytes) (same_bytes (joined run) bytes) t3.0 in
-    record { is = bytes_same (joined run) bytes t4.1; some = t3.1; below = le_of (end_of run) x.known t2.1 }
+    let t1 = both ((size == length bytes) && bytes_eq (joined run) bytes && is_within limit run && nat_le (end_of run) x.known) (stops_rightly x offset limit size stop) e in
+    let t2 = both ((size == length bytes) && bytes_eq (joined run) bytes && is_within limit run) (nat_le (end_of run) x.known) t1.0 in
+    let t3 = both ((size == length bytes) && bytes_eq (joined run) bytes) (is_within limit run) t2.0 in
+    let t4 = both (size == length bytes) (bytes_eq (joined run) bytes) t3.0 in
+    record { is = (bytes_eq-Decides (joined run) bytes).0 t4.1; some = t3.1; below = le_of (end_of run) x.known t2.1 }
 
 part_of : (p : State) (b : ℕ) (x : Broker) (offset limit size : ℕ) (stop : Stop) (bytes : List ℕ) → slice_get p.brokers b ≡ Some x → PlainSafe p → p.unclean ≡ false
     → is_run x offset limit size stop bytes ≡ true → IsPartAt offset bytes p.committed

@@ -1,13 +1,15 @@
 -- What a replay keeps, and the order in which it answers commands.
-use Rattle.std.proofs.Common.{◌≡◌, ◌≢◌, subst, ℕ, ◌+◌, ◌<◌, ◌≤◌, ◌==◌, List, [], ◌∷◌, ◌++◌, length, add-zero, Some, None, Option, Bool, true, false, refl, ap, sym, ◌∙◌, arith}
+use Rattle.std.proofs.Common.{◌≡◌, ◌≢◌, subst, ℕ, ◌+◌, ◌<◌, ◌≤◌, ◌==◌, List, [], ◌∷◌, ◌++◌, length, add-zero, Some, None, Option, Result, Ok, Err, Bool, true, false, refl, ap, sym, ◌∙◌, arith}
 use Rattle.std.specs.Prelude.{is_none}
 use Rattle.std.specs.Option.{option_and_then}
 use Rattle.std.proofs.lemmas.Bool.Decides.{nat_tests}
 use Rattle.log_terms.proofs.Lists.{and_then_some, within}
+use Rattle.record_batch.specs.Check.{Batch, checked}
+use Rattle.record_batch.specs.declared.refusal.BatchRefusal.{BatchRefusal}
 use Rattle.plain_log.specs.declared.answer.Answer.{Answer}
-use Rattle.plain_log.specs.declared.answer.Answer.TheVariants.{OkAt, OkSpan, Down, NotLeader, LastOffset, NotJoined, StaleEpoch, Stopped, OutOfRange, Empty, Run}
+use Rattle.plain_log.specs.declared.answer.Answer.TheVariants.{OkAt, OkSpan, Down, NotLeader, Refused, LastOffset, NotJoined, StaleEpoch, Stopped, OutOfRange, Empty, Run}
 use Rattle.plain_log.specs.declared.command.Command.{Command}
-use Rattle.plain_log.specs.declared.command.Command.TheVariants.{Append, Flush, Ack, Fetch}
+use Rattle.plain_log.specs.declared.command.Command.TheVariants.{Append, Raw, Flush, Ack, Fetch}
 use Rattle.plain_log.specs.declared.command.Order.{Order}
 use Rattle.plain_log.specs.declared.command.ActorList.{ActorList}
 use Rattle.plain_log.specs.declared.journal.Event.{Event}
@@ -19,7 +21,7 @@ use Rattle.plain_log.specs.declared.state.Broker.{Broker}
 use Rattle.plain_log.specs.declared.state.Actor.{Actor}
 use Rattle.plain_log.specs.declared.state.Noted.{Noted}
 use Rattle.plain_log.specs.State.{when, path_of, actor_at}
-use Rattle.plain_log.specs.Rows.{append_row, flush_row, ack_row, fetch_row, row}
+use Rattle.plain_log.specs.Rows.{append_row, raw_row, flush_row, ack_row, fetch_row, row}
 use Rattle.plain_log.specs.Step.{begins, event_step, step}
 use Rattle.plain_log.specs.Runs.{orders_of, order_of, entry_step, replay, answered, number_before, numbers_from}
 use Rattle.plain_log.specs.Safe.{PlainSafe}
@@ -54,6 +56,13 @@ append_actors p b x batch LastOffset q e = silent_actors p q _ e
 append_actors p b x batch (OkSpan base last n) q e = ap (λ (k : State). k.actors) (sym (when_some _ _ q e).1)
 append_actors p b x batch other q e = absurd cc
 
+raw_actors : (p : State) (b : ℕ) (x : Broker) (bytes : List ℕ) (reading : Result Batch BatchRefusal) (answer : Answer) (q : State) → raw_row p b x bytes reading answer ≡ Some q → q.actors ≡ p.actors
+raw_actors p b x bytes (Ok batch) answer q e = append_actors p b x bytes answer q e
+raw_actors p b x bytes (Err why) Down q e = silent_actors p q _ e
+raw_actors p b x bytes (Err why) NotLeader q e = silent_actors p q _ e
+raw_actors p b x bytes (Err why) (Refused cause) q e = silent_actors p q _ e
+raw_actors p b x bytes (Err why) other q e = absurd cc
+
 flush_actors : (p : State) (b : ℕ) (x : Broker) (answer : Answer) (q : State) → flush_row p b x answer ≡ Some q → q.actors ≡ p.actors
 flush_actors p b x Down q e = silent_actors p q _ e
 flush_actors p b x (OkAt n) q e = ap (λ (k : State). k.actors) (sym (when_some _ _ q e).1)
@@ -85,9 +94,11 @@ fetch_actors p x offset limit (Some noted) other q e = absurd cc
 -- a row leaves the actors alone
 pub row_actors : (p : State) (b : ℕ) (x : Broker) (r : Replica) (noted : Option Noted) (command : Command) (answer : Answer) (q : State) → row p b x r noted command answer ≡ Some q → q.actors ≡ p.actors
 row_actors p b x r noted (Append recs) answer q e = append_actors p b x _ answer q e
+row_actors p b x r noted (Raw bytes) answer q e = raw_actors p b x bytes (checked bytes) answer q e
 row_actors p b x r noted Flush answer q e = flush_actors p b x answer q e
 row_actors p b x r noted Ack answer q e = ack_actors p b x r answer q e
 row_actors p b x r noted (Fetch offset limit) answer q e = fetch_actors p x offset limit noted answer q e
+row_actors p b x r noted other answer q e = absurd cc
 
 -- the actor's numbers go on by one with each answer, and with nothing else
 

@@ -5,10 +5,12 @@ use Rattle.std.specs.Option.{option_and_then}
 use Rattle.std.proofs.lemmas.Bool.Decides.{nat_tests}
 use Rattle.log_terms.proofs.Lists.{and_then_some, get-set}
 use Rattle.record_batch.specs.Build.{built}
+use Rattle.record_batch.specs.Check.{checked}
 use Rattle.record_batch.proofs.BuildLaws.{built_long}
+use Rattle.record_batch.proofs.Passing.{is_batch_of}
 use Rattle.plain_log.specs.declared.answer.Answer.{Answer}
 use Rattle.plain_log.specs.declared.command.Command.{Command}
-use Rattle.plain_log.specs.declared.command.Command.TheVariants.{Append, Flush, Ack, Fetch}
+use Rattle.plain_log.specs.declared.command.Command.TheVariants.{Append, Raw, Flush, Ack, Fetch}
 use Rattle.plain_log.specs.declared.command.Order.{Order}
 use Rattle.plain_log.specs.declared.journal.Event.{Event}
 use Rattle.plain_log.specs.declared.journal.Event.TheVariants.{Begins, Answers}
@@ -27,7 +29,7 @@ use Rattle.plain_log.specs.Step.{begins, noted_of, is_noted, event_step, next_ac
 use Rattle.plain_log.specs.Safe.{RoleSafe, NotedSafe, PlainSafe, is_leaders}
 use Rattle.plain_log.proofs.Options.{when_some, map_some, both}
 use Rattle.plain_log.proofs.Swaps.{Swap, put_safe, swap_same}
-use Rattle.plain_log.proofs.AppendRow.{append_safe}
+use Rattle.plain_log.proofs.AppendRow.{append_safe, raw_safe}
 use Rattle.plain_log.proofs.AckRow.{ack_safe}
 use Rattle.plain_log.proofs.OtherRows.{flush_safe, fetch_safe}
 
@@ -35,9 +37,11 @@ use Rattle.plain_log.proofs.OtherRows.{flush_safe, fetch_safe}
 pub row_safe : (p : State) (b : ℕ) (x : Broker) (r : Replica) (noted : Option Noted) (command : Command) (answer : Answer) (q : State)
     → slice_get p.brokers b ≡ Some x → slice_get p.registry.replicas b ≡ Some r → row p b x r noted command answer ≡ Some q → PlainSafe p → PlainSafe q
 row_safe p b x r noted (Append recs) answer q bx br e s = append_safe p b x (built recs) answer q bx (built_long recs) e s
+row_safe p b x r noted (Raw bytes) answer q bx br e s = raw_safe p b x bytes (checked bytes) answer q bx (λ batch is. (is_batch_of bytes batch is).long) e s
 row_safe p b x r noted Flush answer q bx br e s = flush_safe p b x answer q bx e s
 row_safe p b x r noted Ack answer q bx br e s = ack_safe p b x r answer q bx br e s
 row_safe p b x r noted (Fetch offset limit) answer q bx br e s = fetch_safe p x offset limit noted answer q e s
+row_safe p b x r noted other answer q bx br e s = absurd cc
 
 -- what was written of an actor stands there
 pub actor_put : (actors : List Actor) (a : ℕ) (y : Actor) → actor_at (put_actor actors a y) a ≡ y

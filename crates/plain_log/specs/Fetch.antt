@@ -2,7 +2,7 @@
 --
 -- A run begins with the batch that holds the offset, ends at or below the high watermark that the broker knows, has at
 -- least one batch, and otherwise only as many as fit the limit.
-use Rattle.std.specs.Prelude.{ℕ, ◌+◌, ◌-◌, ◌==◌, ◌&&◌, not, nat_lt, nat_le, Bool, true, false, List, [], ◌∷◌, length, take, Option, Some, None, if◌then◌else◌}
+use Rattle.std.specs.Prelude.{ℕ, ◌+◌, ◌-◌, ◌==◌, ◌&&◌, not, nat_lt, nat_le, Bool, true, false, List, [], ◌∷◌, length, take, Option, Some, None, if◌then◌else◌, bytes_eq}
 use Rattle.tier_base.specs.declared.plain.Stop.{Stop}
 use Rattle.tier_base.specs.declared.plain.Stop.TheVariants.{Mark, Piece, Limit}
 use Rattle.log_terms.specs.Log.{end_of, joined, from_offset}
@@ -28,13 +28,6 @@ in_range p x offset = nat_le p.registry.start offset && nat_le offset (end_of x.
 -- a fetch at the offset is answered by a run
 abbrev pub gives_run : State → Broker → ℕ → Option Noted → Bool
 gives_run p x offset noted = serves x noted && in_range p x offset && nat_lt offset x.known
-
--- two byte strings are one
-abbrev pub same_bytes : List ℕ → List ℕ → Bool
-same_bytes [] [] = true
-same_bytes (b ∷ bs) (c ∷ cs) = (b == c) && same_bytes bs cs
-same_bytes [] (c ∷ cs) = false
-same_bytes (b ∷ bs) [] = false
 
 -- the first batches that fit the room
 abbrev pub fitting : ℕ → List (List ℕ) → List (List ℕ)
@@ -62,5 +55,5 @@ stops_rightly x offset limit size Limit =
 -- these bytes are a run, of this size and with this stop
 abbrev pub is_run : Broker → ℕ → ℕ → ℕ → Stop → List ℕ → Bool
 is_run x offset limit size stop bytes =
-    (size == length bytes) && same_bytes (joined (run_of x offset size)) bytes && is_within limit (run_of x offset size)
+    (size == length bytes) && bytes_eq (joined (run_of x offset size)) bytes && is_within limit (run_of x offset size)
     && nat_le (end_of (run_of x offset size)) x.known && stops_rightly x offset limit size stop

@@ -1,3 +1,4 @@
+pub mod Causes
 pub mod State
 pub mod Orders
 pub mod Rows

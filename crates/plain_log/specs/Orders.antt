@@ -2,16 +2,20 @@
 use Rattle.std.specs.Prelude.{◌≤◌, ◌<◌, ◌^◌, List, [], ◌∷◌, length, All}
 use Rattle.record_batch.specs.Build.{IsBuildable}
 use Rattle.plain_log.specs.declared.command.Command.{Command}
-use Rattle.plain_log.specs.declared.command.Command.TheVariants.{Append, Fetch}
+use Rattle.plain_log.specs.declared.command.Command.TheVariants.{Append, Raw, Flush, Ack, Fetch}
 use Rattle.plain_log.specs.declared.command.Order.{Order}
 use Rattle.plain_log.specs.declared.command.ActorList.{ActorList}
 use Rattle.plain_log.specs.declared.command.Config.{Config}
 
--- a command's numbers are in range, and the records of an append make a batch
+-- a world can carry the command out: its numbers are in range, and the records of an append make a batch; a command
+-- that has no row yet can't be
 abbrev pub IsInRange : Command → Type 0
 IsInRange (Append recs) = IsBuildable recs
+IsInRange (Raw bytes) = length bytes ≤ 1048576
+IsInRange Flush = Unit {0}
+IsInRange Ack = Unit {0}
 IsInRange (Fetch offset limit) = (offset ≤ 4611686018427387904) × (limit ≤ 2147483647)
-IsInRange other = Unit {0}
+IsInRange other = ⊥
 
 -- the order is in range, and goes to a broker of the configuration
 pub record IsOrderFor (config : Config) (order : Order) : Type 0 where

@@ -4,24 +4,30 @@
 -- in which they are made: a later answer is allowed only where no earlier one is.
 --
 --   append   Down, NotLeader, LastOffset, OkSpan
+--   raw      Down, NotLeader, Refused, LastOffset, OkSpan
 --   flush    Down, OkAt
 --   ack      Down, NotJoined, StaleEpoch, OkAt
 --   fetch    Down at its first turn and Stopped at a later one, NotLeader, OutOfRange, Empty, Run
-use Rattle.std.specs.Prelude.{ℕ, ◌+◌, ◌==◌, ◌&&◌, not, nat_le, min, Bool, List, [], ◌∷◌, ◌++◌, Option, Some, None, slice_set, is_some, is_none}
+--
+-- The other commands have no row yet: no answer of theirs is allowed.
+use Rattle.std.specs.Prelude.{ℕ, ◌+◌, ◌==◌, ◌&&◌, not, nat_le, min, Bool, List, [], ◌∷◌, ◌++◌, Option, Some, None, Result, Ok, Err, slice_set, is_some, is_none}
 use Rattle.std.specs.Option.{option_and_then}
 use Rattle.log_terms.specs.Batch.{last_offset_delta_of}
 use Rattle.log_terms.specs.Log.{end_of, up_to}
 use Rattle.record_batch.specs.Build.{built}
+use Rattle.record_batch.specs.Check.{Batch, checked}
 use Rattle.record_batch.specs.Stamp.{stamped}
+use Rattle.record_batch.specs.declared.refusal.BatchRefusal.{BatchRefusal}
 use Rattle.plain_log.specs.declared.answer.Answer.{Answer}
-use Rattle.plain_log.specs.declared.answer.Answer.TheVariants.{OkAt, OkSpan, Down, NotLeader, LastOffset, NotJoined, StaleEpoch, Stopped, OutOfRange, Empty, Run}
+use Rattle.plain_log.specs.declared.answer.Answer.TheVariants.{OkAt, OkSpan, Down, NotLeader, Refused, LastOffset, NotJoined, StaleEpoch, Stopped, OutOfRange, Empty, Run}
 use Rattle.plain_log.specs.declared.command.Command.{Command}
-use Rattle.plain_log.specs.declared.command.Command.TheVariants.{Append, Flush, Ack, Fetch}
+use Rattle.plain_log.specs.declared.command.Command.TheVariants.{Append, Raw, Flush, Ack, Fetch}
 use Rattle.plain_log.specs.declared.state.State.{State}
 use Rattle.plain_log.specs.declared.state.Replica.{Replica}
 use Rattle.plain_log.specs.declared.state.Broker.{Broker}
 use Rattle.plain_log.specs.declared.state.Noted.{Noted}
 use Rattle.plain_log.specs.State.{when, leads, leads_in, acking, put_broker, path_of, longer, is_stale, mark_over}
+use Rattle.plain_log.specs.Causes.{same_cause}
 use Rattle.plain_log.specs.Fetch.{is_on, serves, in_range, gives_run, is_run}
 
 -- the greatest log end offset
@@ -36,7 +42,7 @@ gained p b x e batch = record p { paths = longer p.paths e batch; brokers = slic
 abbrev pub has_room : Broker → List ℕ → Bool
 has_room x batch = nat_le (end_of x.log + last_offset_delta_of batch + 1) offset_limit
 
--- a batch, made at base offset 0 and epoch 0, is appended
+-- a batch is appended: placed at the log's end, in the leader's epoch
 abbrev pub append_row : State → ℕ → Broker → List ℕ → Answer → Option State
 append_row p b x batch Down = when (not x.up) p
 append_row p b x batch NotLeader = when (x.up && not (leads x.role)) p
@@ -45,6 +51,14 @@ append_row p b x batch (OkSpan base last e) =
     when (x.up && leads_in e x.role && has_room x batch && (base == end_of x.log) && (last == base + last_offset_delta_of batch))
     (gained p b x e (stamped batch base e))
 append_row p b x batch other = None
+
+-- bytes from outside are appended where they are a batch, and else refused with the first test that they fail
+abbrev pub raw_row : State → ℕ → Broker → List ℕ → Result Batch BatchRefusal → Answer → Option State
+raw_row p b x bytes (Ok batch) answer = append_row p b x bytes answer
+raw_row p b x bytes (Err why) Down = when (not x.up) p
+raw_row p b x bytes (Err why) NotLeader = when (x.up && not (leads x.role)) p
+raw_row p b x bytes (Err why) (Refused cause) = when (x.up && leads x.role && same_cause cause why) p
+raw_row p b x bytes (Err why) other = None
 
 -- all of the log becomes stable
 abbrev pub flush_row : State → ℕ → Broker → Answer → Option State
@@ -91,6 +105,8 @@ fetch_row p x offset limit noted other = None
 -- the state after an answer to a command of broker b, but for the actor's own numbers
 abbrev pub row : State → ℕ → Broker → Replica → Option Noted → Command → Answer → Option State
 row p b x s noted (Append recs) answer = append_row p b x (built recs) answer
+row p b x s noted (Raw bytes) answer = raw_row p b x bytes (checked bytes) answer
 row p b x s noted Flush answer = flush_row p b x answer
 row p b x s noted Ack answer = ack_row p b x s answer
 row p b x s noted (Fetch offset limit) answer = fetch_row p x offset limit noted answer
+row p b x s noted other answer = None

@@ -1,5 +1,6 @@
 //! What a script asks of a partition: commands, each to a broker, in a list for each actor.
 
+use bytes::Bytes;
 use record_batch::Rec;
 use tier_base::{ActorId, BrokerId, Keep, Row, Settings};
 
@@ -16,18 +17,71 @@ pub struct Config {
     pub local_keep: Keep,
 }
 
+/// Which offset is asked for (Kafka's ListOffsets).
+#[derive(Clone, Copy, Debug, PartialEq, Eq)]
+pub enum Which {
+    /// The log start offset.
+    Earliest,
+    /// The high watermark that the leader knows.
+    Latest,
+    /// The first offset that the local log has.
+    EarliestLocal,
+    /// The last offset that a finished copy has.
+    LatestTiered,
+    /// That of the first record at or past this timestamp, in milliseconds.
+    At(i64),
+}
+
 /// A command to a broker.
 #[derive(Debug, Drop)]
 pub enum Command {
     /// The leader appends the batch of these records.
     Append(Row<Rec>),
+    /// The leader appends these bytes, where they are a batch.
+    Raw(Bytes),
     /// The broker makes its log stable up to its end.
     Flush,
+    /// The broker closes its open log segment, and begins the next.
+    Roll,
+    /// The broker is elected from the replicas in sync.
+    Elect,
+    /// The broker is elected, in sync or not.
+    Unclean,
+    /// The broker learns who leads.
+    Learn,
+    /// A follower brings its log to where it meets the leader's.
+    Join,
+    /// A follower that has joined copies batches from the leader, as many as fit `limit` bytes, and at least one.
+    Follow { limit: u32 },
     /// The broker acknowledges its stable end, which may raise the high watermark.
     Ack,
+    /// The broker leaves the replicas in sync.
+    Shrink,
+    /// The broker comes back to the replicas in sync.
+    Expand,
+    /// The leader copies its next closed segment to the remote tier.
+    Copy,
+    /// The broker drops its oldest closed segment, where local retention and the remote tier allow it.
+    Trim,
+    /// The leader deletes what is below the log start offset from the remote tier, or raises that offset by retention.
+    Expire,
+    /// The leader raises the log start offset (Kafka's DeleteRecords).
+    Raise { start: u64 },
+    /// The partition's clock is set, in milliseconds.
+    Clock { ms: i64 },
+    /// The broker stops.
+    Stop,
+    /// The broker comes up.
+    Up,
     /// The leader gives the batches from the one on that holds the offset, as many as fit `limit` bytes, and at least
     /// one.
     Fetch { offset: u64, limit: u32 },
+    /// Whether copies put a segment's parts into one object.
+    Pack(bool),
+    /// Whether segments are copied to the remote tier at all.
+    Copying(bool),
+    /// The leader answers an offset.
+    Offset(Which),
 }
 
 /// A command, and the broker that it goes to.
@@ -42,4 +96,13 @@ pub struct Order {
 pub struct ActorList {
     pub actor: ActorId,
     pub orders: Row<Order>,
+}
+
+/// How far a schedule steps an actor.
+#[derive(Clone, Copy, Debug, PartialEq, Eq)]
+pub enum Pace {
+    /// Until it has answered so many of its commands.
+    Until { actor: ActorId, number: u32 },
+    /// So many times.
+    Times { actor: ActorId, turns: u32 },
 }

@@ -14,8 +14,8 @@ mod journal;
 mod laws;
 mod state;
 
-pub use answer::{Answer, Tier};
-pub use command::{ActorList, Command, Config, Order};
+pub use answer::{Answer, Place, Tier};
+pub use command::{ActorList, Command, Config, Order, Pace, Which};
 pub use journal::{Event, Journal, JournalEntry};
 pub use laws::{
     committed_grows, fresh_is_safe, replays_keep_safe, runs_answer_in_order, runs_are_committed,
