@@ -1,144 +1,124 @@
--- What is read is fit to be run.
-use Rattle.std.proofs.Common.{◌≡◌, sym, refl, ℕ, ◌+◌, ◌-◌, ◌^◌, ◌<◌, ◌≤◌, List, [], ◌∷◌, Bool, true, false, cond, Option, Some, None, length, arith, add-one}
-use Rattle.std.specs.Prelude.{Ok, Err, IfSome, IfOk, All, option_map, nat_le, ◌&&◌, bytes_eq, codes}
-use Rattle.std.specs.declared.result.Result.{Result}
-use Rattle.std.proofs.lemmas.Bool.{and_parts, leb-true}
-use Rattle.std.proofs.lemmas.List.Elements.{All-cons, All-nil}
-use Rattle.record_batch.specs.Build.{IsBuildable}
-use Rattle.plain_log.specs.declared.command.Command.{Command}
+-- A script that was read is fit to be run.
+use Rattle.std.proofs.Common.{◌≡◌, ◌∙◌, sym, ap, refl, ℕ, zero, suc, ◌+◌, ◌<◌, ◌≤◌, min, List, [], ◌∷◌, ◌++◌, length, arith, take}
+use Rattle.std.specs.Prelude.{All, Option, Some, None}
+use Rattle.std.proofs.lemmas.List.{length-take}
+use Rattle.std.proofs.lemmas.List.Elements.{All-nil, All-head, All-tail, All-push, All-weaker, All-take}
+use Rattle.log_terms.proofs.Lists.{length-slice_set}
+use Rattle.tier_base.specs.declared.names.PartitionId.{PartitionId}
+use Rattle.plain_log.specs.declared.command.ActorList.{ActorList}
+use Rattle.plain_log.specs.declared.command.Config.{Config}
 use Rattle.plain_log.specs.declared.command.Order.{Order}
-use Rattle.plain_log.specs.Orders.{IsInRange, IsOrderFor, IsListFor, AreListsFor, IsConfig}
-use Rattle.script_lang.specs.declared.refusal.ScriptRefusal.{ScriptRefusal}
-use Rattle.script_lang.specs.declared.verb.Verb.{Verb}
-use Rattle.script_lang.specs.declared.verb.Verb.TheVariants as verb
-use Rattle.script_lang.specs.declared.script.Script.{Script}
-use Rattle.script_lang.specs.Words.{◌>>=◌, parts_of, number_in, value_in, behind_colon, is_number, is_value, value_of, only_one, only_two, only_three}
-use Rattle.script_lang.specs.Forms.{rec_of, rec_in, append_in, fetch_in, verb_of, form_of, form_in, behind_zero, command_in, order_of, order_in}
-use Rattle.script_lang.specs.Script.{before, line_first, tail_in, orders_from, commands_in, lists_of, default_config, IsFit, Reads}
-use Rattle.script_lang.proofs.FromFront.{length-parts_of}
-use Rattle.script_lang.proofs.SmallBatch.{one-buildable}
+use Rattle.plain_log.specs.Orders.{IsOrderFor, IsListFor, AreRising, AreListsFor}
+use Rattle.script_lang.specs.declared.actors.Slot.{Slot}
+use Rattle.script_lang.specs.declared.script.PartScript.{PartScript}
+use Rattle.script_lang.specs.Forms.{partitions_of}
+use Rattle.script_lang.specs.Script.{Told, slot_at, empty_part, part_with, parts_with_list, parts_with_lists, config_of, script_of}
+use Rattle.script_lang.specs.Fit.{AreNumbered, IsSound, IsFit}
+use Rattle.script_lang.proofs.Sound.{all-set-with, numbered-set}
 
--- what holds of each second reading holds of what is read
-bound : {A B : Type 0} (P : B → Type 0) (o : Option A) (f : A → Option B) → ((x : A) → o ≡ Some x → IfSome (f x) P) → IfSome (o >>= f) P
-bound P (Some x) f h = h x refl
-bound P None f h = tt
+-- lists that can be run, of actors below this one
+record AreBelow (config : Config) (actor : ℕ) (part : PartScript) : Type 0 where
+  fit : AreListsFor config part.lists
+  below : All (λ (l : ActorList). l.actor.0 < actor) part.lists
 
-within-cases : (limit n : ℕ) (t : Bool) → t ≡ nat_le n limit → IfSome (cond t (Some n) None) (λ m. m ≤ limit)
-within-cases limit n true h = leb-true n limit (sym h)
-within-cases limit n false h = tt
+-- an actor's orders can be run
+record IsRunnable (config : Config) (orders : List Order) : Type 0 where
+  few : length orders ≤ 65536
+  each : All (IsOrderFor config) orders
 
-number-cases : (limit n : ℕ) (s t : Bool) → t ≡ nat_le n limit → IfSome (cond (s && t) (Some n) None) (λ m. m ≤ limit)
-number-cases limit n true t h = within-cases limit n t h
-number-cases limit n false t h = tt
+rising-more : (lists : List ActorList) (l : ActorList) → AreRising lists → All (λ (m : ActorList). m.actor.0 < l.actor.0) lists → AreRising (lists ++ l ∷ [])
+rising-more [] l rising below = tt
+rising-more (m ∷ []) l rising below = (All-head (λ (m : ActorList). m.actor.0 < l.actor.0) m [] below, tt)
+rising-more (m ∷ k ∷ lists) l rising below = (rising.0, rising-more (k ∷ lists) l rising.1 (All-tail (λ (m : ActorList). m.actor.0 < l.actor.0) m (k ∷ lists) below))
 
-number-within : (limit : ℕ) (word : List ℕ) → IfSome (number_in limit word) (λ n. n ≤ limit)
-unfolding number_in
-number-within limit word = number-cases limit (value_of 0 word) (is_number word) (nat_le (value_of 0 word) limit) refl
+below-more : (config : Config) (actor : ℕ) (part : PartScript) → AreBelow config actor part → AreBelow config (actor + 1) part
+below-more config actor part h = record {
+  fit = h.fit;
+  below = All-weaker (λ (l : ActorList). l.actor.0 < actor) (λ (l : ActorList). l.actor.0 < actor + 1) (λ l lt. omega (arith, lt)) part.lists h.below;
+}
 
-value-cases : (bytes : List ℕ) (t : Bool) → t ≡ is_value bytes → IfSome (cond t (Some bytes) None) (λ value. length value ≤ 1000)
-unfolding is_value
-value-cases bytes true h = leb-true (length bytes) 1000 (and_parts _ _ (and_parts _ _ (sym h)).0).1
-value-cases bytes false h = tt
-
-value-short : (word : List ℕ) → IfSome (value_in word) (λ value. length value ≤ 1000)
-unfolding value_in
-value-short word = bound _ (behind_colon word) _ (λ bytes at. value-cases bytes (is_value bytes) refl)
-
-some-if : {A : Type 0} (P : A → Type 0) (o : Option A) (x : A) → IfSome o P → o ≡ Some x → P x
-some-if P None x h e = absurd (cc)
-some-if P (Some y) x h e = let same : y ≡ x = cc in rw (← same) h
-
-if-cases : {A : Type 0} (P : A → Type 0) (t : Bool) (x : A) → P x → IfSome (cond t (Some x) None) P
-if-cases P true x h = h
-if-cases P false x h = tt
-
-rec-small : (word : List ℕ) → IfSome (rec_in word) (λ rec. IsBuildable (rec ∷ []))
-unfolding rec_in
-rec-small word =
-    bound _ (only_three (parts_of 44 word)) _ (λ parts at. bound _ (number_in (2 ^ 63 - 1) parts.0) _ (λ ts tsat. bound _ (value_in parts.2) _ (λ value vat.
-    if-cases _ (bytes_eq parts.1 (codes "-")) (rec_of ts value) (one-buildable ts value (some-if _ (value_in parts.2) value (value-short parts.2) vat)))))
-
-append-fits : (words : List (List ℕ)) → IfSome (append_in words) IsInRange
-unfolding append_in
-append-fits words = bound _ (only_one words) _ (λ word at. bound _ (rec_in word) _ (λ rec rat. some-if _ (rec_in word) rec (rec-small word) rat))
-
-fetch-fits : (words : List (List ℕ)) → IfSome (fetch_in words) IsInRange
-unfolding fetch_in
-fetch-fits words =
-    bound _ (only_two words) _ (λ pair at. bound _ (number_in (2 ^ 62) pair.0) _ (λ offset oat. bound _ (number_in (2 ^ 31 - 1) pair.1) _ (λ limit lat.
-    (some-if _ (number_in (2 ^ 62) pair.0) offset (number-within (2 ^ 62) pair.0) oat, some-if _ (number_in (2 ^ 31 - 1) pair.1) limit (number-within (2 ^ 31 - 1) pair.1) lat))))
-
-form-fits : (v : Option Verb) (words : List (List ℕ)) → IfSome (form_of v words) IsInRange
-form-fits None words = tt
-form-fits (Some verb.Append) words = append-fits words
-form-fits (Some verb.Flush) [] = tt
-form-fits (Some verb.Flush) (word ∷ words) = tt
-form-fits (Some verb.Ack) [] = tt
-form-fits (Some verb.Ack) (word ∷ words) = tt
-form-fits (Some verb.Fetch) words = fetch-fits words
-
-words-fit : (words : List (List ℕ)) → IfSome (form_in words) IsInRange
-words-fit [] = tt
-words-fit (name ∷ words) = form-fits (verb_of name) words
-
-command-fits : (words : List (List ℕ)) → IfSome (command_in words) IsInRange
-unfolding command_in
-command-fits words = bound _ (behind_zero words) _ (λ partition pat. bound _ (behind_zero partition) _ (λ broker bat. bound _ (behind_zero broker) _ (λ form fat. words-fit form)))
-
-order-cases : (command : Option Command) → IfSome command IsInRange → IfSome (option_map order_of command) (IsOrderFor default_config)
-order-cases None h = tt
-order-cases (Some command) h = record { broker = omega arith; command = h }
-
-order-fits : (line : List ℕ) → IfSome (order_in line) (IsOrderFor default_config)
-order-fits line = order-cases (command_in (parts_of 32 line)) (command-fits (parts_of 32 line))
-
--- orders that fit, and no more of them than there are lines
-record AreFew (most : ℕ) (orders : List Order) : Type 0 where
-  each : All (IsOrderFor default_config) orders
-  few : length orders ≤ most
-
-before-few : (most : ℕ) (order : Order) (later : Result (List Order) ℕ) → IsOrderFor default_config order → IfOk later (AreFew most) → IfOk (before order later) (AreFew (most + 1))
-before-few most order (Ok orders) h few = record { each = All-cons (IsOrderFor default_config) order orders h few.each; few = omega (arith, few.few) }
-before-few most order (Err number) h few = tt
-
-line-few : (most number : ℕ) (found : Option Order) (later : Result (List Order) ℕ) → IfSome found (IsOrderFor default_config) → IfOk later (AreFew most) → IfOk (line_first found number later) (AreFew (most + 1))
-line-few most number None later h few = tt
-line-few most number (Some order) later h few = before-few most order later h few
-
-tail-few : (most number : ℕ) (tail : List ℕ) → IfOk (tail_in number tail) (AreFew most)
-tail-few most number [] = record { each = All-nil (IsOrderFor default_config); few = omega arith }
-tail-few most number (b ∷ bytes) = tt
-
-orders-few : (number : ℕ) (lines : List (List ℕ)) → IfOk (orders_from number lines) (AreFew (length lines))
-orders-few number [] = record { each = All-nil (IsOrderFor default_config); few = omega arith }
-orders-few number (tail ∷ []) = tail-few 1 number tail
-orders-few number (line ∷ next ∷ lines) = rw (← add-one (length (next ∷ lines))) (line-few (length (next ∷ lines)) number (order_in line) (orders_from (number + 1) (next ∷ lines)) (order-fits line) (orders-few (number + 1) (next ∷ lines)))
-
-if-ok : {A E : Type 0} (P : A → Type 0) (r : Result A E) (x : A) → IfOk r P → r ≡ Ok x → P x
-if-ok P (Err e) x h is = absurd (cc)
-if-ok P (Ok y) x h is = let same : y ≡ x = cc in rw (← same) h
-
-read-few : (bytes : List ℕ) (orders : List Order) → commands_in bytes ≡ Ok orders → AreFew (length (parts_of 10 bytes)) orders
-unfolding commands_in
-read-few bytes orders read = if-ok (AreFew (length (parts_of 10 bytes))) (orders_from 1 (parts_of 10 bytes)) orders (orders-few 1 (parts_of 10 bytes)) read
-
--- the lists of a script that isn't too long
-pub lists-fit : (bytes : List ℕ) (orders : List Order) → length bytes < 2 ^ 32 - 1 → commands_in bytes ≡ Ok orders → AreListsFor default_config (lists_of orders)
-lists-fit bytes orders short read =
-    let few = read-few bytes orders read in
+part-more : (config : Config) (actor : ℕ) (orders : List Order) → actor < 64 → IsRunnable config orders → (part : PartScript) → AreBelow config actor part → AreBelow config (actor + 1) (part_with part actor orders)
+part-more config actor orders lt runs part h =
+    let l : ActorList = record { actor = record { 0 = actor }; orders = orders } in
     record {
-      rising = tt;
-      each = All-cons (IsListFor default_config) _ [] (record { actor = omega arith; few = omega (arith, few.few, length-parts_of 10 bytes, short); orders = few.each }) (All-nil (IsListFor default_config));
+      fit = record {
+        rising = rising-more part.lists l h.fit.rising h.below;
+        each = All-push (IsListFor config) part.lists l h.fit.each (record { actor = lt; few = omega (arith, runs.few); orders = runs.each });
+      };
+      below = All-push (λ (m : ActorList). m.actor.0 < actor + 1) part.lists l (below-more config actor part h).below (omega arith);
     }
 
--- the configuration that every script has
-pub default-is-config : IsConfig default_config
-default-is-config = record { some = omega arith; few = omega arith }
+list-more : (config : Config) (actor : ℕ) (partition : Option PartitionId) (orders : List Order) → actor < 64 → IsRunnable config orders → (parts : List PartScript) → All (AreBelow config actor) parts
+    → All (AreBelow config (actor + 1)) (parts_with_list parts actor partition orders)
+list-more config actor None orders lt runs parts h = All-weaker (AreBelow config actor) (AreBelow config (actor + 1)) (below-more config actor) parts h
+list-more config actor (Some partition) orders lt runs parts h =
+    all-set-with (AreBelow config actor) (AreBelow config (actor + 1)) (λ (part : PartScript). part_with part actor orders) (below-more config actor) (part-more config actor orders lt runs) parts partition.0 (empty_part partition.0) h
 
--- a script that was read is fit to be run
-pub read-fits : (bytes : List ℕ) (result : Result Script ScriptRefusal) → length bytes < 2 ^ 32 - 1 → Reads bytes result → IfOk result IsFit
-read-fits bytes (Ok script) short read = record {
-  config = rw read.config default-is-config;
-  lists = rw (read.config, read.lists) (lists-fit bytes read.orders short read.read);
+lists-more : (config : Config) (slots : List Slot) (actor : ℕ) → actor + length slots ≤ 64 → ((a : ℕ) → IsRunnable config (slot_at slots a).orders) → (parts : List PartScript) → All (AreBelow config actor) parts
+    → All (λ (part : PartScript). AreListsFor config part.lists) (parts_with_lists parts actor slots)
+lists-more config [] actor lt runs parts h = All-weaker (AreBelow config actor) (λ (part : PartScript). AreListsFor config part.lists) (λ part below. below.fit) parts h
+lists-more config (slot ∷ slots) actor lt runs parts h =
+    lists-more config slots (actor + 1) (omega (arith, lt)) (λ a. runs (suc a)) (parts_with_list parts actor slot.partition slot.orders) (list-more config actor slot.partition slot.orders (omega (arith, lt)) (runs 0) parts h)
+
+list-numbered : (parts : List PartScript) (actor : ℕ) (partition : Option PartitionId) (orders : List Order) → AreNumbered 0 parts → AreNumbered 0 (parts_with_list parts actor partition orders)
+list-numbered parts actor None orders h = h
+list-numbered parts actor (Some partition) orders h = numbered-set (λ (part : PartScript). part_with part actor orders) (λ part. refl) 0 partition.0 (empty_part partition.0) parts h
+
+lists-numbered : (slots : List Slot) (parts : List PartScript) (actor : ℕ) → AreNumbered 0 parts → AreNumbered 0 (parts_with_lists parts actor slots)
+lists-numbered [] parts actor h = h
+lists-numbered (slot ∷ slots) parts actor h = lists-numbered slots (parts_with_list parts actor slot.partition slot.orders) (actor + 1) (list-numbered parts actor slot.partition slot.orders h)
+
+list-count : (parts : List PartScript) (actor : ℕ) (partition : Option PartitionId) (orders : List Order) → length (parts_with_list parts actor partition orders) ≡ length parts
+list-count parts actor None orders = refl
+list-count parts actor (Some partition) orders = length-slice_set parts partition.0 _
+
+lists-count : (slots : List Slot) (parts : List PartScript) (actor : ℕ) → length (parts_with_lists parts actor slots) ≡ length parts
+lists-count [] parts actor = refl
+lists-count (slot ∷ slots) parts actor = lists-count slots (parts_with_list parts actor slot.partition slot.orders) (actor + 1) ∙ list-count parts actor slot.partition slot.orders
+
+numbered-take : (k n : ℕ) (parts : List PartScript) → AreNumbered n parts → AreNumbered n (take k parts)
+numbered-take zero n parts h = tt
+numbered-take (suc k) n [] h = tt
+numbered-take (suc k) n (part ∷ parts) h = (h.0, numbered-take k (n + 1) parts h.1)
+
+no-lists : (config : Config) (part : PartScript) → part.lists ≡ [] → AreBelow config 0 part
+no-lists config part is = record {
+  fit = record { rising = rw is tt; each = rw is (All-nil (IsListFor config)) };
+  below = rw is (All-nil (λ (l : ActorList). l.actor.0 < 0));
 }
-read-fits bytes (Err refusal) short read = tt
+
+few-rest : (slots rest : List Slot) (slot : Slot) → slots ≡ slot ∷ rest → ((a : ℕ) → length (slot_at slots a).orders ≤ 65536) → (a : ℕ) → length (slot_at rest a).orders ≤ 65536
+few-rest [] rest slot is few a = absurd (cc)
+few-rest (s ∷ slots) rest slot is few a = let same : slots ≡ rest = cc in rw (← same) (few (suc a))
+
+-- one list more
+pub lists-step : (parts next : List PartScript) (actor after : ℕ) (slots rest : List Slot) (slot : Slot) (all : List PartScript) → slots ≡ slot ∷ rest → next ≡ parts_with_list parts actor slot.partition slot.orders
+    → after ≡ min (actor + 1) 65535 → actor + length slots ≡ 64 → ((a : ℕ) → length (slot_at slots a).orders ≤ 65536) → parts_with_lists parts actor slots ≡ all
+    → (after + length rest ≡ 64) × ((a : ℕ) → length (slot_at rest a).orders ≤ 65536) × (parts_with_lists next after rest ≡ all)
+lists-step parts next actor after slots rest slot all is put steps count few read =
+    let long : length slots ≡ length rest + 1 = omega (arith, ap (λ (ss : List Slot). length ss) is) in
+    let more : after ≡ actor + 1 = omega (arith, steps, count, long) in (
+      omega (arith, more, count, long),
+      few-rest slots rest slot is few,
+      rw (more, put) (sym (ap (parts_with_lists parts actor) is) ∙ read),
+    )
+
+-- the script of lines of which this holds
+pub script-fits : (t : Told) → IsSound t → IsFit (script_of t)
+script-fits t h =
+    let config = config_of t.options in
+    let count = partitions_of t.options in
+    let parts = parts_with_lists t.parts 0 t.actors in
+    let lists : All (λ (part : PartScript). AreListsFor config part.lists) parts =
+    lists-more config t.actors 0 (omega (arith, h.actors)) (λ a. record { few = omega (arith, h.few a, h.small.commands); each = h.orders a }) t.parts
+    (All-weaker (λ (part : PartScript). part.lists ≡ []) (AreBelow config 0) (no-lists config) t.parts h.empty) in
+    let long : length (take count parts) ≡ min count (length parts) = length-take count parts in
+    let all : length parts ≡ 64 = lists-count t.actors t.parts 0 ∙ h.parts in
+    record {
+      config = record { some = h.options.brokers.0; few = h.options.brokers.1 };
+      some = omega (arith, long, all, h.options.partitions.0);
+      few = omega (arith, long, all);
+      numbered = numbered-take count 0 parts (lists-numbered t.actors t.parts 0 h.numbered);
+      lists = All-take (λ (part : PartScript). AreListsFor config part.lists) count parts lists;
+      built = h.built;
+    }

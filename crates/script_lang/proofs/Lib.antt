@@ -1,5 +1,6 @@
-pub mod Splitting
 pub mod Capped
+pub mod Splitting
 pub mod FromFront
-pub mod SmallBatch
+pub mod Sound
 pub mod Fitting
+pub mod Spelled

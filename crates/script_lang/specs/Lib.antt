@@ -1,4 +1,11 @@
+pub mod Lines
 pub mod Words
-pub mod Parts
+pub mod Records
+pub mod Names
+pub mod Commands
 pub mod Forms
+pub mod Limits
 pub mod Script
+pub mod Fit
+pub mod Reading
+pub mod Spelling

@@ -1,68 +1,307 @@
--- A script: lines that give orders, each ended by a line feed.
-use Rattle.std.specs.Prelude.{◌≡◌, ℕ, ◌+◌, pos, negsuc, List, [], ◌∷◌, Option, Some, None, Result, Ok, Err}
-use Rattle.plain_log.specs.declared.command.Order.{Order}
-use Rattle.plain_log.specs.declared.command.ActorList.{ActorList}
+-- A script: what its lines say together, or the first line that has no reading, and why.
+--
+-- Of a line the first cause in this order is told:
+--
+--   1. NotText                            the line's bytes (Lines)
+--   2. Word, Number, Field, Hex           its words, from left to right (Words, Records, Commands, Forms)
+--   3. TooLate, Twice                     an option behind a command, later, turn or fault line; an option given again
+--   4. ActorPartition, NoActor            an actor with commands of another partition; turns of one without commands
+--   5. TooMany, BatchTooLarge, FetchSum, CopySum, TurnSum     the limits (Limits)
+--   6. Unbuilt                            a form that isn't built yet
+--
+-- Built are blank lines and comments, `partitions 1`, and of actor 0 append, raw, flush, ack and fetch.
+-- Not built yet are the other options and more partitions, the other actors, later, turn, fault, and the other commands.
+--
+-- Behind the last line each partition's schedule steps its actors in rising order, each to the end of its list.
+use Rattle.std.specs.Prelude.{◌≡◌, ℕ, zero, suc, ◌+◌, ◌==◌, ◌&&◌, Bool, true, false, if◌then◌else◌, is_some, ℤ, pos, negsuc, List, [], ◌∷◌, ◌++◌, length, replicate, take, Option, Some, None, Result, Ok, Err}
+use Rattle.std.specs.List.{slice_set, slice_index_or}
+use Rattle.std.specs.Option.{unwrap_or}
+use Rattle.std.specs.Ordering.{int_eq}
+use Rattle.tier_base.specs.declared.names.ActorId.{ActorId}
+use Rattle.tier_base.specs.declared.names.PartitionId.{PartitionId}
+use Rattle.tier_base.specs.declared.plain.Keep.{Keep}
+use Rattle.plain_log.specs.declared.command.Command.{Command}
+use Rattle.plain_log.specs.declared.command.Command.TheVariants.{Append, Raw, Flush, Ack, Fetch}
 use Rattle.plain_log.specs.declared.command.Config.{Config}
-use Rattle.plain_log.specs.Orders.{AreListsFor, IsConfig}
-use Rattle.script_lang.specs.declared.refusal.Why.TheVariants.{Unbuilt}
+use Rattle.plain_log.specs.declared.command.Order.{Order}
+use Rattle.plain_log.specs.declared.command.Pace.{Pace}
+use Rattle.plain_log.specs.declared.command.Pace.TheVariants.{Until, Times}
+use Rattle.script_lang.specs.declared.actors.Slot.{Slot}
+use Rattle.script_lang.specs.declared.counting.Counts.{Counts}
+use Rattle.script_lang.specs.declared.fault.Fault.{Fault}
+use Rattle.script_lang.specs.declared.form.Form.{Form}
+use Rattle.script_lang.specs.declared.form.Form.TheVariants.{Blank, Given, Placed, Turn, Faulty}
+use Rattle.script_lang.specs.declared.options.Options.{Options}
+use Rattle.script_lang.specs.declared.options.OptionLine.{OptionLine}
+use Rattle.script_lang.specs.declared.options.OptionLine.TheVariants.{Brokers, Partitions, SegmentBytes, IndexIntervalBytes, RetentionMs, RetentionBytes, LocalRetentionMs, LocalRetentionBytes}
+use Rattle.script_lang.specs.declared.refusal.Why.{Why}
+use Rattle.script_lang.specs.declared.refusal.Why.TheVariants.{TooLate, Twice, ActorPartition, NoActor, Unbuilt}
 use Rattle.script_lang.specs.declared.refusal.ScriptRefusal.{ScriptRefusal}
 use Rattle.script_lang.specs.declared.refusal.ScriptRefusal.TheVariants.{Bad, NoMemory}
+use Rattle.script_lang.specs.declared.script.PartScript.{PartScript}
 use Rattle.script_lang.specs.declared.script.Script.{Script}
-use Rattle.script_lang.specs.Words.{parts_of}
-use Rattle.script_lang.specs.Forms.{order_in}
+use Rattle.script_lang.specs.Words.{◌>>=◌, words_of}
+use Rattle.script_lang.specs.Lines.{lines_of, text_in}
+use Rattle.script_lang.specs.Forms.{form_in, brokers_of, partitions_of}
+use Rattle.script_lang.specs.Limits.{none_so_far, with_command, with_turns, within, turns_within, size_of}
 
--- an order, and those of the later lines
-abbrev pub before : Order → Result (List Order) ℕ → Result (List Order) ℕ
-before order (Ok orders) = Ok (order ∷ orders)
-before order (Err number) = Err number
+-- what the lines so far say. Actors and partitions stand at their numbers, 64 of each
+pub record Told : Type 0 where
+  pub options : Options
+  -- a command, later, turn or fault line was read
+  pub begun : Bool
+  pub sums : Counts
+  pub actors : List Slot
+  -- the schedule and the faults of each partition; its lists are empty yet
+  pub parts : List PartScript
 
--- the order of a line and those of the later lines, or the line's number where it has no reading
-abbrev pub line_first : Option Order → ℕ → Result (List Order) ℕ → Result (List Order) ℕ
-line_first None number later = Err number
-line_first (Some order) number later = before order later
+-- an actor without commands
+abbrev pub idle : Slot
+idle = record { partition = None; orders = [] }
 
--- what stands behind the last line feed: nothing, or a line that doesn't end
-abbrev pub tail_in : ℕ → List ℕ → Result (List Order) ℕ
-tail_in number [] = Ok []
-tail_in number (b ∷ bytes) = Err number
+-- what an actor was told
+abbrev pub slot_at : List Slot → ℕ → Slot
+slot_at actors actor = slice_index_or actors actor idle
 
--- the orders of lines that are numbered from this number on
-abbrev pub orders_from : ℕ → List (List ℕ) → Result (List Order) ℕ
-orders_from number [] = Ok []
-orders_from number (tail ∷ []) = tail_in number tail
-orders_from number (line ∷ next ∷ lines) = line_first (order_in line) number (orders_from (number + 1) (next ∷ lines))
+-- nothing is asked of this partition
+abbrev pub empty_part : ℕ → PartScript
+empty_part partition = record { partition = record { 0 = partition }; lists = []; schedule = []; faults = [] }
 
--- the orders of a script, or the number of its first line that has no reading
-unfoldable pub commands_in : List ℕ → Result (List Order) ℕ
-commands_in bytes = orders_from 1 (parts_of 10 bytes)
+-- so many partitions, from this number on
+abbrev pub empty_parts : ℕ → ℕ → List PartScript
+empty_parts partition zero = []
+empty_parts partition (suc count) = empty_part partition ∷ empty_parts (partition + 1) count
 
--- one list of all orders, which is actor 0's
-abbrev pub lists_of : List Order → List ActorList
-lists_of orders = (record { actor = record { 0 = 0 }; orders = orders }) ∷ []
+-- what was asked of a partition
+abbrev pub part_at : List PartScript → ℕ → PartScript
+part_at parts partition = slice_index_or parts partition (empty_part partition)
 
--- one broker, segments of 1 MiB with an index entry each 4 KiB, and all is kept for seven days
-abbrev pub default_config : Config
-default_config = record {
-  brokers = 1;
-  settings = record { segment_bytes = 1048576; index_interval = 4096 };
-  keep = record { ms = pos 604800000; bytes = negsuc 0 };
-  local_keep = record { ms = pos 604800000; bytes = negsuc 0 };
+-- one order more on an actor's list
+abbrev pub with_order : List Slot → ℕ → PartitionId → Order → List Slot
+with_order actors actor partition order = slice_set actors actor (record { partition = Some partition; orders = (slot_at actors actor).orders ++ order ∷ [] })
+
+-- one pace more in a partition's schedule
+abbrev pub with_pace : List PartScript → ℕ → Pace → List PartScript
+with_pace parts partition pace = slice_set parts partition (record (part_at parts partition) { schedule = (part_at parts partition).schedule ++ pace ∷ [] })
+
+-- one fault more of a partition's devices
+abbrev pub with_fault : List PartScript → ℕ → Fault → List PartScript
+with_fault parts partition fault = slice_set parts partition (record (part_at parts partition) { faults = (part_at parts partition).faults ++ fault ∷ [] })
+
+-- the option was given
+abbrev pub is_given : Options → OptionLine → Bool
+is_given options (Brokers n) = is_some options.brokers
+is_given options (Partitions n) = is_some options.partitions
+is_given options (SegmentBytes n) = is_some options.segment_bytes
+is_given options (IndexIntervalBytes n) = is_some options.index_interval_bytes
+is_given options (RetentionMs n) = is_some options.retention_ms
+is_given options (RetentionBytes n) = is_some options.retention_bytes
+is_given options (LocalRetentionMs n) = is_some options.local_retention_ms
+is_given options (LocalRetentionBytes n) = is_some options.local_retention_bytes
+
+-- an option stands before all commands, and once
+abbrev pub option_place : Bool → Bool → Result (Unit {0}) Why
+option_place true given = Err TooLate
+option_place false true = Err Twice
+option_place false false = Ok tt
+
+-- an actor has commands of one partition
+abbrev pub same_partition : Option PartitionId → PartitionId → Result (Unit {0}) Why
+same_partition None partition = Ok tt
+same_partition (Some other) partition = if other.0 == partition.0 then Ok tt else Err ActorPartition
+
+-- turns are an actor's that has commands
+abbrev pub known_actor : Option PartitionId → Result (Unit {0}) Why
+known_actor None = Err NoActor
+known_actor (Some partition) = Ok tt
+
+-- a form may stand behind the lines so far
+abbrev pub may_stand : Told → Form → Result (Unit {0}) Why
+may_stand t Blank = Ok tt
+may_stand t (Given option) = option_place t.begun (is_given t.options option)
+may_stand t (Placed actor partition order at_once) = same_partition (slot_at t.actors actor.0).partition partition
+may_stand t (Turn actor turns) = known_actor (slot_at t.actors actor.0).partition
+may_stand t (Faulty partition fault) = Ok tt
+
+-- the size of a segment, as far as it was given
+abbrev pub segment_bytes_of : Options → ℕ
+segment_bytes_of options = unwrap_or options.segment_bytes 1048576
+
+-- the counts with a form
+abbrev pub sums_with : ℕ → Counts → Form → Result Counts Why
+sums_with segment_bytes s Blank = Ok s
+sums_with segment_bytes s (Given option) = Ok s
+sums_with segment_bytes s (Placed actor partition order at_once) = within segment_bytes (with_command s order.command) (size_of order.command)
+sums_with segment_bytes s (Turn actor turns) = turns_within (with_turns s turns)
+sums_with segment_bytes s (Faulty partition fault) = Ok s
+
+-- the commands that are built
+abbrev pub is_built_command : Command → Bool
+is_built_command (Append recs) = true
+is_built_command (Raw bytes) = true
+is_built_command Flush = true
+is_built_command Ack = true
+is_built_command (Fetch offset limit) = true
+is_built_command other = false
+
+-- the options that are built
+abbrev pub is_built_option : OptionLine → Bool
+is_built_option (Partitions n) = n == 1
+is_built_option other = false
+
+-- the forms that are built
+abbrev pub is_built : Form → Bool
+is_built Blank = true
+is_built (Given option) = is_built_option option
+is_built (Placed actor partition order at_once) = at_once && actor.0 == 0 && is_built_command order.command
+is_built (Turn actor turns) = false
+is_built (Faulty partition fault) = false
+
+-- a form that is built
+abbrev pub built_form : Form → Result (Unit {0}) Why
+built_form form = if is_built form then Ok tt else Err Unbuilt
+
+-- the options with this one
+abbrev pub options_with : Options → OptionLine → Options
+options_with options (Brokers n) = record options { brokers = Some n }
+options_with options (Partitions n) = record options { partitions = Some n }
+options_with options (SegmentBytes n) = record options { segment_bytes = Some n }
+options_with options (IndexIntervalBytes n) = record options { index_interval_bytes = Some n }
+options_with options (RetentionMs n) = record options { retention_ms = Some n }
+options_with options (RetentionBytes n) = record options { retention_bytes = Some n }
+options_with options (LocalRetentionMs n) = record options { local_retention_ms = Some n }
+options_with options (LocalRetentionBytes n) = record options { local_retention_bytes = Some n }
+
+-- the schedule of an order that is put at once steps its actor until it has answered so many; that of a later one doesn't
+abbrev pub parts_stepped : List PartScript → Bool → ActorId → ℕ → ℕ → List PartScript
+parts_stepped parts false actor number partition = parts
+parts_stepped parts true actor number partition = with_pace parts partition (Until actor number)
+
+-- the partition of an actor that has one
+abbrev pub partition_or_first : Option PartitionId → ℕ
+partition_or_first None = 0
+partition_or_first (Some partition) = partition.0
+
+-- what the lines say with this form
+abbrev pub told_with : Told → Counts → Form → Told
+told_with t sums Blank = t
+told_with t sums (Given option) = record t { options = options_with t.options option }
+told_with t sums (Placed actor partition order at_once) = record t {
+  begun = true;
+  sums = sums;
+  actors = with_order t.actors actor.0 partition order;
+  parts = parts_stepped t.parts at_once actor (length (slot_at t.actors actor.0).orders + 1) partition.0;
+}
+told_with t sums (Turn actor turns) = record t {
+  begun = true;
+  sums = sums;
+  parts = with_pace t.parts (partition_or_first (slot_at t.actors actor.0).partition) (Times actor turns);
+}
+told_with t sums (Faulty partition fault) = record t { begun = true; parts = with_fault t.parts partition.0 fault }
+
+-- a form behind the lines so far
+unfoldable pub form_behind : Told → Form → Result Told Why
+form_behind t form = do
+  stands ← may_stand t form
+  sums ← sums_with (segment_bytes_of t.options) t.sums form
+  built ← built_form form
+  Ok (told_with t sums form)
+
+-- a line behind the lines so far
+unfoldable pub line_behind : Told → List ℕ → Result Told Why
+line_behind t line = do
+  text ← text_in line
+  form ← form_in t.options (words_of text)
+  form_behind t form
+
+-- the lines behind one that was read, or its number and why it wasn't
+abbrev pub go_on : Result Told Why → ℕ → (Told → Result Told (ℕ × Why)) → Result Told (ℕ × Why)
+go_on (Ok t) number rest = rest t
+go_on (Err why) number rest = Err (number, why)
+
+-- lines that are numbered from this number on, behind the lines so far
+abbrev pub lines_behind : Told → ℕ → List (List ℕ) → Result Told (ℕ × Why)
+lines_behind t number [] = Ok t
+lines_behind t number (line ∷ lines) = go_on (line_behind t line) number (λ next. lines_behind next (number + 1) lines)
+
+-- no line so far
+abbrev pub nothing_told : Told
+nothing_told = record {
+  options = record {
+    brokers = None;
+    partitions = None;
+    segment_bytes = None;
+    index_interval_bytes = None;
+    retention_ms = None;
+    retention_bytes = None;
+    local_retention_ms = None;
+    local_retention_bytes = None;
+  };
+  begun = false;
+  sums = none_so_far;
+  actors = replicate 64 idle;
+  parts = empty_parts 0 64;
 }
 
--- the script holds the orders of these bytes, and the configuration that every script has
-pub record IsScriptOf (bytes : List ℕ) (script : Script) : Type 0 where
-  pub orders : List Order
-  pub read : commands_in bytes ≡ Ok orders
-  pub lists : script.lists ≡ lists_of orders
-  pub config : script.config ≡ default_config
+-- a bound of the local log: -2 stands for the whole log's
+abbrev pub local_or_whole : ℤ → ℤ → ℤ
+local_or_whole local whole = if int_eq local (negsuc 1) then whole else local
 
--- a world can be made of the script's configuration, and can run its lists
-pub record IsFit (script : Script) : Type 0 where
-  pub config : IsConfig script.config
-  pub lists : AreListsFor script.config script.lists
+-- how long and how much of the whole log is kept
+abbrev pub keep_of : Options → Keep
+keep_of options = record { ms = unwrap_or options.retention_ms (pos 604800000); bytes = unwrap_or options.retention_bytes (negsuc 0) }
 
--- what the reader of a script answers: nothing else is refused, and want of memory alone is free
-abbrev pub Reads : List ℕ → Result Script ScriptRefusal → Type 0
-Reads bytes (Ok script) = IsScriptOf bytes script
-Reads bytes (Err (Bad line Unbuilt)) = commands_in bytes ≡ Err line
-Reads bytes (Err NoMemory) = Unit {0}
+-- how long and how much of the local log is kept
+abbrev pub local_keep_of : Options → Keep
+local_keep_of options = record {
+  ms = local_or_whole (unwrap_or options.local_retention_ms (negsuc 1)) (keep_of options).ms;
+  bytes = local_or_whole (unwrap_or options.local_retention_bytes (negsuc 1)) (keep_of options).bytes;
+}
+
+-- the options, each given or by default
+abbrev pub config_of : Options → Config
+config_of options = record {
+  brokers = brokers_of options;
+  settings = record { segment_bytes = segment_bytes_of options; index_interval = unwrap_or options.index_interval_bytes 4096 };
+  keep = keep_of options;
+  local_keep = local_keep_of options;
+}
+
+-- a partition with an actor's list, which its schedule steps to its end
+abbrev pub part_with : PartScript → ℕ → List Order → PartScript
+part_with part actor orders = record part {
+  lists = part.lists ++ (record { actor = record { 0 = actor }; orders = orders }) ∷ [];
+  schedule = part.schedule ++ (Until (record { 0 = actor }) (length orders)) ∷ [];
+}
+
+-- an actor's list stands in its partition
+abbrev pub parts_with_list : List PartScript → ℕ → Option PartitionId → List Order → List PartScript
+parts_with_list parts actor None orders = parts
+parts_with_list parts actor (Some partition) orders = slice_set parts partition.0 (part_with (part_at parts partition.0) actor orders)
+
+-- the lists of the actors from this one on, each in its partition
+abbrev pub parts_with_lists : List PartScript → ℕ → List Slot → List PartScript
+parts_with_lists parts actor [] = parts
+parts_with_lists parts actor (slot ∷ slots) = parts_with_lists (parts_with_list parts actor slot.partition slot.orders) (actor + 1) slots
+
+-- the script of what its lines say
+abbrev pub script_of : Told → Script
+script_of t = record {
+  config = config_of t.options;
+  parts = take (partitions_of t.options) (parts_with_lists t.parts 0 t.actors);
+}
+
+-- the script of lines that were read
+abbrev pub script_told : Result Told (ℕ × Why) → Result Script (ℕ × Why)
+script_told (Ok t) = Ok (script_of t)
+script_told (Err bad) = Err bad
+
+-- the script of these bytes, or the number of its first line without a reading, from 1 on, and why it has none
+unfoldable pub script_in : List ℕ → Result Script (ℕ × Why)
+script_in bytes = script_told (lines_behind nothing_told 1 (lines_of bytes))
+
+-- what is answered for this reading. Want of memory alone is free
+abbrev pub ReadsScript : {A : Type 0} → Result A ScriptRefusal → Result A (ℕ × Why) → Type 0
+ReadsScript (Ok x) reading = reading ≡ Ok x
+ReadsScript (Err (Bad line why)) reading = reading ≡ Err (line, why)
+ReadsScript (Err NoMemory) reading = Unit {0}

@@ -1,159 +1,174 @@
-//! The forms of a line.
+//! The forms of a line, each by its first word and the words behind it.
 
-ghost use Rattle.std.specs.Prelude.{◌≡◌, IfOk, if◌then◌else◌, Some, None};
-ghost use Rattle.script_lang.specs.Words.{parts_of};
-ghost use Rattle.script_lang.specs.Forms.{rec_in, append_in, fetch_in, bare_in, verb_of, form_of, form_in, behind_zero, command_in, order_in};
+ghost use Rattle.std.specs.Prelude.{◌≡◌, ◌-◌, ◌<◌, ◌≤◌, Ok, IfOk};
+ghost use Rattle.script_lang.specs.Reading.{Reads};
+ghost use Rattle.script_lang.specs.Forms.{brokers_of, partitions_of, common_in, addressed_in, order_in, placed_in, later_in, turn_in, form_led, form_in};
+ghost use Rattle.script_lang.specs.Fit.{IsSaidTo, IsFormInRange};
 
-use crate::numbers::{number, value};
-use crate::pieces::Pieces;
-use crate::verb::Verb;
-use plain_log::{Command, Order};
-use record_batch::Rec;
-use std::alloc::{AllocError, Global};
-use tier_base::{Blob, BrokerId, Row};
+use crate::commands::{command, common};
+use crate::faults::fault;
+use crate::form::Form;
+use crate::names::{Lead, find_lead, find_verb};
+use crate::numbers::number;
+use crate::options::{OptionLine, Options};
+use crate::refusal::{LineRefusal, Why};
+use crate::words::Words;
+use plain_log::Order;
+use std::alloc::Global;
+use tier_base::{ActorId, BrokerId, PartitionId};
 
-/// Reads a record.
-#[tactic(auto, unfolding(crate::specs::Forms::rec_in))]
-fn record(alloc: Global, word: &[u8]) -> Result<Option<Rec>, AllocError>
-    ensures { IfOk result (λ found. found ≡ rec_in word.now) }
+/// Reads a command of the whole partition.
+#[tactic(auto, unfolding(crate::specs::Forms::common_in))]
+fn common_order(brokers: u16, words: Words) -> Result<Order, Why>
+    requires { 1 ≤ brokers }
+    ensures value { result ≡ common_in words.entry }
+    ensures said { IfOk result (IsSaidTo brokers) }
 {
-    let Some((ts, key, spelled)) = Pieces::of(word, b',').three() else {
-        return Ok(None);
-    };
-    let Some(ts) = number(ts, (1 << 63) - 1) else {
-        return Ok(None);
-    };
-    let Some(bytes) = value(spelled) else {
-        return Ok(None);
-    };
-    if key != b"-".as_slice() {
-        return Ok(None);
-    }
-    Ok(Some(Rec {
-        ts: ts as i64,
-        key: None,
-        value: Some(Blob::from_slice(alloc, bytes)?),
-        headers: Row::new(alloc),
-    }))
-}
-
-/// Reads the words of append.
-#[tactic(auto, unfolding(crate::specs::Forms::append_in))]
-fn append(alloc: Global, words: Pieces) -> Result<Option<Command>, AllocError>
-    ensures { IfOk result (λ command. command ≡ append_in words.entry) }
-{
-    let Some(word) = words.one() else {
-        return Ok(None);
-    };
-    let Some(rec) = record(alloc, word)? else {
-        return Ok(None);
-    };
-    let mut recs = Row::new(alloc);
-    recs.push(rec)?;
-    Ok(Some(Command::Append(recs)))
-}
-
-/// Reads the words of fetch.
-#[tactic(auto, unfolding(crate::specs::Forms::fetch_in))]
-fn fetch(words: Pieces) -> Option<Command>
-    ensures { result ≡ fetch_in words.entry }
-{
-    let Some((offset, limit)) = words.two() else {
-        return None;
-    };
-    let Some(offset) = number(offset, 1 << 62) else {
-        return None;
-    };
-    let Some(limit) = number(limit, (1 << 31) - 1) else {
-        return None;
-    };
-    Some(Command::Fetch {
-        offset,
-        limit: limit as u32,
+    let mut words = words;
+    let verb = find_verb(words.first(Why::Word)?);
+    Ok(Order {
+        broker: BrokerId(0),
+        command: common(verb, words)?,
     })
 }
 
-/// Reads a command's name.
-#[tactic(auto, unfolding(crate::specs::Forms::verb_of))]
-fn verb(word: &[u8]) -> Option<Verb>
-    ensures { result ≡ verb_of word.now }
-{
-    if word == b"append".as_slice() {
-        return Some(Verb::Append);
-    }
-    if word == b"flush".as_slice() {
-        return Some(Verb::Flush);
-    }
-    if word == b"ack".as_slice() {
-        return Some(Verb::Ack);
-    }
-    if word == b"fetch".as_slice() {
-        return Some(Verb::Fetch);
-    }
-    None
-}
-
-/// Reads the words of a command that has none.
-fn bare(command: Command, words: Pieces) -> Option<Command>
-    ensures { result ≡ bare_in command words.entry }
-{
-    if words.is_done() { Some(command) } else { None }
-}
-
-/// Reads a command, name and words.
-fn form(alloc: Global, words: Pieces) -> Result<Option<Command>, AllocError>
-    ensures { IfOk result (λ command. command ≡ form_in words.entry) }
+/// Reads a broker, whose word is given, and a command that goes to it.
+#[tactic(auto, unfolding(crate::specs::Forms::addressed_in))]
+fn addressed_order(
+    alloc: Global,
+    brokers: u16,
+    word: &[u8],
+    words: Words,
+) -> Result<Order, LineRefusal>
+    requires { 1 ≤ brokers }
+    ensures value { Reads result (addressed_in brokers word.now words.entry) }
+    ensures said { IfOk result (IsSaidTo brokers) }
 {
     let mut words = words;
-    let Some(name) = words.first() else {
-        return Ok(None);
-    };
-    match verb(name) {
-        None => Ok(None),
-        Some(Verb::Append) => append(alloc, words),
-        Some(Verb::Flush) => Ok(bare(Command::Flush, words)),
-        Some(Verb::Ack) => Ok(bare(Command::Ack, words)),
-        Some(Verb::Fetch) => Ok(fetch(words)),
-    }
+    let broker = BrokerId(number(word, 0, brokers as u64 - 1, Why::Number)? as u16);
+    let verb = find_verb(words.first(Why::Word)?);
+    Ok(Order {
+        broker,
+        command: command(alloc, verb, words)?,
+    })
 }
 
-/// Takes the next word, and answers whether it is 0.
-fn take_zero(words: &mut Pieces) -> bool
-    ensures { behind_zero words.old ≡ (if result then Some words.new else None) }
+/// Reads a broker and a command.
+#[tactic(auto, unfolding(crate::specs::Forms::order_in))]
+fn order(alloc: Global, brokers: u16, words: Words) -> Result<Order, LineRefusal>
+    requires { 1 ≤ brokers }
+    ensures value { Reads result (order_in brokers words.entry) }
+    ensures said { IfOk result (IsSaidTo brokers) }
 {
-    match words.first() {
-        Some(word) => word == b"0".as_slice(),
-        None => false,
+    let mut words = words;
+    let word = words.first(Why::Word)?;
+    if word == b"-".as_slice() {
+        return Ok(common_order(brokers, words)?);
     }
+    addressed_order(alloc, brokers, word, words)
+}
+
+/// Reads partition, broker and command.
+#[tactic(auto, unfolding(crate::specs::Forms::placed_in))]
+fn placed(
+    alloc: Global,
+    options: Options,
+    at_once: bool,
+    actor: ActorId,
+    words: Words,
+) -> Result<Form, LineRefusal>
+    requires actor { actor.0 < 64 }
+    requires brokers { 1 ≤ brokers_of options }
+    ensures value { Reads result (placed_in options at_once actor.0 words.entry) }
+    ensures range { IfOk result (IsFormInRange options) }
+{
+    let mut words = words;
+    let partitions = options.partitions.unwrap_or(1);
+    let partition = PartitionId(words.number(0, partitions.saturating_sub(1) as u64)? as u16);
+    let order = order(alloc, options.brokers.unwrap_or(1), words)?;
+    Ok(Form::Placed {
+        actor,
+        partition,
+        order,
+        at_once,
+    })
+}
+
+/// Reads the words behind `later`.
+#[tactic(auto, unfolding(crate::specs::Forms::later_in))]
+fn later(alloc: Global, options: Options, words: Words) -> Result<Form, LineRefusal>
+    requires { 1 ≤ brokers_of options }
+    ensures value { Reads result (later_in options words.entry) }
+    ensures range { IfOk result (IsFormInRange options) }
+{
+    let mut words = words;
+    let actor = ActorId(words.number(0, 63)? as u16);
+    placed(alloc, options, false, actor, words)
+}
+
+/// Reads the words behind `turn`.
+#[tactic(auto, unfolding(crate::specs::Forms::turn_in))]
+fn turn(options: Options, words: Words) -> Result<Form, Why>
+    ensures value { result ≡ turn_in words.entry }
+    ensures range { IfOk result (IsFormInRange options) }
+{
+    let mut words = words;
+    let actor = ActorId(words.number(0, 63)? as u16);
+    let turns = words.only_number(1, 1 << 20)? as u32;
+    Ok(Form::Turn { actor, turns })
+}
+
+/// Reads the words behind a first word.
+fn form_behind(
+    alloc: Global,
+    options: Options,
+    lead: Lead,
+    word: &[u8],
+    words: Words,
+) -> Result<Form, LineRefusal>
+    requires { 1 ≤ brokers_of options }
+    ensures value { Reads result (form_led options lead word.now words.entry) }
+    ensures range { IfOk result (IsFormInRange options) }
+{
+    let option = match lead {
+        Lead::Comment => return Ok(Form::Blank),
+        Lead::Later => return later(alloc, options, words),
+        Lead::Turn => return Ok(turn(options, words)?),
+        Lead::Fault => return Ok(fault(options, words)?),
+        Lead::Actor => {
+            let actor = ActorId(number(word, 0, 63, Why::Number)? as u16);
+            return placed(alloc, options, true, actor, words);
+        }
+        Lead::Unknown => return Err(LineRefusal::Because(Why::Word)),
+        Lead::Brokers => OptionLine::Brokers(words.only_number(1, 8)? as u16),
+        Lead::Partitions => OptionLine::Partitions(words.only_number(1, 64)? as u16),
+        Lead::SegmentBytes => {
+            OptionLine::SegmentBytes(words.only_number(100, 16_777_216)? as u32)
+        }
+        Lead::IndexIntervalBytes => {
+            OptionLine::IndexIntervalBytes(words.only_number(0, 16_777_216)? as u32)
+        }
+        Lead::RetentionMs => OptionLine::RetentionMs(words.only_signed(1, (1 << 63) - 1)?),
+        Lead::RetentionBytes => OptionLine::RetentionBytes(words.only_signed(1, (1 << 63) - 1)?),
+        Lead::LocalRetentionMs => {
+            OptionLine::LocalRetentionMs(words.only_signed(2, (1 << 63) - 1)?)
+        }
+        Lead::LocalRetentionBytes => {
+            OptionLine::LocalRetentionBytes(words.only_signed(2, (1 << 63) - 1)?)
+        }
+    };
+    Ok(Form::Given(option))
 }
 
 /// Reads the words of a line.
-#[tactic(auto, unfolding(crate::specs::Forms::command_in))]
-fn command(alloc: Global, line: &[u8]) -> Result<Option<Command>, AllocError>
-    ensures { IfOk result (λ command. command ≡ command_in (parts_of 32 line.now)) }
+pub fn form(alloc: Global, options: Options, words: Words) -> Result<Form, LineRefusal>
+    requires { 1 ≤ brokers_of options }
+    ensures value { Reads result (form_in options words.entry) }
+    ensures range { IfOk result (IsFormInRange options) }
 {
-    let mut words = Pieces::of(line, b' ');
-    if !take_zero(&mut words) {
-        return Ok(None);
-    }
-    if !take_zero(&mut words) {
-        return Ok(None);
-    }
-    if !take_zero(&mut words) {
-        return Ok(None);
-    }
-    form(alloc, words)
-}
-
-/// Reads a line.
-pub fn order(alloc: Global, line: &[u8]) -> Result<Option<Order>, AllocError>
-    ensures { IfOk result (λ order. order ≡ order_in line.now) }
-{
-    let Some(command) = command(alloc, line)? else {
-        return Ok(None);
+    let mut words = words;
+    let Ok(word) = words.first(Why::Word) else {
+        return Ok(Form::Blank);
     };
-    Ok(Some(Order {
-        broker: BrokerId(0),
-        command,
-    }))
+    form_behind(alloc, options, find_lead(word), word, words)
 }

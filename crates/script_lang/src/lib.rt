@@ -1,20 +1,42 @@
-//! The script language: what a script's bytes ask for.
+//! Scripts: the options, commands, turns and faults that a simulation is made of, as lines of text.
 //!
-//! A script is lines, each of which gives an order. `specs/Forms.antt` has the forms of a line, and `specs/Script.antt`
-//! says which orders a script holds. What else the language will have is refused as not built yet.
+//! `parse` reads a whole script, or tells its first line that has no reading, and why. What each line says, and which
+//! of several causes is told, stands in the definitions: `Lines`, `Words`, `Names`, `Records`, `Commands` and `Forms`
+//! are the grammar, each with a table of its forms, and `Limits` and `Script` say what the lines come to together.
+//! `Fit` says what the crates above may take for granted of a script that was read.
 #![tactic(auto)]
 
+mod actors;
+mod built;
+mod commands;
+mod counting;
+mod fault;
+mod faults;
+mod fields;
+mod form;
 mod forms;
+mod laws;
+mod lines;
+mod names;
 mod numbers;
-mod pieces;
+mod options;
+mod partitions;
 mod reading;
+mod records;
 mod refusal;
 mod script;
-mod verb;
+mod told;
+mod words;
 
+pub use fault::{Fault, FaultCall, FaultDevice};
+pub use laws::lines_are_read_back;
 pub use reading::parse;
 pub use refusal::{ScriptRefusal, Why};
-pub use script::Script;
+pub use script::{PartScript, Script};
 
+#[cfg(test)]
+mod form_tests;
+#[cfg(test)]
+mod refusal_tests;
 #[cfg(test)]
 mod tests;

@@ -1,36 +1,22 @@
-//! Numbers and values among the words.
+//! Words of decimal digits.
 
-ghost use Rattle.std.specs.Prelude.{◌≡◌, ◌<◌, ◌≤◌, ◌-◌, ◌^◌, min, option_map, IfSome};
+ghost use Rattle.std.specs.Prelude.{◌≡◌, ◌-◌, ◌<◌, ◌≤◌, ◌^◌, min, IfOk};
 ghost use Rattle.std.specs.List.{list_all};
-ghost use Rattle.script_lang.specs.Words.{is_digit, is_letter, is_letter_or_digit, is_number, is_value, value_of, number_in, value_in, behind_colon};
-ghost use Rattle.script_lang.specs.Parts.{held};
+ghost use Rattle.script_lang.specs.Words.{is_digit, is_number, value_of, number_in, signed_in};
+
+use crate::refusal::Why;
 
 /// Answers whether a byte is a digit.
-fn is_digit(byte: u8) -> bool
+pub fn is_digit(byte: u8) -> bool
     ensures { result ≡ is_digit byte }
 {
     48 <= byte && byte <= 57
 }
 
-/// Answers whether a byte is a letter.
-fn is_letter(byte: u8) -> bool
-    ensures { result ≡ is_letter byte }
+fn all_digits(word: &[u8]) -> bool
+    ensures { result ≡ list_all is_digit word.now }
 {
-    (65 <= byte && byte <= 90) || (97 <= byte && byte <= 122)
-}
-
-/// Answers whether all bytes are digits.
-fn all_digits(bytes: &[u8]) -> bool
-    ensures { result ≡ list_all is_digit bytes.now }
-{
-    bytes.iter().all(|byte| is_digit(*byte))
-}
-
-/// Answers whether all bytes are letters or digits.
-fn all_letters_or_digits(bytes: &[u8]) -> bool
-    ensures { result ≡ list_all is_letter_or_digit bytes.now }
-{
-    bytes.iter().all(|byte| is_digit(*byte) || is_letter(*byte))
+    word.iter().all(|byte| is_digit(*byte))
 }
 
 /// Answers whether a word is one or more digits.
@@ -38,15 +24,7 @@ fn all_letters_or_digits(bytes: &[u8]) -> bool
 fn is_number(word: &[u8]) -> bool
     ensures { result ≡ is_number word.now }
 {
-    1 <= word.len() && all_digits(word)
-}
-
-/// Answers whether bytes may be a record's value.
-#[tactic(auto, unfolding(crate::specs::Words::is_value))]
-fn is_value(bytes: &[u8]) -> bool
-    ensures { result ≡ is_value bytes.now }
-{
-    1 <= bytes.len() && bytes.len() <= 1000 && all_letters_or_digits(bytes)
+    !word.is_empty() && all_digits(word)
 }
 
 /// Reckons the number of digits. It stops at the greatest `u64`.
@@ -62,37 +40,34 @@ fn value_of(digits: &[u8]) -> u64
     number
 }
 
-/// Reads a number, which may be no greater than the limit.
+/// Reads a number from `low` to `high`.
 #[tactic(auto, unfolding(crate::specs::Words::number_in))]
-pub fn number(word: &[u8], limit: u64) -> Option<u64>
-    requires { limit < 2 ^ 64 - 1 }
-    ensures value { result ≡ number_in limit word.now }
-    ensures within { IfSome result (λ n. n ≤ limit) }
+pub fn number(word: &[u8], low: u64, high: u64, why: Why) -> Result<u64, Why>
+    requires { high < 2 ^ 64 - 1 }
+    ensures value { result ≡ number_in low high word.now why }
+    ensures within { IfOk result (λ n. (low ≤ n) × (n ≤ high)) }
 {
     if !is_number(word) {
-        return None;
+        return Err(why);
     }
     let number = value_of(word);
-    if number <= limit { Some(number) } else { None }
-}
-
-/// Gives what stands behind a colon.
-fn behind_colon(word: &[u8]) -> Option<&[u8]>
-    ensures { option_map held result ≡ behind_colon word.now }
-{
-    match word {
-        [b':', bytes @ ..] => Some(bytes),
-        _ => None,
+    if number < low || number > high {
+        return Err(why);
     }
+    Ok(number)
 }
 
-/// Reads a value.
-#[tactic(auto, unfolding(crate::specs::Words::value_in))]
-pub fn value(word: &[u8]) -> Option<&[u8]>
-    ensures { option_map held result ≡ value_in word.now }
+/// Reads a number up to `high`, or one of `below` numbers below 0.
+#[tactic(auto, unfolding(crate::specs::Words::signed_in))]
+pub fn signed(word: &[u8], below: u64, high: u64, why: Why) -> Result<i64, Why>
+    requires { high < 2 ^ 63 }
+    ensures { result ≡ signed_in below high word.now why }
 {
-    let Some(bytes) = behind_colon(word) else {
-        return None;
-    };
-    if is_value(bytes) { Some(bytes) } else { None }
+    if below >= 1 && word == b"-1".as_slice() {
+        return Ok(-1);
+    }
+    if below >= 2 && word == b"-2".as_slice() {
+        return Ok(-2);
+    }
+    Ok(number(word, 0, high, why)? as i64)
 }

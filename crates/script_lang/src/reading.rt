@@ -1,91 +1,56 @@
-//! Reading a script, line by line.
+//! Reading a script, line by line. It goes over the bytes from the front, and copies nothing but keys, values and the
+//! bytes of `raw`.
 
-ghost use Rattle.std.specs.Prelude.{◌≡◌, ◌-◌, ◌<◌, ◌^◌, length, Ok, IfOk};
-ghost use Rattle.script_lang.specs.Script.{IsFit, Reads, default_config, lists_of};
+ghost use Rattle.std.specs.Prelude.{◌≡◌, ◌-◌, ◌<◌, ◌^◌, length, IfOk};
+ghost use Rattle.script_lang.specs.Lines.{lines_of};
+ghost use Rattle.script_lang.specs.Reading.{ReadsLine};
+ghost use Rattle.script_lang.specs.Script.{nothing_told, line_behind, lines_behind, script_in, ReadsScript};
+ghost use Rattle.script_lang.specs.Fit.{IsFit};
 
-use crate::forms::order;
-use crate::pieces::Pieces;
-use crate::refusal::{ScriptRefusal, Why};
+use crate::lines::cut_line;
+use crate::refusal::{LineRefusal, ScriptRefusal};
 use crate::script::Script;
-use plain_log::{ActorList, Config, Order};
-use std::alloc::{AllocError, Global};
-use tier_base::{ActorId, Keep, Row, Settings};
+use crate::told::Told;
+use std::alloc::Global;
 
-/// Makes the configuration that every script has: a segment of 1 MiB, an index entry each 4 KiB, seven days.
-fn config() -> Config
-    ensures { result ≡ default_config }
+/// Reads the line of this number.
+fn read_line(alloc: Global, told: Told, number: u32, line: &[u8]) -> Result<Told, ScriptRefusal>
+    ensures { ReadsLine number result (line_behind told line.now) }
 {
-    let week = Keep {
-        ms: 604_800_000,
-        bytes: -1,
-    };
-    Config {
-        brokers: 1,
-        settings: Settings {
-            segment_bytes: 1_048_576,
-            index_interval: 4096,
-        },
-        keep: week,
-        local_keep: week,
+    match told.with_line(alloc, line) {
+        Ok(next) => Ok(next),
+        Err(LineRefusal::Because(why)) => Err(ScriptRefusal::Bad { line: number, why }),
+        Err(LineRefusal::NoMemory) => Err(ScriptRefusal::NoMemory),
     }
 }
 
-/// Makes the script of these orders.
-fn script(alloc: Global, orders: Row<Order>) -> Result<Script, AllocError>
-    ensures config { IfOk result (λ script. script.config ≡ default_config) }
-    ensures lists { IfOk result (λ script. script.lists ≡ lists_of orders) }
-{
-    let mut lists = Row::new(alloc);
-    lists.push(ActorList {
-        actor: ActorId(0),
-        orders,
-    })?;
-    Ok(Script {
-        config: config(),
-        lists,
-    })
-}
-
-/// Reads a script. It goes over the bytes once, line by line, and copies nothing but values.
-pub fn parse(alloc: Global, bytes: &[u8]) -> Result<Script, ScriptRefusal>
+/// Reads all lines.
+fn read(alloc: Global, bytes: &[u8]) -> Result<Told, ScriptRefusal>
     requires { length bytes.now < 2 ^ 32 - 1 }
-    ensures read { Reads bytes.now result }
-    ensures fit { IfOk result IsFit }
+    ensures { ReadsScript result (lines_behind nothing_told 1 (lines_of bytes.now)) }
 {
-    read(alloc, bytes)
+    let mut told = Told::new(alloc)?;
+    let mut rest = bytes;
+    let mut number: u32 = 1;
+    while !rest.is_empty() {
+        let (line, behind) = cut_line(rest);
+        told = match read_line(alloc, told, number, line) {
+            Ok(next) => next,
+            Err(refusal) => return Err(refusal),
+        };
+        rest = behind;
+        number += 1;
+    }
+    Ok(told)
 }
 
 /// Reads a script.
-fn read(alloc: Global, bytes: &[u8]) -> Result<Script, ScriptRefusal>
+#[tactic(auto, unfolding(crate::specs::Script::script_in))]
+pub fn parse(alloc: Global, bytes: &[u8]) -> Result<Script, ScriptRefusal>
     requires { length bytes.now < 2 ^ 32 - 1 }
-    ensures { Reads bytes.now result }
+    ensures read { ReadsScript result (script_in bytes.now) }
+    ensures fit { IfOk result IsFit }
 {
-    let mut orders = Row::new(alloc);
-    let mut lines = Pieces::of(bytes, b'\n');
-    let mut number: u32 = 1;
-    while let Some(line) = lines.first() {
-        if lines.is_done() {
-            return if line.is_empty() {
-                Ok(script(alloc, orders)?)
-            } else {
-                Err(unbuilt(number))
-            };
-        }
-        let Some(order) = order(alloc, line)? else {
-            return Err(unbuilt(number));
-        };
-        orders.push(order)?;
-        number += 1;
-    }
-    Ok(script(alloc, orders)?)
-}
-
-/// Refuses the line of this number.
-fn unbuilt(line: u32) -> ScriptRefusal
-    ensures { result ≡ ScriptRefusal.Bad line Why.Unbuilt }
-{
-    ScriptRefusal::Bad {
-        line,
-        why: Why::Unbuilt,
-    }
+    let told = read(alloc, bytes)?;
+    Ok(told.into_script()?)
 }

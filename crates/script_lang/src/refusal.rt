@@ -1,17 +1,88 @@
 //! Why a script is refused.
 
 ghost use Rattle.std.specs.Prelude.{◌≡◌};
+ghost use Rattle.script_lang.specs.declared.refusal.LineRefusal.{LineRefusal};
 ghost use Rattle.script_lang.specs.declared.refusal.ScriptRefusal.{ScriptRefusal};
 
 use std::alloc::AllocError;
 use thiserror::Error;
 
-/// Why a line has no reading.
+/// Why a line has no reading. The first cause in this order is told, but that of the line's words, from `Word` to
+/// `Hex`, the one that stands leftmost is.
 #[derive(Clone, Copy, Debug, PartialEq, Eq, Error)]
 pub enum Why {
-    /// No form of line that is built is spelled like this one.
+    /// A byte can't stand in a line.
+    #[error("NotText")]
+    NotText,
+    /// A word is unknown, missing, or one too many.
+    #[error("Word")]
+    Word,
+    /// A number isn't decimal, or is out of its range.
+    #[error("Number")]
+    Number,
+    /// A record, a key or a value has no reading.
+    #[error("Field")]
+    Field,
+    /// The bytes of `raw` aren't hexadecimal.
+    #[error("Hex")]
+    Hex,
+    /// An option stands behind a command, or behind a `later`, `turn` or `fault` line.
+    #[error("TooLate")]
+    TooLate,
+    /// An option was given before.
+    #[error("Twice")]
+    Twice,
+    /// The actor has commands of another partition.
+    #[error("ActorPartition")]
+    ActorPartition,
+    /// The actor that is to be stepped has no command yet.
+    #[error("NoActor")]
+    NoActor,
+    /// There are more than 65,536 commands.
+    #[error("TooMany")]
+    TooMany,
+    /// A batch would pass 1,048,576 bytes.
+    #[error("BatchTooLarge")]
+    BatchTooLarge,
+    /// The sum over fetches of the limit and the largest batch passes 2^28.
+    #[error("FetchSum")]
+    FetchSum,
+    /// The number of copies, times the greater of a segment's size and the largest batch, passes 2^31.
+    #[error("CopySum")]
+    CopySum,
+    /// The `turn` lines step more than 1,048,576 times.
+    #[error("TurnSum")]
+    TurnSum,
+    /// The line has a reading, and no program runs its form yet.
     #[error("Unbuilt")]
     Unbuilt,
+}
+
+/// Why a line isn't read.
+#[derive(Clone, Copy, Debug, PartialEq, Eq, Error)]
+pub enum LineRefusal {
+    /// It has no reading.
+    #[error("{0}")]
+    Because(Why),
+    /// There is no memory for what it says.
+    #[error("no memory")]
+    NoMemory,
+}
+
+impl From<Why> for LineRefusal {
+    ghost from_gives = { λ why refusal. refusal ≡ LineRefusal.Because why };
+
+    fn from(why: Why) -> LineRefusal {
+        LineRefusal::Because(why)
+    }
+}
+
+impl From<AllocError> for LineRefusal {
+    ghost from_gives = { λ e refusal. refusal ≡ LineRefusal.NoMemory };
+
+    fn from(_: AllocError) -> LineRefusal {
+        LineRefusal::NoMemory
+    }
 }
 
 /// Why a script is refused. Of several lines the first is told.

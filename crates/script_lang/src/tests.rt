@@ -1,160 +1,279 @@
-//! Good and bad scripts, each with what it is read as. The expected values are worked by hand.
+//! Whole scripts, their limits, and what they come to. The expected values are worked by hand from the grammar.
 
-use crate::{Script, ScriptRefusal, Why, parse};
-use plain_log::{Command, Order};
-use record_batch::Rec;
+use crate::counting::Counts;
+use crate::options::{OptionLine, Options};
+use crate::partitions::Partitions;
+use crate::refusal::LineRefusal;
+use crate::{Fault, FaultCall, FaultDevice, Script, ScriptRefusal, Why, parse};
+use plain_log::{Command, Pace};
 use std::alloc::{AllocError, Global};
 use std::test::Fail;
-
-/// An append of a value of so many letters.
-fn append_of(alloc: Global, count: u32) -> Result<Vec<u8>, AllocError> {
-    let mut text = Vec::from_slice(alloc, b"0 0 0 append 1,-,:".as_slice())?;
-    for _ in 0..count {
-        text.push(b'v')?;
-    }
-    text.push(b'\n')?;
-    Ok(text)
-}
+use tier_base::{ActorId, PartitionId};
 
 /// Reads a script that is short enough to be read.
 fn read(alloc: Global, text: &[u8]) -> Result<Script, ScriptRefusal> {
-    if text.len() < 10_000 {
+    if text.len() < 20_000_000 {
         parse(alloc, text)
     } else {
         Err(ScriptRefusal::NoMemory)
     }
 }
 
-/// The orders of all lists.
-fn count(script: &Script) -> usize {
-    let mut count: usize = 0;
-    for list in script.lists.as_slice() {
-        count = count.saturating_add(list.orders.len());
-    }
-    count
-}
-
-/// What an order asks for, in three words.
-fn told(order: &Order) -> (&'static str, u64, u64) {
-    match &order.command {
-        Command::Append(recs) => ("append", recs.len() as u64, 0),
-        Command::Flush => ("flush", 0, 0),
-        Command::Ack => ("ack", 0, 0),
-        Command::Fetch { offset, limit } => ("fetch", *offset, u64::from(*limit)),
-    }
+pub(crate) fn refusal(alloc: Global, text: &[u8]) -> Option<ScriptRefusal> {
+    read(alloc, text).err()
 }
 
 #[test]
-fn a_script_of_each_form_is_read(rt: HostRuntime) -> Result<(), Fail> {
+fn good_scripts_are_read(rt: HostRuntime) -> Result<(), Fail> {
     let alloc = rt.alloc();
-    let text =
-        b"0 0 0 append 01000,-,:aZ9\n0 0 0 flush\n0 0 0 ack\n0 0 0 fetch 000000000000000000000000000007 009\n".as_slice();
-    let script = read(alloc, text)?;
-    assert_eq!(rt; script.config.brokers, 1);
-    assert_eq!(rt; script.lists.len(), 1);
-    assert_eq!(rt; count(&script), 4);
-    let want = [
-        ("append", 1, 0),
-        ("flush", 0, 0),
-        ("ack", 0, 0),
-        ("fetch", 7, 9),
+    let good: [(&[u8], &str); 18] = [
+        (b"".as_slice(), "no line"),
+        (b"\n".as_slice(), "an empty line"),
+        (
+            b"# c\n\n \t \n#\n  # d\r\n\r\n#".as_slice(),
+            "comments and blanks, the last without a line feed",
+        ),
+        (
+            b" \t0\t0 0   flush \t\r\n".as_slice(),
+            "blanks around words, and CR LF",
+        ),
+        (b"0 0 0 flush".as_slice(), "no line feed at the end"),
+        (
+            b"partitions 1\n00 000 0 ack\n".as_slice(),
+            "zeros that lead",
+        ),
+        (b"partitions 0001\n".as_slice(), "the option alone"),
+        (
+            b"0 0 0 append 9223372036854775807,-,-\n".as_slice(),
+            "the last timestamp, no value",
+        ),
+        (
+            b"0 0 0 append 0,x,: 1,:aZ_.9,x0aFf,:h=-,x=:,x00=x 2,-,:\n".as_slice(),
+            "records of every spelling",
+        ),
+        (b"0 0 0 raw 0aFf\n".as_slice(), "digits of either case"),
+        (
+            b"0 0 0 fetch 4611686018427387904 000\n".as_slice(),
+            "the last offset",
+        ),
+        (
+            b"0 0 0 fetch 0 268435455\n0 0 0 raw 00\n".as_slice(),
+            "a sum at its bound",
+        ),
+        (
+            b"0 0 0 raw 000000000000006300000039000000050228835a5e00000000000000000000000003e800000000000003e80000000000000007ffffffffffff000000010e00000001026100\n0 0 0 flush\n0 0 0 ack\n0 0 0 fetch 0 1000\n".as_slice(),
+            "a batch of an idempotent producer, and its answers",
+        ),
+        (
+            b"0 0 0 raw 0000000000000000000000390000000002a4f98f1700010000000000000000000003e800000000000003e8ffffffffffffffffffffffffffff000000010e00000001026100\n".as_slice(),
+            "a compressed batch",
+        ),
+        (
+            b"0 0 0 raw 0000000000000000000000390000000002ebf1884b00000000000000000000000003e800000000000003e8ffffffffffffffffffffffffffff000000\n".as_slice(),
+            "a batch that is cut short",
+        ),
+        (
+            b"0 0 0 raw 0000000000000000000000390000000002ebf1884b00000000000000000000000003e800000000000003e8ffffffffffffffffffffffffffff000000010e0000000102610000\n".as_slice(),
+            "a batch and a byte behind it",
+        ),
+        (
+            b"0 0 0 append 5,:k,-,:h=-\n0 0 0 flush\n0 0 0 ack\n0 0 0 fetch 0 100\n".as_slice(),
+            "a header without a value",
+        ),
+        (
+            b"0 0 0 fetch 0 268435456\n".as_slice(),
+            "one fetch at the bound of the sum",
+        ),
     ];
-    for list in script.lists.as_slice() {
-        assert_eq!(rt; list.actor.0, 0);
-        for (order, want) in list.orders.as_slice().iter().zip(want) {
-            assert_eq!(rt; told(order), want);
-        }
+    for (text, what) in good {
+        assert_eq!(rt; refusal(alloc, text), None, "{what}");
     }
     Ok(())
 }
 
-/// Whether a record has this time and value, and nothing else.
-fn is_plain(rec: &Rec, ts: i64, value: &[u8]) -> bool {
-    match &rec.value {
-        Some(found) => {
-            rec.ts == ts && rec.key.is_none() && rec.headers.is_empty() && found.as_slice() == value
-        }
-        None => false,
+/// Text, then a byte so many times, then text.
+fn padded(
+    alloc: Global,
+    front: &[u8],
+    byte: u8,
+    count: u32,
+    back: &[u8],
+) -> Result<Vec<u8>, AllocError> {
+    let mut text = Vec::from_slice(alloc, front)?;
+    for _ in 0..count {
+        text.push(byte)?;
     }
+    text.extend_from_slice(back)?;
+    Ok(text)
 }
 
-/// Whether an order appends one such record.
-fn appends(order: &Order, ts: i64, value: &[u8]) -> bool {
-    match &order.command {
-        Command::Append(recs) => match recs.as_slice() {
-            [rec] => is_plain(rec, ts, value),
-            _ => false,
-        },
-        _ => false,
+/// A line so many times.
+fn repeated(alloc: Global, line: &[u8], count: u32) -> Result<Vec<u8>, AllocError> {
+    let mut text = Vec::new(alloc);
+    for _ in 0..count {
+        text.extend_from_slice(line)?;
+    }
+    Ok(text)
+}
+
+#[test]
+fn a_batch_has_at_most_a_mebibyte(rt: HostRuntime) -> Result<(), Fail> {
+    let alloc = rt.alloc();
+    let append = b"0 0 0 append 1,-,:".as_slice();
+    let raw = b"0 0 0 raw ".as_slice();
+    // 1048576 = 61 of the head, 3 of the record's length, 8 of its fields, and the value
+    let largest = padded(alloc, append, b'v', 1_048_504, b"\n".as_slice())?;
+    assert_eq!(rt; refusal(alloc, largest.as_slice()), None);
+    let larger = padded(alloc, append, b'v', 1_048_505, b"\n".as_slice())?;
+    let wanted = Some(ScriptRefusal::Bad {
+        line: 1,
+        why: Why::BatchTooLarge,
+    });
+    assert_eq!(rt; refusal(alloc, larger.as_slice()), wanted);
+    let largest = padded(alloc, raw, b'0', 2_097_152, b"\n".as_slice())?;
+    assert_eq!(rt; refusal(alloc, largest.as_slice()), None);
+    let larger = padded(alloc, raw, b'0', 2_097_154, b"\n".as_slice())?;
+    assert_eq!(rt; refusal(alloc, larger.as_slice()), wanted);
+    Ok(())
+}
+
+#[test]
+fn a_script_has_at_most_65536_commands(rt: HostRuntime) -> Result<(), Fail> {
+    let alloc = rt.alloc();
+    let most = repeated(alloc, b"0 0 0 ack\n".as_slice(), 65_536)?;
+    assert_eq!(rt; refusal(alloc, most.as_slice()), None);
+    let more = repeated(alloc, b"0 0 0 ack\n".as_slice(), 65_537)?;
+    let wanted = ScriptRefusal::Bad {
+        line: 65_537,
+        why: Why::TooMany,
+    };
+    assert_eq!(rt; refusal(alloc, more.as_slice()), Some(wanted));
+    Ok(())
+}
+
+#[test]
+fn long_lines_and_long_numbers(rt: HostRuntime) -> Result<(), Fail> {
+    let alloc = rt.alloc();
+    let end = b"\n0 0 0 ack\n".as_slice();
+    let comment = padded(alloc, b"# ".as_slice(), b'c', 1_000_000, end)?;
+    assert_eq!(rt; refusal(alloc, comment.as_slice()), None);
+    let blanks = padded(alloc, b"0 0 0 ack".as_slice(), b' ', 1_000_000, end)?;
+    assert_eq!(rt; refusal(alloc, blanks.as_slice()), None);
+    let zeros = padded(
+        alloc,
+        b"0 0 0 fetch 0 ".as_slice(),
+        b'0',
+        1_000,
+        b"7\n".as_slice(),
+    )?;
+    assert_eq!(rt; refusal(alloc, zeros.as_slice()), None);
+    let nines = padded(
+        alloc,
+        b"0 0 0 fetch 0 ".as_slice(),
+        b'9',
+        1_000,
+        b"\n".as_slice(),
+    )?;
+    let wanted = ScriptRefusal::Bad {
+        line: 1,
+        why: Why::Number,
+    };
+    assert_eq!(rt; refusal(alloc, nines.as_slice()), Some(wanted));
+    Ok(())
+}
+
+/// A pace of actor 0 up to so many commands.
+fn until(number: u32) -> Pace {
+    Pace::Until {
+        actor: ActorId(0),
+        number,
     }
 }
 
 #[test]
-fn an_append_has_one_plain_record(rt: HostRuntime) -> Result<(), Fail> {
-    let script = read(rt.alloc(), b"0 0 0 append 1000,-,:aZ9\n".as_slice())?;
-    assert_eq!(rt; count(&script), 1);
-    for list in script.lists.as_slice() {
-        for order in list.orders.as_slice() {
-            assert!(rt; appends(order, 1000, b"aZ9".as_slice()));
+fn a_script_has_options_lists_and_a_schedule(rt: HostRuntime) -> Result<(), Fail> {
+    let script = read(rt.alloc(), b"# c\n0 0 0 raw 00ff\n0 0 0 ack".as_slice())?;
+    assert_eq!(rt; script.config, Options::new().config());
+    assert_eq!(rt; script.parts.len(), 1);
+    for part in script.parts.as_slice() {
+        assert_eq!(rt; part.partition, PartitionId(0));
+        assert_eq!(rt; part.lists.len(), 1);
+        for list in part.lists.as_slice() {
+            assert_eq!(rt; list.actor, ActorId(0));
+            assert_eq!(rt; list.orders.len(), 2);
         }
+        assert!(rt; part.schedule.as_slice() == [until(1), until(2), until(2)].as_slice());
+        assert_eq!(rt; part.faults.len(), 0);
+    }
+    let empty = read(rt.alloc(), b"partitions 1\n".as_slice())?;
+    for part in empty.parts.as_slice() {
+        assert_eq!(rt; part.lists.len(), 0);
+        assert_eq!(rt; part.schedule.len(), 0);
     }
     Ok(())
 }
 
 #[test]
-fn the_greatest_of_each_kind_is_read(rt: HostRuntime) -> Result<(), Fail> {
-    let alloc = rt.alloc();
-    assert_eq!(rt; count(&read(alloc, b"".as_slice())?), 0);
-    let long = append_of(alloc, 1000)?;
-    let good: [&[u8]; 3] = [
-        b"0 0 0 append 9223372036854775807,-,:v\n".as_slice(),
-        b"0 0 0 fetch 4611686018427387904 2147483647\n".as_slice(),
-        long.as_slice(),
-    ];
-    for text in good {
-        assert_eq!(rt; count(&read(alloc, text)?), 1);
-    }
+fn options_have_defaults(rt: HostRuntime) -> Result<(), Fail> {
+    let mut options = Options::new();
+    let config = options.config();
+    assert_eq!(rt; config.brokers, 1);
+    assert_eq!(rt; config.settings.segment_bytes, 1_048_576);
+    assert_eq!(rt; config.settings.index_interval, 4096);
+    assert_eq!(rt; config.keep.ms, 604_800_000);
+    assert_eq!(rt; config.keep.bytes, -1);
+    assert_eq!(rt; config.local_keep, config.keep);
+    // -2 stands for the whole log's bound, and -1 for none
+    options.give(OptionLine::RetentionMs(5));
+    options.give(OptionLine::RetentionBytes(6));
+    options.give(OptionLine::LocalRetentionMs(-1));
+    options.give(OptionLine::LocalRetentionBytes(-2));
+    assert_eq!(rt; options.config().local_keep.ms, -1);
+    assert_eq!(rt; options.config().local_keep.bytes, 6);
     Ok(())
 }
 
 #[test]
-fn the_first_bad_line_is_told(rt: HostRuntime) -> Result<(), Fail> {
-    let alloc = rt.alloc();
-    let long = append_of(alloc, 1001)?;
-    let none = append_of(alloc, 0)?;
-    let bad: [(&[u8], u32); 16] = [
-        (b"0 0 0 flush".as_slice(), 1),
-        (b"0 0 0  flush\n".as_slice(), 1),
-        (b"0 0 0 flush \n".as_slice(), 1),
-        (b"0 0 0 retain\n".as_slice(), 1),
-        (b"0 0 1 flush\n".as_slice(), 1),
-        (b"00 0 0 flush\n".as_slice(), 1),
-        (b"0 0 0 flush\r\n".as_slice(), 1),
-        (b"0 0 0 append 9223372036854775808,-,:v\n".as_slice(), 1),
-        (b"0 0 0 fetch 4611686018427387905 0\n".as_slice(), 1),
-        (b"0 0 0 fetch 0 2147483648\n".as_slice(), 1),
-        (long.as_slice(), 1),
-        (none.as_slice(), 1),
-        (b"0 0 0 append 1,-,:\xc3\xa9\n".as_slice(), 1),
-        (b"0 0 0 ack\n\n".as_slice(), 2),
-        (b"0 0 0 ack\n0 0 0 halt\n0 0 0 wait\n".as_slice(), 2),
-        (b"0 0 0 ack\n0 0 0 ack\n0 0 0 append 1,k,:v\n".as_slice(), 3),
-    ];
-    for (text, line) in bad {
-        let why = Why::Unbuilt;
-        assert_eq!(rt;
-            read(alloc, text).err(),
-            Some(ScriptRefusal::Bad { line, why }),
-            "at line {line}"
-        );
-    }
+fn copies_and_turns_have_sums(rt: HostRuntime) -> Result<(), Fail> {
+    // two copies of segments of 2^31 bytes pass the sum, and one does not
+    let one = Counts::new().with_command(2_147_483_648, &Command::Copy)?;
+    let two = one.with_command(2_147_483_648, &Command::Copy);
+    assert_eq!(rt; two, Err(Why::CopySum));
+    assert_eq!(rt;
+        one.with_command(1_073_741_824, &Command::Copy).is_ok(),
+        true
+    );
+    let most = Counts::new().with_turns(1_048_576)?;
+    assert_eq!(rt; most.with_turns(1), Err(Why::TurnSum));
+    Ok(())
+}
+
+#[test]
+fn partitions_take_paces_and_faults(rt: HostRuntime) -> Result<(), Fail> {
+    let fault = Fault {
+        device: FaultDevice::Store,
+        call: FaultCall::Put,
+        number: 1,
+        after: false,
+    };
+    let mut partitions = Partitions::new(rt.alloc())?;
+    assert!(rt;
+        partitions
+            .step(true, ActorId(0), 1, PartitionId(63))
+            .is_ok()
+    );
+    assert!(rt; partitions.put_pace(PartitionId(0), until(1)).is_ok());
+    assert!(rt; partitions.put_fault(PartitionId(1), fault).is_ok());
     Ok(())
 }
 
 #[test]
 fn a_refusal_is_told_in_words(rt: HostRuntime) -> Result<(), Fail> {
-    let why = Why::Unbuilt;
-    let text = format!(in rt.alloc(); "{why}")?;
-    assert_eq!(rt; text.as_str(), "Unbuilt");
+    let line = 7;
+    let why = Why::ActorPartition;
+    let text = format!(in rt.alloc(); "{}", ScriptRefusal::Bad { line, why })?;
+    assert_eq!(rt; text.as_str(), "line 7: ActorPartition");
+    let text = format!(in rt.alloc(); "{}", LineRefusal::Because(Why::CopySum))?;
+    assert_eq!(rt; text.as_str(), "CopySum");
     Ok(())
 }

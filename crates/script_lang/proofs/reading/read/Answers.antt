@@ -1,20 +1,17 @@
-use Rattle.std.proofs.Common.{◌≡◌, ◌∙◌, sym, ap, List, ◌∷◌, length, arith}
-use Rattle.script_lang.proofs.FromFront.{begins, line-more, length-parts_of}
+use Rattle.std.proofs.Common.{◌∙◌, sym, ap, ◌<◌, length, arith}
+use Rattle.script_lang.specs.Script.{line_behind}
+use Rattle.script_lang.proofs.FromFront.{line-more, line-refused, nonempty}
 use Rattle.script_lang.proofs.reading.read.Goals as goal
 
-pub loop-line-init : goal.loop-line-init
-loop-line-init c = record {
-  read = rw c.new-orders.ensures (begins c.args.bytes.now c.of-lines.result c.of-lines.ensures);
-  number = rw c.of-lines.ensures (omega (arith, length-parts_of 10 c.args.bytes.now));
-}
+pub returns-in-Err : goal.returns-in-Err
+returns-in-Err c =
+    let some : 0 < length c.loop-rest.rest.now = nonempty c.loop-rest.rest.now (sym c.is_empty.ensures ∙ c.loop-rest-test.true) in
+    line-refused c.loop-rest.told c.loop-rest.number c.loop-rest.rest.now c.cut_line.result.0.now c.in-Err.refusal _ some c.cut_line.ensures.line c.in-Err.ensures c.loop-rest.invariant.read
 
-pub loop-line-preserved : goal.loop-line-preserved
-loop-line-preserved c =
-    let first : c.loop-line.lines ≡ c.in-Some.line.now ∷ c.first.new.self = c.in-Some.ensures in
-    let count = ap (λ (parts : List (List _)). length parts) first in
+pub loop-rest-preserved : goal.loop-rest-preserved
+loop-rest-preserved c =
+    let some : 0 < length c.loop-rest.rest.now = nonempty c.loop-rest.rest.now (sym c.is_empty.ensures ∙ c.loop-rest-test.true) in
     record {
-      read =
-          rw c.in_ok-push.ensures.ok
-          (line-more c.loop-line.orders c.loop-line.number c.in-Some.line.now c.loop-line.lines c.first.new.self c.in-Some-2.order _ first (sym c.is_done.ensures ∙ c.if-is_done.false) (sym c.in_ok-order.ensures ∙ c.in-Some-2.is) c.loop-line.invariant.read);
-      number = omega (arith, count, c.loop-line.invariant.number);
+      read = rw (c.cut_line.ensures.rest) (line-more c.loop-rest.told c.in-Ok.next c.loop-rest.number c.loop-rest.rest.now _ some (ap (line_behind c.loop-rest.told) (sym c.cut_line.ensures.line) ∙ c.in-Ok.ensures) c.loop-rest.invariant.read);
+      number = omega (arith, c.loop-rest.invariant.number, c.cut_line.ensures.shorter some);
     }

@@ -1,0 +1,296 @@
+//! The names of a script, each table an enum and a function. What begins no name is `Unknown`.
+
+ghost use Rattle.std.specs.Prelude.{◌≡◌, ◌==◌};
+ghost use Rattle.script_lang.specs.Names.{begins_with, lead_of, verb_of, offset_of, device_of, call_of};
+ghost use Rattle.script_lang.specs.Words.{is_digit};
+
+use crate::fault::FaultCall;
+use crate::numbers::is_digit;
+
+/// What a line's first word announces.
+#[derive(Clone, Copy, Debug, PartialEq, Eq)]
+pub enum Lead {
+    Comment,
+    Brokers,
+    Partitions,
+    SegmentBytes,
+    IndexIntervalBytes,
+    RetentionMs,
+    RetentionBytes,
+    LocalRetentionMs,
+    LocalRetentionBytes,
+    Later,
+    Turn,
+    Fault,
+    Actor,
+    Unknown,
+}
+
+/// The name of a command.
+#[derive(Clone, Copy, Debug, PartialEq, Eq)]
+pub enum Verb {
+    Append,
+    Raw,
+    Flush,
+    Roll,
+    Elect,
+    Unclean,
+    Learn,
+    Join,
+    Follow,
+    Ack,
+    Shrink,
+    Expand,
+    Copy,
+    Trim,
+    Expire,
+    Raise,
+    Clock,
+    Stop,
+    Up,
+    Fetch,
+    Pack,
+    Copying,
+    Offset,
+    Unknown,
+}
+
+/// Which offset is asked for.
+#[derive(Clone, Copy, Debug, PartialEq, Eq)]
+pub enum OffsetName {
+    Earliest,
+    Latest,
+    EarliestLocal,
+    LatestTiered,
+    At,
+    Unknown,
+}
+
+/// The kind of a device.
+#[derive(Clone, Copy, Debug, PartialEq, Eq)]
+pub enum DeviceName {
+    Disk,
+    Store,
+    Meta,
+    Unknown,
+}
+
+fn begins_with_hash(word: &[u8]) -> bool
+    ensures { result ≡ begins_with (λ b. b == 35) word.now }
+{
+    match word {
+        [first, ..] => *first == b'#',
+        [] => false,
+    }
+}
+
+fn begins_with_digit(word: &[u8]) -> bool
+    ensures { result ≡ begins_with is_digit word.now }
+{
+    match word {
+        [first, ..] => is_digit(*first),
+        [] => false,
+    }
+}
+
+/// Finds what a first word announces.
+#[tactic(auto, unfolding(crate::specs::Names::lead_of))]
+pub fn find_lead(word: &[u8]) -> Lead
+    ensures { result ≡ lead_of word.now }
+{
+    if begins_with_hash(word) {
+        return Lead::Comment;
+    }
+    if word == b"brokers".as_slice() {
+        return Lead::Brokers;
+    }
+    if word == b"partitions".as_slice() {
+        return Lead::Partitions;
+    }
+    if word == b"segment_bytes".as_slice() {
+        return Lead::SegmentBytes;
+    }
+    if word == b"index_interval_bytes".as_slice() {
+        return Lead::IndexIntervalBytes;
+    }
+    if word == b"retention_ms".as_slice() {
+        return Lead::RetentionMs;
+    }
+    if word == b"retention_bytes".as_slice() {
+        return Lead::RetentionBytes;
+    }
+    if word == b"local_retention_ms".as_slice() {
+        return Lead::LocalRetentionMs;
+    }
+    if word == b"local_retention_bytes".as_slice() {
+        return Lead::LocalRetentionBytes;
+    }
+    if word == b"later".as_slice() {
+        return Lead::Later;
+    }
+    if word == b"turn".as_slice() {
+        return Lead::Turn;
+    }
+    if word == b"fault".as_slice() {
+        return Lead::Fault;
+    }
+    if begins_with_digit(word) {
+        return Lead::Actor;
+    }
+    Lead::Unknown
+}
+
+/// Finds a command by its name.
+#[tactic(auto, unfolding(crate::specs::Names::verb_of))]
+pub fn find_verb(word: &[u8]) -> Verb
+    ensures { result ≡ verb_of word.now }
+{
+    if word == b"append".as_slice() {
+        return Verb::Append;
+    }
+    if word == b"raw".as_slice() {
+        return Verb::Raw;
+    }
+    if word == b"flush".as_slice() {
+        return Verb::Flush;
+    }
+    if word == b"roll".as_slice() {
+        return Verb::Roll;
+    }
+    if word == b"elect".as_slice() {
+        return Verb::Elect;
+    }
+    if word == b"unclean".as_slice() {
+        return Verb::Unclean;
+    }
+    if word == b"learn".as_slice() {
+        return Verb::Learn;
+    }
+    if word == b"join".as_slice() {
+        return Verb::Join;
+    }
+    if word == b"follow".as_slice() {
+        return Verb::Follow;
+    }
+    if word == b"ack".as_slice() {
+        return Verb::Ack;
+    }
+    if word == b"shrink".as_slice() {
+        return Verb::Shrink;
+    }
+    if word == b"expand".as_slice() {
+        return Verb::Expand;
+    }
+    if word == b"copy".as_slice() {
+        return Verb::Copy;
+    }
+    if word == b"trim".as_slice() {
+        return Verb::Trim;
+    }
+    if word == b"expire".as_slice() {
+        return Verb::Expire;
+    }
+    if word == b"raise".as_slice() {
+        return Verb::Raise;
+    }
+    if word == b"clock".as_slice() {
+        return Verb::Clock;
+    }
+    if word == b"stop".as_slice() {
+        return Verb::Stop;
+    }
+    if word == b"up".as_slice() {
+        return Verb::Up;
+    }
+    if word == b"fetch".as_slice() {
+        return Verb::Fetch;
+    }
+    if word == b"pack".as_slice() {
+        return Verb::Pack;
+    }
+    if word == b"copying".as_slice() {
+        return Verb::Copying;
+    }
+    if word == b"offset".as_slice() {
+        return Verb::Offset;
+    }
+    Verb::Unknown
+}
+
+/// Finds which offset is asked for.
+#[tactic(auto, unfolding(crate::specs::Names::offset_of))]
+pub fn find_offset(word: &[u8]) -> OffsetName
+    ensures { result ≡ offset_of word.now }
+{
+    if word == b"earliest".as_slice() {
+        return OffsetName::Earliest;
+    }
+    if word == b"latest".as_slice() {
+        return OffsetName::Latest;
+    }
+    if word == b"earliest_local".as_slice() {
+        return OffsetName::EarliestLocal;
+    }
+    if word == b"latest_tiered".as_slice() {
+        return OffsetName::LatestTiered;
+    }
+    if word == b"at".as_slice() {
+        return OffsetName::At;
+    }
+    OffsetName::Unknown
+}
+
+/// Finds a kind of device by its name.
+#[tactic(auto, unfolding(crate::specs::Names::device_of))]
+pub fn find_device(word: &[u8]) -> DeviceName
+    ensures { result ≡ device_of word.now }
+{
+    if word == b"disk".as_slice() {
+        return DeviceName::Disk;
+    }
+    if word == b"store".as_slice() {
+        return DeviceName::Store;
+    }
+    if word == b"meta".as_slice() {
+        return DeviceName::Meta;
+    }
+    DeviceName::Unknown
+}
+
+/// Finds a device call by its name.
+#[tactic(auto, unfolding(crate::specs::Names::call_of))]
+pub fn find_call(word: &[u8]) -> Option<FaultCall>
+    ensures { result ≡ call_of word.now }
+{
+    if word == b"append".as_slice() {
+        return Some(FaultCall::Append);
+    }
+    if word == b"sync".as_slice() {
+        return Some(FaultCall::Sync);
+    }
+    if word == b"read".as_slice() {
+        return Some(FaultCall::Read);
+    }
+    if word == b"cut".as_slice() {
+        return Some(FaultCall::Cut);
+    }
+    if word == b"replace".as_slice() {
+        return Some(FaultCall::Replace);
+    }
+    if word == b"remove".as_slice() {
+        return Some(FaultCall::Remove);
+    }
+    if word == b"list".as_slice() {
+        return Some(FaultCall::List);
+    }
+    if word == b"put".as_slice() {
+        return Some(FaultCall::Put);
+    }
+    if word == b"get".as_slice() {
+        return Some(FaultCall::Get);
+    }
+    if word == b"delete".as_slice() {
+        return Some(FaultCall::Delete);
+    }
+    None
+}
