@@ -1,12 +1,18 @@
 #!/usr/bin/env python3
 """Writes a script of so many bytes, for bench/sim.sh.
 
-usage: sim_script.py mixed|flush BYTES
+usage: sim_script.py mixed|flush|text|raw|fetch BYTES
 
 mixed: groups of 64 lines and 16,384 bytes, so 256 bytes a line: 61 appends with values of 236 or 237 letters, a flush,
 an ack, and a fetch of at most 128 KiB from some offset of the log so far. BYTES is a multiple of 16,384.
-flush: flush lines alone, 12 bytes each, as many as fit.
+flush: flush lines alone, filled up with blanks to 256 bytes, so 65,536 of them, the most commands of a script, are 16 MiB.
+text: the reader alone: lines of options' words, comments and blanks that ask for nothing, of 4 to 259 bytes.
+raw: the check of batches: raw lines of one batch of 4,096 bytes with records of about 100 bytes, so half of the bytes
+of the script go through it.
+fetch: the trace's writer: one append of 64 KiB, a flush, an ack, and fetches that are given it: 16 times BYTES in all, so
+the trace has 32 times BYTES. The script itself is small.
 """
+import struct
 import sys
 
 GROUP = 16384  # bytes of 64 lines
@@ -37,13 +43,72 @@ def group(number):
     return "".join(lines + tail)
 
 
+def crc32c(data):
+    """The checksum of a batch, bit by bit through one table."""
+    register = 0xFFFFFFFF
+    for byte in data:
+        register = TABLE[(register ^ byte) & 255] ^ (register >> 8)
+    return register ^ 0xFFFFFFFF
+
+
+def table_entry(number):
+    for _ in range(8):
+        number = number >> 1 ^ (0x82F63B78 if number & 1 else 0)
+    return number
+
+
+TABLE = [table_entry(number) for number in range(256)]
+
+
+def varint(number):
+    """A number that isn't negative, in zigzag."""
+    number, out = 2 * number, b""
+    while number > 127:
+        out, number = out + bytes([number & 127 | 128]), number >> 7
+    return out + bytes([number])
+
+
+def batch(size):
+    """A batch of at most so many bytes, of records with values of 90 letters."""
+    records, count = b"", 0
+    while True:
+        body = b"\0" + varint(count) + varint(count) + b"\1" + varint(90) + value(count, 90).encode() + b"\0"
+        one = varint(len(body)) + body
+        if 61 + len(records) + len(one) > size:
+            break
+        records, count = records + one, count + 1
+    late = struct.pack(">hiqqqhii", 0, count - 1, 1700000000000, 1700000000000 + count - 1, -1, -1, -1, count) + records
+    return struct.pack(">qiibI", 0, 9 + len(late), 0, 2, crc32c(late)) + late
+
+
+def texts(size):
+    """Lines that ask for nothing."""
+    lines = ["\n", "# " + value(3, 255) + "\n", " \t \n", "#" + " words of a comment" * 5 + "\r\n"]
+    whole = "".join(lines)
+    return whole * (size // len(whole))
+
+
+def fetches(size):
+    """One batch, given again and again."""
+    yield "0 0 0 append 1700000000000,-,:" + value(0, 260) * 248 + "\n0 0 0 flush\n0 0 0 ack\n"
+    for _ in range(size * 16 // 65536):
+        yield "0 0 0 fetch 0 1\n"
+
+
 def main(kind, size):
     if kind == "mixed":
         for number in range(size // GROUP):
             sys.stdout.write(group(number))
     elif kind == "flush":
-        line = "0 0 0 flush\n"
+        line = "0 0 0 flush".ljust(255) + "\n"
         sys.stdout.write(line * (size // len(line)))
+    elif kind == "text":
+        sys.stdout.write(texts(size))
+    elif kind == "raw":
+        line = "0 0 0 raw " + batch(4096).hex() + "\n"
+        sys.stdout.write(line * (size // len(line)))
+    elif kind == "fetch":
+        sys.stdout.writelines(fetches(size))
     else:
         sys.exit(__doc__)
 

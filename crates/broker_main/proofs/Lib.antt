@@ -1,3 +1,2 @@
 mod OneWord
-mod OneActor
 mod Running

@@ -3,39 +3,38 @@ use Rattle.std.specs.Prelude.{◌≡◌, ℕ, List, [], ◌∷◌, Ok, Err}
 use Rattle.std.specs.declared.option.Option.{Option}
 use Rattle.std.specs.Io.KnownBytes.{Appends}
 use Rattle.tier_base.specs.Stream.{ReadsWhole, AppendsFront}
-use Rattle.plain_log.specs.declared.command.ActorList.{ActorList}
 use Rattle.plain_log.specs.declared.command.Config.{Config}
-use Rattle.plain_log.specs.declared.command.Order.{Order}
 use Rattle.plain_log.specs.declared.journal.JournalEntry.{JournalEntry}
 use Rattle.plain_log.specs.Runs.{IsPlainRun, IsComplete}
 use Rattle.plain_log.specs.Committed.{IsCommitted}
-use Rattle.script_lang.specs.Script.{commands_in, lists_of, default_config}
+use Rattle.script_lang.specs.declared.refusal.Why.{Why}
+use Rattle.script_lang.specs.declared.script.PartScript.{PartScript}
+use Rattle.script_lang.specs.declared.script.Script.{Script}
+use Rattle.script_lang.specs.Script.{script_in}
 use Rattle.trace_text.specs.Trace.{trace_of}
 
--- each list is the actor's
-abbrev pub AreListsOf : ℕ → List ActorList → Type 0
-AreListsOf a [] = Unit {0}
-AreListsOf a (l ∷ lists) = (l.actor.0 ≡ a) × AreListsOf a lists
+-- a partition's number and journal: a run of the plain log over the partition's lists, each command answered once and
+-- in order, each fetch out of one committed list
+pub record IsRunOf (config : Config) (part : PartScript) (run : ℕ × List JournalEntry) : Type 0 where
+  pub partition : run.0 ≡ part.partition.0
+  pub plain : IsPlainRun config part.lists run.1
+  pub complete : IsComplete part.lists run.1
+  pub committed : IsCommitted part.lists run.1
 
--- each entry is the actor's
-abbrev pub AreOf : ℕ → List JournalEntry → Type 0
-AreOf a [] = Unit {0}
-AreOf a (entry ∷ journal) = (entry.actor.0 ≡ a) × AreOf a journal
+-- each partition has its run
+abbrev pub AreRunsOf : Config → List PartScript → List (ℕ × List JournalEntry) → Type 0
+AreRunsOf config [] [] = Unit {0}
+AreRunsOf config (part ∷ parts) (run ∷ runs) = IsRunOf config part run × AreRunsOf config parts runs
+AreRunsOf config [] (run ∷ runs) = ⊥
+AreRunsOf config (part ∷ parts) [] = ⊥
 
--- the text is a journal of partition 0: a run of the plain log, each command answered once and in order, each fetch out of one committed list
-pub record IsRunText (config : Config) (lists : List ActorList) (text : List ℕ) : Type 0 where
-  pub journal : List JournalEntry
-  pub run : IsPlainRun config lists journal
-  pub complete : IsComplete lists journal
-  pub committed : IsCommitted lists journal
-  pub spelled : text ≡ trace_of ((0, journal) ∷ [])
-  pub actor : AreOf 0 journal
-
--- the script has a reading, and the text is that of a run of its lines, which are actor 0's list
-pub record IsTrace (script text : List ℕ) : Type 0 where
-  pub orders : List Order
-  pub read : commands_in script ≡ Ok orders
-  pub run : IsRunText default_config (lists_of orders) text
+-- the script has a reading, and the text is the trace of a run of each of its partitions
+pub record IsTrace (bytes text : List ℕ) : Type 0 where
+  pub script : Script
+  pub read : script_in bytes ≡ Ok script
+  pub runs : List (ℕ × List JournalEntry)
+  pub are : AreRunsOf script.config script.parts runs
+  pub spelled : text ≡ trace_of runs
 
 -- the source was read to its end, and a trace of what it gave was written
 pub record WritesTrace (left_old left_new written_old written_new : Option (List ℕ)) : Type 0 where
@@ -53,8 +52,8 @@ pub record WritesFront (left_old left_new written_old written_new : Option (List
   pub trace : IsTrace script text
   pub written : AppendsFront written_old written_new text
 
--- the source was read to its end, and this line of what it gave is the first without a reading
-pub record ReadsBad (left_old left_new : Option (List ℕ)) (line : ℕ) : Type 0 where
+-- the source was read to its end, this line of what it gave is the first without a reading, and this is why
+pub record ReadsBad (left_old left_new : Option (List ℕ)) (line : ℕ) (why : Why) : Type 0 where
   pub script : List ℕ
   pub read : ReadsWhole left_old left_new script
-  pub refused : commands_in script ≡ Err line
+  pub refused : script_in script ≡ Err (line, why)

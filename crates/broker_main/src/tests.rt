@@ -1,4 +1,4 @@
-//! The rows of the first scripts, each status, and the faults of a source and a sink.
+//! Scripts and their traces, each status, and the faults of a source and a sink.
 //!
 //! The batches' bytes come from a writer of record batches that was made apart from this repository.
 
@@ -51,16 +51,107 @@ const ROWS: [(&str, &str, &str); 6] = [
     ),
 ];
 
+/// Scripts with batches from outside and records in full, and the traces that they give.
+const RAW_ROWS: [(&str, &str, &str); 17] = [
+    (
+        "a batch from outside is placed, and else left as it was given",
+        "0 0 0 raw 000000000000006300000039000000050228835a5e00000000000000000000000003e800000000000003e80000000000000007ffffffffffff000000010e00000001026100\n0 0 0 flush\n0 0 0 ack\n0 0 0 fetch 0 1000\n",
+        "0 0 0 = Ok 0 0 0\n0 0 1 = Ok 1\n0 0 2 = Ok 1\n0 0 3 = Run local 0 69 Mark 000000000000000000000039000000000228835a5e00000000000000000000000003e800000000000003e80000000000000007ffffffffffff000000010e00000001026100\n",
+    ),
+    (
+        "one bit of the value is wrong",
+        "0 0 0 raw 0000000000000000000000390000000002ebf1884b00000000000000000000000003e800000000000003e8ffffffffffffffffffffffffffff000000010e00000001026000\n",
+        "0 0 0 = Refused BadCrc 3958474827 4166193212\n",
+    ),
+    (
+        "the checksum is tested before the compression",
+        "0 0 0 raw 0000000000000000000000390000000002ebf1884b00010000000000000000000003e800000000000003e8ffffffffffffffffffffffffffff000000010e00000001026100\n",
+        "0 0 0 = Refused BadCrc 3958474827 2767818519\n",
+    ),
+    (
+        "compressed records, with the right checksum",
+        "0 0 0 raw 0000000000000000000000390000000002a4f98f1700010000000000000000000003e800000000000003e8ffffffffffffffffffffffffffff000000010e00000001026100\n",
+        "0 0 0 = Refused Compressed\n",
+    ),
+    (
+        "a control batch of a transaction",
+        "0 0 0 raw 0000000000000000000000390000000002c74f0cb600300000000000000000000003e800000000000003e8ffffffffffffffffffffffffffff000000010e00000001026100\n",
+        "0 0 0 = Refused Transactional\n",
+    ),
+    (
+        "a control batch",
+        "0 0 0 raw 0000000000000000000000390000000002207ea2b200200000000000000000000003e800000000000003e8ffffffffffffffffffffffffffff000000010e00000001026100\n",
+        "0 0 0 = Refused Control\n",
+    ),
+    (
+        "the bytes end inside the head",
+        "0 0 0 raw 0000000000000000000000390000000002ebf1884b00000000000000000000000003e800000000000003e8ffffffffffffffffffffffffffff000000\n",
+        "0 0 0 = Refused Short\n",
+    ),
+    (
+        "an older magic",
+        "0 0 0 raw 0000000000000000000000390000000001ebf1884b00000000000000000000000003e800000000000003e8ffffffffffffffffffffffffffff000000010e00000001026100\n",
+        "0 0 0 = Refused BadMagic\n",
+    ),
+    (
+        "a length below that of a head",
+        "0 0 0 raw 0000000000000000000000300000000002ebf1884b00000000000000000000000003e800000000000003e8ffffffffffffffffffffffffffff000000010e00000001026100\n",
+        "0 0 0 = Refused BadLength\n",
+    ),
+    (
+        "a byte after the batch",
+        "0 0 0 raw 0000000000000000000000390000000002ebf1884b00000000000000000000000003e800000000000003e8ffffffffffffffffffffffffffff000000010e0000000102610000\n",
+        "0 0 0 = Refused BadLength\n",
+    ),
+    (
+        "no records",
+        "0 0 0 raw 00000000000000000000003900000000021fcf5e0300000000000000000000000003e800000000000003e8ffffffffffffffffffffffffffff000000000e00000001026100\n",
+        "0 0 0 = Refused BadRecords 57\n",
+    ),
+    (
+        "the last offset delta is not the count less 1",
+        "0 0 0 raw 000000000000000000000039000000000279aaa3da00000000000100000000000003e800000000000003e8ffffffffffffffffffffffffffff000000010e00000001026100\n",
+        "0 0 0 = Refused BadRecords 23\n",
+    ),
+    (
+        "a key, no value, and a header without a value",
+        "0 0 0 append 5,:k,-,:h=-\n0 0 0 flush\n0 0 0 ack\n0 0 0 fetch 0 100\n",
+        "0 0 0 = Ok 0 0 0\n0 0 1 = Ok 1\n0 0 2 = Ok 1\n0 0 3 = Run local 0 72 Mark 00000000000000000000003c0000000002bb6f0d3800000000000000000000000000050000000000000005ffffffffffffffffffffffffffff0000000114000000026b0102026801\n",
+    ),
+    (
+        "the first example of the language's page",
+        "# two records, made stable, committed, and read\n0 0 0 append 1000,:k,:v 1000,-,:w\n0 0 0 flush\n0 0 0 ack\n0 0 0 fetch 0 1000\n",
+        "0 0 0 = Ok 0 1 0\n0 0 1 = Ok 2\n0 0 2 = Ok 2\n0 0 3 = Run local 0 78 Mark 000000000000000000000042000000000254c6652100000000000100000000000003e800000000000003e8ffffffffffffffffffffffffffff0000000210000000026b0276000e00000201027700\n",
+    ),
+    (
+        "the example of its answers",
+        "0 0 0 append 1000,-,:a\n0 0 0 fetch 0 1000\n0 0 0 flush\n0 0 0 ack\n0 0 0 fetch 0 0\n0 0 0 fetch 1 1000\n0 0 0 fetch 2 1000\n0 0 0 raw 0000\n",
+        "0 0 0 = Ok 0 0 0\n0 0 1 = Empty\n0 0 2 = Ok 1\n0 0 3 = Ok 1\n0 0 4 = Run local 0 69 Mark 0000000000000000000000390000000002ebf1884b00000000000000000000000003e800000000000003e8ffffffffffffffffffffffffffff000000010e00000001026100\n0 0 5 = Empty\n0 0 6 = OutOfRange 0 1\n0 0 7 = Refused Short\n",
+    ),
+    (
+        "the example of batches from outside",
+        "# A batch from outside, with base offset 99, leader epoch 5 and producer 7. Its checksum covers neither of the first two:\n# the broker places the batch at its log's end, in its own epoch, and leaves all else as it was given.\n0 0 0 raw 000000000000006300000039000000050228835a5e00000000000000000000000003e800000000000003e80000000000000007ffffffffffff000000010e00000001026100\n\n# One bit of the value is wrong: refused, with the checksum that the batch has and the one that its bytes give.\n0 0 0 raw 0000000000000000000000390000000002ebf1884b00000000000000000000000003e800000000000003e8ffffffffffffffffffffffffffff000000010e00000001026000\n\n# The bytes end inside the head.\n0 0 0 raw 0000\n\n# Two records in one batch, the second with a key, no value, and a header of no value.\n0 0 0 append 5,-,:a 6,:k,-,:h=-\n\n0 0 0 flush\n0 0 0 ack\n0 0 0 fetch 0 1000\n",
+        "0 0 0 = Ok 0 0 0\n0 0 1 = Refused BadCrc 3958474827 4166193212\n0 0 2 = Refused Short\n0 0 3 = Ok 1 2 0\n0 0 4 = Ok 3\n0 0 5 = Ok 3\n0 0 6 = Run local 0 149 Mark 000000000000000000000039000000000228835a5e00000000000000000000000003e800000000000003e80000000000000007ffffffffffff000000010e00000001026100000000000000000100000044000000000267651f9b00000000000100000000000000050000000000000006ffffffffffffffffffffffffffff000000020e0000000102610014000202026b0102026801\n",
+    ),
+    (
+        "comments, blanks, tabs and line ends",
+        "# a comment\r\n\n \t\npartitions 1\n\t00  0\t0 flush \r\n0 0 0 ack",
+        "0 0 0 = Ok 0\n0 0 1 = Ok 0\n",
+    ),
+];
+
 #[test]
 fn scripts_give_their_traces(rt: HostRuntime) -> Result<(), Fail> {
     let alloc = rt.alloc();
     let words = words_of(alloc, &["sim"])?;
-    for (name, script, trace) in ROWS {
-        let mut source = source_of(alloc, script.as_bytes(), &[])?;
-        let mut sink = MemorySink::new(alloc, 10_000, 7, Vec::new(alloc))?;
-        let status = tiered(&rt, words.as_slice(), &mut source, &mut sink);
-        assert_eq!(rt; status, Status::Ok, "{name}");
-        assert_eq!(rt; sink.written(), trace.as_bytes(), "{name}");
+    for rows in [ROWS.as_slice(), RAW_ROWS.as_slice()] {
+        for (name, script, trace) in rows {
+            let mut source = source_of(alloc, script.as_bytes(), &[])?;
+            let mut sink = MemorySink::new(alloc, 10_000, 7, Vec::new(alloc))?;
+            let status = tiered(&rt, words.as_slice(), &mut source, &mut sink);
+            assert_eq!(rt; status, Status::Ok, "{name}");
+            assert_eq!(rt; sink.written(), trace.as_bytes(), "{name}");
+        }
     }
     Ok(())
 }
@@ -69,7 +160,7 @@ fn scripts_give_their_traces(rt: HostRuntime) -> Result<(), Fail> {
 fn statuses_tell_their_causes(rt: HostRuntime) -> Result<(), Fail> {
     let alloc = rt.alloc();
     let script = ROWS[1].1.as_bytes();
-    let rows: [(&[&str], &[u8], &[u32], Status, &str, u8); 6] = [
+    let rows: [(&[&str], &[u8], &[u32], Status, &str, u8); 7] = [
         (
             &["sim"],
             b"0 0 0 copy\n",
@@ -83,13 +174,24 @@ fn statuses_tell_their_causes(rt: HostRuntime) -> Result<(), Fail> {
         ),
         (
             &["sim"],
-            b"0 0 0 flush\n0 0 0 flush",
+            b"# c\n0 0 0 frob\n",
             &[],
             Status::BadScript {
                 line: 2,
-                why: Why::Unbuilt,
+                why: Why::Word,
             },
-            "tiered: line 2: Unbuilt\n",
+            "tiered: line 2: Word\n",
+            3,
+        ),
+        (
+            &["sim"],
+            b"0 0 0 fetch 0 268435457\n",
+            &[],
+            Status::BadScript {
+                line: 1,
+                why: Why::FetchSum,
+            },
+            "tiered: line 1: FetchSum\n",
             3,
         ),
         (

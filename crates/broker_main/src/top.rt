@@ -3,49 +3,86 @@
 //! The trace is made whole before its first byte is written, so that nothing is written where the script has no reading
 //! or memory runs out.
 
-ghost use Rattle.std.specs.Prelude.{◌≡◌, ◌≢◌, ◌↔◌, ℕ, ◌+◌, ◌-◌, ◌<◌, ◌≤◌, ◌^◌, List, Some, Err, length, IsOk, IfOk, IsErrOf, IsTrue};
+ghost use Rattle.std.specs.Prelude.{◌≡◌, ◌≢◌, ◌↔◌, ℕ, ◌+◌, ◌-◌, ◌<◌, ◌≤◌, ◌^◌, List, ◌++◌, All, Some, Err, length, IsOk, IfOk, IsErrOf, IsTrue};
 ghost use Rattle.tier_base.specs.Counts.{counted, Rose};
 ghost use Rattle.tier_base.specs.Stream.{Gave};
 ghost use Rattle.plain_log.specs.Orders.{AreListsFor};
 ghost use Rattle.script_lang.specs.declared.refusal.Why.{Why};
-ghost use Rattle.script_lang.specs.Script.{commands_in};
+ghost use Rattle.script_lang.specs.Script.{script_in};
 ghost use Rattle.broker_main.specs.Words.{IsSim};
-ghost use Rattle.broker_main.specs.Headline.{AreListsOf, IsRunText, IsTrace, WritesTrace, WritesFront, ReadsBad};
+ghost use Rattle.broker_main.specs.Headline.{IsTrace, WritesTrace, WritesFront, ReadsBad};
+ghost use Rattle.broker_main.specs.Running.{AddsRun, IsRunText};
 ghost use Rattle.broker_main.specs.Endings.{IsDoneOrNoMemory, IsRefusedOrNoMemory};
 
 use crate::status::Status;
 use partition_world::{World, ends_are_complete, run_to_end};
-use plain_log::{ActorList, Config, runs_are_committed};
-use script_lang::{ScriptRefusal, Why, parse};
+use plain_log::{Config, runs_are_committed};
+use script_lang::{PartScript, ScriptRefusal, Why, parse};
 use std::alloc::{AllocError, Global};
-use tier_base::{PartitionId, ReadRefusal, Row, Sink, Source, read_all, write_all};
+use tier_base::{ReadRefusal, Row, Sink, Source, read_all, write_all};
 use trace_text::print;
 
 /// The most bytes that a script may have.
 pub const SCRIPT_LIMIT: usize = 16_777_216;
 
-/// Runs the lists on a fresh partition, and answers the trace.
-fn run_text(alloc: Global, config: Config, lists: Row<ActorList>) -> Result<Vec<u8>, AllocError>
+/// Runs a partition's lists on a fresh world, and puts the trace behind the text. The first partition's is not copied.
+fn run_part(
+    alloc: Global,
+    config: Config,
+    part: PartScript,
+    text: Vec<u8>,
+) -> Result<Vec<u8>, AllocError>
     requires brokers { config.brokers ≡ 1 }
-    requires fit { AreListsFor config lists }
-    requires actor { AreListsOf 0 lists }
-    ensures { IfOk result (λ text. IsRunText config lists text.items) }
+    requires fit { AreListsFor config part.lists }
+    ensures { IfOk result (λ new. AddsRun config part text.items new.items) }
 {
     ends_are_complete();
     runs_are_committed();
-    let mut world = World::fresh(alloc, PartitionId(0), config, lists)?;
+    let PartScript {
+        partition,
+        lists,
+        ..
+    } = part;
+    let mut world = World::fresh(alloc, partition, config, lists)?;
     run_to_end(alloc, &mut world)?;
-    print(alloc, PartitionId(0), world.journal())
+    let printed = print(alloc, partition, world.journal())?;
+    joined(text, printed)
+}
+
+/// Puts a text behind another.
+fn joined(front: Vec<u8>, back: Vec<u8>) -> Result<Vec<u8>, AllocError>
+    ensures { IfOk result (λ text. text.items ≡ front.items ++ back.items) }
+{
+    if front.is_empty() {
+        return Ok(back);
+    }
+    let mut text = front;
+    text.extend_from_slice(back.as_slice())?;
+    Ok(text)
+}
+
+/// Runs each partition, in rising order.
+fn run_parts(alloc: Global, config: Config, parts: Row<PartScript>) -> Result<Vec<u8>, AllocError>
+    requires brokers { config.brokers ≡ 1 }
+    requires fit { All (λ part. AreListsFor config part.lists) parts }
+    ensures { IfOk result (λ text. IsRunText config parts text.items) }
+{
+    let mut text = Vec::new(alloc);
+    for part in parts.into_vec() {
+        text = run_part(alloc, config, part, text)?;
+    }
+    Ok(text)
 }
 
 /// Reads a script, runs it, and answers the trace.
 fn trace_of(alloc: Global, script: &[u8]) -> Result<Vec<u8>, ScriptRefusal>
     requires { length script.now < 2 ^ 32 - 1 }
     ensures trace { IfOk result (λ text. IsTrace script.now text.items) }
-    ensures bad { (line : ℕ) (why : Why) → IsErrOf result (ScriptRefusal.Bad line why) → commands_in script.now ≡ Err line }
+    ensures bad { (line : ℕ) (why : Why) → IsErrOf result (ScriptRefusal.Bad line why)
+        → script_in script.now ≡ Err (line, why) }
 {
     let script = parse(alloc, script)?;
-    match run_text(alloc, script.config, script.lists) {
+    match run_parts(alloc, script.config, script.parts) {
         Ok(text) => Ok(text),
         Err(_) => Err(ScriptRefusal::NoMemory),
     }
@@ -79,7 +116,7 @@ pub fn tiered<H: AllocGlobal, R: Source, W: Sink>(
     ensures long_bytes { result ≡ Status.TooLong → Gave (R.left script.old) (R.left script.new) (SCRIPT_LIMIT + 1) }
     ensures not_long { result ≢ Status.TooLong → R.given script.new ≤ R.given script.old + SCRIPT_LIMIT }
     ensures bad { (line : ℕ) (why : Why) → result ≡ Status.BadScript line why
-        → ReadsBad (R.left script.old) (R.left script.new) line }
+        → ReadsBad (R.left script.old) (R.left script.new) line why }
     ensures write_fault { result ≡ Status.WriteFault → Rose (W.faults out.old) (W.faults out.new) }
     ensures front { result ≡ Status.WriteFault → WritesFront (R.left script.old) (R.left script.new)
         (W.written out.old) (W.written out.new) }
@@ -87,13 +124,13 @@ pub fn tiered<H: AllocGlobal, R: Source, W: Sink>(
     // Where nothing fails, a script with a reading is run, unless memory runs out.
     ensures complete { IsSim words.now
         → ¬ Rose (R.faults script.old) (R.faults script.new) → ¬ Rose (W.faults out.old) (W.faults out.new)
-        → (bytes : List ℕ) → R.left script.old ≡ Some bytes → length bytes ≤ SCRIPT_LIMIT → IsOk (commands_in bytes)
+        → (bytes : List ℕ) → R.left script.old ≡ Some bytes → length bytes ≤ SCRIPT_LIMIT → IsOk (script_in bytes)
         → IsDoneOrNoMemory result }
 
-    // And one without is refused, at its first line that has none.
+    // And one without is refused, at its first line that has none and for that line's first cause.
     ensures refused { IsSim words.now → ¬ Rose (R.faults script.old) (R.faults script.new)
-        → (bytes : List ℕ) (number : ℕ) → R.left script.old ≡ Some bytes → length bytes ≤ SCRIPT_LIMIT
-        → commands_in bytes ≡ Err number → IsRefusedOrNoMemory number result }
+        → (bytes : List ℕ) (number : ℕ) (why : Why) → R.left script.old ≡ Some bytes → length bytes ≤ SCRIPT_LIMIT
+        → script_in bytes ≡ Err (number, why) → IsRefusedOrNoMemory number why result }
 
     // Nothing else writes.
     ensures unwritten { result ≢ Status.Ok → result ≢ Status.WriteFault → W.written out.new ≡ W.written out.old }

@@ -1,1 +1,13 @@
 pub mod Lengths
+pub mod Splitting
+pub mod Growing
+pub mod Readings
+pub mod Spelled
+pub mod Hex
+pub mod Padded
+pub mod Places
+pub mod Answered
+pub mod Lined
+pub mod Grown
+pub mod Whole
+pub mod OneTrace

@@ -1,106 +1,206 @@
 //! What a command was answered, as words.
 
-ghost use Rattle.std.specs.Prelude.{◌≡◌, ◌++◌, OnOk};
-ghost use Rattle.trace_text.specs.Trace.{stop_text, tier_text, run_head, answer_text, event_text};
-ghost use Rattle.hex.specs.Hex.{encode_lower};
+ghost use Rattle.std.specs.Prelude.{◌≡◌, [], ◌∷◌, ◌++◌, OnOk};
+ghost use Rattle.tier_base.specs.Key.{id_text, key_text};
+ghost use Rattle.trace_text.specs.Names.{file_name_text, cause_numbers};
+ghost use Rattle.trace_text.specs.Trace.{place_text, tier_words, fields_of, event_words, spaced};
 
+use crate::names::{cause_name, name, part_ending, state_name, stop_name};
 use crate::page::Page;
-use plain_log::{Answer, Event, Tier};
+use plain_log::{Answer, Event, Place, Tier};
+use record_batch::BatchRefusal;
 use std::alloc::AllocError;
-use tier_base::Stop;
+use tier_base::{FileName, ObjectKey, SegmentId};
 
-/// Names why a run ends.
-fn stop_name(stop: Stop) -> &'static str
-    ensures { result.now ≡ stop_text stop }
+/// Writes the name of a broker's file.
+fn write_file(page: &mut Page, name: FileName) -> Result<(), AllocError>
+    ensures { OnOk result (page.new ≡ page.old ++ file_name_text name) }
 {
-    match stop {
-        Stop::Mark => "Mark",
-        Stop::Piece => "Piece",
-        Stop::Limit => "Limit",
+    match name {
+        FileName::Manifest => page.word("manifest"),
+        FileName::Log(base) => {
+            page.padded_number(base)?;
+            page.word(".log")
+        }
+        FileName::Notes => page.word("notes"),
+        FileName::Gate => page.word("gate"),
+    }
+}
+
+/// Writes the id of a remote segment.
+fn write_id(page: &mut Page, id: SegmentId) -> Result<(), AllocError>
+    ensures { OnOk result (page.new ≡ page.old ++ id_text id) }
+{
+    let mut buffer = [0u8; 36];
+    page.word(id.write_text(&mut buffer))
+}
+
+/// Writes the key of an object.
+#[tactic(auto, unfolding(tier_base::specs::Key::key_text))]
+fn write_key(page: &mut Page, key: ObjectKey) -> Result<(), AllocError>
+    ensures { OnOk result (page.new ≡ page.old ++ key_text key) }
+{
+    page.number(u64::from(key.partition.0))?;
+    page.word("/")?;
+    write_id(page, key.id)?;
+    page.word(part_ending(key.part))
+}
+
+/// Writes what was found damaged.
+fn write_place(page: &mut Page, place: Place) -> Result<(), AllocError>
+    ensures { OnOk result (page.new ≡ page.old ++ place_text place) }
+{
+    match place {
+        Place::Key(key) => write_key(page, key),
+        Place::File(name) => write_file(page, name),
+        Place::Meta => page.word("meta"),
+    }
+}
+
+/// Writes a cause's numbers, each behind a space.
+fn write_numbers(page: &mut Page, cause: BatchRefusal) -> Result<(), AllocError>
+    ensures { OnOk result (page.new ≡ page.old ++ spaced (cause_numbers cause)) }
+{
+    match cause {
+        BatchRefusal::BadCrc { kept, computed } => {
+            page.then_number(u64::from(kept))?;
+            page.then_number(u64::from(computed))
+        }
+        BatchRefusal::BadRecords { at } => page.then_number(u64::from(at)),
+        BatchRefusal::Short
+        | BatchRefusal::BadMagic
+        | BatchRefusal::BadLength
+        | BatchRefusal::Compressed
+        | BatchRefusal::Transactional
+        | BatchRefusal::Control => Ok(()),
     }
 }
 
 /// Writes where a run comes from.
 fn write_tier(page: &mut Page, tier: Tier) -> Result<(), AllocError>
-    ensures { OnOk result (page.new ≡ page.old ++ tier_text tier) }
+    ensures { OnOk result (page.new ≡ page.old ++ spaced (tier_words tier)) }
 {
     match tier {
         Tier::Local(base) => {
-            page.word("local")?;
+            page.then_word("local")?;
             page.then_number(base)
+        }
+        Tier::Remote(id) => {
+            page.then_word("remote")?;
+            page.word(" ")?;
+            write_id(page, id)
         }
     }
 }
 
-/// Writes what stands before a run's bytes.
-#[tactic(auto, unfolding(crate::specs::Trace::run_head))]
-fn write_run_head(page: &mut Page, tier: Tier, size: u64, stop: Stop) -> Result<(), AllocError>
-    ensures { OnOk result (page.new ≡ page.old ++ run_head tier size stop) }
-{
-    page.word("Run ")?;
-    write_tier(page, tier)?;
-    page.then_number(size)?;
-    page.word(" ")?;
-    page.word(stop_name(stop))?;
-    page.word(" ")
-}
-
-/// Writes an answer.
-#[tactic(auto, unfolding(crate::specs::Trace::answer_text))]
-fn write_answer(page: &mut Page, answer: &Answer) -> Result<(), AllocError>
-    ensures { OnOk result (page.new ≡ page.old ++ answer_text answer.now) }
+/// Writes an answer's fields, each behind a space.
+fn write_fields(page: &mut Page, answer: &Answer) -> Result<(), AllocError>
+    ensures { OnOk result (page.new ≡ page.old ++ spaced (fields_of answer.now)) }
 {
     match answer {
-        Answer::OkAt(n) => {
-            page.word("Ok")?;
-            page.then_number(*n)
+        Answer::OkAt(n)
+        | Answer::DiskFaultAt(n)
+        | Answer::Follows(n)
+        | Answer::NeedsElection(n)
+        | Answer::Leads(n)
+        | Answer::StaleEpoch(n)
+        | Answer::Cut(n)
+        | Answer::Passed(n)
+        | Answer::BelowStart(n)
+        | Answer::Rebuilt(n)
+        | Answer::Moved(n)
+        | Answer::Copied(n)
+        | Answer::Raised(n)
+        | Answer::NotAbove(n)
+        | Answer::AboveMark(n)
+        | Answer::Up(n)
+        | Answer::Offset(n) => page.then_number(*n),
+        Answer::BehindStart(a, b)
+        | Answer::Behind(a, b)
+        | Answer::Dropped(a, b)
+        | Answer::OutOfRange(a, b) => {
+            page.then_number(*a)?;
+            page.then_number(*b)
         }
         Answer::OkSpan(base, last, epoch) => {
-            page.word("Ok")?;
             page.then_number(*base)?;
             page.then_number(*last)?;
             page.then_number(*epoch)
         }
-        Answer::Down => page.word("Down"),
-        Answer::NotLeader => page.word("NotLeader"),
-        Answer::LastOffset => page.word("LastOffset"),
-        Answer::NotJoined => page.word("NotJoined"),
-        Answer::StaleEpoch(epoch) => {
-            page.word("StaleEpoch")?;
-            page.then_number(*epoch)
+        Answer::Refused(cause) => {
+            page.then_word(cause_name(*cause))?;
+            write_numbers(page, *cause)
         }
-        Answer::Stopped => page.word("Stopped"),
-        Answer::OutOfRange(start, end) => {
-            page.word("OutOfRange")?;
+        Answer::Damaged(place, at) => {
+            page.word(" ")?;
+            write_place(page, *place)?;
+            page.then_number(*at)
+        }
+        Answer::CopiedSegment(id, start, last) => {
+            page.word(" ")?;
+            write_id(page, *id)?;
             page.then_number(*start)?;
-            page.then_number(*end)
+            page.then_number(*last)
         }
-        Answer::Empty => page.word("Empty"),
+        Answer::Overtaken(state) => page.then_word(state_name(*state)),
+        Answer::Deleted(id) => {
+            page.word(" ")?;
+            write_id(page, *id)
+        }
         Answer::Run {
             tier,
             size,
             stop,
             bytes,
         } => {
-            write_run_head(page, *tier, *size, *stop)?;
-            page.hex(bytes.as_slice())
+            write_tier(page, *tier)?;
+            page.then_number(*size)?;
+            page.then_word(stop_name(*stop))?;
+            page.then_hex(bytes.as_slice())
         }
+        Answer::Ok
+        | Answer::Down
+        | Answer::NotLeader
+        | Answer::LastOffset
+        | Answer::TooManySegments
+        | Answer::DiskFault
+        | Answer::EmptySegment
+        | Answer::LastEpoch
+        | Answer::NotInSync
+        | Answer::DownBroker
+        | Answer::Known
+        | Answer::NotFollower
+        | Answer::NoLeader
+        | Answer::Stopped
+        | Answer::MetaFault
+        | Answer::StoreFault
+        | Answer::NotJoined
+        | Answer::Level
+        | Answer::IsLeader
+        | Answer::LostLead
+        | Answer::Kept
+        | Answer::IsUp
+        | Answer::LastIncarnation
+        | Answer::Empty
+        | Answer::CopyOff
+        | Answer::NoOffset => Ok(()),
     }
 }
 
-/// Writes what an entry tells.
+/// Writes what an entry tells, each word behind a space.
 pub fn write_event(page: &mut Page, event: &Event) -> Result<(), AllocError>
-    ensures { OnOk result (page.new ≡ page.old ++ event_text event.now) }
+    ensures { OnOk result (page.new ≡ page.old ++ spaced (event_words event.now)) }
 {
     match event {
-        Event::Begins { cut: None } => page.word("begin"),
+        Event::Begins { cut: None } => page.word(" begin"),
         Event::Begins { cut: Some(end) } => {
-            page.word("begin cut")?;
+            page.word(" begin cut")?;
             page.then_number(*end)
         }
         Event::Answers(answer) => {
-            page.word("= ")?;
-            write_answer(page, answer)
+            page.word(" = ")?;
+            page.word(name(answer))?;
+            write_fields(page, answer)
         }
     }
 }

@@ -1,8 +1,9 @@
 //! A text that grows by words, numbers and bytes.
 
-ghost use Rattle.std.specs.Prelude.{◌≡◌, [], ◌++◌, OnOk, IfOk, decimal};
+ghost use Rattle.std.specs.Prelude.{◌≡◌, [], ◌∷◌, ◌++◌, OnOk, IfOk, replicate, decimal};
 ghost use Rattle.hex.specs.Hex.{encode_lower};
-ghost use Rattle.trace_text.specs.Trace.{then_number};
+ghost use Rattle.trace_text.specs.Names.{padded};
+ghost use Rattle.trace_text.specs.Trace.{spaced};
 
 use std::alloc::{AllocError, Global};
 use std::fmt::Write;
@@ -42,6 +43,14 @@ impl Page {
         self.text.extend_from_slice(word.as_bytes())
     }
 
+    /// Writes a space and a word.
+    pub fn then_word(&mut self, word: &str) -> Result<(), AllocError>
+        ensures { OnOk result (self.new ≡ self.old ++ spaced (word.now ∷ [])) }
+    {
+        self.word(" ")?;
+        self.word(word)
+    }
+
     /// Writes a number in decimal digits.
     pub fn number(&mut self, n: u64) -> Result<(), AllocError>
         ensures { OnOk result (self.new ≡ self.old ++ decimal n) }
@@ -52,18 +61,30 @@ impl Page {
     }
 
     /// Writes a space and a number.
-    #[tactic(auto, unfolding(crate::specs::Trace::then_number))]
     pub fn then_number(&mut self, n: u64) -> Result<(), AllocError>
-        ensures { OnOk result (self.new ≡ self.old ++ then_number n) }
+        ensures { OnOk result (self.new ≡ self.old ++ spaced (decimal n ∷ [])) }
     {
         self.word(" ")?;
         self.number(n)
     }
 
-    /// Writes bytes, each as two digits.
-    pub fn hex(&mut self, bytes: &[u8]) -> Result<(), AllocError>
-        ensures { OnOk result (self.new ≡ self.old ++ encode_lower bytes.now) }
+    /// Writes a number in 20 digits.
+    #[tactic(auto, unfolding(crate::specs::Names::padded))]
+    pub fn padded_number(&mut self, n: u64) -> Result<(), AllocError>
+        ensures { OnOk result (self.new ≡ self.old ++ padded n) }
     {
+        self.number.clear();
+        write!(self.number, "{n}")?;
+        let zeros = 20usize.saturating_sub(self.number.len());
+        push_zeros(&mut self.text, zeros)?;
+        self.text.extend_from_slice(self.number.as_bytes())
+    }
+
+    /// Writes a space, and bytes, each as two digits.
+    pub fn then_hex(&mut self, bytes: &[u8]) -> Result<(), AllocError>
+        ensures { OnOk result (self.new ≡ self.old ++ spaced (encode_lower bytes.now ∷ [])) }
+    {
+        self.word(" ")?;
         push_hex(&mut self.text, bytes)
     }
 
@@ -73,6 +94,16 @@ impl Page {
     {
         self.text
     }
+}
+
+/// Puts so many zeros at the end of a text.
+fn push_zeros(text: &mut Vec<u8>, zeros: usize) -> Result<(), AllocError>
+    ensures { OnOk result (text.new.items ≡ text.old.items ++ replicate zeros 48) }
+{
+    for _ in 0..zeros {
+        text.push(b'0')?;
+    }
+    Ok(())
 }
 
 /// The sixteen digits.

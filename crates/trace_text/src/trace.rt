@@ -1,7 +1,7 @@
 //! The text of a partition's journal.
 
 ghost use Rattle.std.specs.Prelude.{◌≡◌, ◌++◌, OnOk, IfOk};
-ghost use Rattle.trace_text.specs.Trace.{line_head, event_text, entry_line, journal_text};
+ghost use Rattle.trace_text.specs.Trace.{entry_line, journal_text};
 
 use crate::answers::write_event;
 use crate::page::Page;
@@ -9,21 +9,6 @@ use crate::room::room;
 use plain_log::{Journal, JournalEntry};
 use std::alloc::{AllocError, Global};
 use tier_base::PartitionId;
-
-/// Writes whose entry it is.
-#[tactic(auto, unfolding(crate::specs::Trace::line_head))]
-fn write_head(
-    page: &mut Page,
-    partition: PartitionId,
-    entry: &JournalEntry,
-) -> Result<(), AllocError>
-    ensures { OnOk result (page.new ≡ page.old ++ line_head partition.0 entry.now) }
-{
-    page.number(u64::from(partition.0))?;
-    page.then_number(u64::from(entry.actor.0))?;
-    page.then_number(u64::from(entry.number))?;
-    page.word(" ")
-}
 
 /// Writes an entry's line.
 #[tactic(auto, unfolding(crate::specs::Trace::entry_line))]
@@ -34,12 +19,15 @@ fn write_entry(
 ) -> Result<(), AllocError>
     ensures { OnOk result (page.new ≡ page.old ++ entry_line partition.0 entry.now) }
 {
-    write_head(page, partition, entry)?;
+    page.number(u64::from(partition.0))?;
+    page.then_number(u64::from(entry.actor.0))?;
+    page.then_number(u64::from(entry.number))?;
     write_event(page, &entry.event)?;
     page.word("\n")
 }
 
-/// Writes the lines of a partition's journal.
+/// Writes the lines of a partition's journal. A run without bytes has no spelling of its own: its
+/// line ends with the space before them, and no reader takes it.
 pub fn print(
     alloc: Global,
     partition: PartitionId,

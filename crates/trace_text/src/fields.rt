@@ -1,0 +1,197 @@
+//! The fields of an answer, word by word. `specs/Fields.antt` says what each word is read as.
+
+ghost use Rattle.std.specs.Prelude.{◌≡◌, IfOk, option_map};
+ghost use Rattle.std.specs.List.{list_all};
+ghost use Rattle.trace_text.specs.Fields.{key_in, log_name_in, file_in, place_in, id_in, state_in, stop_in, cause_in, tier_in, is_lower_digit, bytes_in};
+
+use crate::counts::{all_digits, count, value};
+use bytes::Bytes;
+use hex::FromHexError;
+use plain_log::{Place, Tier};
+use record_batch::BatchRefusal;
+use std::alloc::{AllocError, Global};
+use tier_base::{FileName, ObjectKey, SegmentId, State, Stop};
+
+/// Reads an id.
+pub fn id(word: &[u8]) -> Option<SegmentId>
+    ensures { result ≡ id_in word.now }
+{
+    SegmentId::from_text(word)
+}
+
+/// Reads an object's key.
+fn key(word: &[u8]) -> Option<ObjectKey>
+    ensures { result ≡ key_in word.now }
+{
+    ObjectKey::from_text(word)
+}
+
+/// Reads the name of a log segment's file.
+#[tactic(auto, unfolding(crate::specs::Fields::log_name_in))]
+fn log_name(digits: &[u8], ending: &[u8]) -> Option<FileName>
+    ensures { result ≡ log_name_in digits.now ending.now }
+{
+    if ending != b".log".as_slice() {
+        return None;
+    }
+    if !all_digits(digits) {
+        return None;
+    }
+    let Some(base) = value(digits) else {
+        return None;
+    };
+    Some(FileName::Log(base))
+}
+
+/// Reads the name of a file.
+#[tactic(auto, unfolding(crate::specs::Fields::file_in))]
+fn file(word: &[u8]) -> Option<FileName>
+    ensures { result ≡ file_in word.now }
+{
+    if word.len() == 24 {
+        let (digits, ending) = word.split_at(20);
+        return log_name(digits, ending);
+    }
+    if word == b"manifest".as_slice() {
+        return Some(FileName::Manifest);
+    }
+    if word == b"notes".as_slice() {
+        return Some(FileName::Notes);
+    }
+    if word == b"gate".as_slice() {
+        return Some(FileName::Gate);
+    }
+    None
+}
+
+/// Reads what was found damaged.
+#[tactic(auto, unfolding(crate::specs::Fields::place_in))]
+pub fn place(word: &[u8]) -> Option<Place>
+    ensures { result ≡ place_in word.now }
+{
+    if word == b"meta".as_slice() {
+        return Some(Place::Meta);
+    }
+    if let Some(key) = key(word) {
+        return Some(Place::Key(key));
+    }
+    let Some(name) = file(word) else {
+        return None;
+    };
+    Some(Place::File(name))
+}
+
+/// Reads a remote segment's state.
+#[tactic(auto, unfolding(crate::specs::Fields::state_in))]
+pub fn state(word: &[u8]) -> Option<State>
+    ensures { result ≡ state_in word.now }
+{
+    if word == b"CopyStarted".as_slice() {
+        return Some(State::CopyStarted);
+    }
+    if word == b"CopyFinished".as_slice() {
+        return Some(State::CopyFinished);
+    }
+    if word == b"DeleteStarted".as_slice() {
+        return Some(State::DeleteStarted);
+    }
+    if word == b"DeleteFinished".as_slice() {
+        return Some(State::DeleteFinished);
+    }
+    None
+}
+
+/// Reads why a run ends.
+#[tactic(auto, unfolding(crate::specs::Fields::stop_in))]
+pub fn stop(word: &[u8]) -> Option<Stop>
+    ensures { result ≡ stop_in word.now }
+{
+    if word == b"Mark".as_slice() {
+        return Some(Stop::Mark);
+    }
+    if word == b"Piece".as_slice() {
+        return Some(Stop::Piece);
+    }
+    if word == b"Limit".as_slice() {
+        return Some(Stop::Limit);
+    }
+    None
+}
+
+/// Reads a cause that has no numbers.
+#[tactic(auto, unfolding(crate::specs::Fields::cause_in))]
+pub fn cause(word: &[u8]) -> Option<BatchRefusal>
+    ensures { result ≡ cause_in word.now }
+{
+    if word == b"Short".as_slice() {
+        return Some(BatchRefusal::Short);
+    }
+    if word == b"BadMagic".as_slice() {
+        return Some(BatchRefusal::BadMagic);
+    }
+    if word == b"BadLength".as_slice() {
+        return Some(BatchRefusal::BadLength);
+    }
+    if word == b"Compressed".as_slice() {
+        return Some(BatchRefusal::Compressed);
+    }
+    if word == b"Transactional".as_slice() {
+        return Some(BatchRefusal::Transactional);
+    }
+    if word == b"Control".as_slice() {
+        return Some(BatchRefusal::Control);
+    }
+    None
+}
+
+/// Reads where a run comes from.
+#[tactic(auto, unfolding(crate::specs::Fields::tier_in))]
+pub fn tier(name: &[u8], segment: &[u8]) -> Option<Tier>
+    ensures { result ≡ tier_in name.now segment.now }
+{
+    if name == b"local".as_slice() {
+        let Some(base) = count(segment) else {
+            return None;
+        };
+        return Some(Tier::Local(base));
+    }
+    if name == b"remote".as_slice() {
+        let Some(id) = id(segment) else {
+            return None;
+        };
+        return Some(Tier::Remote(id));
+    }
+    None
+}
+
+/// Answers whether a byte is a hex digit, and no upper case letter.
+fn is_lower_digit(byte: u8) -> bool
+    ensures { result ≡ is_lower_digit byte }
+{
+    (48 <= byte && byte <= 57) || (97 <= byte && byte <= 102)
+}
+
+/// Answers whether all bytes are hex digits, and no upper case letters.
+fn are_lower_digits(word: &[u8]) -> bool
+    ensures { result ≡ list_all is_lower_digit word.now }
+{
+    word.iter().all(|byte| is_lower_digit(*byte))
+}
+
+/// Reads a run's bytes.
+#[tactic(auto, unfolding(crate::specs::Fields::bytes_in))]
+pub fn run_bytes(alloc: Global, word: &[u8]) -> Result<Option<Bytes>, AllocError>
+    ensures { IfOk result (λ found. found ≡ bytes_in word.now) }
+{
+    if word.is_empty() {
+        return Ok(None);
+    }
+    if !are_lower_digits(word) {
+        return Ok(None);
+    }
+    match hex::decode(alloc, word) {
+        Ok(bytes) => Ok(Some(Bytes::from_vec(bytes)?)),
+        Err(FromHexError::OutOfMemory) => Err(AllocError),
+        Err(_) => Ok(None),
+    }
+}

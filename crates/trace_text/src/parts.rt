@@ -1,0 +1,86 @@
+//! The parts of a trace, as its lines come.
+
+ghost use Rattle.std.specs.Prelude.{◌≡◌, [], map, IfOk, OnOk};
+ghost use Rattle.trace_text.specs.Read.{told};
+ghost use Rattle.trace_text.specs.Steps.{parts_of, IsBegun, HasBegun, Puts};
+
+use crate::line::{Line, PartJournal};
+use plain_log::Journal;
+use std::alloc::{AllocError, Global};
+use std::mem;
+use tier_base::{PartitionId, Roll, Row};
+
+/// The parts so far: those that are whole, and the last one, where there is one.
+#[derive(Drop)]
+pub struct Parts {
+    pub done: Row<PartJournal>,
+    pub last: Option<PartitionId>,
+    pub journal: Journal,
+}
+
+impl Parts {
+    /// Begins without a part.
+    pub fn new(alloc: Global) -> Parts
+        ensures begun { IsBegun result }
+        ensures none { parts_of result ≡ [] }
+    {
+        Parts {
+            done: Row::new(alloc),
+            last: None,
+            journal: Roll::new(alloc),
+        }
+    }
+
+    /// Begins the part of a line's partition.
+    fn begin(&mut self, alloc: Global, line: Line) -> Result<(), AllocError>
+        ensures { OnOk result (HasBegun self.old self.new line) }
+    {
+        self.last = Some(line.partition);
+        self.journal = Roll::new(alloc);
+        self.journal.reserve(1)?;
+        self.journal.put(line.entry);
+        Ok(())
+    }
+
+    /// Puts an entry behind the others, or answers that it can't stand there.
+    pub fn put(&mut self, alloc: Global, line: Line) -> Result<bool, AllocError>
+        requires { IsBegun self.old }
+        ensures { Puts self.old self.new line result }
+    {
+        let Some(last) = self.last else {
+            self.begin(alloc, line)?;
+            return Ok(true);
+        };
+        if line.partition.0 < last.0 {
+            return Ok(false);
+        }
+        if line.partition.0 == last.0 {
+            self.journal.reserve(1)?;
+            self.journal.put(line.entry);
+            return Ok(true);
+        }
+        let journal = mem::replace(&mut self.journal, Roll::new(alloc));
+        self.done.push(PartJournal {
+            partition: last,
+            journal,
+        })?;
+        self.begin(alloc, line)?;
+        Ok(true)
+    }
+
+    /// Gives the parts.
+    pub fn finish(self) -> Result<Row<PartJournal>, AllocError>
+        ensures { IfOk result (λ parts. map told parts ≡ parts_of self) }
+    {
+        let Parts {
+            done,
+            last,
+            journal,
+        } = self;
+        let mut done = done;
+        if let Some(partition) = last {
+            done.push(PartJournal { partition, journal })?;
+        }
+        Ok(done)
+    }
+}

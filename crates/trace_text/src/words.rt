@@ -1,0 +1,76 @@
+//! The words of a line, which one space parts.
+
+ghost use Rattle.std.specs.Prelude.{◌≡◌, ◌≤◌, ◌==◌, ℕ, length};
+ghost use Rattle.std.specs.List.{slice_split};
+ghost use Rattle.trace_text.specs.Steps.{front_len, words_left, with_left, is_done, words_behind};
+
+use std::marker::Model;
+
+/// The words that are left of a line.
+#[derive(Drop)]
+pub struct Words<'a> {
+    rest: Option<&'a [u8]>,
+}
+
+impl<'a> Model for Words<'a> {
+    ghost use Rattle.std.specs.Prelude.{List, ℕ};
+    ghost use Rattle.trace_text.specs.Steps.{words_left};
+
+    ghost Value = { List (List ℕ) };
+
+    ghost view = { λ words. words_left words.rest };
+}
+
+impl<'a> Words<'a> {
+    /// Begins with all words.
+    pub fn of(line: &'a [u8]) -> Words<'a>
+        ensures { result ≡ slice_split (λ b. b == 32) line.now }
+    {
+        Words { rest: Some(line) }
+    }
+
+    /// Takes the next word.
+    pub fn first(&mut self) -> Option<&'a [u8]>
+        ensures { self.old ≡ with_left result self.new }
+    {
+        let Some(text) = self.rest else {
+            return None;
+        };
+        let (word, rest) = text.split_at(front_len(text, b' '));
+        self.rest = behind(rest);
+        Some(word)
+    }
+
+    /// Answers whether no word is left.
+    pub fn is_done(&self) -> bool
+        ensures { result ≡ is_done self.now }
+    {
+        match self.rest {
+            None => true,
+            Some(_) => false,
+        }
+    }
+}
+
+/// Counts the bytes before the first of this kind.
+pub fn front_len(text: &[u8], end: u8) -> usize
+    ensures value { result ≡ front_len (λ b. b == end) text.now }
+    ensures within { result ≤ length text.now }
+{
+    for (i, byte) in text.iter().enumerate() {
+        if *byte == end {
+            return i;
+        }
+    }
+    text.len()
+}
+
+/// Gives what stands behind the space that a text begins with, where it isn't at its end.
+fn behind(text: &[u8]) -> Option<&[u8]>
+    ensures { words_left result ≡ words_behind text.now }
+{
+    match text {
+        [_, rest @ ..] => Some(rest),
+        [] => None,
+    }
+}
