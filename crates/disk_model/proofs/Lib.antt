@@ -1,0 +1,5 @@
+pub mod Attempts
+pub mod Listed
+pub mod Names
+pub mod Past
+pub mod Steps

@@ -1,0 +1,8 @@
+use Rattle.disk_model.specs.declared.call.DiskCall.TheVariants as call
+use Rattle.disk_model.proofs.Attempts.{quiet}
+use Rattle.disk_model.proofs.deaf_disk.DeafDiskDisk.replace.Goals as goal
+
+pub returns-clause-control : goal.returns-clause-control
+returns-clause-control c =
+    let d = c.args.self.now in
+    rw c.give.ensures.fate (quiet call.Replace _ d.faults c.note.new.self d.handed c.note.ensures.ran)

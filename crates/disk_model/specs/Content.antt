@@ -1,0 +1,141 @@
+-- What a disk holds, and what a crash may leave of it.
+--
+--   form                              says
+--   Image d c                         a crash now may leave the files c
+--   OnlyAt name R old new             one file goes from old to new by R, and the others stay
+--   Changes name made crash may o n   a call that changes one file
+--   Keeps old new                     a call that changes none
+--   Elapses old new                   what a crash at some moment of the past might have left
+--   LeavesOnly old new P              a crash at any moment between leaves files that have P
+--   Lawful d                          what holds of every disk
+--
+--   call      of the file makes      a crash then may leave
+--   append    appended bytes         Grown: as before, or what was there with any bytes behind
+--   sync      itself                 and after `Ok` it Begins with what reads
+--   cut       cut_to len             CutBack: as before, or the front of what was there with any bytes behind
+--   replace   replaced bytes         Swapped: the old or the new file, and after `Ok` the new one
+--   remove    removed                Gone: as before, or none
+--
+-- The bytes that are synced stay: each image after a call is one of before with that file changed so.
+use Rattle.std.specs.Prelude.{◌≡◌, ◌≢◌, ◌⊎◌, ◌↔◌, ℕ, ◌≤◌, Bool, true, List, [], ◌∷◌, ◌++◌, take, if◌then◌else◌, Option, Some, None, Ok, Err, option_map, unwrap_or, IsTrue, IsSome}
+use Rattle.std.specs.declared.result.Result.{Result}
+use Rattle.tier_base.specs.declared.fault.Trouble.{Trouble}
+use Rattle.tier_base.specs.declared.plain.FileName.{FileName}
+
+-- the files by name
+abbrev pub Files : Type 0
+Files = FileName → Option (List ℕ)
+
+-- Of a disk that doesn't tell, `files` means nothing and no image is claimed.
+pub record Content : Type 1 where
+  pub tells : Bool
+  pub files : Files
+  -- a number that doesn't fall
+  pub moment : ℕ
+  -- what a crash at some moment from that one on might have left
+  pub left : ℕ → Files → Type 0
+
+-- what a crash now may leave
+abbrev pub Image : Content → Files → Type 0
+Image d c = d.left d.moment c
+
+-- A disk as it reads is one of its images, an earlier moment has more of them, and only one that tells has any.
+pub record Lawful (d : Content) : Type 0 where
+  pub reads : IsTrue d.tells → Image d d.files
+  pub told : (c : Files) → Image d c → IsTrue d.tells
+  pub earlier : (t u : ℕ) (c : Files) → t ≤ u → d.left u c → d.left t c
+
+-- one file goes from old to new by R, and the others stay
+pub record OnlyAt (name : FileName) (R : Option (List ℕ) → Option (List ℕ) → Type 0) (old new : Files) : Type 0 where
+  pub there : R (old name) (new name)
+  pub others : (n : FileName) → n ≢ name → new n ≡ old n
+
+-- the bytes of a file, none where it is absent
+abbrev pub bytes_in : Option (List ℕ) → List ℕ
+bytes_in file = unwrap_or file []
+
+-- Time goes on: a crash since t might have left what it might have left before, or what it may leave now.
+pub record Elapses (old new : Content) : Type 0 where
+  pub later : old.moment ≤ new.moment
+  pub nothing_else : (t : ℕ) (c : Files) → t ≤ old.moment → new.left t c → old.left t c ⊎ Image new c
+  pub keeps : (t : ℕ) (c : Files) → t ≤ old.moment → old.left t c → new.left t c
+
+-- A crash at any moment since old leaves files that have P.
+pub record LeavesOnly (old new : Content) (P : Files → Type 0) : Type 0 where
+  pub later : old.moment ≤ new.moment
+  pub each : (c : Files) → new.left old.moment c → P c
+  -- for a run that began earlier
+  pub before : (t : ℕ) (c : Files) → t ≤ old.moment → new.left t c → old.left t c ⊎ P c
+
+-- a call that changes one file: what it makes of it where it was done, and what a crash may make of it
+pub record Changes (name : FileName) (made : Option (List ℕ) → Option (List ℕ)) (crash : Option (List ℕ) → Option (List ℕ) → Type 0) (may_be_done : Bool → Type 0) (old new : Content) : Type 0 where
+  pub tells : new.tells ≡ old.tells
+  pub files : IsTrue old.tells → (done : Bool) × may_be_done done × OnlyAt name (λ before after. after ≡ (if done then made before else before)) old.files new.files
+  pub images : (c : Files) → Image new c → (d : Files) × Image old d × OnlyAt name crash d c
+  pub undone : (may_be_done true → ⊥) → (c : Files) → Image new c → Image old c
+  pub time : Elapses old new
+
+-- a call that changes no file
+pub record Keeps (old new : Content) : Type 0 where
+  pub tells : new.tells ≡ old.tells
+  pub files : (n : FileName) → new.files n ≡ old.files n
+  pub images : (c : Files) → Image new c → Image old c
+  pub time : Elapses old new
+
+-- `append`: until a sync, any bytes behind what was there
+abbrev pub appended : List ℕ → Option (List ℕ) → Option (List ℕ)
+appended bytes file = Some (bytes_in file ++ bytes)
+
+-- as before, or what was there with any bytes behind
+abbrev pub Grown : Option (List ℕ) → Option (List ℕ) → Type 0
+Grown before after = (after ≡ before) ⊎ ((behind : List ℕ) × (after ≡ Some (bytes_in before ++ behind)))
+
+-- `cut`: the file's front
+abbrev pub cut_to : ℕ → Option (List ℕ) → Option (List ℕ)
+cut_to len file = option_map (take len) file
+
+-- the file whole, or its front with any bytes behind
+abbrev pub CutBack : ℕ → Option (List ℕ) → Option (List ℕ) → Type 0
+CutBack len before after =
+    (after ≡ before)
+    ⊎ (IsSome before × ((behind : List ℕ) × (after ≡ Some (take len (bytes_in before) ++ behind))))
+
+-- `replace`: the new file
+abbrev pub replaced : List ℕ → Option (List ℕ) → Option (List ℕ)
+replaced bytes file = Some bytes
+
+-- the old or the new file whole
+abbrev pub Swapped : List ℕ → Option (List ℕ) → Option (List ℕ) → Type 0
+Swapped bytes before after = (after ≡ before) ⊎ (after ≡ Some bytes)
+
+-- `remove`: no file
+abbrev pub removed : Option (List ℕ) → Option (List ℕ)
+removed file = None
+
+-- as before, or none
+abbrev pub Gone : Option (List ℕ) → Option (List ℕ) → Type 0
+Gone before after = (after ≡ before) ⊎ (after ≡ None)
+
+-- after a sync a crash leaves what reads, with any bytes behind
+abbrev pub Begins : Option (List ℕ) → Option (List ℕ) → Type 0
+Begins read after = IsSome read → (behind : List ℕ) × (after ≡ Some (bytes_in read ++ behind))
+
+-- the name is in the list
+abbrev pub In : FileName → List FileName → Type 0
+In n [] = ⊥
+In n (x ∷ xs) = (n ≡ x) ⊎ In n xs
+
+-- no name is in the list twice
+abbrev pub Once : List FileName → Type 0
+Once [] = Unit {0}
+Once (x ∷ xs) = (In x xs → ⊥) × Once xs
+
+-- the names of the files, each once and no other
+pub record Names (files : Files) (names : List FileName) : Type 0 where
+  pub are : (n : FileName) → IsSome (files n) ↔ In n names
+  pub once : Once names
+
+-- what was handed last: the bytes that a read gave, and none where it gave no file
+abbrev pub handed_after : Result (Option (List ℕ)) Trouble → List ℕ → List ℕ
+handed_after (Ok file) before = bytes_in file
+handed_after (Err e) before = before

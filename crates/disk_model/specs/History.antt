@@ -1,0 +1,43 @@
+-- What the fields of a disk in memory mean.
+use Rattle.std.specs.Prelude.{◌≡◌, ◌+◌, ◌≤◌, Bool, List, [], ◌∷◌, vec_len, vec_capacity, if◌then◌else◌}
+use Rattle.tier_base.specs.declared.plain.FileName.{FileName}
+use Rattle.disk_model.specs.declared.history.Op.{Op}
+use Rattle.disk_model.specs.declared.history.Op.TheVariants as op
+use Rattle.disk_model.specs.declared.history.Event.{Event}
+use Rattle.disk_model.specs.declared.history.History.TheInside.{Inside}
+use Rattle.disk_model.specs.Shelf.{files_on, safe_on}
+use Rattle.disk_model.specs.Steps.{Step, Append, Sync, Cut, Replace, Remove, Crash, reads, safe}
+use Rattle.disk_model.specs.Kept.{Kept}
+
+-- what was done, as a step
+abbrev pub step_of : Op → Step
+step_of (op.Append name bytes) = Append name bytes
+step_of (op.Sync name) = Sync name
+step_of (op.Cut name len) = Cut name len
+step_of (op.Replace name bytes sure) = Replace name bytes sure
+step_of (op.Remove name) = Remove name
+
+-- these steps, and then a crash where there was one
+abbrev pub crashed_if : Bool → List Step → List Step
+crashed_if crashed past = if crashed then Crash ∷ past else past
+
+-- all events, the newest first, before those that were earlier
+abbrev pub newest_first : List Step → List Event → List Step
+newest_first past [] = past
+newest_first past (e ∷ es) = newest_first (step_of e.op ∷ crashed_if e.crashed past) es
+
+-- all that was done
+abbrev pub past_of : List Event → Bool → List Step
+past_of events crashed = crashed_if crashed (newest_first [] events)
+
+-- what is kept
+abbrev pub kept_in : Inside → Kept
+kept_in h = record { past = past_of h.events.items h.crashed; spare = h.spare }
+
+-- what holds of the fields
+pub record IsKept (h : Inside) : Type 0 where
+  -- the files are what all steps made of them
+  pub files : (n : FileName) → files_on h.shelf n ≡ reads (past_of h.events.items h.crashed) n
+  -- and so are the bytes that are synced
+  pub safe_files : (n : FileName) → safe_on h.shelf n ≡ safe (past_of h.events.items h.crashed) n
+  pub room : vec_len h.events + h.spare ≤ vec_capacity h.events

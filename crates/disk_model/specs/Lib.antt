@@ -1,0 +1,11 @@
+pub mod Call
+pub mod Content
+pub mod Deaf
+pub mod Held
+pub mod History
+pub mod Kept
+pub mod Laws
+pub mod Memory
+pub mod MemoryFiles
+pub mod Shelf
+pub mod Steps

@@ -1,0 +1,40 @@
+-- What a disk in memory does beside the calls of every disk.
+use Rattle.std.specs.Prelude.{◌≡◌, ℕ, [], None, IsTrue, IsFalse}
+use Rattle.tier_base.specs.declared.plain.FileName.{FileName}
+use Rattle.tier_base.specs.Device.{Control}
+use Rattle.disk_model.specs.Content.{Content, Files, Image, Elapses}
+
+-- a disk with no files, which a crash leaves so
+pub record IsEmptyDisk (d : Content) : Type 0 where
+  pub tells : IsTrue d.tells
+  pub files : (n : FileName) → d.files n ≡ None
+  pub images : (c : Files) → Image d c → (n : FileName) → c n ≡ None
+
+-- one of the images is left, and no image is new
+pub record Crashes (old new : Content) : Type 0 where
+  pub tells : new.tells ≡ old.tells
+  pub image : Image old new.files
+  pub fewer : (c : Files) → Image new c → Image old c
+  pub time : Elapses old new
+
+module _ {K : Type 0} {code : K → ℕ} where
+  -- nothing that is told has changed, but whether the plan alone decides which calls fail
+  pub record Stays (old new : Control code) : Type 0 where
+    pub plan : new.plan ≡ old.plan
+    pub armed : new.armed ≡ old.armed
+    pub faults : new.faults ≡ old.faults
+    pub made : (kind : K) → new.made kind ≡ old.made kind
+    pub handed : new.handed ≡ old.handed
+
+  -- with a fuse
+  pub record Fuses (old new : Control code) : Type 0 where
+    pub stays : Stays old new
+    pub calm : IsFalse new.calm
+    pub ruled : IsFalse new.ruled
+
+  -- without one
+  pub record Unfuses (old new : Control code) : Type 0 where
+    pub stays : Stays old new
+    pub ruled : IsTrue new.ruled
+    pub calm : old.plan ≡ [] → IsTrue new.calm
+    pub still_calm : IsTrue old.calm → IsTrue new.calm

@@ -1,0 +1,187 @@
+//! A disk that works and tells no content: code above it is proved without knowing what it reads.
+//!
+//! It begins with the files that it is made of, whatever bytes they have. No call of it fails.
+
+ghost use Rattle.std.specs.Prelude.{◌≡◌, ◌<◌, [], length, drop, IfOk, IfSome, IsTrue};
+ghost use Rattle.tier_base.specs.Device.{IsFresh};
+ghost use Rattle.tier_base.specs.Faults.{control_of};
+ghost use Rattle.disk_model.specs.Call.{call_code};
+ghost use Rattle.disk_model.specs.Content.{bytes_in};
+ghost use Rattle.disk_model.specs.Deaf.{nothing_told, deaf_lawful};
+
+use crate::attempt::{hand, share};
+use crate::call::DiskCall;
+use crate::disk::Disk;
+use bytes::Bytes;
+use std::alloc::{AllocError, Global};
+use tier_base::{Failed, FaultPlan, FileName, Row, Trouble, give};
+
+/// A disk that tells no content.
+#[derive(Drop)]
+pub struct DeafDisk {
+    alloc: Global,
+    files: Vec<(FileName, Bytes)>,
+    faults: FaultPlan<DiskCall>,
+    handed: Bytes,
+    spare: u32,
+}
+
+impl DeafDisk {
+    /// Makes a disk of these files, without memory. Where a name stands twice, the first counts.
+    pub fn new(alloc: Global, files: Vec<(FileName, Bytes)>) -> DeafDisk
+        ensures fresh { IsFresh (⟦<DeafDisk as Disk>⟧.control result) }
+        ensures plan { (⟦<DeafDisk as Disk>⟧.control result).plan ≡ [] }
+        ensures calm { IsTrue (⟦<DeafDisk as Disk>⟧.control result).calm }
+        ensures spare { ⟦<DeafDisk as Disk>⟧.spare result ≡ 0 }
+    {
+        DeafDisk {
+            alloc,
+            files,
+            faults: FaultPlan::new(Vec::new(alloc)),
+            handed: Bytes::new(),
+            spare: 0,
+        }
+    }
+}
+
+impl Disk for DeafDisk {
+    ghost content = { λ d. nothing_told };
+
+    ghost control = { λ d. control_of call_code d.faults d.handed };
+
+    ghost spare = { λ d. d.spare };
+
+    fn append(&mut self, name: FileName, bytes: &[u8]) -> Result<(), Trouble> {
+        let ending = self.faults.ending(DiskCall::Append);
+        extend(self.alloc, &mut self.files, name, bytes)?;
+        give(self.faults.note(DiskCall::Append, ending), ())
+    }
+
+    fn reserve(&mut self, calls: u32) -> Result<(), AllocError> {
+        self.spare = self.spare.max(calls);
+        Ok(())
+    }
+
+    fn sync(&mut self, name: FileName) -> Result<(), Failed> {
+        self.spare -= 1;
+        let _ = name;
+        let ending = self.faults.ending(DiskCall::Sync);
+        self.faults.note(DiskCall::Sync, ending)
+    }
+
+    fn read(&mut self, name: FileName, at: u64) -> Result<Option<Bytes>, Trouble> {
+        let ending = self.faults.ending(DiskCall::Read);
+        let file = share_from(&self.files, name, at as usize)?;
+        let shared = share(&file)?;
+        let outcome = self.faults.note(DiskCall::Read, ending);
+        hand(&mut self.handed, outcome.is_ok(), shared);
+        give(outcome, file)
+    }
+
+    fn cut(&mut self, name: FileName, len: u64) -> Result<(), Failed> {
+        self.spare -= 1;
+        let ending = self.faults.ending(DiskCall::Cut);
+        cut(&mut self.files, name, len as usize);
+        self.faults.note(DiskCall::Cut, ending)
+    }
+
+    fn replace(&mut self, name: FileName, bytes: &[u8]) -> Result<(), Trouble> {
+        let ending = self.faults.ending(DiskCall::Replace);
+        put(
+            &mut self.files,
+            name,
+            Bytes::copy_from_slice(self.alloc, bytes)?,
+        )?;
+        give(self.faults.note(DiskCall::Replace, ending), ())
+    }
+
+    fn remove(&mut self, name: FileName) -> Result<(), Failed> {
+        self.spare -= 1;
+        let ending = self.faults.ending(DiskCall::Remove);
+        remove(&mut self.files, name);
+        self.faults.note(DiskCall::Remove, ending)
+    }
+
+    fn list(&mut self) -> Result<Row<FileName>, Trouble> {
+        let ending = self.faults.ending(DiskCall::List);
+        let names = names_of(self.alloc, &self.files)?;
+        give(self.faults.note(DiskCall::List, ending), names)
+    }
+
+    fn arm(&mut self) {
+        self.faults.arm();
+    }
+
+    ghost lawful = { λ d. deaf_lawful };
+}
+
+/// Finds a file by its name.
+fn find(files: &[(FileName, Bytes)], name: FileName) -> Option<usize>
+    ensures { IfSome result (λ i. i < length files.now) }
+{
+    files.iter().position(|file| file.0 == name)
+}
+
+/// Adds bytes at a file's end. An absent file is made.
+fn extend(
+    alloc: Global,
+    files: &mut Vec<(FileName, Bytes)>,
+    name: FileName,
+    bytes: &[u8],
+) -> Result<(), AllocError> {
+    let mut all = match find(files, name) {
+        Some(i) => Vec::from_slice(alloc, files[i].1.as_slice())?,
+        None => Vec::new(alloc),
+    };
+    all.extend_from_slice(bytes)?;
+    put(files, name, Bytes::from_vec(all)?)
+}
+
+/// Puts a file in the place of an old one.
+fn put(files: &mut Vec<(FileName, Bytes)>, name: FileName, bytes: Bytes) -> Result<(), AllocError> {
+    match find(files, name) {
+        Some(i) => files[i].1 = bytes,
+        None => {
+            files.push((name, bytes))?;
+        }
+    }
+    Ok(())
+}
+
+/// Cuts a file to a length.
+fn cut(files: &mut Vec<(FileName, Bytes)>, name: FileName, len: usize) {
+    if let Some(i) = find(files, name) {
+        files[i].1.truncate(len);
+    }
+}
+
+/// Removes a file.
+fn remove(files: &mut Vec<(FileName, Bytes)>, name: FileName) {
+    if let Some(i) = find(files, name) {
+        files.remove(i);
+    }
+}
+
+/// Gives a file's bytes from a place on.
+fn share_from(
+    files: &[(FileName, Bytes)],
+    name: FileName,
+    at: usize,
+) -> Result<Option<Bytes>, AllocError> {
+    match find(files, name) {
+        Some(i) => {
+            let bytes = &files[i].1;
+            Ok(Some(bytes.slice(at.min(bytes.len())..)?))
+        }
+        None => Ok(None),
+    }
+}
+
+/// Names the files.
+fn names_of(alloc: Global, files: &[(FileName, Bytes)]) -> Result<Row<FileName>, AllocError> {
+    let mut names = Row::new(alloc);
+    for file in files {
+        names.push(file.0)?;
+    }
+    Ok(names)
+}

@@ -1,0 +1,110 @@
+//! What a disk's calls do to its files, and what a crash may leave.
+//!
+//! A crash may leave any of the disk's images. What is synced stays; past that a file may hold any
+//! bytes of any length, and what was cut, removed or made since may stand as before. A call that
+//! answers `Failed` may have been done or not, and one that finds no memory changes nothing.
+
+ghost use Rattle.std.specs.Prelude.{◌≡◌, ◌+◌, ◌≤◌, List, ℕ, drop, IfOk, OnOk, IsTrue, Some, option_map};
+ghost use Rattle.tier_base.specs.Device.{Control, Ran, RanQuietly, MayBeDone, Rests, Arms, fate_of, failing};
+ghost use Rattle.disk_model.specs.declared.call.DiskCall.TheVariants.{Append, Sync, Read, Cut, Replace, Remove, List as Listing};
+ghost use Rattle.disk_model.specs.Call.{call_code};
+ghost use Rattle.disk_model.specs.Content.{Content, Lawful, Files, Image, Changes, Keeps, Names, appended, Grown, cut_to, CutBack, replaced, Swapped, removed, Gone, Begins, handed_after};
+
+use bytes::Bytes;
+use std::alloc::AllocError;
+use tier_base::{Failed, FileName, Row, Trouble};
+
+/// A disk of a broker.
+pub trait Disk: Drop {
+    /// The files, and what a crash may leave of them.
+    ghost content: { Self → Content };
+
+    /// The faults, the plan of faults, the calls made, and the bytes that were handed.
+    ghost control: { Self → Control call_code };
+
+    /// For how many further calls of `sync`, `cut` and `remove` there is room.
+    ghost spare: { Self → ℕ };
+
+    /// Adds bytes at a file's end. An absent file is made.
+    fn append(&mut self, name: FileName, bytes: &[u8]) -> Result<(), Trouble>
+        ensures control { RanQuietly Append (fate_of result)
+            (control self.old) (control self.new) }
+        ensures room { spare self.new ≡ spare self.old }
+        ensures content { Changes name (appended bytes.now) Grown
+            (MayBeDone Append (fate_of result) (control self.old))
+            (content self.old) (content self.new) };
+
+    /// Makes room for so many further calls of `sync`, `cut` and `remove`. A plan can't name it.
+    fn reserve(&mut self, calls: u32) -> Result<(), AllocError>
+        ensures room { OnOk result (calls ≤ spare self.new) }
+        ensures no_less { spare self.old ≤ spare self.new }
+        ensures control { Rests (control self.old) (control self.new) }
+        ensures content { Keeps (content self.old) (content self.new) };
+
+    /// Makes a file's bytes stay. Nothing is done where it is absent.
+    fn sync(&mut self, name: FileName) -> Result<(), Failed>
+        requires { 1 ≤ spare self.old }
+        ensures control { RanQuietly Sync (failing result) (control self.old) (control self.new) }
+        ensures room { spare self.new + 1 ≡ spare self.old }
+        ensures content { Keeps (content self.old) (content self.new) }
+        ensures durable { OnOk result ((c : Files) → Image (content self.new) c
+            → Begins ((content self.old).files name) (c name)) };
+
+    /// Gives a file's bytes from a place on, none past its end, and `None` where it is absent.
+    fn read(&mut self, name: FileName, at: u64) -> Result<Option<Bytes>, Trouble>
+        ensures control { Ran Read (fate_of result) (control self.old) (control self.new) }
+        ensures handed { (control self.new).handed
+            ≡ handed_after result (control self.old).handed }
+        ensures room { spare self.new ≡ spare self.old }
+        ensures content { Keeps (content self.old) (content self.new) }
+        ensures bytes { IsTrue (content self.old).tells → IfOk result (λ bytes. bytes
+            ≡ option_map (drop at) ((content self.old).files name)) };
+
+    /// Cuts a file to a length. Nothing is done where it is shorter or absent.
+    fn cut(&mut self, name: FileName, len: u64) -> Result<(), Failed>
+        requires { 1 ≤ spare self.old }
+        ensures control { RanQuietly Cut (failing result) (control self.old) (control self.new) }
+        ensures room { spare self.new + 1 ≡ spare self.old }
+        ensures content { Changes name (cut_to len) (CutBack len)
+            (MayBeDone Cut (failing result) (control self.old))
+            (content self.old) (content self.new) };
+
+    /// Puts a file in the place of an old one, and makes its bytes stay.
+    fn replace(&mut self, name: FileName, bytes: &[u8]) -> Result<(), Trouble>
+        ensures control { RanQuietly Replace (fate_of result)
+            (control self.old) (control self.new) }
+        ensures room { spare self.new ≡ spare self.old }
+        ensures content { Changes name (replaced bytes.now) (Swapped bytes.now)
+            (MayBeDone Replace (fate_of result) (control self.old))
+            (content self.old) (content self.new) }
+        ensures durable { OnOk result ((c : Files) → Image (content self.new) c
+            → c name ≡ Some bytes.now) };
+
+    /// Removes a file. Nothing is done where it is absent.
+    fn remove(&mut self, name: FileName) -> Result<(), Failed>
+        requires { 1 ≤ spare self.old }
+        ensures control { RanQuietly Remove (failing result)
+            (control self.old) (control self.new) }
+        ensures room { spare self.new + 1 ≡ spare self.old }
+        ensures content { Changes name removed Gone
+            (MayBeDone Remove (failing result) (control self.old))
+            (content self.old) (content self.new) };
+
+    /// Names the files.
+    fn list(&mut self) -> Result<Row<FileName>, Trouble>
+        ensures control { RanQuietly Listing (fate_of result)
+            (control self.old) (control self.new) }
+        ensures room { spare self.new ≡ spare self.old }
+        ensures content { Keeps (content self.old) (content self.new) }
+        ensures names { IsTrue (content self.old).tells
+            → IfOk result (λ names. Names (content self.old).files names) };
+
+    /// From the first `arm` on planned calls fail. A further one changes nothing.
+    fn arm(&mut self)
+        ensures control { Arms (control self.old) (control self.new) }
+        ensures room { spare self.new ≡ spare self.old }
+        ensures content { Keeps (content self.old) (content self.new) };
+
+    /// What holds of every disk's content.
+    ghost lawful: { (disk : Self) → Lawful (content disk) };
+}

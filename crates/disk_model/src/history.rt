@@ -1,0 +1,211 @@
+//! The files of a disk in memory with all that was done to them, from which its images follow.
+//!
+//! Each call notes what it did after it did it. `append` and `replace` make room for that first;
+//! `sync`, `cut` and `remove` use room that was promised by `reserve`. A crash takes no room: the
+//! next event notes that there was one before it.
+
+ghost use Rattle.std.specs.Prelude.{◌≡◌, ◌+◌, ◌≤◌, ◌<◌, ◌++◌, ◌∷◌, [], false, IfOk, OnOk, OnErr, drop, option_map, vec_len, vec_capacity};
+ghost use Rattle.disk_model.specs.Content.{Names};
+ghost use Rattle.disk_model.specs.Steps.{Append, Sync, Cut, Replace, Remove, reads};
+ghost use Rattle.disk_model.specs.Kept.{does, Drops};
+
+use crate::shelf::Shelf;
+use bytes::Bytes;
+use std::alloc::{AllocError, Global};
+use std::marker::Model;
+use tier_base::{FileName, Row};
+
+/// What was done to a file. A replacement is sure where it answered `Ok`.
+#[derive(Drop)]
+pub enum Op {
+    Append(FileName, Bytes),
+    Sync(FileName),
+    Cut(FileName, u64),
+    Replace(FileName, Bytes, bool),
+    Remove(FileName),
+}
+
+/// What was done, and whether the disk crashed right before it.
+#[derive(Drop)]
+pub struct Event {
+    pub op: Op,
+    pub crashed: bool,
+}
+
+/// The files, all that was done to them, and room for more.
+#[derive(Drop)]
+pub struct History {
+    alloc: Global,
+    shelf: Shelf,
+    events: Vec<Event>,
+    crashed: bool,
+    spare: usize,
+}
+
+impl Model for History {
+    ghost use Rattle.disk_model.specs.Kept.{Kept};
+
+    ghost Value = { Kept };
+
+    ghost use Rattle.disk_model.specs.History.{kept_in, IsKept};
+
+    ghost view = { kept_in };
+
+    ghost invariant = { IsKept };
+}
+
+impl History {
+    /// Makes a disk with no files, without memory.
+    pub fn new(alloc: Global) -> History
+        ensures { result ≡ record { past = []; spare = 0 } }
+    {
+        History {
+            alloc,
+            shelf: Shelf::new(alloc),
+            events: Vec::new(alloc),
+            crashed: false,
+            spare: 0,
+        }
+    }
+
+    /// Makes room for so many further calls of `sync`, `cut` and `remove`.
+    pub fn reserve(&mut self, calls: usize) -> Result<(), AllocError>
+        ensures past { self.new.past ≡ self.old.past }
+        ensures room { OnOk result (calls ≤ self.new.spare) }
+        ensures no_less { self.old.spare ≤ self.new.spare }
+    {
+        if self.spare < calls {
+            self.events.reserve(calls)?;
+            self.spare = calls;
+        }
+        Ok(())
+    }
+
+    /// Adds bytes at a file's end.
+    pub fn append(&mut self, name: FileName, bytes: &[u8]) -> Result<(), AllocError>
+        ensures ok { OnOk result (self.new ≡ does (Append name bytes.now) self.old) }
+        ensures err { OnErr result (self.new ≡ self.old) }
+    {
+        let alloc = self.alloc;
+        let kept = Bytes::copy_from_slice(alloc, bytes)?;
+        let shared = kept.clone()?;
+        make_room(&mut self.events, self.spare)?;
+        self.shelf.append(alloc, name, shared)?;
+        note(&mut self.events, &mut self.crashed, Op::Append(name, kept));
+        Ok(())
+    }
+
+    /// Puts a file in the place of an old one.
+    pub fn replace(&mut self, name: FileName, bytes: &[u8], sure: bool) -> Result<(), AllocError>
+        ensures ok { OnOk result (self.new ≡ does (Replace name bytes.now sure) self.old) }
+        ensures err { OnErr result (self.new ≡ self.old) }
+    {
+        let alloc = self.alloc;
+        let kept = Bytes::copy_from_slice(alloc, bytes)?;
+        let shared = kept.clone()?;
+        make_room(&mut self.events, self.spare)?;
+        self.shelf.put(alloc, name, shared)?;
+        note(
+            &mut self.events,
+            &mut self.crashed,
+            Op::Replace(name, kept, sure),
+        );
+        Ok(())
+    }
+
+    /// Counts all bytes of a file as synced.
+    pub fn sync(&mut self, name: FileName)
+        requires { 1 ≤ self.old.spare }
+        ensures { self.new ≡ does (Sync name) self.old }
+    {
+        self.spare -= 1;
+        self.shelf.sync(name);
+        note(&mut self.events, &mut self.crashed, Op::Sync(name));
+    }
+
+    /// Cuts a file to a length.
+    pub fn cut(&mut self, name: FileName, len: u64)
+        requires { 1 ≤ self.old.spare }
+        ensures { self.new ≡ does (Cut name len) self.old }
+    {
+        self.spare -= 1;
+        self.shelf.cut(name, len as usize);
+        note(&mut self.events, &mut self.crashed, Op::Cut(name, len));
+    }
+
+    /// Removes a file.
+    pub fn remove(&mut self, name: FileName)
+        requires { 1 ≤ self.old.spare }
+        ensures { self.new ≡ does (Remove name) self.old }
+    {
+        self.spare -= 1;
+        self.shelf.remove(name);
+        note(&mut self.events, &mut self.crashed, Op::Remove(name));
+    }
+
+    /// Drops what isn't synced.
+    pub fn crash(&mut self)
+        ensures past { Drops self.old.past self.new.past }
+        ensures spare { self.new.spare ≡ self.old.spare }
+    {
+        if !self.crashed {
+            self.shelf.crash();
+            self.crashed = true;
+        }
+    }
+
+    /// Uses the room of a call that isn't done.
+    pub fn spend(&mut self)
+        requires { 1 ≤ self.old.spare }
+        ensures past { self.new.past ≡ self.old.past }
+        ensures spare { self.new.spare + 1 ≡ self.old.spare }
+    {
+        self.spare -= 1;
+    }
+
+    /// Names the files.
+    pub fn names(&self) -> Result<Row<FileName>, AllocError>
+        ensures { IfOk result (λ names. Names (reads self.now.past) names) }
+    {
+        self.shelf.names(self.alloc)
+    }
+
+    /// Gives a file's bytes from a place on.
+    pub fn read(&mut self, name: FileName, at: u64) -> Result<Option<Bytes>, AllocError>
+        ensures bytes { IfOk result (λ bytes. bytes
+            ≡ option_map (drop at) (reads self.old.past name)) }
+        ensures kept { self.new ≡ self.old }
+    {
+        self.shelf.read(self.alloc, name, at as usize)
+    }
+}
+
+/// Makes room for one event more than is promised.
+fn make_room(events: &mut Vec<Event>, spare: usize) -> Result<(), AllocError>
+    requires { vec_len events.old + spare ≤ vec_capacity events.old }
+    ensures items { events.new.items ≡ events.old.items }
+    ensures ok { OnOk result (vec_len events.new + spare < vec_capacity events.new) }
+    ensures err { vec_len events.new + spare ≤ vec_capacity events.new }
+{
+    match spare.checked_add(1) {
+        Some(all) => events.reserve(all),
+        None => Err(AllocError),
+    }
+}
+
+/// Notes what was done, and whether there was a crash before it.
+fn note(events: &mut Vec<Event>, crashed: &mut bool, op: Op)
+    requires { vec_len events.old < vec_capacity events.old }
+    ensures items { events.new.items
+        ≡ events.old.items ++ (record { op = op; crashed = crashed.old }) ∷ [] }
+    ensures crashed { crashed.new ≡ false }
+    ensures len { vec_len events.new ≡ vec_len events.old + 1 }
+    ensures capacity { vec_capacity events.old ≤ vec_capacity events.new }
+{
+    let event = Event {
+        op,
+        crashed: *crashed,
+    };
+    let _ = events.push(event);
+    *crashed = false;
+}
