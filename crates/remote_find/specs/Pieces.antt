@@ -1,0 +1,73 @@
+-- The pieces of remote segments that a log is read from, by the line of epochs of the log itself.
+--
+-- Source: KIP-405, where an offset is looked up with the leader epoch that the reading log has for it.
+use Rattle.std.specs.Prelude.{ℕ, zero, suc, ◌+◌, ◌-◌, ◌==◌, nat_lt, nat_le, min, max, if◌then◌else◌, List, [], ◌∷◌, Option, Some, None}
+use Rattle.log_terms.specs.Line.{epoch_at}
+use Rattle.epoch_line.specs.Line.{end_of}
+use Rattle.segment_meta.specs.declared.note.Entry.{Entry}
+use Rattle.remote_view.specs.Lookup.{finished}
+use Rattle.remote_find.specs.declared.piece.Piece.{Piece}
+
+infixl 10 ◌>>=◌
+-- what isn't there ends it
+abbrev pub ◌>>=◌ : {A B : Type 0} → Option A → (A → Option B) → Option B
+(Some x) >>= f = f x
+None >>= f = None
+
+-- where an epoch starts
+abbrev pub start_of : List (ℕ × ℕ) → ℕ → Option ℕ
+start_of [] epoch = None
+start_of (entry ∷ line) epoch = if entry.0 == epoch then Some entry.1 else start_of line epoch
+
+-- the part of a segment that is of an epoch, in the segment's map and in the line alike
+abbrev pub clipped : List (ℕ × ℕ) → ℕ → ℕ → Entry → Option Piece
+clipped line log_end epoch entry = do
+  first ← start_of entry.map epoch
+  own_first ← start_of line epoch
+  end ← end_of entry.map epoch (entry.end + 1)
+  own_end ← end_of line epoch log_end
+  Some (record { id = entry.id; from = max first own_first; to = min end own_end })
+
+-- the piece that holds an offset below the log's end: of the best segment that gives the line's epoch there
+abbrev pub piece_below : List Entry → List (ℕ × ℕ) → ℕ → ℕ → Option Piece
+piece_below entries line log_end offset = do
+  epoch ← epoch_at line offset
+  entry ← finished epoch offset entries
+  clipped line log_end epoch entry
+
+-- the piece that holds an offset
+abbrev pub piece_at : List Entry → List (ℕ × ℕ) → ℕ → ℕ → Option Piece
+piece_at entries line log_end offset =
+    if nat_lt offset log_end then piece_below entries line log_end offset else None
+
+-- what look-ups give: a piece for each offset that has one
+abbrev pub Pieces : Type 0
+Pieces = ℕ → Option Piece
+
+-- where one goes on behind a piece that there may be
+abbrev pub beyond : ℕ → (ℕ → ℕ) → Option Piece → ℕ
+beyond at next None = at
+beyond at next (Some piece) = next piece.to
+
+-- the end that at most so many pieces reach, one after another
+abbrev pub reached : Pieces → ℕ → ℕ → ℕ
+reached pieces zero at = at
+reached pieces (suc most) at = beyond at (λ n. reached pieces most n) (pieces at)
+
+-- the end that is reached; each piece goes on by an offset at least
+abbrev pub covered_to : List Entry → List (ℕ × ℕ) → ℕ → ℕ → ℕ
+covered_to entries line log_end at = reached (piece_at entries line log_end) (log_end - at) at
+
+-- a piece that there may be, where it ends at or below a top, and those behind it
+abbrev pub and_behind : ℕ → (ℕ → List Piece) → Option Piece → List Piece
+and_behind top next None = []
+and_behind top next (Some piece) = if nat_le piece.to top then piece ∷ next piece.to else []
+
+-- at most so many pieces, one after another, that end at or below a top
+abbrev pub chained : Pieces → ℕ → ℕ → ℕ → List Piece
+chained pieces top zero at = []
+chained pieces top (suc most) at = and_behind top (λ n. chained pieces top most n) (pieces at)
+
+-- all of them
+abbrev pub chain : List Entry → List (ℕ × ℕ) → ℕ → ℕ → ℕ → List Piece
+chain entries line log_end at top = chained (piece_at entries line log_end) top (log_end - at) at

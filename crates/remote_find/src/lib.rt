@@ -1,0 +1,13 @@
+//! Where a log's offsets are found in the remote tier: by the line of epochs of the log that is read.
+//!
+//! Brokers that led in turn may have copied different batches under one offset. So a remote segment counts at an offset
+//! only where its map gives the epoch that the reading log has there, and only as far as this epoch goes in both.
+#![tactic(auto)]
+
+mod piece;
+mod pieces;
+#[cfg(test)]
+mod tests;
+
+pub use piece::Piece;
+pub use pieces::{chain, covered_to, find};

@@ -1,0 +1,11 @@
+//! A piece of a remote segment.
+
+use tier_base::SegmentId;
+
+/// The offsets from one to another, which isn't included, of one epoch in a remote segment.
+#[derive(Clone, Copy, Debug, PartialEq, Eq)]
+pub struct Piece {
+    pub id: SegmentId,
+    pub from: u64,
+    pub to: u64,
+}

@@ -1,0 +1,103 @@
+//! Looking up one offset, and following pieces one after another. The module Pieces of specs/ says what is found.
+
+ghost use Rattle.std.specs.Prelude.{◌≡◌, ◌<◌, ◌^◌, IfOk};
+ghost use Rattle.remote_find.specs.Pieces.{start_of, clipped, piece_below, piece_at, covered_to, chain};
+
+use crate::piece::Piece;
+use epoch_line::Line;
+use remote_view::View;
+use segment_meta::Entry;
+use std::alloc::{AllocError, Global};
+
+/// The piece that holds an offset of a log.
+pub fn find(view: &View, line: &Line, log_end: u64, offset: u64) -> Option<Piece>
+    ensures { result ≡ piece_at view.now.entries line.now log_end offset }
+{
+    if offset >= log_end {
+        return None;
+    }
+    let Some(epoch) = line.epoch_at(offset) else {
+        return None;
+    };
+    let Some(entry) = view.finished(epoch, offset) else {
+        return None;
+    };
+    clipped(entry, line, log_end, epoch)
+}
+
+/// Where an epoch starts.
+fn start_of(entries: &[(u32, u64)], epoch: u32) -> Option<u64>
+    ensures { result ≡ start_of entries.now epoch }
+{
+    for entry in entries {
+        if entry.0 == epoch {
+            return Some(entry.1);
+        }
+    }
+    None
+}
+
+/// The part of a segment that is of an epoch, in the segment's map and in the line alike.
+fn clipped(entry: &Entry, line: &Line, log_end: u64, epoch: u32) -> Option<Piece>
+    requires { entry.now.end < 2 ^ 62 }
+    ensures { result ≡ clipped line.now log_end epoch entry.now }
+{
+    let Some(first) = start_of(entry.map.entries(), epoch) else {
+        return None;
+    };
+    let Some(own_first) = start_of(line.entries(), epoch) else {
+        return None;
+    };
+    let Some(end) = entry.map.end_of(epoch, entry.end + 1) else {
+        return None;
+    };
+    let Some(own_end) = line.end_of(epoch, log_end) else {
+        return None;
+    };
+    Some(Piece {
+        id: entry.id,
+        from: first.max(own_first),
+        to: end.min(own_end),
+    })
+}
+
+/// The end that pieces reach from an offset on, one after another: the offset itself where it has none.
+pub fn covered_to(view: &View, line: &Line, log_end: u64, at: u64) -> u64
+    ensures { result ≡ covered_to view.now.entries line.now log_end at }
+{
+    let mut place = at;
+    // Each piece goes on by an offset at least, so there are no more of them than offsets.
+    for _ in 0..log_end.saturating_sub(at) {
+        let Some(piece) = find(view, line, log_end, place) else {
+            return place;
+        };
+        place = piece.to;
+    }
+    place
+}
+
+/// The pieces from an offset on, one after another, as long as they end at or below a top.
+pub fn chain(
+    alloc: Global,
+    view: &View,
+    line: &Line,
+    log_end: u64,
+    at: u64,
+    top: u64,
+) -> Result<Vec<Piece>, AllocError>
+    ensures { IfOk result (λ pieces. pieces.items ≡ chain view.now.entries line.now log_end at top) }
+{
+    let mut pieces = Vec::new(alloc);
+    let mut place = at;
+    for _ in 0..log_end.saturating_sub(at) {
+        let Some(piece) = find(view, line, log_end, place) else {
+            return Ok(pieces);
+        };
+        if piece.to > top {
+            return Ok(pieces);
+        }
+        place = piece.to;
+        pieces.push(piece)?;
+    }
+    Ok(pieces)
+}

@@ -1,0 +1,75 @@
+-- What the notes of a metadata log come to: the fold of them, in their order.
+--
+-- Source: KIP-405, where each broker keeps such a view of a partition's remote segments.
+use Rattle.std.specs.Prelude.{ℕ, ◌^◌, ◌<◌, ◌≤◌, ℤ, if◌then◌else◌, is_some, List, [], ◌∷◌, ◌++◌, length, Option, Some, None}
+use Rattle.std.specs.List.{AllByRecursion}
+use Rattle.std.specs.Option.{option_map}
+use Rattle.std.specs.Str.{bytes_eq}
+use Rattle.tier_base.specs.declared.names.BrokerId.{BrokerId}
+use Rattle.tier_base.specs.declared.names.SegmentId.{SegmentId}
+use Rattle.tier_base.specs.declared.plain.State.{State}
+use Rattle.tier_base.specs.Counts.{counted}
+use Rattle.segment_meta.specs.declared.note.Entry.{Entry}
+use Rattle.segment_meta.specs.declared.note.Note.{Note}
+use Rattle.segment_meta.specs.declared.note.Note.TheVariants.{Add, Update}
+use Rattle.segment_meta.specs.Steps.{next_state}
+use Rattle.segment_meta.specs.Rules.{IsMap}
+
+-- the entry of an id
+abbrev pub entry_of : SegmentId → List Entry → Option Entry
+entry_of id [] = None
+entry_of id (entry ∷ entries) = if bytes_eq entry.id.0 id.0 then Some entry else entry_of id entries
+
+-- the state of an id's entry
+abbrev pub state_of : SegmentId → List Entry → Option State
+state_of id entries = option_map (λ entry. entry.state) (entry_of id entries)
+
+-- an entry as an update leaves it
+abbrev pub updated : BrokerId → ℤ → State → Entry → Entry
+updated broker event_ts state entry = record entry { broker = broker; event_ts = event_ts; state = state }
+
+-- the entries, an id's entry changed
+abbrev pub changed : SegmentId → (Entry → Entry) → List Entry → List Entry
+changed id change [] = []
+changed id change (entry ∷ entries) =
+    if bytes_eq entry.id.0 id.0 then change entry ∷ entries else entry ∷ changed id change entries
+
+-- the entries after a note: one that makes no step changes nothing
+abbrev pub noted : List Entry → Note → List Entry
+noted entries (Add entry) =
+    if is_some (next_state (state_of entry.id entries) entry.state) then entries ++ entry ∷ [] else entries
+noted entries (Update id broker event_ts state custom) =
+    if is_some (next_state (state_of id entries) state) then changed id (updated broker event_ts state) entries
+    else entries
+
+-- the entries after further notes
+abbrev pub folded_from : List Entry → List Note → List Entry
+folded_from entries [] = entries
+folded_from entries (note ∷ notes) = folded_from (noted entries note) notes
+
+-- the fold of notes
+abbrev pub fold : List Note → List Entry
+fold notes = folded_from [] notes
+
+-- what a broker has seen of a metadata log: the entries, and the number of notes
+pub record Seen : Type 0 where
+  pub entries : List Entry
+  pub notes : ℕ
+
+-- the view after one note more
+abbrev pub fed : Seen → Note → Seen
+fed view note = record { entries = noted view.entries note; notes = counted view.notes 1 }
+
+-- the view of notes
+abbrev pub view_of : List Note → Seen
+view_of notes = record { entries = fold notes; notes = counted 0 (length notes) }
+
+-- an entry's offsets, and its map of epochs in them
+pub record IsKept (entry : Entry) : Type 0 where
+  pub ordered : entry.start ≤ entry.end
+  pub bounded : entry.end < 2 ^ 62
+  pub map : IsMap entry.start entry.end entry.map
+
+-- each entry is
+abbrev pub AreKept : List Entry → Type 0
+AreKept entries = AllByRecursion IsKept entries

@@ -1,0 +1,65 @@
+//! Changes of entries.
+
+ghost use Rattle.std.specs.Prelude.{◌≡◌, IfOk};
+ghost use Rattle.segment_meta.specs.Rules.{IsAdded};
+ghost use Rattle.std.specs.Str.{bytes_eq};
+ghost use Rattle.remote_view.specs.Fold.{changed, updated};
+
+use segment_meta::Entry;
+use std::alloc::{AllocError, Global};
+use tier_base::{BrokerId, SegmentId, State};
+
+/// Whether two ids are one.
+pub(crate) fn is_same(one: &SegmentId, other: &SegmentId) -> bool
+    ensures { result ≡ bytes_eq one.now.0 other.now.0 }
+{
+    one.0.as_bytes().as_slice() == other.0.as_bytes().as_slice()
+}
+
+/// An entry of the same fields.
+pub(crate) fn copied(alloc: Global, entry: &Entry) -> Result<Entry, AllocError>
+    requires { IsAdded entry.now }
+    ensures { IfOk result (λ copy. copy ≡ entry.now) }
+{
+    Ok(Entry {
+        id: entry.id,
+        partition: entry.partition,
+        start: entry.start,
+        end: entry.end,
+        max_ts: entry.max_ts,
+        broker: entry.broker,
+        event_ts: entry.event_ts,
+        size: entry.size,
+        state: entry.state,
+        map: entry.map.copy(alloc)?,
+        packed: entry.packed,
+        custom: None,
+    })
+}
+
+/// Sets what an update tells.
+fn update(entry: &mut Entry, broker: BrokerId, event_ts: i64, state: State)
+    ensures { entry.new ≡ updated broker event_ts state entry.old }
+{
+    entry.broker = broker;
+    entry.event_ts = event_ts;
+    entry.state = state;
+}
+
+/// Updates an id's entry.
+pub(crate) fn change(
+    entries: &mut Vec<Entry>,
+    id: &SegmentId,
+    broker: BrokerId,
+    event_ts: i64,
+    state: State,
+)
+    ensures { entries.new.items ≡ changed id.now (updated broker event_ts state) entries.old.items }
+{
+    for i in 0..entries.len() {
+        if is_same(&entries[i].id, id) {
+            update(&mut entries[i], broker, event_ts, state);
+            return;
+        }
+    }
+}

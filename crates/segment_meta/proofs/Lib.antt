@@ -1,0 +1,5 @@
+pub mod Inverting
+pub mod Mapping
+pub mod Standing
+pub mod OneSpelling
+pub mod Again

@@ -1,0 +1,79 @@
+-- The bytes of a note, version 0: big endian, and nothing follows.
+--
+-- A note that adds a remote segment:
+--
+--   at  size  field
+--    0     1  version: 0
+--    1     1  kind: 0
+--    2    16  id
+--   18     2  partition
+--   20     8  start: the first offset
+--   28     8  end: the last offset, not below start, and below 2^62
+--   36     8  max_ts: the greatest timestamp, signed
+--   44     2  broker
+--   46     8  event_ts, signed
+--   54     4  size of the log segment in bytes
+--   58     1  state: 0
+--   59     4  count of epochs, 1 to 67,108,864
+--   63   4+8  epoch, below 2^31, and where it starts, at most at end. Both rise, and the first start is start
+--
+-- A note that updates one:
+--
+--   at  size  field
+--    0     1  version: 0
+--    1     1  kind: 1
+--    2    16  id
+--   18     2  broker
+--   20     8  event_ts, signed
+--   28     1  state: 1 to 3
+--
+-- States: 0 copy started, 1 copy finished, 2 delete started, 3 delete finished.
+use Rattle.std.specs.Prelude.{ℕ, ℤ, List, [], ◌∷◌, ◌++◌, length, map}
+use Rattle.std.specs.Int.{w16, w32, w64, to_be_bytes, cast_unsigned}
+use Rattle.std.specs.List.{concat}
+use Rattle.tier_base.specs.declared.plain.State.{State}
+use Rattle.tier_base.specs.declared.plain.State.TheVariants.{CopyStarted, CopyFinished, DeleteStarted, DeleteFinished}
+use Rattle.segment_meta.specs.declared.note.Entry.{Entry}
+use Rattle.segment_meta.specs.declared.note.Note.{Note}
+use Rattle.segment_meta.specs.declared.note.Note.TheVariants.{Add, Update}
+
+-- a state's number
+abbrev pub state_code : State → ℕ
+state_code CopyStarted = 0
+state_code CopyFinished = 1
+state_code DeleteStarted = 2
+state_code DeleteFinished = 3
+
+-- the eight bytes of a timestamp
+unfoldable pub ts_bytes : ℤ → List ℕ
+ts_bytes ts = to_be_bytes w64 (cast_unsigned w64 ts)
+
+-- an epoch, then its start
+unfoldable pub pair_bytes : ℕ × ℕ → List ℕ
+pair_bytes pair = to_be_bytes w32 pair.0 ++ to_be_bytes w64 pair.1
+
+-- the epochs of a map, one after another
+abbrev pub pairs_bytes : List (ℕ × ℕ) → List ℕ
+pairs_bytes pairs = concat (map pair_bytes pairs)
+
+-- which segment an entry tells of, and its offsets
+unfoldable pub span_bytes : Entry → List ℕ
+span_bytes entry =
+    entry.id.0 ++ (to_be_bytes w16 entry.partition.0 ++ (to_be_bytes w64 entry.start ++ to_be_bytes w64 entry.end))
+
+-- an entry's further fields before its map
+unfoldable pub event_bytes : Entry → List ℕ
+event_bytes entry =
+    ts_bytes entry.max_ts ++ (to_be_bytes w16 entry.broker.0 ++ (ts_bytes entry.event_ts
+    ++ (to_be_bytes w32 entry.size ++ state_code entry.state ∷ [])))
+
+-- an entry: its fields, the count of its map, and the map
+unfoldable pub entry_bytes : Entry → List ℕ
+entry_bytes entry =
+    span_bytes entry ++ (event_bytes entry ++ (to_be_bytes w32 (length entry.map) ++ pairs_bytes entry.map))
+
+-- a note
+unfoldable pub note_bytes : Note → List ℕ
+note_bytes (Add entry) = 0 ∷ 0 ∷ entry_bytes entry
+note_bytes (Update id broker event_ts state custom) =
+    0 ∷ 1 ∷ (id.0 ++ (to_be_bytes w16 broker.0 ++ (ts_bytes event_ts ++ state_code state ∷ [])))

@@ -1,0 +1,32 @@
+//! The life of a remote segment, by the states that its notes tell.
+//!
+//! ```text
+//!         copy started ------> copy finished
+//!              |                     |
+//!              v                     |
+//!        delete started <------------+
+//!              |
+//!              v
+//!       delete finished
+//! ```
+//!
+//! Each arrow is a step, and so is the first note, to copy started. Any other note changes nothing: so a copy that ends
+//! late can't revive a segment whose deletion has begun.
+
+ghost use Rattle.std.specs.Prelude.{◌≡◌};
+ghost use Rattle.segment_meta.specs.Steps.{next_state};
+
+use tier_base::State;
+
+/// The state that a note makes, where that is a step from the old one.
+pub fn next_state(old: Option<State>, new: State) -> Option<State>
+    ensures { result ≡ next_state old new }
+{
+    match (old, new) {
+        (None, State::CopyStarted)
+        | (Some(State::CopyStarted), State::CopyFinished)
+        | (Some(State::CopyStarted | State::CopyFinished), State::DeleteStarted)
+        | (Some(State::DeleteStarted), State::DeleteFinished) => Some(new),
+        _ => None,
+    }
+}
