@@ -1,0 +1,4 @@
+mod Calls
+mod Listed
+mod Slots
+mod Updated

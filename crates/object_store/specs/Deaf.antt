@@ -1,0 +1,7 @@
+-- A store that tells no content.
+use Rattle.std.specs.Prelude.{false, None}
+use Rattle.object_store.specs.Content.{Content}
+
+-- nothing is told
+abbrev pub nothing_told : Content
+nothing_told = record { tells = false; objects = λ k. None }

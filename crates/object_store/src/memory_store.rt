@@ -1,0 +1,118 @@
+//! A store in memory, whose calls fail by a plan.
+//!
+//! Each call asks first how it is going to end, does as much as is to be done, and is counted last;
+//! so one that finds no memory has changed nothing and isn't counted.
+
+ghost use Rattle.std.specs.Prelude.{◌≡◌, [], IsTrue};
+ghost use Rattle.tier_base.specs.Device.{IsFresh};
+ghost use Rattle.tier_base.specs.Faults.{control_of};
+ghost use Rattle.object_store.specs.Call.{call_code};
+ghost use Rattle.object_store.specs.Content.{Keeps};
+ghost use Rattle.object_store.specs.Memory.{IsEmptyStore};
+ghost use Rattle.object_store.specs.Shelf.{content_of};
+
+use crate::call::{Planned, StoreCall};
+use crate::handing::{hand, share};
+use crate::shelf::Shelf;
+use crate::store::Store;
+use bytes::Bytes;
+use std::alloc::Global;
+use tier_base::{Failed, FaultPlan, ObjectKey, Row, Trouble, give};
+
+/// A store in memory.
+#[derive(Drop)]
+pub struct MemoryStore {
+    alloc: Global,
+    shelf: Shelf,
+    faults: FaultPlan<StoreCall>,
+    handed: Bytes,
+}
+
+impl MemoryStore {
+    /// Makes a store with no objects, whose planned calls fail once it is armed, without memory.
+    pub fn new(alloc: Global, plan: Vec<Planned>) -> MemoryStore
+        ensures content { IsEmptyStore (⟦<MemoryStore as Store>⟧.content result) }
+        ensures fresh { IsFresh (⟦<MemoryStore as Store>⟧.control result) }
+        ensures plan { (⟦<MemoryStore as Store>⟧.control result).plan ≡ plan.items }
+        ensures calm { IsTrue (⟦<MemoryStore as Store>⟧.control result).calm }
+        ensures ruled { IsTrue (⟦<MemoryStore as Store>⟧.control result).ruled }
+    {
+        MemoryStore {
+            alloc,
+            shelf: Shelf::new(alloc),
+            faults: FaultPlan::new(plan),
+            handed: Bytes::new(),
+        }
+    }
+
+    /// Hands the store out anew: the content stays, with this plan, no fault and no call counted.
+    pub fn renew(&mut self, plan: Vec<Planned>)
+        ensures content { Keeps (⟦<MemoryStore as Store>⟧.content self.old)
+            (⟦<MemoryStore as Store>⟧.content self.new) }
+        ensures fresh { IsFresh (⟦<MemoryStore as Store>⟧.control self.new) }
+        ensures plan { (⟦<MemoryStore as Store>⟧.control self.new).plan ≡ plan.items }
+        ensures calm { IsTrue (⟦<MemoryStore as Store>⟧.control self.new).calm }
+        ensures ruled { IsTrue (⟦<MemoryStore as Store>⟧.control self.new).ruled }
+    {
+        self.faults = FaultPlan::new(plan);
+        self.handed = Bytes::new();
+    }
+
+    /// Lends the planned calls.
+    pub fn plan(&self) -> &[Planned]
+        ensures { result.now ≡ (⟦<MemoryStore as Store>⟧.control self.now).plan }
+    {
+        self.faults.plan()
+    }
+
+    /// Answers whether planned calls fail.
+    pub fn is_armed(&self) -> bool
+        ensures { result ≡ (⟦<MemoryStore as Store>⟧.control self.now).armed }
+    {
+        self.faults.is_armed()
+    }
+
+    /// Counts the calls that failed.
+    pub fn faults(&self) -> u64
+        ensures { result ≡ (⟦<MemoryStore as Store>⟧.control self.now).faults }
+    {
+        self.faults.faults()
+    }
+}
+
+impl Store for MemoryStore {
+    ghost content = { λ m. content_of m.shelf };
+
+    ghost control = { λ m. control_of call_code m.faults m.handed };
+
+    fn put(&mut self, key: &ObjectKey, bytes: &Bytes) -> Result<(), Trouble> {
+        let ending = self.faults.ending(StoreCall::Put);
+        self.shelf.put_if(key, bytes, ending.is_done())?;
+        give(self.faults.note(StoreCall::Put, ending), ())
+    }
+
+    fn get(&mut self, key: &ObjectKey, at: u64) -> Result<Option<Bytes>, Trouble> {
+        let ending = self.faults.ending(StoreCall::Get);
+        let object = self.shelf.get(key, at as usize)?;
+        let shared = share(&object)?;
+        let outcome = self.faults.note(StoreCall::Get, ending);
+        hand(&mut self.handed, outcome.is_ok(), shared);
+        give(outcome, object)
+    }
+
+    fn delete(&mut self, key: &ObjectKey) -> Result<(), Failed> {
+        let ending = self.faults.ending(StoreCall::Delete);
+        self.shelf.remove_if(key, ending.is_done());
+        self.faults.note(StoreCall::Delete, ending)
+    }
+
+    fn keys(&mut self) -> Result<Row<ObjectKey>, Trouble> {
+        let ending = self.faults.ending(StoreCall::Keys);
+        let keys = self.shelf.keys(self.alloc)?;
+        give(self.faults.note(StoreCall::Keys, ending), keys)
+    }
+
+    fn arm(&mut self) {
+        self.faults.arm();
+    }
+}

@@ -1,0 +1,36 @@
+//! Under which keys the objects of a remote segment stand.
+//!
+//! Whoever reads or deletes objects asks here and makes no key itself.
+
+ghost use Rattle.std.specs.Prelude.{◌≡◌};
+ghost use Rattle.object_store.specs.Place.{key_of, keys_of};
+
+use tier_base::{ObjectKey, Part, PartitionId, SegmentId};
+
+/// The key under which a part of a segment stands.
+pub fn place(id: SegmentId, partition: PartitionId, part: Part) -> ObjectKey
+    ensures { result ≡ key_of partition id part }
+{
+    key(partition, &id, part)
+}
+
+/// The keys of all objects of a segment: log, offset index, time index and leader epochs.
+pub fn keys_of(partition: PartitionId, id: SegmentId) -> [ObjectKey; 4]
+    ensures { result ≡ keys_of partition id }
+{
+    let log = key(partition, &id, Part::Log);
+    let index = key(partition, &id, Part::Index);
+    let time_index = key(partition, &id, Part::TimeIndex);
+    let epochs = key(partition, &id, Part::Epochs);
+    [log, index, time_index, epochs]
+}
+
+fn key(partition: PartitionId, id: &SegmentId, part: Part) -> ObjectKey
+    ensures { result ≡ key_of partition id.now part }
+{
+    ObjectKey {
+        partition,
+        id: *id,
+        part,
+    }
+}

@@ -1,0 +1,67 @@
+//! Keys in an order: partition, id, and then part.
+
+ghost use Rattle.std.specs.Prelude.{◌≡◌};
+ghost use Rattle.object_store.specs.Shelf.{rank_of, part_at, slot_of, key_at};
+
+use tier_base::{ObjectKey, Part, PartitionId, SegmentId};
+
+/// A part's place among the parts of a segment.
+#[derive(Clone, Copy, PartialEq, Eq, PartialOrd, Ord)]
+pub enum Rank {
+    First,
+    Second,
+    Third,
+    Fourth,
+}
+
+/// A key, as it stands in the order.
+#[derive(Clone, Copy, PartialEq, Eq, PartialOrd, Ord)]
+pub struct Slot {
+    pub partition: PartitionId,
+    pub id: SegmentId,
+    pub rank: Rank,
+}
+
+fn rank_of(part: Part) -> Rank
+    ensures { result ≡ rank_of part }
+{
+    match part {
+        Part::Log => Rank::First,
+        Part::Index => Rank::Second,
+        Part::TimeIndex => Rank::Third,
+        Part::Epochs => Rank::Fourth,
+    }
+}
+
+fn part_at(rank: Rank) -> Part
+    ensures { result ≡ part_at rank }
+{
+    match rank {
+        Rank::First => Part::Log,
+        Rank::Second => Part::Index,
+        Rank::Third => Part::TimeIndex,
+        Rank::Fourth => Part::Epochs,
+    }
+}
+
+/// The slot of a key.
+pub fn slot_of(key: &ObjectKey) -> Slot
+    ensures { result ≡ slot_of key.now }
+{
+    Slot {
+        partition: key.partition,
+        id: key.id,
+        rank: rank_of(key.part),
+    }
+}
+
+/// The key of a slot.
+pub fn key_at(slot: &Slot) -> ObjectKey
+    ensures { result ≡ key_at slot.now }
+{
+    ObjectKey {
+        partition: slot.partition,
+        id: slot.id,
+        part: part_at(slot.rank),
+    }
+}
