@@ -1,0 +1,3 @@
+pub mod Rules
+pub mod Spelling
+pub mod Reading
