@@ -1,0 +1,15 @@
+-- A call that hands nothing, and one of a log in memory that was done or not.
+use Rattle.std.proofs.Common.{◌≡◌, ℕ, Bool, List, refl, sym, subst}
+use Rattle.tier_base.specs.Device.{Fate, Ran, RanQuietly}
+use Rattle.tier_base.specs.Faults.{Faults, control_of}
+use Rattle.segment_meta.specs.declared.note.Note.{Note}
+use Rattle.meta_log.specs.Content.{Grows, appended_if}
+use Rattle.meta_log.specs.Memory.{content_of}
+
+-- a call that hands nothing
+pub quiet : {K : Type 0} {code : K → ℕ} (call : K) (fate : Fate) (f g : Faults K) (handed : List ℕ) → ((before after : List ℕ) → Ran call fate (control_of code f before) (control_of code g after)) → RanQuietly call fate (control_of code f handed) (control_of code g handed)
+quiet call fate f g handed ran = record { ran = ran handed handed; handed = refl }
+
+-- a call that puts a note at the end
+pub grows : (old new : List Note) (done d : Bool) (note : Note) (M : Bool → Type 0) → new ≡ appended_if done note old → done ≡ d → M d → Grows note M (content_of old) (content_of new)
+grows old new done d note M is same m = record { tells = refl; notes = λ told. (done, subst M (sym same) m, is) }

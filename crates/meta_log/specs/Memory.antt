@@ -1,0 +1,8 @@
+-- What a metadata log in memory tells.
+use Rattle.std.specs.Prelude.{true, List}
+use Rattle.segment_meta.specs.declared.note.Note.{Note}
+use Rattle.meta_log.specs.Content.{Content}
+
+-- these notes
+abbrev pub content_of : List Note → Content
+content_of notes = record { tells = true; notes = notes }
