@@ -9,15 +9,18 @@ use Rattle.log_terms.proofs.Logs.{nested, consecutive_prefix, up_to_prefix, up_t
 use Rattle.plain_log.specs.declared.answer.Answer.{Answer}
 use Rattle.plain_log.specs.declared.answer.Answer.TheVariants.{Down, NotJoined, StaleEpoch, OkAt}
 use Rattle.plain_log.specs.declared.state.State.{State}
-use Rattle.plain_log.specs.declared.state.Replica.{Replica}
+use Rattle.registry.specs.declared.registry.Replica.{Replica}
 use Rattle.plain_log.specs.declared.state.Path.{Path}
 use Rattle.plain_log.specs.declared.state.Broker.{Broker}
 use Rattle.plain_log.specs.declared.state.Role.{Role}
 use Rattle.plain_log.specs.declared.state.Role.TheVariants.{Idle, Leads, Follows, Joined}
-use Rattle.plain_log.specs.State.{path_of, acking, is_stale, mark_over, least_acked}
-use Rattle.plain_log.specs.Rows.{acknowledged, may_ack, ack_row}
+use Rattle.registry.specs.Replicas.{mark_over, least_acked}
+use Rattle.registry.specs.Registry.{with_ack}
+use Rattle.plain_log.specs.State.{path_of, acking, is_stale}
+use Rattle.plain_log.specs.RowsOfReplicas.{acknowledged, may_ack, ack_row}
 use Rattle.plain_log.specs.Safe.{RoleSafe, BrokerSafe, SharedTo, AckSafe, current, KnownSafe, NotedSafe, PlainSafe}
-use Rattle.plain_log.proofs.Silent.{silent, by_when}
+use Rattle.plain_log.proofs.Wider.{wider_self}
+use Rattle.plain_log.proofs.Keeps.{Keeps, silent, by_when}
 use Rattle.plain_log.proofs.Swaps.{current_is, one_leader_set}
 use Rattle.plain_log.proofs.Least.{least_le, least_has}
 
@@ -61,11 +64,12 @@ ends_max a k m l is h g = go (nat_le a k) refl
     go true t = let le : a ≤ k = grind (arith, nat_tests, t) in (g.0, g.1, omega (arith, le, is, g.2))
     go false t = let le : k < a = grind (arith, nat_tests, t) in (h.0, h.1, omega (arith, le, is, h.2))
 
-pub acknowledged_safe : (p : State) (b : ℕ) (x : Broker) (r : Replica) (m : ℕ) (l : List (List ℕ)) → slice_get p.brokers b ≡ Some x → slice_get p.registry.replicas b ≡ Some r
+pub acknowledged_keeps : (p : State) (b : ℕ) (x : Broker) (r : Replica) (l : List (List ℕ)) → slice_get p.brokers b ≡ Some x → slice_get p.registry.replicas b ≡ Some r
     → x.up ≡ true → IsPrefix x.log l → path_of p.paths p.registry.epoch ≡ Some l
-    → m ≡ mark_over p.registry.mark (slice_set p.registry.replicas b (record r { acked = x.stable }))
-    → PlainSafe p → PlainSafe (acknowledged p b x r m l)
-acknowledged_safe p b x r m l bx br up on pa is s =
+    → PlainSafe p → Keeps p (acknowledged p b x r l)
+acknowledged_keeps p b x r l bx br up on pa s =
+    let m = (with_ack p.registry b r x.stable).mark in
+    let is : m ≡ mark_over p.registry.mark (slice_set p.registry.replicas b (record r { acked = x.stable })) = refl in
     let h = s.brokers b x bx in
     let t : Replica = record r { acked = x.stable } in
     let ts = slice_set p.registry.replicas b t in
@@ -93,7 +97,7 @@ acknowledged_safe p b x r m l bx br up on pa is s =
     let whole : SharedTo m l (up_to m l) = (up_to m l, up_to_prefix m l, at_end, prefix_self (up_to m l)) in
     let known : SharedTo (min m (end_of x.log)) x.log (up_to m l) = shared_min m x.log l (up_to m l) c on whole (up_to_prefix m l) in
     let y : Broker = record x { known = min m (end_of x.log) } in
-    record {
+    let safe : PlainSafe (acknowledged p b x r l) = record {
       marks = record {
         start = omega (arith, s.marks.start, up_mark);
         consecutive = consecutive_prefix 0 (up_to m l) l (up_to_prefix m l) c;
@@ -142,43 +146,31 @@ acknowledged_safe p b x r m l bx br up on pa is s =
             | inr i ↦ s.leader v i.1
           ];
       broken = s.broken;
+      leader_within = omega (arith, s.leader_within, length-slice_set p.registry.replicas b t);
       same_count = length-slice_set p.registry.replicas b t ∙ s.same_count ∙ sym (length-slice_set p.brokers b y);
       noted = λ a n z bg nz.
           elim (get-set p.brokers b y n.order.broker.0 z nz) [
             | inl i ↦
                 let o = s.noted a n x bg (ap (λ (k : ℕ). slice_get p.brokers k) i.0 ∙ bx) in
-                subst (λ (k : Broker). NotedSafe p.paths n k) (sym i.1)
-                (record { stops = o.stops; up = o.up; leads = o.leads })
+                subst (λ (k : Broker). NotedSafe p.paths p.registry.epoch n k) (sym i.1)
+                (record { stops = o.stops; up = o.up; leads = o.leads; joined = o.joined })
             | inr i ↦ s.noted a n z bg i.1
           ];
-    }
+    } in
+    record { safe = safe; actors = refl; wider = wider_self p.paths; grows = λ _. grows; clean = λ u. u }
 
 -- the row of ack
-pub ack_safe : (p : State) (b : ℕ) (x : Broker) (r : Replica) (answer : Answer) (q : State) → slice_get p.brokers b ≡ Some x → slice_get p.registry.replicas b ≡ Some r
-    → ack_row p b x r answer ≡ Some q → PlainSafe p → PlainSafe q
-ack_safe p b x r Down q bx br e s = silent p q _ e s
-ack_safe p b x r NotJoined q bx br e s = silent p q _ e s
-ack_safe p b x r (StaleEpoch n) q bx br e s = silent p q _ e s
-ack_safe p b x r (OkAt m) q bx br e s =
+pub ack_keeps : (p : State) (b : ℕ) (x : Broker) (r : Replica) (answer : Answer) (q : State) → slice_get p.brokers b ≡ Some x → slice_get p.registry.replicas b ≡ Some r
+    → ack_row p b x r answer ≡ Some q → PlainSafe p → Keeps p q
+ack_keeps p b x r Down q bx br e s = silent p q _ e s
+ack_keeps p b x r NotJoined q bx br e s = silent p q _ e s
+ack_keeps p b x r (StaleEpoch n) q bx br e s = silent p q _ e s
+ack_keeps p b x r (OkAt m) q bx br e s =
     let f = and_then_some _ (path_of p.paths p.registry.epoch) q e in
-    by_when p _ q _ f.2 (λ w.
+    by_when p (acknowledged p b x r f.0) q (may_ack p b x r m) f.2 (λ w.
     let up : x.up ≡ true = grind (arith, nat_tests, w) in
     let some : is_some (acking x.role) ≡ true = grind (arith, nat_tests, w) in
     let fresh : not (is_stale p (acking x.role)) ≡ true = grind (arith, nat_tests, w) in
-    let is : m ≡ mark_over p.registry.mark (slice_set p.registry.replicas b (record r { acked = x.stable })) = grind (arith, nat_tests, w) in
     let on = on_path p.paths p.registry.epoch x.role x.log f.0 some (stale_as p (acking x.role) some fresh) f.1 (s.brokers b x bx).role in
-    acknowledged_safe p b x r m f.0 bx br up on f.1 is s)
-ack_safe p b x r other q bx br e s = absurd cc
-
--- an acknowledgement takes nothing back that is committed
-pub ack_grows : (p : State) (b : ℕ) (x : Broker) (r : Replica) (m : ℕ) (l : List (List ℕ)) → slice_get p.brokers b ≡ Some x → slice_get p.registry.replicas b ≡ Some r
-    → may_ack p b x r m ≡ true → path_of p.paths p.registry.epoch ≡ Some l → PlainSafe p → IsPrefix p.committed (up_to m l)
-ack_grows p b x r m l bx br w pa s =
-    let up : x.up ≡ true = grind (arith, nat_tests, w) in
-    let some : is_some (acking x.role) ≡ true = grind (arith, nat_tests, w) in
-    let fresh : not (is_stale p (acking x.role)) ≡ true = grind (arith, nat_tests, w) in
-    let is : m ≡ mark_over p.registry.mark (slice_set p.registry.replicas b (record r { acked = x.stable })) = grind (arith, nat_tests, w) in
-    let on = on_path p.paths p.registry.epoch x.role x.log l some (stale_as p (acking x.role) some fresh) pa (s.brokers b x bx).role in
-    let safe = acknowledged_safe p b x r m l bx br up on pa is s in
-    let old : IsPrefix p.committed l = subst (λ (k : List (List ℕ)). IsPrefix p.committed k) (current_is p.paths p.registry.epoch p.committed l pa) s.marks.begins in
-    nested 0 p.committed (up_to m l) l (s.paths p.registry.epoch l pa).log_safe.consecutive old (up_to_prefix m l) (omega (arith, s.marks.ends, safe.marks.ends, is))
+    acknowledged_keeps p b x r f.0 bx br up on f.1 s)
+ack_keeps p b x r other q bx br e s = absurd cc

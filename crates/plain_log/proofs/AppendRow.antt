@@ -12,17 +12,18 @@ use Rattle.record_batch.specs.Stamp.{stamped}
 use Rattle.record_batch.specs.declared.refusal.BatchRefusal.{BatchRefusal}
 use Rattle.record_batch.proofs.StampLaws.{sets_base_and_epoch}
 use Rattle.plain_log.specs.declared.answer.Answer.{Answer}
-use Rattle.plain_log.specs.declared.answer.Answer.TheVariants.{Down, NotLeader, Refused, LastOffset, OkSpan}
+use Rattle.plain_log.specs.declared.answer.Answer.TheVariants.{Down, NotLeader, Refused, LastOffset, TooManySegments, DiskFault, OkSpan}
 use Rattle.plain_log.specs.declared.state.State.{State}
 use Rattle.plain_log.specs.declared.state.Path.{Path}
 use Rattle.plain_log.specs.declared.state.Broker.{Broker}
 use Rattle.plain_log.specs.declared.state.Role.{Role}
 use Rattle.plain_log.specs.declared.state.Role.TheVariants.{Idle, Leads, Follows, Joined}
-use Rattle.plain_log.specs.State.{path_of, longer, leads_in, epoch_limit}
-use Rattle.plain_log.specs.Rows.{offset_limit, has_room, gained, append_row, raw_row}
+use Rattle.registry.specs.Registry.{epoch_limit}
+use Rattle.plain_log.specs.State.{path_of, longer, leads, leads_in, breaks}
+use Rattle.plain_log.specs.RowsOfLog.{offset_limit, has_room, gained, append_row, raw_row}
 use Rattle.plain_log.specs.Safe.{Has, LogSafe, PathSafe, BrokerSafe, AckSafe, current, KnownSafe, NotedSafe, PlainSafe}
 use Rattle.plain_log.proofs.Options.{both, le_of, eq_of}
-use Rattle.plain_log.proofs.Silent.{silent, by_when}
+use Rattle.plain_log.proofs.Keeps.{Keeps, grown, silent, by_when, breaks_kept}
 use Rattle.plain_log.proofs.Swaps.{one_leader_set, role_as}
 use Rattle.plain_log.proofs.Wider.{Wider, has_wider, log_wider, broker_wider, noted_wider}
 
@@ -180,15 +181,16 @@ gained_safe p b x e v bx lead up base ep s =
                 }
           ];
       leader = s.leader;
+      leader_within = s.leader_within;
       broken = s.broken;
       same_count = s.same_count ∙ sym (length-slice_set p.brokers b y);
       noted = λ a n z bg nz.
           elim (get-set p.brokers b y n.order.broker.0 z nz) [
             | inl i ↦
-                let o = noted_wider p.paths qs n x wide (s.noted a n x bg (ap (λ (k : ℕ). slice_get p.brokers k) i.0 ∙ bx)) in
-                subst (λ (k : Broker). NotedSafe qs n k) (sym i.1)
-                (record { stops = o.stops; up = o.up; leads = o.leads })
-            | inr i ↦ noted_wider p.paths qs n z wide (s.noted a n z bg i.1)
+                let o = noted_wider p.paths qs p.registry.epoch n x wide (s.noted a n x bg (ap (λ (k : ℕ). slice_get p.brokers k) i.0 ∙ bx)) in
+                subst (λ (k : Broker). NotedSafe qs p.registry.epoch n k) (sym i.1)
+                (record { stops = o.stops; up = o.up; leads = o.leads; joined = o.joined })
+            | inr i ↦ noted_wider p.paths qs p.registry.epoch n z wide (s.noted a n z bg i.1)
           ];
     }
 
@@ -233,22 +235,24 @@ appended_safe p b x batch base e at long w s =
     gained_safe p b x e (stamped batch base e) at lead w.up (stamp.base_offset ∙ w.base_is) stamp.leader_epoch s
 
 -- the row of append
-pub append_safe : (p : State) (b : ℕ) (x : Broker) (batch : List ℕ) (answer : Answer) (q : State) → slice_get p.brokers b ≡ Some x → 61 ≤ length batch
-    → append_row p b x batch answer ≡ Some q → PlainSafe p → PlainSafe q
-append_safe p b x batch Down q at long e s = silent p q _ e s
-append_safe p b x batch NotLeader q at long e s = silent p q _ e s
-append_safe p b x batch LastOffset q at long e s = silent p q _ e s
-append_safe p b x batch (OkSpan base last n) q at long e s =
+pub append_keeps : (p : State) (b : ℕ) (x : Broker) (batch : List ℕ) (answer : Answer) (q : State) → slice_get p.brokers b ≡ Some x → 61 ≤ length batch
+    → append_row p b x batch answer ≡ Some q → PlainSafe p → Keeps p q
+append_keeps p b x batch Down q at long e s = silent p q _ e s
+append_keeps p b x batch NotLeader q at long e s = silent p q _ e s
+append_keeps p b x batch LastOffset q at long e s = silent p q _ e s
+append_keeps p b x batch TooManySegments q at long e s = silent p q _ e s
+append_keeps p b x batch DiskFault q at long e s = by_when p (breaks p b x) q (x.up && leads x.role && has_room x batch) e (λ _. breaks_kept p b x at s)
+append_keeps p b x batch (OkSpan base last n) q at long e s =
     by_when p (gained p b x n (stamped batch base n)) q
     (x.up && leads_in n x.role && has_room x batch && (base == end_of x.log) && (last == base + last_offset_delta_of batch)) e
-    (λ w. appended_safe p b x batch base n at long (appends_of x batch base last n w) s)
-append_safe p b x batch other q at long e s = absurd cc
+    (λ w. grown p (gained p b x n (stamped batch base n)) refl refl refl (longer_wider p.paths n (stamped batch base n)) (appended_safe p b x batch base n at long (appends_of x batch base last n w) s))
+append_keeps p b x batch other q at long e s = absurd cc
 
 -- the row of raw
-pub raw_safe : (p : State) (b : ℕ) (x : Broker) (bytes : List ℕ) (reading : Result Batch BatchRefusal) (answer : Answer) (q : State) → slice_get p.brokers b ≡ Some x
-    → ((batch : Batch) → reading ≡ Ok batch → 61 ≤ length bytes) → raw_row p b x bytes reading answer ≡ Some q → PlainSafe p → PlainSafe q
-raw_safe p b x bytes (Ok batch) answer q at long e s = append_safe p b x bytes answer q at (long batch refl) e s
-raw_safe p b x bytes (Err why) Down q at long e s = silent p q _ e s
-raw_safe p b x bytes (Err why) NotLeader q at long e s = silent p q _ e s
-raw_safe p b x bytes (Err why) (Refused cause) q at long e s = silent p q _ e s
-raw_safe p b x bytes (Err why) other q at long e s = absurd cc
+pub raw_keeps : (p : State) (b : ℕ) (x : Broker) (bytes : List ℕ) (reading : Result Batch BatchRefusal) (answer : Answer) (q : State) → slice_get p.brokers b ≡ Some x
+    → ((batch : Batch) → reading ≡ Ok batch → 61 ≤ length bytes) → raw_row p b x bytes reading answer ≡ Some q → PlainSafe p → Keeps p q
+raw_keeps p b x bytes (Ok batch) answer q at long e s = append_keeps p b x bytes answer q at (long batch refl) e s
+raw_keeps p b x bytes (Err why) Down q at long e s = silent p q _ e s
+raw_keeps p b x bytes (Err why) NotLeader q at long e s = silent p q _ e s
+raw_keeps p b x bytes (Err why) (Refused cause) q at long e s = silent p q _ e s
+raw_keeps p b x bytes (Err why) other q at long e s = absurd cc

@@ -3,12 +3,13 @@ use Rattle.std.proofs.Common.{◌≡◌, ◌≢◌, ◌⊎◌, inl, inr, subst, 
 use Rattle.std.specs.Prelude.{replicate}
 use Rattle.std.proofs.lemmas.Bool.Decides.{nat_tests}
 use Rattle.log_terms.proofs.Logs.{ends_at_zero}
-use Rattle.plain_log.specs.declared.state.Replica.{Replica}
+use Rattle.registry.specs.declared.registry.Replica.{Replica}
 use Rattle.plain_log.specs.declared.state.Path.{Path}
 use Rattle.plain_log.specs.declared.state.Broker.{Broker}
 use Rattle.plain_log.specs.declared.state.Role.TheVariants.{Leads, Joined}
 use Rattle.plain_log.specs.State.{path_of}
-use Rattle.plain_log.specs.Fresh.{fresh_broker, fresh_replica, fresh_state}
+use Rattle.registry.specs.Replicas.{fresh_replica}
+use Rattle.plain_log.specs.Fresh.{fresh_broker, fresh_state}
 use Rattle.plain_log.specs.Safe.{LogSafe, PathSafe, BrokerSafe, AckSafe, KnownSafe, PlainSafe}
 
 replicate_get : {A : Type 0} (a : A) (n c : ℕ) (x : A) → slice_get (replicate n a) c ≡ Some x → x ≡ a
@@ -93,6 +94,7 @@ fresh_safe n = record {
       subst (λ (k : Replica). AckSafe [] 0 x k) (sym (replica_is n c r cr))
       (record { stable = omega arith; shared = ([], (x.log, refl), refl, ([], refl)); in_sync = λ _. omega arith });
   leader = λ r e. ap (λ (k : Replica). k.in_sync) (replica_is n 0 r e);
+  leader_within = omega arith;
   same_count = ap suc (replicate_length fresh_replica (fresh_broker (Joined 0)) n);
   broken = λ m i. absurd cc;
   noted = λ a m x bg e. absurd cc;

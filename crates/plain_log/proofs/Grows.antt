@@ -1,119 +1,43 @@
 -- What is committed only grows while elections are clean, and each run is a part of it.
-use Rattle.std.proofs.Common.{◌≡◌, ◌∙◌, sym, ap, subst, refl, ℕ, ◌+◌, ◌-◌, ◌<◌, ◌≤◌, ◌==◌, nat_lt, List, [], ◌∷◌, ◌++◌, length, Some, None, Option, Result, Ok, Err, slice_get, Bool, true, false, ◌&&◌, arith, append_assoc}
-use Rattle.std.specs.Prelude.{nat_le, is_none, bytes_eq}
-use Rattle.std.specs.Option.{option_and_then}
+use Rattle.std.proofs.Common.{◌≡◌, ◌∙◌, sym, ap, subst, refl, ℕ, ◌+◌, ◌-◌, ◌<◌, ◌≤◌, ◌==◌, nat_lt, List, [], ◌∷◌, ◌++◌, length, Some, None, Option, slice_get, Bool, true, false, ◌&&◌, arith, append_assoc}
+use Rattle.std.specs.Prelude.{nat_le, bytes_eq}
 use Rattle.std.specs.List.{AllByRecursion}
 use Rattle.std.proofs.lemmas.Bool.Decides.{nat_tests}
 use Rattle.std.proofs.lemmas.Slice.Eq.{bytes_eq-Decides}
 use mathlib.Core.List.{IsPrefix}
 use Rattle.tier_base.specs.declared.plain.Stop.{Stop}
-use Rattle.log_terms.specs.Batch.{base_of, last_of}
+use Rattle.log_terms.specs.Batch.{base_of, epoch_of, last_of}
 use Rattle.log_terms.specs.Log.{IsConsecutive, end_from, end_of, joined, from_offset}
 use Rattle.log_terms.proofs.Lists.{and_then_some, prefix_self, prefix_trans}
 use Rattle.log_terms.proofs.Logs.{nested, end_append}
-use Rattle.record_batch.specs.Check.{Batch, checked}
-use Rattle.record_batch.specs.declared.refusal.BatchRefusal.{BatchRefusal}
 use Rattle.plain_log.specs.declared.answer.Answer.{Answer}
-use Rattle.plain_log.specs.declared.answer.Answer.TheVariants.{OkAt, OkSpan, Down, NotLeader, Refused, LastOffset, NotJoined, StaleEpoch, Stopped, OutOfRange, Empty, Run}
+use Rattle.plain_log.specs.declared.answer.Answer.TheVariants.{Run}
 use Rattle.plain_log.specs.declared.answer.Tier.{Tier}
 use Rattle.plain_log.specs.declared.command.ActorList.{ActorList}
 use Rattle.plain_log.specs.declared.command.Command.{Command}
-use Rattle.plain_log.specs.declared.command.Command.TheVariants.{Append, Raw, Flush, Ack, Fetch}
+use Rattle.plain_log.specs.declared.command.Command.TheVariants.{Fetch}
 use Rattle.plain_log.specs.declared.command.Order.{Order}
 use Rattle.plain_log.specs.declared.journal.Event.{Event}
-use Rattle.plain_log.specs.declared.journal.Event.TheVariants.{Begins, Answers}
+use Rattle.plain_log.specs.declared.journal.Event.TheVariants.{Answers}
 use Rattle.plain_log.specs.declared.journal.JournalEntry.{JournalEntry}
 use Rattle.plain_log.specs.declared.state.State.{State}
-use Rattle.plain_log.specs.declared.state.Replica.{Replica}
+use Rattle.plain_log.specs.declared.state.Path.{Path}
 use Rattle.plain_log.specs.declared.state.Broker.{Broker}
-use Rattle.plain_log.specs.declared.state.Actor.{Actor}
+use Rattle.plain_log.specs.declared.state.Role.{Role}
+use Rattle.plain_log.specs.declared.state.Role.TheVariants.{Idle, Leads, Follows, Joined}
 use Rattle.plain_log.specs.declared.state.Noted.{Noted}
-use Rattle.plain_log.specs.State.{when, path_of, actor_at}
-use Rattle.plain_log.specs.Fetch.{fitting, run_of, is_within, stops_rightly, is_run}
-use Rattle.plain_log.specs.Rows.{append_row, raw_row, flush_row, ack_row, fetch_row, row}
-use Rattle.plain_log.specs.Step.{begins, event_step, step}
+use Rattle.registry.specs.Calls.{when}
+use Rattle.plain_log.specs.State.{leads, path_of, actor_at}
+use Rattle.plain_log.specs.Fetch.{fitting, run_of, is_within, gives_run, stops_rightly, is_run}
+use Rattle.plain_log.specs.RowsOfReads.{fetch_row}
+use Rattle.plain_log.specs.Rows.{row}
+use Rattle.plain_log.specs.Step.{event_step, step}
 use Rattle.plain_log.specs.Runs.{order_of, entry_step, replay}
-use Rattle.plain_log.specs.Safe.{PlainSafe}
-use Rattle.plain_log.specs.Committed.{IsPartAt, IsCommittedRun}
+use Rattle.plain_log.specs.Safe.{RoleSafe, LogSafe, PlainSafe}
+use Rattle.plain_log.specs.Committed.{IsPartAt, IsCommittedRun, IsPartOfPath, IsRunOfPath}
 use Rattle.plain_log.proofs.Options.{when_some, map_some, both, le_of}
-use Rattle.plain_log.proofs.AckRow.{ack_grows}
-use Rattle.plain_log.proofs.StepLaw.{step_of, step_safe}
-
--- what a row leaves of what is committed, and of the mark of unclean elections
-pub record Goes (p q : State) : Type 0 where
-  pub grows : IsPrefix p.committed q.committed
-  pub unclean : q.unclean ≡ p.unclean
-
-silent_goes : (p q : State) (b : Bool) → when b p ≡ Some q → Goes p q
-silent_goes p q b e = subst (λ (k : State). Goes p k) (when_some b p q e).1 (record { grows = prefix_self p.committed; unclean = refl })
-
-append_goes : (p : State) (b : ℕ) (x : Broker) (batch : List ℕ) (answer : Answer) (q : State) → append_row p b x batch answer ≡ Some q → Goes p q
-append_goes p b x batch Down q e = silent_goes p q _ e
-append_goes p b x batch NotLeader q e = silent_goes p q _ e
-append_goes p b x batch LastOffset q e = silent_goes p q _ e
-append_goes p b x batch (OkSpan base last n) q e = subst (λ (k : State). Goes p k) (when_some _ _ q e).1 (record { grows = prefix_self p.committed; unclean = refl })
-append_goes p b x batch other q e = absurd cc
-
-raw_goes : (p : State) (b : ℕ) (x : Broker) (bytes : List ℕ) (reading : Result Batch BatchRefusal) (answer : Answer) (q : State) → raw_row p b x bytes reading answer ≡ Some q → Goes p q
-raw_goes p b x bytes (Ok batch) answer q e = append_goes p b x bytes answer q e
-raw_goes p b x bytes (Err why) Down q e = silent_goes p q _ e
-raw_goes p b x bytes (Err why) NotLeader q e = silent_goes p q _ e
-raw_goes p b x bytes (Err why) (Refused cause) q e = silent_goes p q _ e
-raw_goes p b x bytes (Err why) other q e = absurd cc
-
-flush_goes : (p : State) (b : ℕ) (x : Broker) (answer : Answer) (q : State) → flush_row p b x answer ≡ Some q → Goes p q
-flush_goes p b x Down q e = silent_goes p q _ e
-flush_goes p b x (OkAt n) q e = subst (λ (k : State). Goes p k) (when_some _ _ q e).1 (record { grows = prefix_self p.committed; unclean = refl })
-flush_goes p b x other q e = absurd cc
-
-ack_goes : (p : State) (b : ℕ) (x : Broker) (r : Replica) (answer : Answer) (q : State) → slice_get p.brokers b ≡ Some x → slice_get p.registry.replicas b ≡ Some r
-    → PlainSafe p → ack_row p b x r answer ≡ Some q → Goes p q
-ack_goes p b x r Down q bx br s e = silent_goes p q _ e
-ack_goes p b x r NotJoined q bx br s e = silent_goes p q _ e
-ack_goes p b x r (StaleEpoch n) q bx br s e = silent_goes p q _ e
-ack_goes p b x r (OkAt mark) q bx br s e =
-    let f = and_then_some _ (path_of p.paths p.registry.epoch) q e in
-    let w = when_some _ _ q f.2 in
-    subst (λ (k : State). Goes p k) w.1 (record { grows = ack_grows p b x r mark f.0 bx br w.0 f.1 s; unclean = refl })
-ack_goes p b x r other q bx br s e = absurd cc
-
-fetch_goes : (p : State) (x : Broker) (offset limit : ℕ) (noted : Option Noted) (answer : Answer) (q : State) → fetch_row p x offset limit noted answer ≡ Some q → Goes p q
-fetch_goes p x offset limit None Down q e = silent_goes p q _ e
-fetch_goes p x offset limit (Some noted) Stopped q e = silent_goes p q _ e
-fetch_goes p x offset limit None NotLeader q e = silent_goes p q _ e
-fetch_goes p x offset limit (Some noted) NotLeader q e = silent_goes p q _ e
-fetch_goes p x offset limit None (OutOfRange start end) q e = silent_goes p q _ e
-fetch_goes p x offset limit (Some noted) (OutOfRange start end) q e = silent_goes p q _ e
-fetch_goes p x offset limit None Empty q e = silent_goes p q _ e
-fetch_goes p x offset limit (Some noted) Empty q e = silent_goes p q _ e
-fetch_goes p x offset limit None (Run tier size stop bytes) q e = silent_goes p q _ e
-fetch_goes p x offset limit (Some noted) (Run tier size stop bytes) q e = silent_goes p q _ e
-fetch_goes p x offset limit None other q e = absurd cc
-fetch_goes p x offset limit (Some noted) other q e = absurd cc
-
-row_goes : (p : State) (b : ℕ) (x : Broker) (r : Replica) (noted : Option Noted) (command : Command) (answer : Answer) (q : State)
-    → slice_get p.brokers b ≡ Some x → slice_get p.registry.replicas b ≡ Some r → PlainSafe p → row p b x r noted command answer ≡ Some q → Goes p q
-row_goes p b x r noted (Append recs) answer q bx br s e = append_goes p b x _ answer q e
-row_goes p b x r noted (Raw bytes) answer q bx br s e = raw_goes p b x bytes (checked bytes) answer q e
-row_goes p b x r noted Flush answer q bx br s e = flush_goes p b x answer q e
-row_goes p b x r noted Ack answer q bx br s e = ack_goes p b x r answer q bx br s e
-row_goes p b x r noted (Fetch offset limit) answer q bx br s e = fetch_goes p x offset limit noted answer q e
-row_goes p b x r noted other answer q bx br s e = absurd cc
-
-event_goes : (p : State) (a : ℕ) (y : Actor) (order : Order) (x : Broker) (r : Replica) (event : Event) (q : State)
-    → slice_get p.brokers order.broker.0 ≡ Some x → slice_get p.registry.replicas order.broker.0 ≡ Some r → PlainSafe p → event_step p a y order x r event ≡ Some q → Goes p q
-event_goes p a y order x r (Begins cut) q bx br s e =
-    let w = map_some _ (option_and_then (λ (z : Broker). when (is_none y.begun) z) (begins p x order.command cut)) q e in
-    subst (λ (k : State). Goes p k) w.2 (record { grows = prefix_self p.committed; unclean = refl })
-event_goes p a y order x r (Answers answer) q bx br s e =
-    let w = map_some _ (row p order.broker.0 x r y.begun order.command answer) q e in
-    let g = row_goes p order.broker.0 x r y.begun order.command answer w.0 bx br s w.1 in
-    subst (λ (k : State). Goes p k) w.2 (record { grows = g.grows; unclean = g.unclean })
-
-pub step_goes : (p : State) (order : Order) (entry : JournalEntry) (q : State) → step p order entry ≡ Some q → PlainSafe p → Goes p q
-step_goes p order entry q e s =
-    let h = step_of p order entry q e in
-    event_goes p entry.actor.0 (actor_at p.actors entry.actor.0) order h.broker h.replica entry.event q h.at h.place s h.event
+use Rattle.plain_log.proofs.Wider.{Wider, wider_self, wider_trans}
+use Rattle.plain_log.proofs.StepLaw.{Goes, step_of, step_goes, step_safe}
 
 -- a run is a part of what its broker knows to be committed
 
@@ -178,15 +102,14 @@ run_tests x offset limit size stop bytes e =
     let t4 = both (size == length bytes) (bytes_eq (joined run) bytes) t3.0 in
     record { is = (bytes_eq-Decides (joined run) bytes).0 t4.1; some = t3.1; below = le_of (end_of run) x.known t2.1 }
 
-part_of : (p : State) (b : ℕ) (x : Broker) (offset limit size : ℕ) (stop : Stop) (bytes : List ℕ) → slice_get p.brokers b ≡ Some x → PlainSafe p → p.unclean ≡ false
-    → is_run x offset limit size stop bytes ≡ true → IsPartAt offset bytes p.committed
-part_of p b x offset limit size stop bytes at s clean e = go (run_of x offset size) refl
+-- a run is a part of each list that has the beginnings of the log up to the high watermark that the broker knows
+part_in : (x : Broker) (offset limit size : ℕ) (stop : Stop) (bytes : List ℕ) (list : List (List ℕ)) → IsConsecutive 0 x.log
+    → ((run : List (List ℕ)) → IsPrefix run x.log → end_of run ≤ x.known → IsPrefix run list)
+    → is_run x offset limit size stop bytes ≡ true → IsPartAt offset bytes list
+part_in x offset limit size stop bytes list c h e = go (run_of x offset size) refl
   where
     t : RunTests x offset limit size bytes
     t = run_tests x offset limit size stop bytes e
-
-    c : IsConsecutive 0 x.log
-    c = (s.brokers b x at).log.consecutive
 
     sp : Splits 0 offset x.log
     sp = splits 0 offset x.log (omega arith)
@@ -194,16 +117,14 @@ part_of p b x offset limit size stop bytes at s clean e = go (run_of x offset si
     pre : IsPrefix (run_of x offset size) (from_offset offset x.log)
     pre = fitting_prefix size (from_offset offset x.log)
 
-    go : (run : List (List ℕ)) → run_of x offset size ≡ run → IsPartAt offset bytes p.committed
+    go : (run : List (List ℕ)) → run_of x offset size ≡ run → IsPartAt offset bytes list
     go [] is = absurd (let k : false ≡ true = (rw is at t.some) in cc (k))
     go (first ∷ others) is =
         let q : IsPrefix (first ∷ others) (from_offset offset x.log) = subst (λ (k : List (List ℕ)). IsPrefix k (from_offset offset x.log)) is pre in
         let whole : (sp.front ++ (first ∷ others)) ++ q.0 ≡ x.log = append_assoc sp.front (first ∷ others) q.0 ∙ (ap (λ (k : List (List ℕ)). sp.front ++ k) q.1 ∙ sp.parts) in
-        let known = (s.known b x at).shared clean in
         let ends : end_of (sp.front ++ (first ∷ others)) ≡ end_of (first ∷ others) = end_append 0 sp.front (first ∷ others) in
         let below : end_of (first ∷ others) ≤ x.known = subst (λ (k : List (List ℕ)). end_of k ≤ x.known) is t.below in
-        let n = nested 0 (sp.front ++ (first ∷ others)) known.0 x.log c (q.0, whole) known.1 (omega (arith, ends, below, known.2)) in
-        let m = prefix_trans (sp.front ++ (first ∷ others)) known.0 p.committed n known.3 in
+        let m = h (sp.front ++ (first ∷ others)) (q.0, whole) (omega (arith, ends, below)) in
         let c2 : IsConsecutive 0 (sp.front ++ (first ∷ (others ++ q.0))) = subst (λ (k : List (List ℕ)). IsConsecutive 0 k) (sym whole ∙ append_assoc sp.front (first ∷ others) q.0) c in
         let base = base_at 0 sp.front first (others ++ q.0) c2 in
         record {
@@ -216,6 +137,41 @@ part_of p b x offset limit size stop bytes at s clean e = go (run_of x offset si
           low = omega (arith, base, sp.low);
           high = first_high offset x.log first (others ++ q.0) (sym q.1);
         }
+
+part_of : (p : State) (b : ℕ) (x : Broker) (offset limit size : ℕ) (stop : Stop) (bytes : List ℕ) → slice_get p.brokers b ≡ Some x → PlainSafe p → p.unclean ≡ false
+    → is_run x offset limit size stop bytes ≡ true → IsPartAt offset bytes p.committed
+part_of p b x offset limit size stop bytes at s clean e =
+    let c = (s.brokers b x at).log.consecutive in
+    let known = (s.known b x at).shared clean in
+    part_in x offset limit size stop bytes p.committed c
+    (λ run on le. prefix_trans run known.0 p.committed (nested 0 run known.0 x.log c on known.1 (omega (arith, le, known.2))) known.3) e
+
+-- a leader's log is the path of its epoch
+led_path : (paths : List Path) (n : ℕ) (r : Role) (log : List (List ℕ)) → leads r ≡ true → RoleSafe paths n r log → (e : ℕ) × (path_of paths e ≡ Some log)
+led_path paths n Idle log t h = absurd cc
+led_path paths n (Leads e) log t h = (e, h.1)
+led_path paths n (Follows e) log t h = absurd cc
+led_path paths n (Joined e) log t h = absurd cc
+
+-- so a run is a part of it
+fetch_led : (p : State) (b : ℕ) (x : Broker) (offset limit : ℕ) (noted : Option Noted) (tier : Tier) (size : ℕ) (stop : Stop) (bytes : List ℕ) (q : State)
+    → slice_get p.brokers b ≡ Some x → PlainSafe p → fetch_row p x offset limit noted (Run tier size stop bytes) ≡ Some q → IsPartOfPath p.paths offset bytes
+fetch_led p b x offset limit noted tier size stop bytes q at s e = go noted e
+  where
+    leading : (o : Option Noted) → gives_run p x offset o ≡ true → leads x.role ≡ true
+    leading None g = grind (arith, nat_tests, g)
+    leading (Some n) g = grind (arith, nat_tests, g)
+
+    made : (o : Option Noted) → when (gives_run p x offset o && is_run x offset limit size stop bytes) p ≡ Some q → IsPartOfPath p.paths offset bytes
+    made o i =
+        let t = both (gives_run p x offset o) (is_run x offset limit size stop bytes) (when_some _ p q i).0 in
+        let h = s.brokers b x at in
+        let on = led_path p.paths p.registry.epoch x.role x.log (leading o t.0) h.role in
+        (on.0, x.log, on.1, part_in x offset limit size stop bytes x.log h.log.consecutive (λ run prefix le. prefix) t.1)
+
+    go : (o : Option Noted) → fetch_row p x offset limit o (Run tier size stop bytes) ≡ Some q → IsPartOfPath p.paths offset bytes
+    go None i = made None i
+    go (Some n) i = made (Some n) i
 
 -- a fetch that is answered by a run
 fetch_part : (p : State) (b : ℕ) (x : Broker) (offset limit : ℕ) (noted : Option Noted) (tier : Tier) (size : ℕ) (stop : Stop) (bytes : List ℕ) (q : State)
@@ -237,41 +193,99 @@ part_more offset bytes log more p h = record {
   high = h.high;
 }
 
+-- the row of an entry that answers a fetch
+record FetchOf (p : State) (order : Order) (offset limit : ℕ) (answer : Answer) : Type 0 where
+  broker : Broker
+  at : slice_get p.brokers order.broker.0 ≡ Some broker
+  noted : Option Noted
+  next : State
+  row_is : fetch_row p broker offset limit noted answer ≡ Some next
+
+fetch_of : (p : State) (order : Order) (entry : JournalEntry) (q : State) (offset limit : ℕ) (answer : Answer) → step p order entry ≡ Some q
+    → order.command ≡ Fetch offset limit → entry.event ≡ Answers answer → FetchOf p order offset limit answer
+fetch_of p order entry q offset limit answer e command event =
+    let h = step_of p order entry q e in
+    let answers : event_step p entry.actor.0 (actor_at p.actors entry.actor.0) order h.broker h.replica (Answers answer) ≡ Some q =
+    subst (λ (k : Event). event_step p entry.actor.0 (actor_at p.actors entry.actor.0) order h.broker h.replica k ≡ Some q) event h.event in
+    let w = map_some _ (row p order.broker.0 h.broker h.replica (actor_at p.actors entry.actor.0).begun order.command answer) q answers in
+    record {
+      broker = h.broker;
+      at = h.at;
+      noted = (actor_at p.actors entry.actor.0).begun;
+      next = w.0;
+      row_is = subst (λ (k : Command). row p order.broker.0 h.broker h.replica (actor_at p.actors entry.actor.0).begun k answer ≡ Some w.0) command w.1;
+    }
+
 entry_part : (p : State) (order : Order) (entry : JournalEntry) (q : State) (offset limit : ℕ) (tier : Tier) (size : ℕ) (stop : Stop) (bytes : List ℕ)
     → step p order entry ≡ Some q → PlainSafe p → p.unclean ≡ false → order.command ≡ Fetch offset limit → entry.event ≡ Answers (Run tier size stop bytes)
     → IsPartAt offset bytes p.committed
 entry_part p order entry q offset limit tier size stop bytes e s clean command event =
-    let h = step_of p order entry q e in
-    let answers : event_step p entry.actor.0 (actor_at p.actors entry.actor.0) order h.broker h.replica (Answers (Run tier size stop bytes)) ≡ Some q =
-    subst (λ (k : Event). event_step p entry.actor.0 (actor_at p.actors entry.actor.0) order h.broker h.replica k ≡ Some q) event h.event in
-    let w = map_some _ (row p order.broker.0 h.broker h.replica (actor_at p.actors entry.actor.0).begun order.command (Run tier size stop bytes)) q answers in
-    let is : fetch_row p h.broker offset limit (actor_at p.actors entry.actor.0).begun (Run tier size stop bytes) ≡ Some w.0 =
-    subst (λ (k : Command). row p order.broker.0 h.broker h.replica (actor_at p.actors entry.actor.0).begun k (Run tier size stop bytes) ≡ Some w.0) command w.1 in
-    fetch_part p order.broker.0 h.broker offset limit (actor_at p.actors entry.actor.0).begun tier size stop bytes w.0 h.at s clean is
+    let f = fetch_of p order entry q offset limit (Run tier size stop bytes) e command event in
+    fetch_part p order.broker.0 f.broker offset limit f.noted tier size stop bytes f.next f.at s clean f.row_is
+
+entry_led : (p : State) (order : Order) (entry : JournalEntry) (q : State) (offset limit : ℕ) (tier : Tier) (size : ℕ) (stop : Stop) (bytes : List ℕ)
+    → step p order entry ≡ Some q → PlainSafe p → order.command ≡ Fetch offset limit → entry.event ≡ Answers (Run tier size stop bytes)
+    → IsPartOfPath p.paths offset bytes
+entry_led p order entry q offset limit tier size stop bytes e s command event =
+    let f = fetch_of p order entry q offset limit (Run tier size stop bytes) e command event in
+    fetch_led p order.broker.0 f.broker offset limit f.noted tier size stop bytes f.next f.at s f.row_is
+
+-- a part of a path is one of the path that it grew to
+path_more : (ps qs : List Path) (offset : ℕ) (bytes : List ℕ) → Wider ps qs → IsPartOfPath ps offset bytes → IsPartOfPath qs offset bytes
+path_more ps qs offset bytes w h =
+    let k = w h.0 h.1 h.2 in
+    (h.0, k.0, k.1, part_more offset bytes h.1 k.0 k.2 h.3)
 
 -- over a replay
 
 pub replay_goes : (lists : List ActorList) (p : State) (journal : List JournalEntry) (q : State) → replay lists p journal ≡ Some q → PlainSafe p → Goes p q
-replay_goes lists p [] q e s = let is : p ≡ q = cc (e) in subst (λ (k : State). Goes p k) is (record { grows = prefix_self p.committed; unclean = refl })
+replay_goes lists p [] q e s =
+    let is : p ≡ q = cc (e) in
+    subst (λ (k : State). Goes p k) is (record { safe = s; wider = wider_self p.paths; grows = λ _. prefix_self p.committed; clean = λ u. u })
 replay_goes lists p (entry ∷ journal) q e s =
     let m = and_then_some (λ (w : State). replay lists w journal) (entry_step lists p entry) q e in
     let o = and_then_some (λ (w : Order). step p w entry) (order_of lists entry) m.0 m.1 in
     let one = step_goes p o.0 entry m.0 o.2 s in
-    let more = replay_goes lists m.0 journal q m.2 (step_safe p o.0 entry m.0 o.2 s) in
-    record { grows = prefix_trans p.committed m.0.committed q.committed one.grows more.grows; unclean = more.unclean ∙ one.unclean }
+    let more = replay_goes lists m.0 journal q m.2 one.safe in
+    record {
+      safe = more.safe;
+      wider = wider_trans p.paths m.0.paths q.paths one.wider more.wider;
+      grows = λ u. prefix_trans p.committed m.0.committed q.committed (one.grows (more.clean u)) (more.grows u);
+      clean = λ u. one.clean (more.clean u);
+    }
 
-pub replay_runs : (lists : List ActorList) (p : State) (journal : List JournalEntry) (q : State) → replay lists p journal ≡ Some q → PlainSafe p → p.unclean ≡ false
+pub replay_runs : (lists : List ActorList) (p : State) (journal : List JournalEntry) (q : State) → replay lists p journal ≡ Some q → PlainSafe p → q.unclean ≡ false
     → AllByRecursion (IsCommittedRun lists q.committed) journal
 replay_runs lists p [] q e s clean = tt
 replay_runs lists p (entry ∷ journal) q e s clean =
     let m = and_then_some (λ (w : State). replay lists w journal) (entry_step lists p entry) q e in
     let o = and_then_some (λ (w : Order). step p w entry) (order_of lists entry) m.0 m.1 in
-    let one = step_goes p o.0 entry m.0 o.2 s in
     let safe = step_safe p o.0 entry m.0 o.2 s in
     let all = replay_goes lists p (entry ∷ journal) q e s in (
       (λ order offset limit tier size stop bytes at command event.
           let same : o.0 ≡ order = cc (o.1, at) in
-          part_more offset bytes p.committed q.committed all.grows
-          (entry_part p o.0 entry m.0 offset limit tier size stop bytes o.2 s clean (ap (λ (k : Order). k.command) same ∙ command) event)),
-      replay_runs lists m.0 journal q m.2 safe (one.unclean ∙ clean),
+          part_more offset bytes p.committed q.committed (all.grows clean)
+          (entry_part p o.0 entry m.0 offset limit tier size stop bytes o.2 s (all.clean clean) (ap (λ (k : Order). k.command) same ∙ command) event)),
+      replay_runs lists m.0 journal q m.2 safe clean,
     )
+
+pub replay_led : (lists : List ActorList) (p : State) (journal : List JournalEntry) (q : State) → replay lists p journal ≡ Some q → PlainSafe p
+    → AllByRecursion (IsRunOfPath lists q.paths) journal
+replay_led lists p [] q e s = tt
+replay_led lists p (entry ∷ journal) q e s =
+    let m = and_then_some (λ (w : State). replay lists w journal) (entry_step lists p entry) q e in
+    let o = and_then_some (λ (w : Order). step p w entry) (order_of lists entry) m.0 m.1 in
+    let all = replay_goes lists p (entry ∷ journal) q e s in (
+      (λ order offset limit tier size stop bytes at command event.
+          let same : o.0 ≡ order = cc (o.1, at) in
+          path_more p.paths q.paths offset bytes all.wider
+          (entry_led p o.0 entry m.0 offset limit tier size stop bytes o.2 s (ap (λ (k : Order). k.command) same ∙ command) event)),
+      replay_led lists m.0 journal q m.2 (step_safe p o.0 entry m.0 o.2 s),
+    )
+
+-- along a log epochs never fall: each batch is on the path of the next one's epoch
+pub log_rises : (p : State) (log front : List (List ℕ)) (batch next : List ℕ) → PlainSafe p → LogSafe p.paths log
+    → IsPrefix ((front ++ batch ∷ []) ++ next ∷ []) log → epoch_of batch ≤ epoch_of next
+log_rises p log front batch next s h q =
+    let m = h.matching (front ++ batch ∷ []) next q in
+    (s.paths (epoch_of next) m.0 m.1).epochs front batch (prefix_trans (front ++ batch ∷ []) ((front ++ batch ∷ []) ++ next ∷ []) m.0 (next ∷ [], refl) m.2)

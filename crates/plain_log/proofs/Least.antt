@@ -2,8 +2,8 @@
 use Rattle.std.proofs.Common.{◌≡◌, ◌≢◌, subst, ℕ, zero, suc, ◌≤◌, ◌<◌, min, List, [], ◌∷◌, Some, None, Option, slice_get, Bool, true, false, refl, ap, ◌∙◌, arith}
 use Rattle.std.specs.Prelude.{nat_le, option_map, unwrap_or}
 use Rattle.std.proofs.lemmas.Bool.Decides.{nat_tests}
-use Rattle.plain_log.specs.declared.state.Replica.{Replica}
-use Rattle.plain_log.specs.State.{least_acked}
+use Rattle.registry.specs.declared.registry.Replica.{Replica}
+use Rattle.registry.specs.Replicas.{least_acked}
 
 -- the least acknowledged end is at most each one's in sync
 pub least_le : (ss : List Replica) (c : ℕ) (r : Replica) → slice_get ss c ≡ Some r → r.in_sync ≡ true → unwrap_or (least_acked ss) 0 ≤ r.acked

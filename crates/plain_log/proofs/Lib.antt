@@ -1,13 +1,23 @@
-mod Options
-mod Silent
-mod Wider
+pub mod Options
+pub mod Wider
+pub mod Ends
 mod Swaps
+mod Keeps
+mod Joins
 mod Least
-mod AppendRow
+mod LogRows
+pub mod AppendRow
+pub mod NewEpoch
+mod ElectionRows
+mod LearnRow
+mod FollowerRows
 mod AckRow
-mod OtherRows
+mod ReplicaRows
+mod TierRows
+mod ReadRows
 pub mod StepLaw
 pub mod FreshLaw
 pub mod Grows
 pub mod Replays
 mod Example
+mod Elections

@@ -1,8 +1,8 @@
 -- Tests, and options that a test makes.
-use Rattle.std.proofs.Common.{◌≡◌, ℕ, ◌≤◌, ◌==◌, Some, None, Option, Bool, true, false, ◌&&◌, refl, arith}
+use Rattle.std.proofs.Common.{◌≡◌, ℕ, ◌≤◌, ◌==◌, Some, None, Option, Bool, true, false, ◌&&◌, not, refl, arith}
 use Rattle.std.specs.Prelude.{nat_le, option_map}
 use Rattle.std.proofs.lemmas.Bool.Decides.{nat_tests}
-use Rattle.plain_log.specs.State.{when}
+use Rattle.registry.specs.Calls.{when}
 
 -- a value where a test holds: it does, and that is the value
 pub when_some : {A : Type 0} (b : Bool) (x q : A) → when b x ≡ Some q → (b ≡ true) × (x ≡ q)
@@ -26,3 +26,8 @@ le_of a b h = grind (arith, nat_tests, h)
 
 pub eq_of : (a b : ℕ) → (a == b) ≡ true → a ≡ b
 eq_of a b h = grind (arith, nat_tests, h)
+
+-- a test that doesn't hold
+pub not_true : (a : Bool) → not a ≡ true → a ≡ false
+not_true true e = absurd cc
+not_true false e = refl

@@ -1,32 +1,26 @@
 -- What a replay keeps, and the order in which it answers commands.
-use Rattle.std.proofs.Common.{◌≡◌, ◌≢◌, subst, ℕ, ◌+◌, ◌<◌, ◌≤◌, ◌==◌, List, [], ◌∷◌, ◌++◌, length, add-zero, Some, None, Option, Result, Ok, Err, Bool, true, false, refl, ap, sym, ◌∙◌, arith}
+use Rattle.std.proofs.Common.{◌≡◌, ◌≢◌, subst, ℕ, ◌+◌, ◌<◌, ◌≤◌, ◌==◌, List, [], ◌∷◌, ◌++◌, length, add-zero, Some, Bool, true, false, refl, ap, sym, ◌∙◌, arith}
 use Rattle.std.specs.Prelude.{is_none}
 use Rattle.std.specs.Option.{option_and_then}
 use Rattle.std.proofs.lemmas.Bool.Decides.{nat_tests}
 use Rattle.log_terms.proofs.Lists.{and_then_some, within}
-use Rattle.record_batch.specs.Check.{Batch, checked}
-use Rattle.record_batch.specs.declared.refusal.BatchRefusal.{BatchRefusal}
-use Rattle.plain_log.specs.declared.answer.Answer.{Answer}
-use Rattle.plain_log.specs.declared.answer.Answer.TheVariants.{OkAt, OkSpan, Down, NotLeader, Refused, LastOffset, NotJoined, StaleEpoch, Stopped, OutOfRange, Empty, Run}
-use Rattle.plain_log.specs.declared.command.Command.{Command}
-use Rattle.plain_log.specs.declared.command.Command.TheVariants.{Append, Raw, Flush, Ack, Fetch}
 use Rattle.plain_log.specs.declared.command.Order.{Order}
 use Rattle.plain_log.specs.declared.command.ActorList.{ActorList}
 use Rattle.plain_log.specs.declared.journal.Event.{Event}
 use Rattle.plain_log.specs.declared.journal.Event.TheVariants.{Begins, Answers}
 use Rattle.plain_log.specs.declared.journal.JournalEntry.{JournalEntry}
 use Rattle.plain_log.specs.declared.state.State.{State}
-use Rattle.plain_log.specs.declared.state.Replica.{Replica}
+use Rattle.registry.specs.declared.registry.Replica.{Replica}
 use Rattle.plain_log.specs.declared.state.Broker.{Broker}
 use Rattle.plain_log.specs.declared.state.Actor.{Actor}
-use Rattle.plain_log.specs.declared.state.Noted.{Noted}
-use Rattle.plain_log.specs.State.{when, path_of, actor_at}
-use Rattle.plain_log.specs.Rows.{append_row, raw_row, flush_row, ack_row, fetch_row, row}
+use Rattle.registry.specs.Calls.{when}
+use Rattle.plain_log.specs.State.{actor_at}
+use Rattle.plain_log.specs.Rows.{row}
 use Rattle.plain_log.specs.Step.{begins, event_step, step}
 use Rattle.plain_log.specs.Runs.{orders_of, order_of, entry_step, replay, answered, number_before, numbers_from}
 use Rattle.plain_log.specs.Safe.{PlainSafe}
-use Rattle.plain_log.proofs.Options.{when_some, map_some}
-use Rattle.plain_log.proofs.StepLaw.{actor_put, actor_kept, step_of, step_safe}
+use Rattle.plain_log.proofs.Options.{map_some}
+use Rattle.plain_log.proofs.StepLaw.{actor_put, step_of, step_safe, step_others}
 
 -- a replay keeps the safety rules
 pub replay_safe : (lists : List ActorList) (p : State) (journal : List JournalEntry) (q : State) → replay lists p journal ≡ Some q → PlainSafe p → PlainSafe q
@@ -43,62 +37,6 @@ replay_more lists p [] q entry r e f = let is : p ≡ q = cc (e) in rw (subst (�
 replay_more lists p (first ∷ journal) q entry r e f =
     let m = and_then_some (λ (w : State). replay lists w journal) (entry_step lists p first) q e in
     rw m.1 (replay_more lists m.0 journal q entry r m.2 f)
-
--- rows leave the actors alone
-
-silent_actors : (p q : State) (b : Bool) → when b p ≡ Some q → q.actors ≡ p.actors
-silent_actors p q b e = ap (λ (k : State). k.actors) (sym (when_some b p q e).1)
-
-append_actors : (p : State) (b : ℕ) (x : Broker) (batch : List ℕ) (answer : Answer) (q : State) → append_row p b x batch answer ≡ Some q → q.actors ≡ p.actors
-append_actors p b x batch Down q e = silent_actors p q _ e
-append_actors p b x batch NotLeader q e = silent_actors p q _ e
-append_actors p b x batch LastOffset q e = silent_actors p q _ e
-append_actors p b x batch (OkSpan base last n) q e = ap (λ (k : State). k.actors) (sym (when_some _ _ q e).1)
-append_actors p b x batch other q e = absurd cc
-
-raw_actors : (p : State) (b : ℕ) (x : Broker) (bytes : List ℕ) (reading : Result Batch BatchRefusal) (answer : Answer) (q : State) → raw_row p b x bytes reading answer ≡ Some q → q.actors ≡ p.actors
-raw_actors p b x bytes (Ok batch) answer q e = append_actors p b x bytes answer q e
-raw_actors p b x bytes (Err why) Down q e = silent_actors p q _ e
-raw_actors p b x bytes (Err why) NotLeader q e = silent_actors p q _ e
-raw_actors p b x bytes (Err why) (Refused cause) q e = silent_actors p q _ e
-raw_actors p b x bytes (Err why) other q e = absurd cc
-
-flush_actors : (p : State) (b : ℕ) (x : Broker) (answer : Answer) (q : State) → flush_row p b x answer ≡ Some q → q.actors ≡ p.actors
-flush_actors p b x Down q e = silent_actors p q _ e
-flush_actors p b x (OkAt n) q e = ap (λ (k : State). k.actors) (sym (when_some _ _ q e).1)
-flush_actors p b x other q e = absurd cc
-
-ack_actors : (p : State) (b : ℕ) (x : Broker) (r : Replica) (answer : Answer) (q : State) → ack_row p b x r answer ≡ Some q → q.actors ≡ p.actors
-ack_actors p b x r Down q e = silent_actors p q _ e
-ack_actors p b x r NotJoined q e = silent_actors p q _ e
-ack_actors p b x r (StaleEpoch n) q e = silent_actors p q _ e
-ack_actors p b x r (OkAt mark) q e =
-    let f = and_then_some _ (path_of p.paths p.registry.epoch) q e in
-    ap (λ (k : State). k.actors) (sym (when_some _ _ q f.2).1)
-ack_actors p b x r other q e = absurd cc
-
-fetch_actors : (p : State) (x : Broker) (offset limit : ℕ) (noted : Option Noted) (answer : Answer) (q : State) → fetch_row p x offset limit noted answer ≡ Some q → q.actors ≡ p.actors
-fetch_actors p x offset limit None Down q e = silent_actors p q _ e
-fetch_actors p x offset limit (Some noted) Stopped q e = silent_actors p q _ e
-fetch_actors p x offset limit None NotLeader q e = silent_actors p q _ e
-fetch_actors p x offset limit (Some noted) NotLeader q e = silent_actors p q _ e
-fetch_actors p x offset limit None (OutOfRange start end) q e = silent_actors p q _ e
-fetch_actors p x offset limit (Some noted) (OutOfRange start end) q e = silent_actors p q _ e
-fetch_actors p x offset limit None Empty q e = silent_actors p q _ e
-fetch_actors p x offset limit (Some noted) Empty q e = silent_actors p q _ e
-fetch_actors p x offset limit None (Run tier size stop bytes) q e = silent_actors p q _ e
-fetch_actors p x offset limit (Some noted) (Run tier size stop bytes) q e = silent_actors p q _ e
-fetch_actors p x offset limit None other q e = absurd cc
-fetch_actors p x offset limit (Some noted) other q e = absurd cc
-
--- a row leaves the actors alone
-pub row_actors : (p : State) (b : ℕ) (x : Broker) (r : Replica) (noted : Option Noted) (command : Command) (answer : Answer) (q : State) → row p b x r noted command answer ≡ Some q → q.actors ≡ p.actors
-row_actors p b x r noted (Append recs) answer q e = append_actors p b x _ answer q e
-row_actors p b x r noted (Raw bytes) answer q e = raw_actors p b x bytes (checked bytes) answer q e
-row_actors p b x r noted Flush answer q e = flush_actors p b x answer q e
-row_actors p b x r noted Ack answer q e = ack_actors p b x r answer q e
-row_actors p b x r noted (Fetch offset limit) answer q e = fetch_actors p x offset limit noted answer q e
-row_actors p b x r noted other answer q e = absurd cc
 
 -- the actor's numbers go on by one with each answer, and with nothing else
 
@@ -120,30 +58,20 @@ event_number p a order x r (Answers answer) q e =
     let w = map_some _ (row p order.broker.0 x r (actor_at p.actors a).begun order.command answer) q e in
     sym (ap (λ (k : State). number_of k a) w.2) ∙ ap (λ (k : Actor). k.number) (actor_put w.0.actors a _)
 
-event_others : (p : State) (a : ℕ) (order : Order) (x : Broker) (r : Replica) (event : Event) (q : State) (c : ℕ)
-    → event_step p a (actor_at p.actors a) order x r event ≡ Some q → c ≢ a → number_of q c ≡ number_of p c
-event_others p a order x r (Begins cut) q c e ne =
-    let w = map_some _ (option_and_then (λ (z : Broker). when (is_none (actor_at p.actors a).begun) z) (begins p x order.command cut)) q e in
-    sym (ap (λ (k : State). number_of k c) w.2) ∙ ap (λ (k : Actor). k.number) (actor_kept p.actors a _ c ne)
-event_others p a order x r (Answers answer) q c e ne =
-    let w = map_some _ (row p order.broker.0 x r (actor_at p.actors a).begun order.command answer) q e in
-    let kept = row_actors p order.broker.0 x r (actor_at p.actors a).begun order.command answer w.0 w.1 in
-    sym (ap (λ (k : State). number_of k c) w.2) ∙ ap (λ (k : Actor). k.number) (actor_kept w.0.actors a _ c ne ∙ ap (λ (k : List Actor). actor_at k c) kept)
-
 -- the numbers answered from the actor's next one on, and the number after them
 pub record IsCounted (p q : State) (a : ℕ) (journal : List JournalEntry) : Type 0 where
   pub order : answered a journal ≡ numbers_from (number_of p a) (length (answered a journal))
   pub next : number_of q a ≡ number_of p a + length (answered a journal)
 
-pub replay_counts : (lists : List ActorList) (p : State) (journal : List JournalEntry) (q : State) (a : ℕ) → replay lists p journal ≡ Some q → IsCounted p q a journal
-replay_counts lists p [] q a e = record { order = refl; next = let is : p ≡ q = cc (e) in sym (ap (λ (k : State). number_of k a) is) ∙ sym (add-zero (number_of p a)) }
-replay_counts lists p (entry ∷ journal) q a e =
+pub replay_counts : (lists : List ActorList) (p : State) (journal : List JournalEntry) (q : State) (a : ℕ) → replay lists p journal ≡ Some q → PlainSafe p → IsCounted p q a journal
+replay_counts lists p [] q a e safe = record { order = refl; next = let is : p ≡ q = cc (e) in sym (ap (λ (k : State). number_of k a) is) ∙ sym (add-zero (number_of p a)) }
+replay_counts lists p (entry ∷ journal) q a e safe =
     let m = and_then_some (λ (w : State). replay lists w journal) (entry_step lists p entry) q e in
     let o = and_then_some (λ (w : Order). step p w entry) (order_of lists entry) m.0 m.1 in
     let s = step_of p o.0 entry m.0 o.2 in
-    go m.0 (replay_counts lists m.0 journal q a m.2) s.number
+    go m.0 (replay_counts lists m.0 journal q a m.2 (step_safe p o.0 entry m.0 o.2 safe)) s.number
     (event_number p entry.actor.0 o.0 s.broker s.replica entry.event m.0 s.event)
-    (event_others p entry.actor.0 o.0 s.broker s.replica entry.event m.0 a s.event) (entry.actor.0 == a) refl
+    (λ ne. ap (λ (k : Actor). k.number) (step_others p o.0 entry m.0 a o.2 safe ne)) (entry.actor.0 == a) refl
   where
     same : (m : State) (event : Event) (n : ℕ) → IsCounted m q a journal → n ≡ number_of p a → number_of m a ≡ number_after event (number_of p a)
         → (number_before event n (answered a journal) ≡ numbers_from (number_of p a) (length (number_before event n (answered a journal))))
@@ -170,16 +98,16 @@ replay_counts lists p (entry ∷ journal) q a e =
 
 -- no actor's number passes its list
 pub replay_within : (lists : List ActorList) (p : State) (journal : List JournalEntry) (q : State) (a : ℕ) → replay lists p journal ≡ Some q
-    → number_of p a ≤ length (orders_of lists a) → number_of q a ≤ length (orders_of lists a)
-replay_within lists p [] q a e h = let is : p ≡ q = cc (e) in subst (λ (k : State). number_of k a ≤ length (orders_of lists a)) is h
-replay_within lists p (entry ∷ journal) q a e h =
+    → PlainSafe p → number_of p a ≤ length (orders_of lists a) → number_of q a ≤ length (orders_of lists a)
+replay_within lists p [] q a e safe h = let is : p ≡ q = cc (e) in subst (λ (k : State). number_of k a ≤ length (orders_of lists a)) is h
+replay_within lists p (entry ∷ journal) q a e safe h =
     let m = and_then_some (λ (w : State). replay lists w journal) (entry_step lists p entry) q e in
     let o = and_then_some (λ (w : Order). step p w entry) (order_of lists entry) m.0 m.1 in
     let s = step_of p o.0 entry m.0 o.2 in
-    replay_within lists m.0 journal q a m.2
+    replay_within lists m.0 journal q a m.2 (step_safe p o.0 entry m.0 o.2 safe)
     (go m.0 (within (orders_of lists entry.actor.0) entry.number o.0 o.1) s.number
     (event_number p entry.actor.0 o.0 s.broker s.replica entry.event m.0 s.event)
-    (event_others p entry.actor.0 o.0 s.broker s.replica entry.event m.0 a s.event) (entry.actor.0 == a) refl)
+    (λ ne. ap (λ (k : Actor). k.number) (step_others p o.0 entry m.0 a o.2 safe ne)) (entry.actor.0 == a) refl)
   where
     at_most : (event : Event) (n : ℕ) → number_after event n ≤ n + 1
     at_most (Begins cut) n = omega arith

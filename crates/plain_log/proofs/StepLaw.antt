@@ -1,47 +1,98 @@
--- Each step keeps the safety rules.
+-- Each step keeps the safety rules, and while elections are clean what is committed.
 use Rattle.std.proofs.Common.{◌≡◌, ◌≢◌, inl, inr, subst, ℕ, zero, suc, ◌==◌, List, [], ◌∷◌, Some, None, Option, slice_get, slice_set, Bool, true, false, refl, ap, sym, ◌∙◌, arith}
-use Rattle.std.specs.Prelude.{is_none}
+use Rattle.std.specs.Prelude.{is_none, is_some}
 use Rattle.std.specs.Option.{option_and_then}
 use Rattle.std.proofs.lemmas.Bool.Decides.{nat_tests}
+use mathlib.Core.List.{IsPrefix}
 use Rattle.log_terms.proofs.Lists.{and_then_some, get-set}
 use Rattle.record_batch.specs.Build.{built}
 use Rattle.record_batch.specs.Check.{checked}
 use Rattle.record_batch.proofs.BuildLaws.{built_long}
 use Rattle.record_batch.proofs.Passing.{is_batch_of}
+use Rattle.registry.specs.declared.registry.Replica.{Replica}
+use Rattle.registry.specs.Calls.{when}
 use Rattle.plain_log.specs.declared.answer.Answer.{Answer}
 use Rattle.plain_log.specs.declared.command.Command.{Command}
-use Rattle.plain_log.specs.declared.command.Command.TheVariants.{Append, Raw, Flush, Ack, Fetch}
+use Rattle.plain_log.specs.declared.command.Command.TheVariants.{Append, Raw, Flush, Roll, Elect, Unclean, Learn, Join, Follow, Ack, Shrink, Expand, Copy, Trim, Expire, Raise, Clock, Stop, Up, Fetch, Pack, Copying, Offset}
 use Rattle.plain_log.specs.declared.command.Order.{Order}
 use Rattle.plain_log.specs.declared.journal.Event.{Event}
 use Rattle.plain_log.specs.declared.journal.Event.TheVariants.{Begins, Answers}
 use Rattle.plain_log.specs.declared.journal.JournalEntry.{JournalEntry}
 use Rattle.plain_log.specs.declared.state.State.{State}
-use Rattle.plain_log.specs.declared.state.Replica.{Replica}
 use Rattle.plain_log.specs.declared.state.Path.{Path}
 use Rattle.plain_log.specs.declared.state.Broker.{Broker}
 use Rattle.plain_log.specs.declared.state.Actor.{Actor}
 use Rattle.plain_log.specs.declared.state.Noted.{Noted}
 use Rattle.plain_log.specs.declared.state.Role.{Role}
 use Rattle.plain_log.specs.declared.state.Role.TheVariants.{Idle, Leads, Follows, Joined}
-use Rattle.plain_log.specs.State.{when, leads, path_of, put_broker, actor_at, put_actor, with_actor}
+use Rattle.plain_log.specs.State.{leads, followed, joined, path_of, put_broker, actor_at, put_actor, with_actor}
+use Rattle.plain_log.specs.RowsOfFollowers.{cut_to}
 use Rattle.plain_log.specs.Rows.{row}
-use Rattle.plain_log.specs.Step.{begins, noted_of, is_noted, event_step, next_actor, step}
-use Rattle.plain_log.specs.Safe.{RoleSafe, NotedSafe, PlainSafe, is_leaders}
-use Rattle.plain_log.proofs.Options.{when_some, map_some, both}
-use Rattle.plain_log.proofs.Swaps.{Swap, put_safe, swap_same}
-use Rattle.plain_log.proofs.AppendRow.{append_safe, raw_safe}
-use Rattle.plain_log.proofs.AckRow.{ack_safe}
-use Rattle.plain_log.proofs.OtherRows.{flush_safe, fetch_safe}
+use Rattle.plain_log.specs.Step.{begins, same_command, noted_of, is_noted, event_step, next_actor, step}
+use Rattle.plain_log.specs.Safe.{RoleSafe, NotedSafe, PlainSafe, is_leaders, is_followers}
+use Rattle.plain_log.proofs.Options.{when_some, map_some, both, eq_of}
+use Rattle.plain_log.proofs.Wider.{Wider}
+use Rattle.plain_log.proofs.Swaps.{Swap, swap_same}
+use Rattle.plain_log.proofs.Joins.{swap_cut}
+use Rattle.plain_log.proofs.Keeps.{Keeps, broker_kept}
+use Rattle.plain_log.proofs.LogRows.{flush_keeps, roll_keeps, stop_keeps, up_keeps}
+use Rattle.plain_log.proofs.AppendRow.{append_keeps, raw_keeps}
+use Rattle.plain_log.proofs.ElectionRows.{elect_keeps, unclean_keeps}
+use Rattle.plain_log.proofs.LearnRow.{learn_keeps}
+use Rattle.plain_log.proofs.FollowerRows.{JoinedNoted, join_keeps, follow_keeps}
+use Rattle.plain_log.proofs.AckRow.{ack_keeps}
+use Rattle.plain_log.proofs.ReplicaRows.{shrink_keeps, expand_keeps}
+use Rattle.plain_log.proofs.TierRows.{copy_keeps, trim_keeps, expire_keeps, raise_keeps, silent_keeps}
+use Rattle.plain_log.proofs.ReadRows.{fetch_keeps, offset_keeps}
+
+same_join : (c : Command) → same_command c Join ≡ true → is_followers c ≡ true
+same_join Join e = refl
+same_join other e = absurd cc
+
+same_follow : (c : Command) (limit : ℕ) → same_command c (Follow limit) ≡ true → is_followers c ≡ true
+same_follow (Follow n) limit e = refl
+same_follow other limit e = absurd cc
+
+-- what is known of a begun command whose order is this one
+abbrev pub BegunSafe : State → Broker → Option Noted → Command → Type 0
+BegunSafe p x None c = Unit {0}
+BegunSafe p x (Some noted) c = (same_command noted.order.command c ≡ true) × NotedSafe p.paths p.registry.epoch noted x
+
+joined_for_join : (p : State) (x : Broker) (noted : Option Noted) → BegunSafe p x noted Join → JoinedNoted p x noted
+joined_for_join p x None h = tt
+joined_for_join p x (Some noted) h = h.1.joined (same_join noted.order.command h.0)
+
+joined_for_follow : (p : State) (x : Broker) (noted : Option Noted) (limit : ℕ) → BegunSafe p x noted (Follow limit) → JoinedNoted p x noted
+joined_for_follow p x None limit h = tt
+joined_for_follow p x (Some noted) limit h = h.1.joined (same_follow noted.order.command limit h.0)
 
 -- each row keeps them
-pub row_safe : (p : State) (b : ℕ) (x : Broker) (r : Replica) (noted : Option Noted) (command : Command) (answer : Answer) (q : State)
-    → slice_get p.brokers b ≡ Some x → slice_get p.registry.replicas b ≡ Some r → row p b x r noted command answer ≡ Some q → PlainSafe p → PlainSafe q
-row_safe p b x r noted (Append recs) answer q bx br e s = append_safe p b x (built recs) answer q bx (built_long recs) e s
-row_safe p b x r noted (Raw bytes) answer q bx br e s = raw_safe p b x bytes (checked bytes) answer q bx (λ batch is. (is_batch_of bytes batch is).long) e s
-row_safe p b x r noted Flush answer q bx br e s = flush_safe p b x answer q bx e s
-row_safe p b x r noted Ack answer q bx br e s = ack_safe p b x r answer q bx br e s
-row_safe p b x r noted (Fetch offset limit) answer q bx br e s = fetch_safe p x offset limit noted answer q e s
-row_safe p b x r noted other answer q bx br e s = absurd cc
+pub row_keeps : (p : State) (b : ℕ) (x : Broker) (r : Replica) (noted : Option Noted) (command : Command) (answer : Answer) (q : State)
+    → slice_get p.brokers b ≡ Some x → slice_get p.registry.replicas b ≡ Some r → BegunSafe p x noted command
+    → row p b x r noted command answer ≡ Some q → PlainSafe p → Keeps p q
+row_keeps p b x r noted (Append recs) answer q bx br j e s = append_keeps p b x (built recs) answer q bx (built_long recs) e s
+row_keeps p b x r noted (Raw bytes) answer q bx br j e s = raw_keeps p b x bytes (checked bytes) answer q bx (λ batch is. (is_batch_of bytes batch is).long) e s
+row_keeps p b x r noted Flush answer q bx br j e s = flush_keeps p b x answer q bx e s
+row_keeps p b x r noted Roll answer q bx br j e s = roll_keeps p b x answer q bx e s
+row_keeps p b x r noted Elect answer q bx br j e s = elect_keeps p b x r answer q br e s
+row_keeps p b x r noted Unclean answer q bx br j e s = unclean_keeps p b x answer q bx e s
+row_keeps p b x r noted Learn answer q bx br j e s = learn_keeps p b x r answer q bx br e s
+row_keeps p b x r noted Join answer q bx br j e s = join_keeps p b x noted answer q bx (joined_for_join p x noted j) e s
+row_keeps p b x r noted (Follow limit) answer q bx br j e s = follow_keeps p b x limit noted answer q bx (joined_for_follow p x noted limit j) e s
+row_keeps p b x r noted Ack answer q bx br j e s = ack_keeps p b x r answer q bx br e s
+row_keeps p b x r noted Shrink answer q bx br j e s = shrink_keeps p b r answer q br e s
+row_keeps p b x r noted Expand answer q bx br j e s = expand_keeps p b x r answer q br e s
+row_keeps p b x r noted Copy answer q bx br j e s = copy_keeps p x noted answer q e s
+row_keeps p b x r noted Trim answer q bx br j e s = trim_keeps p b x noted answer q bx e s
+row_keeps p b x r noted Expire answer q bx br j e s = expire_keeps p x noted answer q e s
+row_keeps p b x r noted (Raise start) answer q bx br j e s = raise_keeps p x start answer q e s
+row_keeps p b x r noted (Clock ms) answer q bx br j e s = silent_keeps p answer q e s
+row_keeps p b x r noted Stop answer q bx br j e s = stop_keeps p b x answer q bx e s
+row_keeps p b x r noted Up answer q bx br j e s = up_keeps p b x answer q bx e s
+row_keeps p b x r noted (Fetch offset limit) answer q bx br j e s = fetch_keeps p x offset limit noted answer q e s
+row_keeps p b x r noted (Pack on) answer q bx br j e s = silent_keeps p answer q e s
+row_keeps p b x r noted (Copying on) answer q bx br j e s = silent_keeps p answer q e s
+row_keeps p b x r noted (Offset which) answer q bx br j e s = offset_keeps p x which noted answer q e s
 
 -- what was written of an actor stands there
 pub actor_put : (actors : List Actor) (a : ℕ) (y : Actor) → actor_at (put_actor actors a y) a ≡ y
@@ -63,7 +114,7 @@ actor_kept (z ∷ actors) (suc a) y (suc c) ne = actor_kept actors a y c (λ e. 
 
 -- an actor that goes on keeps them, where what it noted is safe
 pub with_actor_safe : (p : State) (a : ℕ) (y : Actor)
-    → ((n : Noted) (x : Broker) → y.begun ≡ Some n → slice_get p.brokers n.order.broker.0 ≡ Some x → NotedSafe p.paths n x)
+    → ((n : Noted) (x : Broker) → y.begun ≡ Some n → slice_get p.brokers n.order.broker.0 ≡ Some x → NotedSafe p.paths p.registry.epoch n x)
     → PlainSafe p → PlainSafe (with_actor a y p)
 with_actor_safe p a y h s = record {
   marks = s.marks;
@@ -73,13 +124,14 @@ with_actor_safe p a y h s = record {
   one_leader = s.one_leader;
   acks = s.acks;
   leader = s.leader;
+  leader_within = s.leader_within;
   same_count = s.same_count;
   broken = s.broken;
   noted = λ c n x bg nx. go c n x bg nx (c == a) refl;
 }
   where
     go : (c : ℕ) (n : Noted) (x : Broker) → (actor_at (put_actor p.actors a y) c).begun ≡ Some n → slice_get p.brokers n.order.broker.0 ≡ Some x
-        → (t : Bool) → (c == a) ≡ t → NotedSafe p.paths n x
+        → (t : Bool) → (c == a) ≡ t → NotedSafe p.paths p.registry.epoch n x
     go c n x bg nx true t =
         let is : c ≡ a = grind (arith, nat_tests, t) in
         h n x (sym (ap (λ (k : Actor). k.begun) (ap (actor_at (put_actor p.actors a y)) is ∙ actor_put p.actors a y)) ∙ bg) nx
@@ -92,6 +144,7 @@ pub record BeginSafe (p : State) (x : Broker) (c : Command) (z : Broker) : Type 
   pub swap : Swap p x z
   pub up : z.up ≡ true
   pub leads : is_leaders c ≡ true → (e : ℕ) × (log : List (List ℕ)) × (z.role ≡ Leads e) × (path_of p.paths e ≡ Some log)
+  pub joined : is_followers c ≡ true → (e : ℕ) × (z.role ≡ Joined e)
 
 leads_path : (paths : List Path) (n : ℕ) (r : Role) (log : List (List ℕ)) → leads r ≡ true → RoleSafe paths n r log
     → (e : ℕ) × (path : List (List ℕ)) × (r ≡ Leads e) × (path_of paths e ≡ Some path)
@@ -100,8 +153,14 @@ leads_path paths n (Leads e) log t h = (e, log, refl, h.1)
 leads_path paths n (Follows e) log t h = absurd cc
 leads_path paths n (Joined e) log t h = absurd cc
 
+joined_in : (r : Role) → is_some (joined r) ≡ true → (e : ℕ) × (r ≡ Joined e)
+joined_in Idle t = absurd cc
+joined_in (Leads e) t = absurd cc
+joined_in (Follows e) t = absurd cc
+joined_in (Joined e) t = (e, refl)
+
 begin_same : (p : State) (b : ℕ) (x : Broker) (c : Command) (t : Bool) (z : Broker) → slice_get p.brokers b ≡ Some x → when t x ≡ Some z → PlainSafe p
-    → (t ≡ true → (x.up ≡ true) × (is_leaders c ≡ true → leads x.role ≡ true)) → BeginSafe p x c z
+    → (t ≡ true → (x.up ≡ true) × (is_leaders c ≡ true → leads x.role ≡ true) × (is_followers c ≡ true → is_some (joined x.role) ≡ true)) → BeginSafe p x c z
 begin_same p b x c t z at e s h =
     let w = when_some t x z e in
     let k = h w.0 in
@@ -109,38 +168,94 @@ begin_same p b x c t z at e s h =
       swap = swap_same p b x at s;
       up = k.0;
       leads = λ i. leads_path p.paths p.registry.epoch x.role x.log (k.1 i) (s.brokers b x at).role;
+      joined = λ i. joined_in x.role (k.2 i);
     })
 
+cut_joined : (p : State) (x : Broker) (n : ℕ) (y : Broker) → cut_to p x n ≡ Some y → (y.up ≡ true) × ((e : ℕ) × (y.role ≡ Joined e))
+cut_joined p x n y is =
+    let f = and_then_some _ (followed x.role) y is in
+    let g = and_then_some _ (path_of p.paths f.0) y f.2 in
+    let w = when_some _ _ y g.2 in
+    let up : x.up ≡ true = grind (arith, nat_tests, w.0) in
+    (ap (λ (k : Broker). k.up) (sym w.1) ∙ up, (f.0, ap (λ (k : Broker). k.role) (sym w.1)))
+
 begins_safe : (p : State) (b : ℕ) (x : Broker) (c : Command) (cut : Option ℕ) (z : Broker) → slice_get p.brokers b ≡ Some x → begins p x c cut ≡ Some z → PlainSafe p → BeginSafe p x c z
+begins_safe p b x Join (Some n) z at e s =
+    let k = cut_joined p x n z e in
+    record { swap = swap_cut p x n z e (s.brokers b x at) (s.known b x at); up = k.0; leads = λ i. absurd cc; joined = λ i. k.1 }
+begins_safe p b x (Follow limit) None z at e s =
+    begin_same p b x (Follow limit) _ z at e s (λ w. (grind (arith, nat_tests, w), (λ i. absurd cc), (λ i. grind (arith, nat_tests, w))))
+begins_safe p b x Copy None z at e s = begin_same p b x Copy _ z at e s (λ w. (grind (arith, nat_tests, w), (λ i. grind (arith, nat_tests, w)), (λ i. absurd cc)))
+begins_safe p b x Trim None z at e s = begin_same p b x Trim _ z at e s (λ w. (w, (λ i. absurd cc), (λ i. absurd cc)))
+begins_safe p b x Expire None z at e s =
+    begin_same p b x Expire _ z at e s (λ w. (grind (arith, nat_tests, w), (λ i. grind (arith, nat_tests, w)), (λ i. absurd cc)))
 begins_safe p b x (Fetch offset limit) None z at e s =
-    begin_same p b x (Fetch offset limit) _ z at e s (λ w. (grind (arith, nat_tests, w), (λ i. grind (arith, nat_tests, w))))
+    begin_same p b x (Fetch offset limit) _ z at e s (λ w. (grind (arith, nat_tests, w), (λ i. grind (arith, nat_tests, w)), (λ i. absurd cc)))
+begins_safe p b x (Offset which) None z at e s =
+    begin_same p b x (Offset which) _ z at e s (λ w. (grind (arith, nat_tests, w), (λ i. grind (arith, nat_tests, w)), (λ i. absurd cc)))
 begins_safe p b x other cut z at e s = absurd cc
 
-noted_begin : (p : State) (order : Order) (x z : Broker) → BeginSafe p x order.command z → NotedSafe p.paths (noted_of p order z) z
-noted_begin p order x z h = record { stops = omega arith; up = λ _. h.up; leads = h.leads }
+noted_begin : (p : State) (order : Order) (x z : Broker) → BeginSafe p x order.command z → NotedSafe p.paths p.registry.epoch (noted_of p order z) z
+noted_begin p order x z h = record {
+  stops = omega arith;
+  up = λ _. h.up;
+  leads = h.leads;
+  joined = λ c. let j = h.joined c in (j.0, j.1, λ _ _. refl);
+}
+
+-- what a step keeps
+pub record Goes (p q : State) : Type 0 where
+  pub safe : PlainSafe q
+  pub wider : Wider p.paths q.paths
+  pub grows : q.unclean ≡ false → IsPrefix p.committed q.committed
+  pub clean : q.unclean ≡ false → p.unclean ≡ false
+
+-- what an event of actor a keeps: that, and the other actors
+pub record EventGoes (p : State) (a : ℕ) (q : State) : Type 0 where
+  pub goes : Goes p q
+  pub others : (c : ℕ) → c ≢ a → actor_at q.actors c ≡ actor_at p.actors c
+
+-- an actor that goes on keeps what a row does
+with_actor_keeps : (p q : State) (a : ℕ) (y : Actor)
+    → ((n : Noted) (x : Broker) → y.begun ≡ Some n → slice_get q.brokers n.order.broker.0 ≡ Some x → NotedSafe q.paths q.registry.epoch n x)
+    → Keeps p q → EventGoes p a (with_actor a y q)
+with_actor_keeps p q a y h k = record {
+  goes = record { safe = with_actor_safe q a y h k.safe; wider = k.wider; grows = k.grows; clean = k.clean };
+  others = λ c ne. actor_kept q.actors a y c ne ∙ ap (λ (z : List Actor). actor_at z c) k.actors;
+}
 
 -- so does each event
-pub event_safe : (p : State) (a : ℕ) (order : Order) (x : Broker) (r : Replica) (event : Event) (q : State)
+event_goes : (p : State) (a : ℕ) (order : Order) (x : Broker) (r : Replica) (event : Event) (q : State)
     → slice_get p.brokers order.broker.0 ≡ Some x → slice_get p.registry.replicas order.broker.0 ≡ Some r
-    → event_step p a (actor_at p.actors a) order x r event ≡ Some q → PlainSafe p → PlainSafe q
-event_safe p a order x r (Begins cut) q bx br e s =
+    → is_noted (actor_at p.actors a).begun order ≡ true
+    → event_step p a (actor_at p.actors a) order x r event ≡ Some q → PlainSafe p → EventGoes p a q
+event_goes p a order x r (Begins cut) q bx br noted e s =
     let w = map_some _ (option_and_then (λ (z : Broker). when (is_none (actor_at p.actors a).begun) z) (begins p x order.command cut)) q e in
     let f = and_then_some _ (begins p x order.command cut) w.0 w.1 in
     let v = when_some _ _ w.0 f.2 in
     let is : begins p x order.command cut ≡ Some w.0 = f.1 ∙ ap Some v.1 in
     let g = begins_safe p order.broker.0 x order.command cut w.0 bx is s in
-    subst PlainSafe w.2 (with_actor_safe (put_broker p order.broker.0 w.0) a _
+    subst (λ (k : State). EventGoes p a k) w.2 (with_actor_keeps p (put_broker p order.broker.0 w.0) a _
     (λ n z bg nz.
     let same : noted_of p order w.0 ≡ n = cc (bg) in
-    subst (λ (k : Noted). NotedSafe p.paths k z) same
+    subst (λ (k : Noted). NotedSafe p.paths p.registry.epoch k z) same
     (elim (get-set p.brokers order.broker.0 w.0 order.broker.0 z (ap (λ (k : Noted). slice_get (slice_set p.brokers order.broker.0 w.0) k.order.broker.0) same ∙ nz)) [
-      | inl i ↦ subst (λ (k : Broker). NotedSafe p.paths (noted_of p order w.0) k) (sym i.1) (noted_begin p order x w.0 g)
+      | inl i ↦ subst (λ (k : Broker). NotedSafe p.paths p.registry.epoch (noted_of p order w.0) k) (sym i.1) (noted_begin p order x w.0 g)
       | inr i ↦ absurd (i.0 refl)
     ]))
-    (put_safe p order.broker.0 x w.0 bx g.swap s))
-event_safe p a order x r (Answers answer) q bx br e s =
+    (broker_kept p order.broker.0 x w.0 bx g.swap s))
+event_goes p a order x r (Answers answer) q bx br noted e s =
     let w = map_some _ (row p order.broker.0 x r (actor_at p.actors a).begun order.command answer) q e in
-    subst PlainSafe w.2 (with_actor_safe w.0 a _ (λ n z bg nz. absurd cc) (row_safe p order.broker.0 x r (actor_at p.actors a).begun order.command answer w.0 bx br w.1 s))
+    let begun = begun_safe (actor_at p.actors a).begun refl noted in
+    subst (λ (k : State). EventGoes p a k) w.2 (with_actor_keeps p w.0 a _ (λ n z bg nz. absurd cc)
+    (row_keeps p order.broker.0 x r (actor_at p.actors a).begun order.command answer w.0 bx br begun w.1 s))
+  where
+    begun_safe : (o : Option Noted) → (actor_at p.actors a).begun ≡ o → is_noted o order ≡ true → BegunSafe p x o order.command
+    begun_safe None i t = tt
+    begun_safe (Some n) i t =
+        let u = both (n.order.broker.0 == order.broker.0) (same_command n.order.command order.command) t in
+        let one : n.order.broker.0 ≡ order.broker.0 = eq_of n.order.broker.0 order.broker.0 u.0 in
+        (u.1, s.noted a n x i (ap (λ (k : ℕ). slice_get p.brokers k) one ∙ bx))
 
 -- what a step is made of
 pub record StepOf (p : State) (order : Order) (entry : JournalEntry) (q : State) : Type 0 where
@@ -149,6 +264,7 @@ pub record StepOf (p : State) (order : Order) (entry : JournalEntry) (q : State)
   pub replica : Replica
   pub place : slice_get p.registry.replicas order.broker.0 ≡ Some replica
   pub number : entry.number ≡ (actor_at p.actors entry.actor.0).number
+  pub noted : is_noted (actor_at p.actors entry.actor.0).begun order ≡ true
   pub event : event_step p entry.actor.0 (actor_at p.actors entry.actor.0) order broker replica entry.event ≡ Some q
 
 pub step_of : (p : State) (order : Order) (entry : JournalEntry) (q : State) → step p order entry ≡ Some q → StepOf p order entry q
@@ -164,10 +280,23 @@ step_of p order entry q e =
       replica = r.0;
       place = r.1;
       number = grind (arith, nat_tests, t.0);
+      noted = t.1;
       event = subst (λ (k : Actor). event_step p entry.actor.0 k order x.0 r.0 entry.event ≡ Some q) (sym w.1) y.2;
     }
 
-pub step_safe : (p : State) (order : Order) (entry : JournalEntry) (q : State) → step p order entry ≡ Some q → PlainSafe p → PlainSafe q
-step_safe p order entry q e s =
+step_event : (p : State) (order : Order) (entry : JournalEntry) (q : State) → step p order entry ≡ Some q → PlainSafe p → EventGoes p entry.actor.0 q
+step_event p order entry q e s =
     let h = step_of p order entry q e in
-    event_safe p entry.actor.0 order h.broker h.replica entry.event q h.at h.place h.event s
+    event_goes p entry.actor.0 order h.broker h.replica entry.event q h.at h.place h.noted h.event s
+
+-- so does each step
+pub step_goes : (p : State) (order : Order) (entry : JournalEntry) (q : State) → step p order entry ≡ Some q → PlainSafe p → Goes p q
+step_goes p order entry q e s = (step_event p order entry q e s).goes
+
+pub step_safe : (p : State) (order : Order) (entry : JournalEntry) (q : State) → step p order entry ≡ Some q → PlainSafe p → PlainSafe q
+step_safe p order entry q e s = (step_goes p order entry q e s).safe
+
+-- and it leaves the other actors
+pub step_others : (p : State) (order : Order) (entry : JournalEntry) (q : State) (c : ℕ) → step p order entry ≡ Some q → PlainSafe p
+    → c ≢ entry.actor.0 → actor_at q.actors c ≡ actor_at p.actors c
+step_others p order entry q c e s ne = (step_event p order entry q e s).others c ne

@@ -1,7 +1,7 @@
 -- Paths that only grew: what was safe over them is safe.
 use Rattle.std.proofs.Common.{◌≡◌, ℕ, List, [], ◌∷◌, ◌++◌, Some, refl}
 use Rattle.log_terms.specs.Batch.{epoch_of}
-use Rattle.log_terms.proofs.Lists.{prefix_trans}
+use Rattle.log_terms.proofs.Lists.{prefix_self, prefix_trans}
 use Rattle.plain_log.specs.declared.state.Path.{Path}
 use Rattle.plain_log.specs.declared.state.Broker.{Broker}
 use Rattle.plain_log.specs.declared.state.Noted.{Noted}
@@ -14,6 +14,17 @@ use Rattle.plain_log.specs.Safe.{Has, LogSafe, RoleSafe, BrokerSafe, NotedSafe}
 abbrev pub Wider : List Path → List Path → Type 0
 Wider ps qs = (e : ℕ) (log : List (List ℕ)) → path_of ps e ≡ Some log → Has qs e log
 
+-- paths are beginnings of themselves
+pub wider_self : (ps : List Path) → Wider ps ps
+wider_self ps e log is = (log, is, prefix_self log)
+
+-- and of what grew twice
+pub wider_trans : (ps qs rs : List Path) → Wider ps qs → Wider qs rs → Wider ps rs
+wider_trans ps qs rs v w e log is =
+    let k = v e log is in
+    let m = w e k.0 k.1 in
+    (m.0, m.1, prefix_trans log k.0 m.0 k.2 m.2)
+
 pub has_wider : (ps qs : List Path) (e : ℕ) (front : List (List ℕ)) → Wider ps qs → Has ps e front → Has qs e front
 has_wider ps qs e front w h = let k = w e h.0 h.1 in (k.0, k.1, prefix_trans front h.0 k.0 h.2 k.2)
 
@@ -23,10 +34,11 @@ log_wider ps qs log w h = record {
   matching = λ front batch p. has_wider ps qs (epoch_of batch) (front ++ batch ∷ []) w (h.matching front batch p);
 }
 
-pub noted_wider : (ps qs : List Path) (n : Noted) (x : Broker) → Wider ps qs → NotedSafe ps n x → NotedSafe qs n x
-noted_wider ps qs n x w h = record {
+pub noted_wider : (ps qs : List Path) (epoch : ℕ) (n : Noted) (x : Broker) → Wider ps qs → NotedSafe ps epoch n x → NotedSafe qs epoch n x
+noted_wider ps qs epoch n x w h = record {
   stops = h.stops;
   up = h.up;
+  joined = h.joined;
   leads = λ c. let k = h.leads c in let m = w k.0 k.1 k.3 in (k.0, m.0, k.2, m.1);
 }
 

@@ -1,4 +1,4 @@
--- What fetches are given while elections are clean: parts of one committed list.
+-- What fetches are given: parts of the logs of leader epochs, and while elections are clean of one committed list.
 use Rattle.std.specs.Prelude.{◌≡◌, ℕ, ◌≤◌, Some, List, ◌∷◌, ◌++◌}
 use Rattle.std.specs.List.{AllByRecursion}
 use Rattle.tier_base.specs.declared.plain.Stop.{Stop}
@@ -11,6 +11,8 @@ use Rattle.plain_log.specs.declared.command.Command.TheVariants.{Fetch}
 use Rattle.plain_log.specs.declared.command.Order.{Order}
 use Rattle.plain_log.specs.declared.journal.Event.TheVariants.{Answers}
 use Rattle.plain_log.specs.declared.journal.JournalEntry.{JournalEntry}
+use Rattle.plain_log.specs.declared.state.Path.{Path}
+use Rattle.plain_log.specs.State.{path_of}
 use Rattle.plain_log.specs.Runs.{order_of}
 
 -- the bytes are batches of the log, one after another, from the one on that holds the offset
@@ -35,3 +37,19 @@ pub record IsCommitted (lists : List ActorList) (journal : List JournalEntry) : 
   pub committed : List (List ℕ)
   pub consecutive : IsConsecutive 0 committed
   pub runs : AllByRecursion (IsCommittedRun lists committed) journal
+
+-- the bytes are batches of the log that a leader of some epoch has, from the one on that holds the offset
+abbrev pub IsPartOfPath : List Path → ℕ → List ℕ → Type 0
+IsPartOfPath paths offset bytes = (e : ℕ) × (log : List (List ℕ)) × (path_of paths e ≡ Some log) × IsPartAt offset bytes log
+
+-- where the entry answers a fetch with a run, the run is a part of one of the paths
+abbrev pub IsRunOfPath : List ActorList → List Path → JournalEntry → Type 0
+IsRunOfPath lists paths entry = (order : Order) (offset limit : ℕ) (tier : Tier) (size : ℕ) (stop : Stop) (bytes : List ℕ)
+    → order_of lists entry ≡ Some order → order.command ≡ Fetch offset limit → entry.event ≡ Answers (Run tier size stop bytes)
+    → IsPartOfPath paths offset bytes
+
+-- a list of consecutive batches from offset 0 on for each leader epoch; each run that a fetch was given is a part of one
+pub record IsLed (lists : List ActorList) (journal : List JournalEntry) : Type 0 where
+  pub paths : List Path
+  pub consecutive : (e : ℕ) (log : List (List ℕ)) → path_of paths e ≡ Some log → IsConsecutive 0 log
+  pub runs : AllByRecursion (IsRunOfPath lists paths) journal

@@ -1,8 +1,8 @@
 -- The plain log where nothing has happened yet: broker 0 leads epoch 0, the others have joined it, and all are in sync.
-use Rattle.std.specs.Prelude.{ℕ, ◌-◌, [], ◌∷◌, true, false, replicate}
+use Rattle.std.specs.Prelude.{ℕ, suc, ◌-◌, [], ◌∷◌, true, false, replicate}
+use Rattle.registry.specs.Registry.{fresh_registry}
 use Rattle.plain_log.specs.declared.command.Config.{Config}
 use Rattle.plain_log.specs.declared.state.State.{State}
-use Rattle.plain_log.specs.declared.state.Replica.{Replica}
 use Rattle.plain_log.specs.declared.state.Broker.{Broker}
 use Rattle.plain_log.specs.declared.state.Role.{Role}
 use Rattle.plain_log.specs.declared.state.Role.TheVariants.{Leads, Joined}
@@ -11,14 +11,10 @@ use Rattle.plain_log.specs.declared.state.Role.TheVariants.{Leads, Joined}
 abbrev pub fresh_broker : Role → Broker
 fresh_broker role = record { up = true; stops = 0; role = role; log = []; stable = 0; loose = false; known = 0 }
 
--- a replica in sync, which has acknowledged nothing
-abbrev pub fresh_replica : Replica
-fresh_replica = record { in_sync = true; acked = 0 }
-
 -- the fresh state of so many brokers behind the leader
 abbrev pub fresh_state : ℕ → State
 fresh_state others = record {
-  registry = record { epoch = 0; leader = record { 0 = 0 }; mark = 0; start = 0; replicas = fresh_replica ∷ replicate others fresh_replica };
+  registry = fresh_registry (suc others);
   committed = [];
   paths = record { epoch = 0; log = [] } ∷ [];
   broken = [];

@@ -1,6 +1,7 @@
 -- The laws of the plain log.
-use Rattle.std.specs.Prelude.{◌≡◌, Some, List, false}
+use Rattle.std.specs.Prelude.{◌≡◌, ℕ, ◌≤◌, Some, List, [], ◌∷◌, ◌++◌, false}
 use mathlib.Core.List.{IsPrefix}
+use Rattle.log_terms.specs.Batch.{epoch_of}
 use Rattle.plain_log.specs.declared.command.Config.{Config}
 use Rattle.plain_log.specs.declared.command.Order.{Order}
 use Rattle.plain_log.specs.declared.command.ActorList.{ActorList}
@@ -9,12 +10,13 @@ use Rattle.plain_log.specs.declared.state.State.{State}
 use Rattle.plain_log.specs.Step.{step}
 use Rattle.plain_log.specs.Runs.{replay, IsPlainRun, IsInOrder}
 use Rattle.plain_log.specs.Fresh.{fresh}
-use Rattle.plain_log.specs.Safe.{PlainSafe}
-use Rattle.plain_log.specs.Committed.{IsCommitted}
+use Rattle.plain_log.specs.Safe.{LogSafe, PlainSafe}
+use Rattle.plain_log.specs.Committed.{IsCommitted, IsLed}
 
 -- each step keeps the safety rules
 abbrev pub StepsKeepSafe : Type 0
-StepsKeepSafe = (p : State) (order : Order) (entry : JournalEntry) (q : State) → step p order entry ≡ Some q → PlainSafe p → PlainSafe q
+StepsKeepSafe = (p : State) (order : Order) (entry : JournalEntry) (q : State) → step p order entry ≡ Some q
+    → PlainSafe p → PlainSafe q
 
 -- so does each replay
 abbrev pub ReplaysKeepSafe : Type 0
@@ -25,16 +27,26 @@ ReplaysKeepSafe = (lists : List ActorList) (p : State) (journal : List JournalEn
 abbrev pub FreshIsSafe : Type 0
 FreshIsSafe = (config : Config) → PlainSafe (fresh config)
 
+-- along a log or a path leader epochs never fall
+abbrev pub EpochsNeverFall : Type 0
+EpochsNeverFall = (p : State) (log front : List (List ℕ)) (batch next : List ℕ) → PlainSafe p → LogSafe p.paths log
+    → IsPrefix ((front ++ batch ∷ []) ++ next ∷ []) log → epoch_of batch ≤ epoch_of next
+
 -- a run answers each actor's commands once and in order
 abbrev pub RunsAnswerInOrder : Type 0
-RunsAnswerInOrder = (config : Config) (lists : List ActorList) (journal : List JournalEntry) → IsPlainRun config lists journal → IsInOrder journal
+RunsAnswerInOrder = (config : Config) (lists : List ActorList) (journal : List JournalEntry)
+    → IsPlainRun config lists journal → IsInOrder journal
 
 -- no step to a state of clean elections takes back what is committed
 abbrev pub CommittedGrows : Type 0
-CommittedGrows = (p : State) (order : Order) (entry : JournalEntry) (q : State) → step p order entry ≡ Some q → PlainSafe p → q.unclean ≡ false
-    → IsPrefix p.committed q.committed
+CommittedGrows = (p : State) (order : Order) (entry : JournalEntry) (q : State) → step p order entry ≡ Some q
+    → PlainSafe p → q.unclean ≡ false → IsPrefix p.committed q.committed
 
 -- while elections are clean, each run that a fetch was given is a part of one committed list
 abbrev pub RunsAreCommitted : Type 0
-RunsAreCommitted = (config : Config) (lists : List ActorList) (journal : List JournalEntry) (run : IsPlainRun config lists journal)
-    → run.last.unclean ≡ false → IsCommitted lists journal
+RunsAreCommitted = (config : Config) (lists : List ActorList) (journal : List JournalEntry)
+    → (run : IsPlainRun config lists journal) → run.last.unclean ≡ false → IsCommitted lists journal
+
+-- whatever the elections, each run that a fetch was given is a part of the log of one leader epoch
+abbrev pub RunsAreLed : Type 0
+RunsAreLed = (config : Config) (lists : List ActorList) (journal : List JournalEntry) → IsPlainRun config lists journal → IsLed lists journal

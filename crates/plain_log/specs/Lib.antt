@@ -1,8 +1,15 @@
 pub mod Causes
+pub mod Ends
 pub mod State
 pub mod Orders
-pub mod Rows
 pub mod Fetch
+pub mod RowsOfLog
+pub mod RowsOfElections
+pub mod RowsOfFollowers
+pub mod RowsOfReplicas
+pub mod RowsOfTiers
+pub mod RowsOfReads
+pub mod Rows
 pub mod Step
 pub mod Runs
 pub mod Fresh

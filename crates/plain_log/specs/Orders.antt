@@ -1,19 +1,30 @@
 -- What lists of orders must meet to be run: what a script's reader gives, and what a world takes.
-use Rattle.std.specs.Prelude.{◌≤◌, ◌<◌, ◌^◌, List, [], ◌∷◌, length, All}
+use Rattle.std.specs.Prelude.{◌≤◌, ◌<◌, ◌^◌, ◌≤ℤ◌, ◌<ℤ◌, pos, List, [], ◌∷◌, length, All}
 use Rattle.record_batch.specs.Build.{IsBuildable}
 use Rattle.plain_log.specs.declared.command.Command.{Command}
-use Rattle.plain_log.specs.declared.command.Command.TheVariants.{Append, Raw, Flush, Ack, Fetch}
+use Rattle.plain_log.specs.declared.command.Command.TheVariants.{Append, Raw, Flush, Elect, Unclean, Learn, Join, Follow, Ack, Shrink, Expand, Raise, Clock, Stop, Up, Fetch}
 use Rattle.plain_log.specs.declared.command.Order.{Order}
 use Rattle.plain_log.specs.declared.command.ActorList.{ActorList}
 use Rattle.plain_log.specs.declared.command.Config.{Config}
 
 -- a world can carry the command out: its numbers are in range, and the records of an append make a batch; a command
--- that has no row yet can't be
+-- that no world carries out yet can't be
 abbrev pub IsInRange : Command → Type 0
 IsInRange (Append recs) = IsBuildable recs
 IsInRange (Raw bytes) = length bytes ≤ 1048576
 IsInRange Flush = Unit {0}
+IsInRange Elect = Unit {0}
+IsInRange Unclean = Unit {0}
+IsInRange Learn = Unit {0}
+IsInRange Join = Unit {0}
+IsInRange (Follow limit) = limit ≤ 2147483647
 IsInRange Ack = Unit {0}
+IsInRange Shrink = Unit {0}
+IsInRange Expand = Unit {0}
+IsInRange (Raise start) = start ≤ 4611686018427387904
+IsInRange (Clock ms) = (pos 0 ≤ℤ ms) × (ms <ℤ pos 9223372036854775808)
+IsInRange Stop = Unit {0}
+IsInRange Up = Unit {0}
 IsInRange (Fetch offset limit) = (offset ≤ 4611686018427387904) × (limit ≤ 2147483647)
 IsInRange other = ⊥
 

@@ -1,19 +1,20 @@
 -- The safety rules: what holds of every state that the plain log reaches.
-use Rattle.std.specs.Prelude.{◌≡◌, ℕ, ◌≤◌, Some, List, [], ◌∷◌, ◌++◌, length, slice_get, Bool, true, false, unwrap_or}
+use Rattle.std.specs.Prelude.{◌≡◌, ℕ, ◌≤◌, ◌<◌, Some, List, [], ◌∷◌, ◌++◌, length, slice_get, Bool, true, false, unwrap_or}
 use mathlib.Core.List.{IsPrefix}
 use Rattle.log_terms.specs.Batch.{epoch_of}
 use Rattle.log_terms.specs.Log.{IsConsecutive, end_of, EndsAt}
 use Rattle.plain_log.specs.declared.command.Command.{Command}
-use Rattle.plain_log.specs.declared.command.Command.TheVariants.{Fetch}
+use Rattle.plain_log.specs.declared.command.Command.TheVariants.{Join, Follow, Copy, Expire, Fetch, Offset}
+use Rattle.registry.specs.declared.registry.Registry.{Registry}
+use Rattle.registry.specs.declared.registry.Replica.{Replica}
+use Rattle.registry.specs.Registry.{epoch_limit}
 use Rattle.plain_log.specs.declared.state.State.{State}
-use Rattle.plain_log.specs.declared.state.Registry.{Registry}
-use Rattle.plain_log.specs.declared.state.Replica.{Replica}
 use Rattle.plain_log.specs.declared.state.Path.{Path}
 use Rattle.plain_log.specs.declared.state.Broker.{Broker}
 use Rattle.plain_log.specs.declared.state.Noted.{Noted}
 use Rattle.plain_log.specs.declared.state.Role.{Role}
 use Rattle.plain_log.specs.declared.state.Role.TheVariants.{Idle, Leads, Follows, Joined}
-use Rattle.plain_log.specs.State.{path_of, actor_at, epoch_limit, is_in}
+use Rattle.plain_log.specs.State.{path_of, actor_at, is_in}
 
 -- the path of this epoch begins with these batches
 abbrev pub Has : List Path → ℕ → List (List ℕ) → Type 0
@@ -22,7 +23,8 @@ Has paths e front = (log : List (List ℕ)) × (path_of paths e ≡ Some log) ×
 -- consecutive batches, and each with all before it begins the path of its epoch: the logs match
 pub record LogSafe (paths : List Path) (log : List (List ℕ)) : Type 0 where
   pub consecutive : IsConsecutive 0 log
-  pub matching : (front : List (List ℕ)) (batch : List ℕ) → IsPrefix (front ++ batch ∷ []) log → Has paths (epoch_of batch) (front ++ batch ∷ [])
+  pub matching : (front : List (List ℕ)) (batch : List ℕ) → IsPrefix (front ++ batch ∷ []) log
+      → Has paths (epoch_of batch) (front ++ batch ∷ [])
 
 -- a path: no batch has a later epoch, and it isn't above the registry's
 pub record PathSafe (paths : List Path) (epoch e : ℕ) (log : List (List ℕ)) : Type 0 where
@@ -74,27 +76,45 @@ pub record KnownSafe (unclean : Bool) (epoch mark : ℕ) (committed : List (List
 
 -- a command that a leader alone begins
 abbrev pub is_leaders : Command → Bool
+is_leaders Copy = true
+is_leaders Expire = true
 is_leaders (Fetch offset limit) = true
+is_leaders (Offset which) = true
 is_leaders other = false
 
+-- a command that a broker alone goes on with that has joined
+abbrev pub is_followers : Command → Bool
+is_followers Join = true
+is_followers (Follow limit) = true
+is_followers other = false
+
+-- the broker has the noted role still, unless it stopped or a later epoch came
+abbrev pub HasJoined : ℕ → Noted → Broker → Type 0
+HasJoined epoch n x = (e : ℕ) × (n.role ≡ Joined e) × (n.stops ≡ x.stops → epoch ≤ e → x.role ≡ n.role)
+
 -- what was noted of a begun command, against its broker
-pub record NotedSafe (paths : List Path) (n : Noted) (x : Broker) : Type 0 where
+pub record NotedSafe (paths : List Path) (epoch : ℕ) (n : Noted) (x : Broker) : Type 0 where
   pub stops : n.stops ≤ x.stops
   pub up : n.stops ≡ x.stops → x.up ≡ true
-  pub leads : is_leaders n.order.command ≡ true → (e : ℕ) × (log : List (List ℕ)) × (n.role ≡ Leads e) × (path_of paths e ≡ Some log)
+  pub leads : is_leaders n.order.command ≡ true
+      → (e : ℕ) × (log : List (List ℕ)) × (n.role ≡ Leads e) × (path_of paths e ≡ Some log)
+  pub joined : is_followers n.order.command ≡ true → HasJoined epoch n x
 
 -- the safety rules
 pub record PlainSafe (p : State) : Type 0 where
   pub marks : MarkSafe p.paths p.registry p.committed
   pub paths : (e : ℕ) (log : List (List ℕ)) → path_of p.paths e ≡ Some log → PathSafe p.paths p.registry.epoch e log
   pub brokers : (b : ℕ) (x : Broker) → slice_get p.brokers b ≡ Some x → BrokerSafe p.paths p.registry.epoch x
-  pub known : (b : ℕ) (x : Broker) → slice_get p.brokers b ≡ Some x → KnownSafe p.unclean p.registry.epoch p.registry.mark p.committed x
+  pub known : (b : ℕ) (x : Broker) → slice_get p.brokers b ≡ Some x
+      → KnownSafe p.unclean p.registry.epoch p.registry.mark p.committed x
   pub one_leader : (b c : ℕ) (x y : Broker) (e : ℕ) → slice_get p.brokers b ≡ Some x → slice_get p.brokers c ≡ Some y
       → x.role ≡ Leads e → y.role ≡ Leads e → b ≡ c
   pub acks : (b : ℕ) (x : Broker) (s : Replica) → slice_get p.brokers b ≡ Some x → slice_get p.registry.replicas b ≡ Some s
       → AckSafe (current p.paths p.registry.epoch p.committed) p.registry.mark x s
   pub leader : (s : Replica) → slice_get p.registry.replicas p.registry.leader.0 ≡ Some s → s.in_sync ≡ true
+  pub leader_within : p.registry.leader.0 < length p.registry.replicas
   pub same_count : length p.registry.replicas ≡ length p.brokers
   pub broken : (n : ℕ) → is_in n p.broken ≡ true → n ≤ p.registry.epoch
-  pub noted : (a : ℕ) (n : Noted) (x : Broker) → (actor_at p.actors a).begun ≡ Some n → slice_get p.brokers n.order.broker.0 ≡ Some x
-      → NotedSafe p.paths n x
+  pub noted : (a : ℕ) (n : Noted) (x : Broker) → (actor_at p.actors a).begun ≡ Some n
+      → slice_get p.brokers n.order.broker.0 ≡ Some x
+      → NotedSafe p.paths p.registry.epoch n x

@@ -1,17 +1,14 @@
 -- The parts of the plain log's state, and how each of them is changed.
-use Rattle.std.specs.Prelude.{ℕ, zero, suc, ◌==◌, nat_lt, min, max, Bool, true, false, List, [], ◌∷◌, ◌++◌, Option, Some, None, if◌then◌else◌, slice_get, slice_set, option_map, unwrap_or}
+use Rattle.std.specs.Prelude.{ℕ, zero, suc, ◌+◌, ◌==◌, ◌&&◌, Bool, true, false, List, [], ◌∷◌, ◌++◌, Option, Some, None, if◌then◌else◌, slice_get, slice_set, option_map, unwrap_or, is_some}
+use Rattle.std.specs.Option.{option_and_then}
+use Rattle.registry.specs.declared.registry.Registry.{Registry}
+use Rattle.registry.specs.Calls.{when, is_stale as is_behind}
 use Rattle.plain_log.specs.declared.state.State.{State}
-use Rattle.plain_log.specs.declared.state.Replica.{Replica}
 use Rattle.plain_log.specs.declared.state.Path.{Path}
 use Rattle.plain_log.specs.declared.state.Broker.{Broker}
 use Rattle.plain_log.specs.declared.state.Actor.{Actor}
 use Rattle.plain_log.specs.declared.state.Role.{Role}
 use Rattle.plain_log.specs.declared.state.Role.TheVariants.{Idle, Leads, Follows, Joined}
-
--- a value where the test holds
-abbrev pub when : {A : Type 0} → Bool → A → Option A
-when true x = Some x
-when false x = None
 
 -- roles
 
@@ -25,6 +22,17 @@ abbrev pub leads_in : ℕ → Role → Bool
 leads_in n (Leads e) = e == n
 leads_in n other = false
 
+-- the epoch that the broker leads
+abbrev pub leading : Role → Option ℕ
+leading (Leads e) = Some e
+leading other = None
+
+-- the epoch that the broker follows, whether the logs have met or not
+abbrev pub followed : Role → Option ℕ
+followed (Follows e) = Some e
+followed (Joined e) = Some e
+followed other = None
+
 -- the epoch that the broker follows, where the logs have met
 abbrev pub joined : Role → Option ℕ
 joined (Joined e) = Some e
@@ -35,6 +43,13 @@ abbrev pub acking : Role → Option ℕ
 acking (Leads e) = Some e
 acking (Joined e) = Some e
 acking other = None
+
+-- the epoch of a role
+abbrev pub epoch_in : Role → Option ℕ
+epoch_in Idle = None
+epoch_in (Leads e) = Some e
+epoch_in (Follows e) = Some e
+epoch_in (Joined e) = Some e
 
 -- two roles are one
 abbrev pub same_role : Role → Role → Bool
@@ -50,10 +65,22 @@ same_role r s = false
 abbrev pub put_broker : State → ℕ → Broker → State
 put_broker p b x = record p { brokers = slice_set p.brokers b x }
 
+-- the broker after a stop
+abbrev pub stopped : Broker → Broker
+stopped x = record x { up = false; stops = x.stops + 1; role = Idle; known = 0 }
+
+-- the broker stops in the middle of a write, and more than what is stable may come back
+abbrev pub breaks : State → ℕ → Broker → State
+breaks p b x = put_broker p b (record (stopped x) { loose = true })
+
 -- the log of the leader of this epoch
 abbrev pub path_of : List Path → ℕ → Option (List (List ℕ))
 path_of [] e = None
 path_of (path ∷ paths) e = if path.epoch == e then Some path.log else path_of paths e
+
+-- the lead of this epoch was taken
+abbrev pub has_path : State → ℕ → Bool
+has_path p e = is_some (path_of p.paths e)
 
 -- the path of this epoch gains a batch
 abbrev pub longer : List Path → ℕ → List ℕ → List Path
@@ -68,24 +95,27 @@ is_in n (m ∷ ms) = if m == n then true else is_in n ms
 
 -- the registry
 
--- the greatest leader epoch
-abbrev pub epoch_limit : ℕ
-epoch_limit = 2147483647
-
 -- the registry's epoch is above this one
 abbrev pub is_stale : State → Option ℕ → Bool
 is_stale p None = false
-is_stale p (Some e) = nat_lt e p.registry.epoch
+is_stale p (Some e) = is_behind p.registry e
 
--- the least acknowledged end of the replicas in sync
-abbrev pub least_acked : List Replica → Option ℕ
-least_acked [] = None
-least_acked (s ∷ ss) =
-    if s.in_sync then Some (unwrap_or (option_map (min s.acked) (least_acked ss)) s.acked) else least_acked ss
+-- the state with this registry
+abbrev pub set_registry : State → Registry → State
+set_registry p r = record p { registry = r }
 
--- the high watermark over these replicas, which never falls
-abbrev pub mark_over : ℕ → List Replica → ℕ
-mark_over mark replicas = max mark (unwrap_or (least_acked replicas) 0)
+-- the state with the registry that one of its calls leaves
+abbrev pub left_by : State → Option Registry → Option State
+left_by p r = option_map (set_registry p) r
+
+-- the registry's leader, where it is up and leads the registry's epoch
+abbrev pub the_leader : State → Option Broker
+the_leader p =
+    option_and_then (λ y. when (y.up && leads_in p.registry.epoch y.role) y) (slice_get p.brokers p.registry.leader.0)
+
+-- the registry's leader leads
+abbrev pub leader_leads : State → Bool
+leader_leads p = is_some (the_leader p)
 
 -- actors: a list with idle actors past its end
 

@@ -2,32 +2,58 @@
 --
 -- An entry is its actor's next command, by its number, or the answer to the command that has begun. The row of the
 -- command decides the answer (Rows); the actor's number rises with each answer and with nothing else.
-use Rattle.std.specs.Prelude.{ℕ, ◌+◌, ◌==◌, ◌&&◌, Bool, true, false, Option, Some, None, slice_get, is_none, option_map}
+use Rattle.std.specs.Prelude.{ℕ, ◌+◌, ◌==◌, ◌&&◌, nat_lt, int_le, Bool, true, false, Option, Some, None, slice_get, is_none, option_map}
 use Rattle.std.specs.Option.{option_and_then}
 use Rattle.log_terms.specs.Log.{end_of}
+use Rattle.registry.specs.declared.registry.Replica.{Replica}
+use Rattle.registry.specs.Calls.{when}
 use Rattle.plain_log.specs.declared.command.Command.{Command}
-use Rattle.plain_log.specs.declared.command.Command.TheVariants.{Fetch}
+use Rattle.plain_log.specs.declared.command.Command.TheVariants.{Join, Follow, Copy, Trim, Expire, Fetch, Offset}
+use Rattle.plain_log.specs.declared.command.Which.{Which}
+use Rattle.plain_log.specs.declared.command.Which.TheVariants.{Earliest, Latest, EarliestLocal, LatestTiered, At}
 use Rattle.plain_log.specs.declared.command.Order.{Order}
 use Rattle.plain_log.specs.declared.journal.Event.{Event}
 use Rattle.plain_log.specs.declared.journal.Event.TheVariants.{Begins, Answers}
 use Rattle.plain_log.specs.declared.journal.JournalEntry.{JournalEntry}
 use Rattle.plain_log.specs.declared.state.State.{State}
-use Rattle.plain_log.specs.declared.state.Replica.{Replica}
 use Rattle.plain_log.specs.declared.state.Broker.{Broker}
 use Rattle.plain_log.specs.declared.state.Actor.{Actor}
 use Rattle.plain_log.specs.declared.state.Noted.{Noted}
-use Rattle.plain_log.specs.State.{when, put_broker, actor_at, with_actor}
+use Rattle.plain_log.specs.State.{leads, put_broker, actor_at, with_actor}
 use Rattle.plain_log.specs.Fetch.{gives_run}
+use Rattle.plain_log.specs.RowsOfFollowers.{cut_to, leader_end, may_follow}
+use Rattle.plain_log.specs.RowsOfReads.{is_long}
 use Rattle.plain_log.specs.Rows.{row}
 
 -- the broker where a command of several turns begins
 abbrev pub begins : State → Broker → Command → Option ℕ → Option Broker
+begins p x Join (Some n) = cut_to p x n
+begins p x (Follow limit) None = when (may_follow p x && nat_lt (end_of x.log) (leader_end p)) x
+begins p x Copy None = when (x.up && leads x.role) x
+begins p x Trim None = when x.up x
+begins p x Expire None = when (x.up && leads x.role) x
 begins p x (Fetch offset limit) None = when (gives_run p x offset None) x
+begins p x (Offset which) None = when (x.up && leads x.role && is_long which) x
 begins p x command cut = None
+
+-- two questions for an offset are one
+abbrev pub same_which : Which → Which → Bool
+same_which Earliest Earliest = true
+same_which Latest Latest = true
+same_which EarliestLocal EarliestLocal = true
+same_which LatestTiered LatestTiered = true
+same_which (At ts) (At other) = int_le ts other && int_le other ts
+same_which which other = false
 
 -- two commands of several turns are one
 abbrev pub same_command : Command → Command → Bool
+same_command Join Join = true
+same_command (Follow limit) (Follow most) = limit == most
+same_command Copy Copy = true
+same_command Trim Trim = true
+same_command Expire Expire = true
 same_command (Fetch offset limit) (Fetch other most) = (offset == other) && (limit == most)
+same_command (Offset which) (Offset other) = same_which which other
 same_command command other = false
 
 -- what is noted where the order's command begins
@@ -45,7 +71,8 @@ event_step p a y order x s (Begins cut) =
     option_map (λ z. with_actor a (record y { begun = Some (noted_of p order z) }) (put_broker p order.broker.0 z))
     (option_and_then (λ z. when (is_none y.begun) z) (begins p x order.command cut))
 event_step p a y order x s (Answers answer) =
-    option_map (with_actor a (record { number = y.number + 1; begun = None })) (row p order.broker.0 x s y.begun order.command answer)
+    option_map (with_actor a (record { number = y.number + 1; begun = None }))
+    (row p order.broker.0 x s y.begun order.command answer)
 
 -- the entry has the actor's next number, and is of the command that has begun, if one has
 abbrev pub next_actor : State → Order → JournalEntry → Option Actor

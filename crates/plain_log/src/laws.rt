@@ -1,6 +1,6 @@
 //! Laws of the plain log. Each is the contract of a function that does nothing: calling it cites the law.
 
-ghost use Rattle.plain_log.specs.Laws.{StepsKeepSafe, ReplaysKeepSafe, FreshIsSafe, RunsAnswerInOrder, CommittedGrows, RunsAreCommitted};
+ghost use Rattle.plain_log.specs.Laws.{StepsKeepSafe, ReplaysKeepSafe, FreshIsSafe, EpochsNeverFall, RunsAnswerInOrder, CommittedGrows, RunsAreCommitted, RunsAreLed};
 
 /// Each step keeps the safety rules.
 pub fn steps_keep_safe()
@@ -17,6 +17,11 @@ pub fn replays_keep_safe()
     ensures { ReplaysKeepSafe }
 {}
 
+/// Along the log of a broker, and along a path, leader epochs never fall.
+pub fn epochs_never_fall()
+    ensures { EpochsNeverFall }
+{}
+
 /// A run answers each actor's commands once and in the order of its list.
 pub fn runs_answer_in_order()
     ensures { RunsAnswerInOrder }
@@ -30,4 +35,10 @@ pub fn committed_grows()
 /// While elections are clean, each run that a fetch was given is a part of one committed list.
 pub fn runs_are_committed()
     ensures { RunsAreCommitted }
+{}
+
+/// Whatever the elections, each run that a fetch was given is a part of the log of one leader epoch, whose batches are
+/// consecutive from offset 0 on.
+pub fn runs_are_led()
+    ensures { RunsAreLed }
 {}

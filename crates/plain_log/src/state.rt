@@ -2,7 +2,8 @@
 
 use crate::command::Order;
 use bytes::Bytes;
-use tier_base::{BrokerId, Row};
+use registry::Registry;
+use tier_base::Row;
 
 /// What a broker does, and in which leader epoch.
 #[derive(Clone, Copy, Debug, PartialEq, Eq)]
@@ -32,28 +33,6 @@ pub struct Broker {
     pub loose: bool,
     /// The high watermark that it knows.
     pub known: u64,
-}
-
-/// What the registry holds of one broker.
-#[derive(Clone, Copy, Debug, PartialEq, Eq)]
-pub struct Replica {
-    pub in_sync: bool,
-    /// The stable end that it acknowledged last in this epoch.
-    pub acked: u64,
-}
-
-/// The registry, which stands for the controller quorum.
-#[derive(Debug, Drop)]
-pub struct Registry {
-    /// The leader epoch.
-    pub epoch: u32,
-    pub leader: BrokerId,
-    /// The high watermark.
-    pub mark: u64,
-    /// The log start offset.
-    pub start: u64,
-    /// The brokers in order.
-    pub replicas: Row<Replica>,
 }
 
 /// The log that the leader of one epoch has.

@@ -1,5 +1,5 @@
-use Rattle.plain_log.proofs.Grows.{step_goes}
+use Rattle.plain_log.proofs.StepLaw.{step_goes}
 use Rattle.plain_log.proofs.laws.committed_grows.Goals as goal
 
 pub returns : goal.returns
-returns c = λ p order entry q e s clean. (step_goes p order entry q e s).grows
+returns c = λ p order entry q e s clean. (step_goes p order entry q e s).grows clean

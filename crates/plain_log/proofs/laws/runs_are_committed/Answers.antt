@@ -1,4 +1,4 @@
-use Rattle.std.proofs.Common.{◌-◌, refl}
+use Rattle.std.proofs.Common.{◌-◌}
 use Rattle.plain_log.specs.Fresh.{fresh}
 use Rattle.plain_log.proofs.FreshLaw.{fresh_safe}
 use Rattle.plain_log.proofs.Replays.{replay_safe}
@@ -9,5 +9,5 @@ pub returns : goal.returns
 returns c = λ config lists journal run clean. record {
   committed = run.last.committed;
   consecutive = (replay_safe lists (fresh config) journal run.last run.replays (fresh_safe (config.brokers - 1))).marks.consecutive;
-  runs = replay_runs lists (fresh config) journal run.last run.replays (fresh_safe (config.brokers - 1)) refl;
+  runs = replay_runs lists (fresh config) journal run.last run.replays (fresh_safe (config.brokers - 1)) clean;
 }

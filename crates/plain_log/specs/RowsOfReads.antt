@@ -1,0 +1,80 @@
+-- What a leader is asked for: batches, and offsets.
+--
+--   fetch    first Down, then Stopped; NotLeader, OutOfRange, Empty, Run; first DiskFault, then MetaFault, StoreFault;
+--            Damaged
+--   offset   earliest, latest, earliest local: Down, NotLeader, Offset
+--            latest tiered, of a timestamp: first Down, NotLeader, MetaFault; then Stopped, NotLeader, Offset, NoOffset;
+--            of a timestamp also MetaFault, StoreFault, DiskFault, Damaged
+--
+-- Nothing changes. A device's fault stands only where there would be a run, or an offset.
+use Rattle.std.specs.Prelude.{ℕ, ◌==◌, ◌&&◌, not, nat_le, max, int_lt, ℤ, Bool, true, false, List, [], ◌∷◌, Option, Some, None, if◌then◌else◌}
+use Rattle.log_terms.specs.Batch.{base_of, max_ts_of}
+use Rattle.log_terms.specs.Log.{end_of, up_to, from_offset}
+use Rattle.registry.specs.Calls.{when}
+use Rattle.plain_log.specs.declared.answer.Answer.{Answer}
+use Rattle.plain_log.specs.declared.answer.Answer.TheVariants.{Down, NotLeader, DiskFault, Stopped, MetaFault, StoreFault, Damaged, OutOfRange, Empty, Run, Offset, NoOffset}
+use Rattle.plain_log.specs.declared.command.Which.{Which}
+use Rattle.plain_log.specs.declared.command.Which.TheVariants.{Earliest, Latest, LatestTiered, At}
+use Rattle.plain_log.specs.declared.state.State.{State}
+use Rattle.plain_log.specs.declared.state.Broker.{Broker}
+use Rattle.plain_log.specs.declared.state.Noted.{Noted}
+use Rattle.plain_log.specs.Fetch.{is_on, serves, in_range, gives_run, is_run}
+
+-- a fetch, at its first turn or, with what was noted then, at a later one
+abbrev pub fetch_row : State → Broker → ℕ → ℕ → Option Noted → Answer → Option State
+fetch_row p x offset limit None Down = when (not x.up) p
+fetch_row p x offset limit (Some noted) Stopped = when (not (is_on x (Some noted))) p
+fetch_row p x offset limit noted NotLeader = when (is_on x noted && not (serves x noted)) p
+fetch_row p x offset limit noted (OutOfRange start end) =
+    when (serves x noted && not (in_range p x offset) && (start == p.registry.start) && (end == end_of x.log)) p
+fetch_row p x offset limit noted Empty = when (serves x noted && in_range p x offset && nat_le x.known offset) p
+fetch_row p x offset limit noted (Run tier size stop bytes) =
+    when (gives_run p x offset noted && is_run x offset limit size stop bytes) p
+fetch_row p x offset limit None DiskFault = when (gives_run p x offset None) p
+fetch_row p x offset limit (Some noted) MetaFault = when (gives_run p x offset (Some noted)) p
+fetch_row p x offset limit (Some noted) StoreFault = when (gives_run p x offset (Some noted)) p
+fetch_row p x offset limit noted (Damaged place at) = when (gives_run p x offset noted) p
+fetch_row p x offset limit noted other = None
+
+-- the question takes the remote tier, and so several turns
+abbrev pub is_long : Which → Bool
+is_long LatestTiered = true
+is_long (At ts) = true
+is_long other = false
+
+-- the base of the first batch with a record at or past the timestamp, or the log start where that is greater
+abbrev pub first_at : ℤ → ℕ → List (List ℕ) → Option ℕ
+first_at ts start [] = None
+first_at ts start (batch ∷ log) = if int_lt (max_ts_of batch) ts then first_at ts start log else Some (max (base_of batch) start)
+
+-- the offset of a timestamp: among the batches from the log start to the high watermark that the leader knows
+abbrev pub offset_at : State → Broker → ℤ → Option ℕ
+offset_at p x ts = first_at ts p.registry.start (from_offset p.registry.start (up_to x.known x.log))
+
+-- this is the offset that there is, or there is none
+abbrev pub same_offset : Option ℕ → Option ℕ → Bool
+same_offset None None = true
+same_offset (Some n) (Some m) = n == m
+same_offset o other = false
+
+-- the answer to the question; the plain log doesn't know how far the local log and the copies reach
+abbrev pub tells : State → Broker → Which → Option ℕ → Bool
+tells p x Earliest answer = same_offset (Some p.registry.start) answer
+tells p x Latest answer = same_offset (Some x.known) answer
+tells p x (At ts) answer = same_offset (offset_at p x ts) answer
+tells p x other answer = true
+
+-- a question for an offset
+abbrev pub offset_row : State → Broker → Which → Option Noted → Answer → Option State
+offset_row p x which None Down = when (not x.up) p
+offset_row p x which None MetaFault = when (serves x None && is_long which) p
+offset_row p x which None (Offset n) = when (serves x None && not (is_long which) && tells p x which (Some n)) p
+offset_row p x which (Some noted) Stopped = when (not (is_on x (Some noted))) p
+offset_row p x which (Some noted) (Offset n) = when (serves x (Some noted) && is_long which && tells p x which (Some n)) p
+offset_row p x which (Some noted) NoOffset = when (serves x (Some noted) && is_long which && tells p x which None) p
+offset_row p x (At ts) (Some noted) MetaFault = when (serves x (Some noted)) p
+offset_row p x (At ts) (Some noted) StoreFault = when (serves x (Some noted)) p
+offset_row p x (At ts) (Some noted) DiskFault = when (serves x (Some noted)) p
+offset_row p x (At ts) (Some noted) (Damaged place at) = when (serves x (Some noted)) p
+offset_row p x which noted NotLeader = when (is_on x noted && not (serves x noted)) p
+offset_row p x which noted other = None

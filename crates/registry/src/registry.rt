@@ -1,0 +1,219 @@
+//! The registry and its calls.
+
+ghost use Rattle.std.specs.Prelude.{◌≡◌, ◌<◌, ◌≤◌, ◌↔◌, length, Some, IsOk, IfOk, IsErrOf, OnErr};
+ghost use Rattle.registry.specs.Replicas.{AtReplica};
+ghost use Rattle.registry.specs.Registry.{fresh_registry};
+ghost use Rattle.registry.specs.Calls.{after_elect, after_unclean, after_ack, after_shrink, after_expand, after_raise};
+
+use crate::refusal::RegRefusal;
+use crate::replicas::{all_out, mark_over, reset};
+use std::alloc::{AllocError, Global};
+use tier_base::{BrokerId, Row};
+
+/// The greatest leader epoch: Kafka's is a signed number of 32 bits.
+const LAST_EPOCH: u32 = 2_147_483_647;
+
+/// What the registry holds of one broker.
+#[derive(Clone, Copy, Debug, PartialEq, Eq)]
+pub struct Replica {
+    pub in_sync: bool,
+    /// The stable end that it acknowledged last in this epoch.
+    pub acked: u64,
+}
+
+/// The registry of a partition.
+#[derive(Debug, Drop)]
+pub struct Registry {
+    /// The leader epoch.
+    pub epoch: u32,
+    pub leader: BrokerId,
+    /// The high watermark.
+    pub mark: u64,
+    /// The log start offset.
+    pub start: u64,
+    /// The brokers in order, 8 at most.
+    pub replicas: Row<Replica>,
+}
+
+impl Registry {
+    /// Refuses an epoch below the current one, whose leader may have been replaced.
+    fn fence(&self, epoch: u32) -> Result<(), RegRefusal>
+        ensures ok { IsOk result ↔ (self.now.epoch ≤ epoch) }
+        ensures stale { IsErrOf result (RegRefusal.StaleEpoch self.now.epoch) ↔ (epoch < self.now.epoch) }
+    {
+        if epoch < self.epoch {
+            return Err(RegRefusal::StaleEpoch {
+                current: self.epoch,
+            });
+        }
+        Ok(())
+    }
+
+    /// Makes the registry of so many brokers. Broker 0 leads epoch 0, and all are in sync.
+    pub fn fresh(alloc: Global, brokers: u16) -> Result<Registry, AllocError>
+        requires some { 1 ≤ brokers }
+        requires few { brokers ≤ 8 }
+        ensures { IfOk result (λ registry. registry ≡ fresh_registry brokers) }
+    {
+        let mut replicas = Row::new(alloc);
+        for _ in 0..brokers {
+            replicas.push(Replica {
+                in_sync: true,
+                acked: 0,
+            })?;
+        }
+        Ok(Registry {
+            epoch: 0,
+            leader: BrokerId(0),
+            mark: 0,
+            start: 0,
+            replicas,
+        })
+    }
+
+    /// Elects a broker out of the replicas in sync, and answers the new leader epoch. `up` tells whether it is up.
+    pub fn elect(&mut self, broker: BrokerId, up: bool) -> Result<u32, RegRefusal>
+        requires { broker.0 < length self.old.replicas }
+        ensures is { AtReplica self.old broker.0 (λ s. after_elect self.old broker.0 s up result ≡ Some self.new) }
+        ensures count { length self.new.replicas ≡ length self.old.replicas }
+        ensures err { OnErr result (self.new ≡ self.old) }
+    {
+        if self.epoch >= LAST_EPOCH {
+            return Err(RegRefusal::LastEpoch);
+        }
+        if !self.replicas.get(broker.0 as usize).in_sync {
+            return Err(RegRefusal::NotInSync);
+        }
+        if !up {
+            return Err(RegRefusal::DownBroker);
+        }
+        let mark = self.mark;
+        reset(&mut self.replicas, mark);
+        self.epoch += 1;
+        self.leader = broker;
+        Ok(self.epoch)
+    }
+
+    /// Elects a broker that may not be in sync, and answers the new leader epoch. What its log has up to its stable end,
+    /// `stable`, is committed from then on, and nothing else.
+    pub fn elect_unclean(
+        &mut self,
+        broker: BrokerId,
+        up: bool,
+        stable: u64,
+    ) -> Result<u32, RegRefusal>
+        requires { broker.0 < length self.old.replicas }
+        ensures is { after_unclean self.old broker.0 up stable result ≡ Some self.new }
+        ensures count { length self.new.replicas ≡ length self.old.replicas }
+        ensures err { OnErr result (self.new ≡ self.old) }
+    {
+        if self.epoch >= LAST_EPOCH {
+            return Err(RegRefusal::LastEpoch);
+        }
+        if !up {
+            return Err(RegRefusal::DownBroker);
+        }
+        if stable < self.start {
+            return Err(RegRefusal::BehindStart {
+                end: stable,
+                start: self.start,
+            });
+        }
+        all_out(&mut self.replicas);
+        let leader = Replica {
+            in_sync: true,
+            acked: stable,
+        };
+        let _ = self.replicas.replace(broker.0 as usize, leader);
+        self.epoch += 1;
+        self.leader = broker;
+        self.mark = stable;
+        Ok(self.epoch)
+    }
+
+    /// Takes an acknowledgement of a broker's stable end, and answers the high watermark. `epoch` is the one in which the
+    /// broker leads or has joined.
+    pub fn ack(&mut self, broker: BrokerId, epoch: u32, stable: u64) -> Result<u64, RegRefusal>
+        requires { broker.0 < length self.old.replicas }
+        ensures is { AtReplica self.old broker.0 (λ s. after_ack self.old broker.0 s epoch stable result ≡ Some self.new) }
+        ensures count { length self.new.replicas ≡ length self.old.replicas }
+        ensures err { OnErr result (self.new ≡ self.old) }
+    {
+        self.fence(epoch)?;
+        let b = broker.0 as usize;
+        let in_sync = self.replicas.get(b).in_sync;
+        let acked = Replica {
+            in_sync,
+            acked: stable,
+        };
+        let _ = self.replicas.replace(b, acked);
+        self.mark = mark_over(self.mark, self.replicas.as_slice());
+        Ok(self.mark)
+    }
+
+    /// Takes a broker out of the replicas in sync.
+    pub fn shrink(&mut self, broker: BrokerId) -> Result<(), RegRefusal>
+        requires { broker.0 < length self.old.replicas }
+        ensures is { AtReplica self.old broker.0 (λ s. after_shrink self.old broker.0 s result ≡ Some self.new) }
+        ensures count { length self.new.replicas ≡ length self.old.replicas }
+        ensures err { OnErr result (self.new ≡ self.old) }
+    {
+        let b = broker.0 as usize;
+        let replica = *self.replicas.get(b);
+        if !replica.in_sync {
+            return Err(RegRefusal::NotInSync);
+        }
+        if self.leader.0 == broker.0 {
+            return Err(RegRefusal::IsLeader);
+        }
+        let out = Replica {
+            in_sync: false,
+            acked: replica.acked,
+        };
+        let _ = self.replicas.replace(b, out);
+        Ok(())
+    }
+
+    /// Takes a broker back to the replicas in sync, where it has acknowledged all that is committed. `up` tells whether
+    /// it is up.
+    pub fn expand(&mut self, broker: BrokerId, up: bool) -> Result<(), RegRefusal>
+        requires { broker.0 < length self.old.replicas }
+        ensures is { AtReplica self.old broker.0 (λ s. after_expand self.old broker.0 s up result ≡ Some self.new) }
+        ensures count { length self.new.replicas ≡ length self.old.replicas }
+        ensures err { OnErr result (self.new ≡ self.old) }
+    {
+        if !up {
+            return Err(RegRefusal::DownBroker);
+        }
+        let b = broker.0 as usize;
+        let acked = self.replicas.get(b).acked;
+        if acked < self.mark {
+            return Err(RegRefusal::Behind {
+                ack: acked,
+                mark: self.mark,
+            });
+        }
+        let member = Replica {
+            in_sync: true,
+            acked,
+        };
+        let _ = self.replicas.replace(b, member);
+        Ok(())
+    }
+
+    /// Raises the log start offset, and answers the new one. `epoch` is the one that the caller leads.
+    pub fn raise(&mut self, epoch: u32, start: u64) -> Result<u64, RegRefusal>
+        ensures is { after_raise self.old epoch start result ≡ Some self.new }
+        ensures err { OnErr result (self.new ≡ self.old) }
+    {
+        self.fence(epoch)?;
+        if start <= self.start {
+            return Err(RegRefusal::NotAbove { start: self.start });
+        }
+        if self.mark < start {
+            return Err(RegRefusal::AboveMark { mark: self.mark });
+        }
+        self.start = start;
+        Ok(start)
+    }
+}
