@@ -3,15 +3,17 @@ use Rattle.std.proofs.Common.{◌≡◌, ◌≢◌, inl, inr, ◌∙◌, sym, ap
 use Rattle.std.proofs.lemmas.Bool.Decides.{nat_tests}
 use Rattle.log_terms.proofs.Lists.{get-set, within}
 use Rattle.plain_log.specs.declared.command.ActorList.{ActorList}
+use Rattle.partition_world.specs.declared.begun.Turned.{Turned}
+use Rattle.partition_world.specs.declared.begun.Turned.TheVariants.{Answers, Begins}
 use Rattle.partition_world.specs.declared.seat.Seat.{Seat}
 use Rattle.partition_world.specs.declared.seat.Stepped.{Stepped}
 use Rattle.partition_world.specs.declared.seat.Stepped.TheVariants.{Ran, Done, Nothing, NoMemory}
-use Rattle.partition_world.specs.Sound.{orders_left}
+use Rattle.partition_world.specs.Sound.{turns_left}
 use Rattle.partition_world.specs.Whole.{Whole}
-use Rattle.partition_world.specs.Turn.{IsTurn, IsAtEnd, Steps}
+use Rattle.partition_world.specs.Turn.{IsTurn, IsAtEnd, Steps, seat_after}
+use Rattle.partition_world.specs.Central.{KeepsCentral}
 use Rattle.partition_world.specs.Later.{IsLater}
-use Rattle.partition_world.proofs.Lists.{left_less}
-use Rattle.partition_world.proofs.CentralLaw.{turn_central}
+use Rattle.partition_world.proofs.Lists.{may_turn, turns_less}
 
 pub later_same : (w : Whole) → IsLater w w
 later_same w = record { partition = refl; config = refl; lists = refl; central = λ opening c. c; ends = λ a e. e }
@@ -25,47 +27,54 @@ later_more w v u a b = record {
   ends = λ n e. b.ends n (a.ends n e);
 }
 
-turn_ends : (w : Whole) (a : ℕ) (w' : Whole) → IsTurn w a w' → (b : ℕ) → IsAtEnd w b → IsAtEnd w' b
-turn_ends w a w' t b e = λ place l seat s.
+-- a seat never goes back
+number_after : (seat : Seat) (turned : Turned) → seat.number ≤ (seat_after seat turned).number
+number_after seat (Answers answer) = omega arith
+number_after seat (Begins g) = omega arith
+
+turn_ends : (w : Whole) (a : ℕ) (turned : Turned) (w' : Whole) → IsTurn w a turned w' → (b : ℕ) → IsAtEnd w b → IsAtEnd w' b
+turn_ends w a turned w' t b e = λ place l seat s.
     let old : slice_get w.lists place ≡ Some l = ap (λ (k : List ActorList). slice_get k place) (sym t.lists) ∙ s.list in
-    let new : slice_get (slice_set w.desk t.place (record { number = t.seat.number + 1 })) place ≡ Some seat = ap (λ (k : List Seat). slice_get k place) (sym t.desk) ∙ s.seat_is in
-    elim (get-set w.desk t.place (record { number = t.seat.number + 1 }) place seat new) [
+    let new : slice_get (slice_set w.desk t.place (seat_after t.seat turned)) place ≡ Some seat = ap (λ (k : List Seat). slice_get k place) (sym t.desk) ∙ s.seat_is in
+    elim (get-set w.desk t.place (seat_after t.seat turned) place seat new) [
       | inl one ↦
           let was : slice_get w.desk place ≡ Some t.seat = ap (λ (k : ℕ). slice_get w.desk k) one.0 ∙ t.at.seat_is in
           let before = e place l t.seat (record { list = old; actor = s.actor; seat_is = was }) in
-          omega (arith, before, ap (λ (k : Seat). k.number) one.1)
+          let on = number_after t.seat turned in
+          omega (arith, before, on, ap (λ (k : Seat). k.number) one.1)
       | inr other ↦ e place l seat (record { list = old; actor = s.actor; seat_is = other.1 })
     ]
 
-turn_later : (w : Whole) (a : ℕ) (w' : Whole) → IsTurn w a w' → IsLater w w'
-turn_later w a w' t = record {
+pub turn_later : (w : Whole) (a : ℕ) (turned : Turned) (w' : Whole) → IsTurn w a turned w' → KeepsCentral w w' → IsLater w w'
+turn_later w a turned w' t keeps = record {
   partition = t.partition;
   config = t.config;
   lists = t.lists;
-  central = λ opening c. turn_central opening w a w' t c;
-  ends = turn_ends w a w' t;
+  central = keeps;
+  ends = turn_ends w a turned w' t;
 }
 
-same_later : (w w' : Whole) → w' ≡ w → IsLater w w'
+pub same_later : (w w' : Whole) → w' ≡ w → IsLater w w'
 same_later w w' e = subst (λ (k : Whole). IsLater w k) (sym e) (later_same w)
 
-pub step_later : (w : Whole) (a : ℕ) (stepped : Stepped) (w' : Whole) → Steps w a stepped w' → IsLater w w'
-step_later w a Ran w' s = elim s [ ]
-step_later w a Done w' s = turn_later w a w' s
-step_later w a Nothing w' s = same_later w w' s.1
-step_later w a NoMemory w' s = same_later w w' s
+pub step_later : (w : Whole) (a : ℕ) (stepped : Stepped) (w' : Whole) → Steps w a stepped w' → KeepsCentral w w' → IsLater w w'
+step_later w a Ran w' s keeps = turn_later w a (Begins s.0) w' s.1 keeps
+step_later w a Done w' s keeps = turn_later w a (Answers s.0) w' s.1 keeps
+step_later w a Nothing w' s keeps = same_later w w' s.1
+step_later w a NoMemory w' s keeps = same_later w w' s
 
--- a turn leaves one order less
-pub turn_left : (w : Whole) (a : ℕ) (w' : Whole) → IsTurn w a w' → orders_left w'.lists w'.desk < orders_left w.lists w.desk
-turn_left w a w' t =
-    let less = left_less w.lists w.desk t.place t.list t.seat t.at.list t.at.seat_is (within t.list.orders t.seat.number t.order t.next) in
+-- a turn leaves a turn less
+pub turn_left : (w : Whole) (a : ℕ) (turned : Turned) (w' : Whole) → IsTurn w a turned w' → turns_left w'.lists w'.desk < turns_left w.lists w.desk
+turn_left w a turned w' t =
+    let may = may_turn w.held t.order.broker.0 t.seat t.order.command turned w'.held t.row in
+    let less = turns_less w.lists w.desk t.place t.list t.seat turned t.at.list t.at.seat_is (within t.list.orders t.seat.number t.order t.next) may in
     rw (t.lists, t.desk) (omega (arith, less))
 
 -- a step that goes on does
 pub step_left : (w : Whole) (a : ℕ) (stepped : Stepped) (w' : Whole) → Steps w a stepped w' → stepped ≢ Nothing → stepped ≢ NoMemory
-    → orders_left w'.lists w'.desk < orders_left w.lists w.desk
-step_left w a Ran w' s n m = elim s [ ]
-step_left w a Done w' s n m = turn_left w a w' s
+    → turns_left w'.lists w'.desk < turns_left w.lists w.desk
+step_left w a Ran w' s n m = turn_left w a (Begins s.0) w' s.1
+step_left w a Done w' s n m = turn_left w a (Answers s.0) w' s.1
 step_left w a Nothing w' s n m = absurd (n refl)
 step_left w a NoMemory w' s n m = absurd (m refl)
 

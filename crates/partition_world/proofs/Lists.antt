@@ -1,13 +1,25 @@
 -- Lists of orders whose actors rise, and the desk beside them.
 use Rattle.std.proofs.Common.{◌≡◌, ◌≢◌, ◌⊎◌, inl, inr, ◌∙◌, sym, ap, subst, refl, ℕ, zero, suc, ◌+◌, ◌<◌, ◌≤◌, ◌==◌, List, [], ◌∷◌, length, slice_get, slice_set, Some, Option, IsSomeAnd, Bool, true, false, arith}
 use Rattle.std.proofs.lemmas.Bool.Decides.{nat_tests}
+use Rattle.std.specs.Prelude.{is_some, ◌*◌, ◌-◌, if◌then◌else◌, replicate, None}
 use Rattle.plain_log.specs.declared.command.ActorList.{ActorList}
+use Rattle.plain_log.specs.declared.command.Command.{Command}
+use Rattle.plain_log.specs.declared.command.Command.TheVariants.{Follow}
+use Rattle.plain_log.specs.declared.command.Order.{Order}
 use Rattle.plain_log.specs.Orders.{AreRising}
 use Rattle.plain_log.specs.Runs.{orders_of}
 use Rattle.partition_world.specs.declared.seat.Seat.{Seat}
-use Rattle.partition_world.specs.Sound.{orders_left}
+use Rattle.partition_world.specs.declared.begun.Begun.{Begun}
+use Rattle.partition_world.specs.declared.begun.Turned.{Turned}
+use Rattle.partition_world.specs.declared.begun.Turned.TheVariants.{Answers, Begins}
+use Rattle.partition_world.specs.declared.held.Node.{Node}
+use Rattle.partition_world.specs.declared.held.Held.{Held}
+use Rattle.partition_world.specs.Held.{AtNode}
+use Rattle.partition_world.specs.Rows.{Row, LaterRow}
+use Rattle.partition_world.specs.Fresh.{fresh_seat}
+use Rattle.partition_world.specs.Sound.{turns_of, turns_left}
 use Rattle.partition_world.specs.Whole.{Whole}
-use Rattle.partition_world.specs.Turn.{IsSeat, IsAtEnd}
+use Rattle.partition_world.specs.Turn.{IsSeat, IsAtEnd, seat_after}
 
 rising_rest : (l : ActorList) (lists : List ActorList) → AreRising (l ∷ lists) → AreRising lists
 rising_rest l [] r = tt
@@ -58,36 +70,80 @@ list_or_none (k ∷ lists) a = go (k.actor.0 == a) refl (list_or_none lists a)
     go false t (inl h) = inl (suc h.0, h.1, h.2, h.3)
     go false t (inr h) = inr (rw t h)
 
--- an order that is left is counted
-pub left_some : (lists : List ActorList) (desk : List Seat) (i : ℕ) (l : ActorList) (seat : Seat) → slice_get lists i ≡ Some l → slice_get desk i ≡ Some seat
-    → seat.number < length l.orders → 0 < orders_left lists desk
-left_some [] desk i l seat at to lt = absurd cc
-left_some (k ∷ lists) [] i l seat at to lt = absurd cc
-left_some (k ∷ lists) (s ∷ desk) zero l seat at to lt =
+-- only a first turn begins
+
+later_answers : (h : Held) (b : ℕ) (x : Node) (command : Command) (k g : Begun) (h' : Held) → LaterRow h b x command k (Begins g) h' → ⊥
+later_answers h b x (Follow limit) k g h' r = r
+later_answers h b x other k g h' r = r
+
+begun_none : (h : Held) (b : ℕ) (x : Node) (o : Option Begun) (command : Command) (g : Begun) (h' : Held) → Row h b x o command (Begins g) h' → o ≡ None
+begun_none h b x None command g h' r = refl
+begun_none h b x (Some k) command g h' r = absurd (later_answers h b x command k g h' r)
+
+-- the seat may take such a turn: none begins that has begun
+abbrev pub MayTurn : Seat → Turned → Type 0
+MayTurn seat (Answers answer) = Unit {0}
+MayTurn seat (Begins g) = seat.begun ≡ None
+
+pub may_turn : (h : Held) (b : ℕ) (seat : Seat) (command : Command) (turned : Turned) (h' : Held) → AtNode h b (λ x. Row h b x seat.begun command turned h') → MayTurn seat turned
+may_turn h b seat command (Answers answer) h' r = tt
+may_turn h b seat command (Begins g) h' r = go (slice_get h.nodes b) r
+  where
+    go : (o : Option Node) → IsSomeAnd o (λ x. Row h b x seat.begun command (Begins g) h') → seat.begun ≡ None
+    go None w = absurd w
+    go (Some x) w = begun_none h b x seat.begun command g h' w
+
+-- the turns that are left
+
+of_some : (orders : List Order) (seat : Seat) → seat.number < length orders → 0 < turns_of orders seat
+of_some orders seat lt = go (is_some seat.begun)
+  where
+    go : (t : Bool) → 0 < 2 * (length orders - seat.number) - (if t then 1 else 0)
+    go true = omega (arith, lt)
+    go false = omega (arith, lt)
+
+of_begun : (orders : List Order) (number : ℕ) (o : Option Begun) (g : Begun) → number < length orders → o ≡ None
+    → turns_of orders (record { number = number; begun = Some g }) + 1 ≤ turns_of orders (record { number = number; begun = o })
+of_begun orders number None g lt none = omega (arith, lt)
+of_begun orders number (Some k) g lt none = absurd cc
+
+of_less : (orders : List Order) (seat : Seat) (turned : Turned) → seat.number < length orders → MayTurn seat turned → turns_of orders (seat_after seat turned) + 1 ≤ turns_of orders seat
+of_less orders seat (Answers answer) lt may = go (is_some seat.begun)
+  where
+    go : (t : Bool) → (2 * (length orders - (seat.number + 1)) - 0) + 1 ≤ 2 * (length orders - seat.number) - (if t then 1 else 0)
+    go true = omega (arith, lt)
+    go false = omega (arith, lt)
+of_less orders seat (Begins g) lt may = of_begun orders seat.number seat.begun g lt may
+
+-- a turn that is left is counted
+pub turns_some : (lists : List ActorList) (desk : List Seat) (i : ℕ) (l : ActorList) (seat : Seat) → slice_get lists i ≡ Some l → slice_get desk i ≡ Some seat
+    → seat.number < length l.orders → 0 < turns_left lists desk
+turns_some [] desk i l seat at to lt = absurd cc
+turns_some (k ∷ lists) [] i l seat at to lt = absurd cc
+turns_some (k ∷ lists) (s ∷ desk) zero l seat at to lt =
     let one : k ≡ l = cc in
     let two : s ≡ seat = cc in
-    omega (arith, lt, ap (λ (t : ActorList). length t.orders) one, ap (λ (t : Seat). t.number) two)
-left_some (k ∷ lists) (s ∷ desk) (suc i) l seat at to lt = let h = left_some lists desk i l seat at to lt in omega (arith, h)
+    let h = of_some k.orders s (omega (arith, lt, ap (λ (t : ActorList). length t.orders) one, ap (λ (t : Seat). t.number) two)) in
+    omega (arith, h)
+turns_some (k ∷ lists) (s ∷ desk) (suc i) l seat at to lt = let h = turns_some lists desk i l seat at to lt in omega (arith, h)
 
--- a seat that goes on by one leaves one order less
-pub left_less : (lists : List ActorList) (desk : List Seat) (i : ℕ) (l : ActorList) (seat : Seat) → slice_get lists i ≡ Some l → slice_get desk i ≡ Some seat
-    → seat.number < length l.orders → orders_left lists (slice_set desk i (record { number = seat.number + 1 })) + 1 ≡ orders_left lists desk
-left_less [] desk i l seat at to lt = absurd cc
-left_less (k ∷ lists) [] i l seat at to lt = absurd cc
-left_less (k ∷ lists) (s ∷ desk) zero l seat at to lt =
-    let one : k ≡ l = cc in
+-- a seat after a turn leaves a turn less
+pub turns_less : (lists : List ActorList) (desk : List Seat) (i : ℕ) (l : ActorList) (seat : Seat) (turned : Turned) → slice_get lists i ≡ Some l → slice_get desk i ≡ Some seat
+    → seat.number < length l.orders → MayTurn seat turned → turns_left lists (slice_set desk i (seat_after seat turned)) + 1 ≤ turns_left lists desk
+turns_less [] desk i l seat turned at to lt may = absurd cc
+turns_less (k ∷ lists) [] i l seat turned at to lt may = absurd cc
+turns_less (k ∷ lists) (s ∷ desk) zero l seat turned at to lt may =
+    let one : l ≡ k = cc in
     let two : s ≡ seat = cc in
-    omega (arith, lt, ap (λ (t : ActorList). length t.orders) one, ap (λ (t : Seat). t.number) two)
-left_less (k ∷ lists) (s ∷ desk) (suc i) l seat at to lt = let h = left_less lists desk i l seat at to lt in omega (arith, h)
+    let less = of_less k.orders seat turned (omega (arith, lt, ap (λ (t : ActorList). length t.orders) one)) may in
+    omega (arith, less, ap (λ (t : Seat). turns_of k.orders t) two)
+turns_less (k ∷ lists) (s ∷ desk) (suc i) l seat turned at to lt may = let h = turns_less lists desk i l seat turned at to lt may in omega (arith, h)
 
--- where no list has begun, all orders are left
-pub left_all : (lists : List ActorList) (desk : List Seat) → ((i : ℕ) (seat : Seat) → slice_get desk i ≡ Some seat → seat.number ≡ 0) → orders_left lists desk ≡ orders_left lists []
-left_all [] desk h = refl
-left_all (k ∷ lists) [] h = refl
-left_all (k ∷ lists) (s ∷ desk) h =
-    let here = h 0 s refl in
-    let rest = left_all lists desk (λ i seat at. h (suc i) seat at) in
-    omega (arith, here, rest)
+-- where no list has begun, all turns are left
+pub turns_all : (lists : List ActorList) (n : ℕ) → turns_left lists (replicate n fresh_seat) ≡ turns_left lists []
+turns_all [] n = refl
+turns_all (k ∷ lists) zero = refl
+turns_all (k ∷ lists) (suc n) = let rest = turns_all lists n in omega (arith, rest)
 
 -- what holds of what stands at a place holds of what is read there
 pub some_at : {A : Type 0} (P : A → Type 0) (xs : List A) (i : ℕ) (x : A) → IsSomeAnd (slice_get xs i) P → slice_get xs i ≡ Some x → P x

@@ -1,8 +1,8 @@
 -- The batch that holds an offset, found by halves.
-use Rattle.std.proofs.Common.{◌≡◌, ◌∙◌, sym, ap, refl, ℕ, zero, suc, ◌+◌, ◌<◌, ◌≤◌, List, [], ◌∷◌, length, drop, get_or, slice_get, Some, arith}
+use Rattle.std.proofs.Common.{◌≡◌, ◌∙◌, sym, ap, refl, ℕ, zero, suc, ◌+◌, ◌<◌, ◌≤◌, List, [], ◌∷◌, length, take, drop, get_or, slice_get, Some, arith}
 use Rattle.std.proofs.lemmas.Option.{slice_get-get_or}
 use Rattle.log_terms.specs.Batch.{base_of, last_of}
-use Rattle.log_terms.specs.Log.{IsConsecutive, from_offset}
+use Rattle.log_terms.specs.Log.{IsConsecutive, from_offset, up_to}
 use Rattle.log_terms.proofs.Logs.{lt_true, lt_false}
 use Rattle.partition_world.specs.Log.{AreBelow, AreAbove}
 
@@ -56,6 +56,16 @@ found offset zero (batch ∷ log) below above =
 found offset (suc place) (batch ∷ log) below above =
     let h : last_of batch < offset = below 0 batch (omega arith) refl in
     rw (lt_true (last_of batch) offset h) (found offset place log (λ i b lt is. below (suc i) b (omega arith) is) (λ i b le is. above (suc i) b (omega arith) is))
+
+pub front_found : (offset place : ℕ) (log : List (List ℕ)) → AreBelow offset place log → AreAbove offset place log → up_to offset log ≡ take place log
+front_found offset zero [] below above = refl
+front_found offset (suc place) [] below above = refl
+front_found offset zero (batch ∷ log) below above =
+    let h : offset ≤ last_of batch = above 0 batch (omega arith) refl in
+    rw (lt_false (last_of batch) offset h) refl
+front_found offset (suc place) (batch ∷ log) below above =
+    let h : last_of batch < offset = below 0 batch (omega arith) refl in
+    rw (lt_true (last_of batch) offset h) (ap (λ (l : List (List ℕ)). batch ∷ l) (front_found offset place log (λ i b lt is. below (suc i) b (omega arith) is) (λ i b le is. above (suc i) b (omega arith) is)))
 
 -- what an index gives stands at its place
 pub got : {A : Type 0} (xs : List A) (i : ℕ) (x : A) → i < length xs → x ≡ get_or xs i x → slice_get xs i ≡ Some x

@@ -1,25 +1,32 @@
 -- The laws of a world.
-use Rattle.std.specs.Prelude.{◌≡◌, ℕ, List}
+use Rattle.std.specs.Prelude.{ℕ, List}
 use Rattle.tier_base.specs.declared.names.PartitionId.{PartitionId}
 use Rattle.plain_log.specs.declared.command.ActorList.{ActorList}
 use Rattle.plain_log.specs.declared.command.Config.{Config}
+use Rattle.plain_log.specs.declared.command.Pace.{Pace}
 use Rattle.plain_log.specs.Fresh.{fresh}
-use Rattle.plain_log.specs.Orders.{AreListsFor}
+use Rattle.plain_log.specs.Orders.{AreListsFor, IsConfig}
 use Rattle.plain_log.specs.Runs.{IsPlainRun, IsComplete}
 use Rattle.partition_world.specs.declared.seat.Stepped.{Stepped}
 use Rattle.partition_world.specs.Whole.{Whole}
 use Rattle.partition_world.specs.Turn.{Steps, IsAtEnd}
 use Rattle.partition_world.specs.Central.{IsCentral, KeepsCentral}
 use Rattle.partition_world.specs.Fresh.{IsFresh}
+use Rattle.partition_world.specs.Later.{IsLater}
+use Rattle.partition_world.specs.Reaches.{Reaches}
 
 -- each step keeps the central fact
 abbrev pub StepsKeepCentral : Type 0
 StepsKeepCentral = (w : Whole) (a : ℕ) (stepped : Stepped) (w' : Whole) → Steps w a stepped w' → KeepsCentral w w'
 
--- it holds of a fresh world of one broker
+-- it holds of a fresh world
 abbrev pub FreshIsCentral : Type 0
-FreshIsCentral = (partition : PartitionId) (config : Config) (lists : List ActorList) (w : Whole) → config.brokers ≡ 1 → AreListsFor config lists
-    → IsFresh partition config lists w → IsCentral (fresh config) w
+FreshIsCentral = (partition : PartitionId) (config : Config) (lists : List ActorList) (w : Whole) → IsConfig config
+    → AreListsFor config lists → IsFresh partition config lists w → IsCentral (fresh config) w
+
+-- a world that a schedule reaches is a later one
+abbrev pub ReachesLater : Type 0
+ReachesLater = (w : Whole) (schedule : List Pace) (w' : Whole) → Reaches w schedule w' → IsLater w w'
 
 -- where it holds and each actor is at its end, the journal is a complete run of the plain log
 pub record IsCompleteRun (w : Whole) : Type 0 where

@@ -1,16 +1,72 @@
--- A log in memory, and the runs that are taken of it.
-use Rattle.std.specs.Prelude.{◌≡◌, ◌≢◌, ℕ, ◌+◌, ◌<◌, ◌≤◌, ◌⊎◌, true, List, [], ◌∷◌, ◌++◌, length, take, drop, slice_get, Some}
+-- A log in memory with its line of leader epochs, and the runs that are taken of it.
+--
+-- A run begins with the batch that holds an offset, and has as many batches as end at or below a bound, belong to one
+-- leader epoch and fit a limit, but at least one.
+use Rattle.std.specs.Prelude.{◌≡◌, ◌≢◌, ℕ, ◌+◌, ◌^◌, ◌==◌, ◌<◌, ◌≤◌, ◌⊎◌, Bool, true, false, if◌then◌else◌, List, [], ◌∷◌, ◌++◌, length, slice_get, Option, Some, None, All}
+use Rattle.std.specs.Option.{ForSome}
+use mathlib.Core.List.{IsPrefix}
 use Rattle.tier_base.specs.declared.plain.Stop.{Stop}
 use Rattle.tier_base.specs.declared.plain.Stop.TheVariants.{Mark, Piece, Limit}
-use Rattle.log_terms.specs.Batch.{last_of}
-use Rattle.log_terms.specs.Log.{IsConsecutive, end_of, joined, from_offset}
+use Rattle.log_terms.specs.Batch.{base_of, last_of, epoch_of}
+use Rattle.log_terms.specs.Line.{line_of}
+use Rattle.log_terms.specs.Log.{IsConsecutive, end_of, joined, from_offset, up_to}
+use Rattle.epoch_line.specs.Line.{IsLine, last_epoch, assign, cut_end}
 use Rattle.plain_log.specs.Fetch.{is_within}
 
--- what a log keeps: its batches are consecutive from 0, and it ends within the offsets
-pub record IsLog (end : ℕ) (log : List (List ℕ)) : Type 0 where
-  pub consecutive : IsConsecutive 0 log
-  pub ends : end ≡ end_of log
+-- what is kept of a batch beside its bytes
+pub record IsStored (base end epoch : ℕ) (batch : List ℕ) : Type 0 where
+  pub some : 0 < length batch
+  pub base_is : base ≡ base_of batch
+  pub end_is : end ≡ last_of batch + 1
+  pub epoch_is : epoch ≡ epoch_of batch
   pub small : end ≤ 4611686018427387904
+  pub few : epoch < 2 ^ 31
+
+-- a log's batches, and its line
+pub record Lined : Type 0 where
+  pub batches : List (List ℕ)
+  pub line : List (ℕ × ℕ)
+
+-- the line has the epochs of the batches, and perhaps one more, which starts at the log's end
+abbrev pub IsLineFor : List (ℕ × ℕ) → List (List ℕ) → Type 0
+IsLineFor line log = (line ≡ line_of log) ⊎ ((e : ℕ) × (line ≡ line_of log ++ (e, end_of log) ∷ []))
+
+-- what a log keeps: its batches are consecutive from 0, its line is theirs, and it ends within the offsets
+pub record IsLog (end : ℕ) (log : Lined) : Type 0 where
+  pub consecutive : IsConsecutive 0 log.batches
+  pub line_is : IsLineFor log.line log.batches
+  pub rises : IsLine log.line
+  pub ends : end ≡ end_of log.batches
+  pub small : end ≤ 4611686018427387904
+
+-- the line of a log that gains a batch of an epoch at an offset
+abbrev pub entered : List (ℕ × ℕ) → ℕ → ℕ → List (ℕ × ℕ)
+entered line e base = line_or_more (last_epoch line)
+  where
+    line_or_more : Option ℕ → List (ℕ × ℕ)
+    line_or_more None = assign line e base
+    line_or_more (Some last) = if last == e then line else assign line e base
+
+-- no epoch of the line is above this one
+abbrev pub MayTake : List (ℕ × ℕ) → ℕ → Type 0
+MayTake line e = ForSome (last_epoch line) (λ last. last ≤ e)
+
+-- the log with a batch at its end
+abbrev pub with_batch : Lined → List ℕ → Lined
+with_batch log batch =
+    record { batches = log.batches ++ batch ∷ []; line = entered log.line (epoch_of batch) (end_of log.batches) }
+
+-- the log with batches at its end, which are of one epoch
+abbrev pub with_batches : Lined → ℕ → List (List ℕ) → Lined
+with_batches log e batches = record { batches = log.batches ++ batches; line = entered log.line e (end_of log.batches) }
+
+-- the log up to an offset, and the line without the entries that start where it ends or later
+abbrev pub cut_at : Lined → ℕ → Lined
+cut_at log n = record { batches = up_to n log.batches; line = cut_end log.line (end_of (up_to n log.batches)) }
+
+-- the same, but that an entry that starts at the log's end stays
+abbrev pub opened_at : Lined → ℕ → Lined
+opened_at log n = record { batches = up_to n log.batches; line = cut_end log.line (end_of (up_to n log.batches) + 1) }
 
 -- each batch before this place ends at or below the offset
 abbrev pub AreBelow : ℕ → ℕ → List (List ℕ) → Type 0
@@ -30,38 +86,43 @@ abbrev pub WouldPass : List (List ℕ) → List (List ℕ) → ℕ → Type 0
 WouldPass run [] limit = ⊥
 WouldPass run (batch ∷ rest) limit = limit < length (joined run) + length batch
 
--- why a run ends: at the known high watermark, or since the next batch would pass the limit; the log is one piece
+-- the epoch of the first batch
+abbrev pub epoch_in : List (List ℕ) → Option ℕ
+epoch_in [] = None
+epoch_in (batch ∷ log) = Some (epoch_of batch)
+
+-- why a run ends, the first that holds: at the bound; where its leader epoch ends; since the next batch would pass the limit
 abbrev pub StopIs : Stop → List (List ℕ) → List (List ℕ) → ℕ → ℕ → Type 0
-StopIs Mark run rest limit known = end_of run ≡ known
-StopIs Piece run rest limit known = ⊥
-StopIs Limit run rest limit known = (end_of run ≢ known) × WouldPass run rest limit
+StopIs Mark run rest limit bound = end_of run ≡ bound
+StopIs Piece run rest limit bound = (end_of run ≢ bound) × (epoch_in rest ≢ epoch_in run)
+StopIs Limit run rest limit bound = (end_of run ≢ bound) × (epoch_in rest ≡ epoch_in run) × WouldPass run rest limit
 
--- no batch is left, or the next ends past the known high watermark
-abbrev pub EndsPast : ℕ → List (List ℕ) → Type 0
-EndsPast known [] = Unit {0}
-EndsPast known (batch ∷ rest) = known ≤ last_of batch
+-- whether a run that isn't empty ends before a batch of so many bytes, and why
+abbrev pub EndsBefore : Bool → Bool → ℕ → ℕ → ℕ → Option Stop → Type 0
+EndsBefore bound same size more limit None = (bound ≡ false) × (same ≡ true) × (size + more ≤ limit)
+EndsBefore bound same size more limit (Some Mark) = bound ≡ true
+EndsBefore bound same size more limit (Some Piece) = (bound ≡ false) × (same ≡ false)
+EndsBefore bound same size more limit (Some Limit) = (bound ≡ false) × (same ≡ true) × (limit < size + more)
 
--- so many batches from the front on, of this size, are a run: one batch, or several that fit the limit, none past the mark
-pub record IsRunAt (rest : List (List ℕ)) (limit known count size : ℕ) : Type 0 where
-  pub some : 0 < count
-  pub inside : count ≤ length rest
-  pub below : end_of (take count rest) ≤ known
-  pub size_is : size ≡ length (joined (take count rest))
-  pub fits : 1 < count → size ≤ limit
+-- batches one after another, of which some first ones end at the bound
+pub record IsBounded (bound : ℕ) (batches : List (List ℕ)) : Type 0 where
+  pub start : ℕ
+  pub consecutive : IsConsecutive start batches
+  pub front : List (List ℕ)
+  pub some : 0 < length front
+  pub begins : IsPrefix front batches
+  pub ends : end_of front ≡ bound
 
--- and it is the longest
-pub record IsLongest (rest : List (List ℕ)) (limit known count size : ℕ) : Type 0 where
-  pub run : IsRunAt rest limit known count size
-  pub stops : EndsPast known (drop count rest) ⊎ WouldPass (take count rest) (drop count rest) limit
-
--- the bytes are the run that a fetch at the offset is given
-pub record IsRunOf (log : List (List ℕ)) (offset limit known size : ℕ) (stop : Stop) (bytes : List ℕ) : Type 0 where
-  pub run : List (List ℕ)
+-- the first of the batches are a run
+pub record IsRun (batches : List (List ℕ)) (limit bound : ℕ) (stop : Stop) (run : List (List ℕ)) : Type 0 where
   pub rest : List (List ℕ)
-  pub parts : from_offset offset log ≡ run ++ rest
+  pub parts : batches ≡ run ++ rest
   pub next : HasBytes rest
-  pub is : bytes ≡ joined run
-  pub size_is : size ≡ length bytes
   pub within : is_within limit run ≡ true
-  pub below : end_of run ≤ known
-  pub stop_is : StopIs stop run rest limit known
+  pub epochs : All (λ batch. Some (epoch_of batch) ≡ epoch_in run) run
+  pub below : end_of run ≤ bound
+  pub stop_is : StopIs stop run rest limit bound
+
+-- the batches are the run at the offset
+abbrev pub IsRunOf : List (List ℕ) → ℕ → ℕ → ℕ → Stop → List (List ℕ) → Type 0
+IsRunOf log offset limit bound stop run = IsRun (from_offset offset log) limit bound stop run

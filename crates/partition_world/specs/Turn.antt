@@ -1,9 +1,12 @@
 -- The turns of a world.
-use Rattle.std.specs.Prelude.{◌≡◌, ℕ, ◌+◌, ◌≤◌, Some, [], ◌∷◌, ◌++◌, length, slice_get, slice_set}
+use Rattle.std.specs.Prelude.{◌≡◌, ℕ, ◌+◌, ◌≤◌, Some, None, [], ◌∷◌, ◌++◌, length, slice_get, slice_set}
 use Rattle.plain_log.specs.declared.answer.Answer.{Answer}
 use Rattle.plain_log.specs.declared.command.ActorList.{ActorList}
 use Rattle.plain_log.specs.declared.command.Order.{Order}
-use Rattle.plain_log.specs.declared.journal.Event.TheVariants.{Answers}
+use Rattle.plain_log.specs.declared.journal.Event.{Event}
+use Rattle.partition_world.specs.declared.begun.Begun.{Begun}
+use Rattle.partition_world.specs.declared.begun.Turned.{Turned}
+use Rattle.partition_world.specs.declared.begun.Turned.TheVariants.{Answers, Begins}
 use Rattle.partition_world.specs.declared.seat.Seat.{Seat}
 use Rattle.partition_world.specs.declared.seat.Stepped.{Stepped}
 use Rattle.partition_world.specs.declared.seat.Stepped.TheVariants.{Ran, Done, Nothing, NoMemory}
@@ -17,18 +20,28 @@ pub record IsSeat (w : Whole) (a place : ℕ) (l : ActorList) (seat : Seat) : Ty
   pub actor : l.actor.0 ≡ a
   pub seat_is : slice_get w.desk place ≡ Some seat
 
--- a turn of the actor's next order, which is answered and entered into the journal
-pub record IsTurn (w : Whole) (a : ℕ) (w' : Whole) : Type 0 where
+-- the seat after a turn: the next order after an answer, else what the order has begun with
+abbrev pub seat_after : Seat → Turned → Seat
+seat_after seat (Answers answer) = record { number = seat.number + 1; begun = None }
+seat_after seat (Begins g) = record { number = seat.number; begun = Some g }
+
+-- what the journal says of a turn
+abbrev pub event_of : Turned → Event
+event_of (Answers answer) = Event.Answers answer
+event_of (Begins g) = Event.Begins None
+
+-- a turn of the actor's next order, which begins or is answered, and is entered into the journal
+pub record IsTurn (w : Whole) (a : ℕ) (turned : Turned) (w' : Whole) : Type 0 where
   pub place : ℕ
   pub list : ActorList
   pub seat : Seat
   pub order : Order
-  pub answer : Answer
   pub at : IsSeat w a place list seat
   pub next : slice_get list.orders seat.number ≡ Some order
-  pub row : AtNode w.held order.broker.0 (λ x. Row w.held order.broker.0 x order.command answer w'.held)
-  pub desk : w'.desk ≡ slice_set w.desk place (record { number = seat.number + 1 })
-  pub entered : w'.journal.items ≡ w.journal.items ++ record { actor = list.actor; number = seat.number; event = Answers answer } ∷ []
+  pub row : AtNode w.held order.broker.0 (λ x. Row w.held order.broker.0 x seat.begun order.command turned w'.held)
+  pub desk : w'.desk ≡ slice_set w.desk place (seat_after seat turned)
+  pub entered : w'.journal.items
+      ≡ w.journal.items ++ record { actor = list.actor; number = seat.number; event = event_of turned } ∷ []
   pub partition : w'.partition ≡ w.partition
   pub config : w'.config ≡ w.config
   pub lists : w'.lists ≡ w.lists
@@ -39,7 +52,7 @@ IsAtEnd w a = (place : ℕ) (l : ActorList) (seat : Seat) → IsSeat w a place l
 
 -- what a step of the actor comes to, by what it answers
 abbrev pub Steps : Whole → ℕ → Stepped → Whole → Type 0
-Steps w a Ran w' = ⊥
-Steps w a Done w' = IsTurn w a w'
+Steps w a Ran w' = (g : Begun) × IsTurn w a (Begins g) w'
+Steps w a Done w' = (answer : Answer) × IsTurn w a (Answers answer) w'
 Steps w a Nothing w' = IsAtEnd w a × (w' ≡ w)
 Steps w a NoMemory w' = w' ≡ w

@@ -2,7 +2,8 @@
 
 ghost use Rattle.std.specs.Prelude.{◌≡◌, ◌≢◌, ◌<◌, ℕ, length, replicate, slice_get, Some, None, IfSome, IfOk, IsSomeAnd, []};
 ghost use Rattle.plain_log.specs.declared.command.ActorList.{ActorList};
-ghost use Rattle.partition_world.specs.Sound.{orders_left};
+ghost use Rattle.partition_world.specs.Fresh.{fresh_seat};
+ghost use Rattle.partition_world.specs.Sound.{turns_left};
 
 use crate::seat::Seat;
 use plain_log::ActorList;
@@ -22,24 +23,28 @@ pub(crate) fn place_of(lists: &[ActorList], actor: ActorId) -> Option<usize>
     None
 }
 
-/// Counts the orders of all lists, where a machine's word can.
-pub(crate) fn count_orders(lists: &[ActorList]) -> Option<usize>
-    ensures { IfSome result (λ count. count ≡ orders_left lists.now []) }
+/// Counts the turns that all lists may take, where a machine's word can: an order takes at most two.
+pub(crate) fn count_turns(lists: &[ActorList]) -> Option<usize>
+    ensures { IfSome result (λ count. count ≡ turns_left lists.now []) }
 {
     let mut count: usize = 0;
     for list in lists {
-        count = count.checked_add(list.orders.len())?;
+        let turns = list.orders.len().checked_mul(2)?;
+        count = count.checked_add(turns)?;
     }
     Some(count)
 }
 
 /// Makes a desk where no list has begun.
 pub(crate) fn fresh_desk(alloc: Global, count: usize) -> Result<Row<Seat>, AllocError>
-    ensures { IfOk result (λ desk. desk ≡ replicate count (record { number = 0 })) }
+    ensures { IfOk result (λ desk. desk ≡ replicate count fresh_seat) }
 {
     let mut desk = Row::new(alloc);
     for _i in 0..count {
-        desk.push(Seat { number: 0 })?;
+        desk.push(Seat {
+            number: 0,
+            begun: None,
+        })?;
     }
     Ok(desk)
 }

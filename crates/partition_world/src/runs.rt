@@ -1,13 +1,71 @@
-//! Runs of a world: its actors are stepped to the ends of their lists.
+//! Runs of a world: its actors are stepped as a schedule says, or each to the end of its list.
 
 ghost use Rattle.std.specs.Prelude.{◌≡◌, ℕ, OnOk};
 ghost use Rattle.partition_world.specs.Turn.{IsAtEnd};
 ghost use Rattle.partition_world.specs.Later.{IsLater};
+ghost use Rattle.partition_world.specs.Reaches.{GoesTimes, GoesUntil, Paces, Reaches};
 
 use crate::seat::Stepped;
 use crate::world::World;
+use plain_log::Pace;
 use std::alloc::{AllocError, Global};
 use tier_base::ActorId;
+
+/// Steps an actor until it has answered so many of its commands, or all of them.
+fn run_until(
+    alloc: Global,
+    world: &mut World,
+    actor: ActorId,
+    number: u32,
+) -> Result<(), AllocError>
+    ensures later { IsLater world.old world.new }
+    ensures reaches { OnOk result ((turns : ℕ) × GoesUntil world.old actor.0 number turns world.new) }
+{
+    while !world.has_answered(actor, number) {
+        match world.step(alloc, actor) {
+            Stepped::NoMemory => return Err(AllocError),
+            _ => {}
+        }
+    }
+    Ok(())
+}
+
+/// Steps an actor so many times, and no longer once it is at the end of its list.
+fn run_times(alloc: Global, world: &mut World, actor: ActorId, turns: u32) -> Result<(), AllocError>
+    ensures later { IsLater world.old world.new }
+    ensures reaches { OnOk result (GoesTimes world.old actor.0 turns world.new) }
+{
+    for _i in 0..turns {
+        match world.step(alloc, actor) {
+            Stepped::Nothing => return Ok(()),
+            Stepped::NoMemory => return Err(AllocError),
+            _ => {}
+        }
+    }
+    Ok(())
+}
+
+/// Steps an actor as one item of a schedule says.
+fn run_pace(alloc: Global, world: &mut World, pace: Pace) -> Result<(), AllocError>
+    ensures later { IsLater world.old world.new }
+    ensures reaches { OnOk result (Paces world.old pace world.new) }
+{
+    match pace {
+        Pace::Until { actor, number } => run_until(alloc, world, actor, number),
+        Pace::Times { actor, turns } => run_times(alloc, world, actor, turns),
+    }
+}
+
+/// Steps the actors as a schedule says. Where there is no memory the turns so far have been taken.
+pub fn run_in_order(alloc: Global, world: &mut World, schedule: &[Pace]) -> Result<(), AllocError>
+    ensures later { IsLater world.old world.new }
+    ensures reaches { OnOk result (Reaches world.old schedule.now world.new) }
+{
+    for pace in schedule {
+        run_pace(alloc, world, *pace)?;
+    }
+    Ok(())
+}
 
 /// Steps an actor to the end of its list.
 fn run_actor(alloc: Global, world: &mut World, actor: ActorId) -> Result<(), AllocError>

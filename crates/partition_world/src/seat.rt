@@ -1,10 +1,14 @@
 //! How far an actor has come, and what a step of it comes to.
 
+use crate::begun::Begun;
+
 /// An actor's place at the desk.
-#[derive(Clone, Copy, Debug, PartialEq, Eq)]
+#[derive(Debug, Drop)]
 pub struct Seat {
-    /// The number of its next order.
+    /// The number of its next order, or of the one that has begun.
     pub number: u32,
+    /// What is kept of the order, where it has begun.
+    pub begun: Option<Begun>,
 }
 
 /// What a step of an actor came to.

@@ -1,69 +1,97 @@
-//! The run of a log that a fetch is given: from the batch on that holds the offset, as far as the known high watermark
-//! and the limit allow, and at least one batch.
+//! Runs of a log: from the batch on that holds an offset, as far as a bound, the leader epoch and a limit allow, and at
+//! least one batch.
+//!
+//! A fetch is bounded by the high watermark that its broker knows, a copy to a follower by the leader's end.
 
-ghost use Rattle.std.specs.Prelude.{◌≡◌, ◌≢◌, true, false, ◌+◌, ◌<◌, ◌≤◌, List, ℕ, length, take, drop, slice_get, Some, IfOk};
-ghost use Rattle.tier_base.specs.declared.plain.Stop.TheVariants as Stop;
-ghost use Rattle.log_terms.specs.Batch.{last_of};
-ghost use Rattle.log_terms.specs.Log.{EndsAt, end_of, joined};
-ghost use Rattle.partition_world.specs.Log.{HasBytes, IsLongest, IsRunOf};
+ghost use Rattle.std.specs.Prelude.{◌≡◌, true, false, ◌+◌, ◌<◌, ◌≤◌, length, take, IfOk};
+ghost use Rattle.log_terms.specs.Log.{EndsAt, joined};
+ghost use Rattle.partition_world.specs.Log.{IsBounded, EndsBefore, IsRun, IsRunOf};
 
-use crate::log::{Log, Stored};
-use bytes::Bytes;
+use crate::log::Log;
+use crate::stored::Stored;
 use std::alloc::{AllocError, Global};
 use tier_base::Stop;
 
-/// How many batches a run has, their bytes, and the offset after the last.
+/// How many batches a run has, their bytes, and why it ends.
 #[derive(Clone, Copy)]
 struct Measured {
     count: usize,
     size: usize,
-    end: u64,
+    stop: Stop,
 }
 
-/// A run: its bytes, how many there are, and why it ends.
-#[derive(Drop)]
-pub(crate) struct Taken {
-    pub bytes: Bytes,
-    pub size: u64,
+/// A run of a log: its batches, how many bytes they have, and why it ends.
+#[derive(Clone, Copy)]
+pub(crate) struct Run<'a> {
+    pub batches: &'a [Stored],
+    pub size: usize,
     pub stop: Stop,
 }
 
-/// Whether a batch behind so many bytes would pass the limit.
-fn would_pass(batch: &Stored, size: usize, limit: usize) -> bool
-    ensures passes { result ≡ true → limit < size + length batch.now }
-    ensures fits { result ≡ false → size + length batch.now ≤ limit }
+/// Measures the run at the front of the batches.
+fn measure(rest: &[Stored], limit: usize, bound: u64) -> Measured
+    requires { IsBounded bound rest.now }
+    ensures within { result.count ≤ length rest.now }
+    ensures run { IsRun rest.now limit bound result.stop (take result.count rest.now) }
+    ensures size { result.size ≡ length (joined (take result.count rest.now)) }
 {
-    size > limit || batch.as_slice().len() > limit - size
-}
-
-/// Measures the longest run at the front of the batches.
-fn measure(rest: &[Stored], limit: usize, known: u64) -> Measured
-    requires some { 0 < length rest.now }
-    requires first { (batch : List ℕ) → slice_get rest.now 0 ≡ Some batch → last_of batch + 1 ≤ known }
-    ensures longest { IsLongest rest.now limit known result.count result.size }
-    ensures next { HasBytes (drop result.count rest.now) }
-    ensures end { result.end ≡ end_of (take result.count rest.now) }
-{
+    let first = &rest[0];
+    let epoch = first.epoch();
     let mut count = 1;
-    let mut size = rest[0].as_slice().len();
-    let mut end = rest[0].end();
+    let mut size = first.as_slice().len();
+    let mut end = first.end();
     while count < rest.len() {
         let next = &rest[count];
-        if next.end() > known {
-            return Measured { count, size, end };
+        let more = next.as_slice().len();
+        if let Some(stop) = stop_before(end == bound, next.epoch() == epoch, size, more, limit) {
+            return Measured { count, size, stop };
         }
-        if would_pass(next, size, limit) {
-            return Measured { count, size, end };
-        }
-        size += next.as_slice().len();
+        size += more;
         end = next.end();
         count += 1;
     }
-    Measured { count, size, end }
+    let stop = if end == bound {
+        Stop::Mark
+    } else {
+        Stop::Piece
+    };
+    Measured { count, size, stop }
+}
+
+/// Why a run of this size ends before a batch of so many bytes, if it does: it is at its bound, the batch isn't of the
+/// same leader epoch, or it would pass the limit.
+fn stop_before(bound: bool, same: bool, size: usize, more: usize, limit: usize) -> Option<Stop>
+    ensures { EndsBefore bound same size more limit result }
+{
+    if bound {
+        Some(Stop::Mark)
+    } else if !same {
+        Some(Stop::Piece)
+    } else if size > limit || more > limit - size {
+        Some(Stop::Limit)
+    } else {
+        None
+    }
+}
+
+/// Takes the run at an offset.
+pub(crate) fn run_of(log: &Log, offset: u64, limit: u32, bound: u64) -> Run<'_>
+    requires end { EndsAt bound log.now.batches }
+    requires below { offset < bound }
+    ensures run { IsRunOf log.now.batches offset limit bound result.stop result.batches.now }
+    ensures size { result.size ≡ length (joined result.batches.now) }
+{
+    let rest = log.rest_from(offset);
+    let run = measure(rest, limit as usize, bound);
+    Run {
+        batches: &rest[..run.count],
+        size: run.size,
+        stop: run.stop,
+    }
 }
 
 /// Joins the bytes of batches, of which there are so many.
-fn join(alloc: Global, run: &[Stored], size: usize) -> Result<Vec<u8>, AllocError>
+pub(crate) fn join(alloc: Global, run: &[Stored], size: usize) -> Result<Vec<u8>, AllocError>
     ensures { IfOk result (λ bytes. bytes.items ≡ joined run.now) }
 {
     let mut bytes = Vec::with_capacity(alloc, size)?;
@@ -71,38 +99,4 @@ fn join(alloc: Global, run: &[Stored], size: usize) -> Result<Vec<u8>, AllocErro
         bytes.extend_from_slice(batch.as_slice())?;
     }
     Ok(bytes)
-}
-
-/// Tells why a run ends that ends there: the log is one piece, so where it isn't the mark it is the limit.
-fn stop_of(end: u64, known: u64) -> Stop
-    ensures mark { end ≡ known → result ≡ Stop.Mark }
-    ensures limit { end ≢ known → result ≡ Stop.Limit }
-{
-    if end == known {
-        Stop::Mark
-    } else {
-        Stop::Limit
-    }
-}
-
-/// Takes the run at the offset.
-pub(crate) fn take_run(
-    alloc: Global,
-    log: &Log,
-    offset: u64,
-    limit: u32,
-    known: u64,
-) -> Result<Taken, AllocError>
-    requires end { EndsAt known log.now }
-    requires below { offset < known }
-    ensures { IfOk result (λ taken. IsRunOf log.now offset limit known taken.size taken.stop taken.bytes) }
-{
-    let rest = log.rest_from(offset);
-    let run = measure(rest, limit as usize, known);
-    let bytes = join(alloc, &rest[..run.count], run.size)?;
-    Ok(Taken {
-        bytes: Bytes::from_vec(bytes)?,
-        size: run.size as u64,
-        stop: stop_of(run.end, known),
-    })
 }

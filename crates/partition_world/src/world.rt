@@ -1,15 +1,17 @@
-//! The world: a turn is the next command of an actor, carried out and entered.
+//! The world: a turn is the next one of an actor's command, carried out and entered.
 //!
-//! The journal's room is made for all commands at the beginning, so a turn that finds no memory has changed nothing.
+//! The journal's room is made for all turns at the beginning, so a turn that finds no memory has changed nothing.
 
-ghost use Rattle.std.specs.Prelude.{◌≡◌, ◌<◌, ◌+◌, length, IfOk};
+ghost use Rattle.std.specs.Prelude.{◌≡◌, ◌<◌, ◌+◌, length, true, false, IfOk, IsTrue, ◌↔◌};
 ghost use Rattle.plain_log.specs.Fresh.{fresh as fresh_plain};
-ghost use Rattle.plain_log.specs.Orders.{AreListsFor};
+ghost use Rattle.plain_log.specs.Orders.{AreListsFor, IsConfig};
 ghost use Rattle.partition_world.specs.Fresh.{IsFresh};
 ghost use Rattle.partition_world.specs.Turn.{Steps};
 ghost use Rattle.partition_world.specs.Central.{IsCentral, KeepsCentral};
+ghost use Rattle.partition_world.specs.Reaches.{HasAnswered};
 
-use crate::desk::{count_orders, fresh_desk, place_of};
+use crate::begun::Turned;
+use crate::desk::{count_turns, fresh_desk, place_of};
 use crate::held::Held;
 use crate::laws::{fresh_is_central, steps_keep_central};
 use crate::seat::{Seat, Stepped};
@@ -48,14 +50,14 @@ impl Model for World {
 }
 
 impl World {
-    /// Makes a world where nothing has happened, of one broker.
+    /// Makes a world where nothing has happened.
     pub fn fresh(
         alloc: Global,
         partition: PartitionId,
         config: Config,
         lists: Row<ActorList>,
     ) -> Result<World, AllocError>
-        requires brokers { config.brokers ≡ 1 }
+        requires brokers { IsConfig config }
         requires fit { AreListsFor config lists }
         ensures fresh { IfOk result (IsFresh partition config lists) }
         ensures central { IfOk result (IsCentral (fresh_plain config)) }
@@ -70,17 +72,17 @@ impl World {
         config: Config,
         lists: Row<ActorList>,
     ) -> Result<World, AllocError>
-        requires brokers { config.brokers ≡ 1 }
+        requires brokers { IsConfig config }
         requires fit { AreListsFor config lists }
         ensures { IfOk result (IsFresh partition config lists) }
     {
-        let Some(count) = count_orders(lists.as_slice()) else {
+        let Some(count) = count_turns(lists.as_slice()) else {
             return Err(AllocError);
         };
         let mut journal = Journal::new(alloc);
         journal.reserve(count)?;
         let desk = fresh_desk(alloc, lists.len())?;
-        let held = Held::fresh(alloc)?;
+        let held = Held::fresh(alloc, config.brokers)?;
         Ok(World {
             partition,
             config,
@@ -112,7 +114,19 @@ impl World {
         self.lists.as_slice()
     }
 
-    /// Carries out the next command of an actor.
+    /// Answers whether an actor has answered so many of its commands, or all of them. One without a list has.
+    pub fn has_answered(&self, actor: ActorId, number: u32) -> bool
+        ensures { IsTrue result ↔ HasAnswered self.now actor.0 number }
+    {
+        let Some(place) = place_of(self.lists.as_slice(), actor) else {
+            return true;
+        };
+        let list = self.lists.get(place);
+        let seat = self.desk.get(place);
+        number <= seat.number || list.orders.len() <= seat.number as usize
+    }
+
+    /// Takes the next turn of an actor's commands.
     pub fn step(&mut self, alloc: Global, actor: ActorId) -> Stepped
         ensures steps { Steps self.old actor.0 result self.new }
         ensures central { KeepsCentral self.old self.new }
@@ -127,26 +141,44 @@ impl World {
         let Some(place) = place_of(self.lists.as_slice(), actor) else {
             return Stepped::Nothing;
         };
-        let seat = *self.desk.get(place);
+        let seat = self.desk.get(place);
+        let number = seat.number;
         let list = self.lists.get(place);
-        if seat.number as usize >= list.orders.len() {
+        if number as usize >= list.orders.len() {
             return Stepped::Nothing;
         }
-        let order = list.orders.get(seat.number as usize);
-        let Ok(answer) = self.held.turn(alloc, order) else {
+        let order = list.orders.get(number as usize);
+        let Ok(turned) = self.held.turn(alloc, order, &seat.begun) else {
             return Stepped::NoMemory;
         };
-        self.journal.put(JournalEntry {
-            actor: list.actor,
-            number: seat.number,
-            event: Event::Answers(answer),
-        });
-        self.desk.replace(
-            place,
-            Seat {
-                number: seat.number + 1,
-            },
-        );
-        Stepped::Done
+        let actor = list.actor;
+        match turned {
+            Turned::Answers(answer) => {
+                self.journal.put(JournalEntry {
+                    actor,
+                    number,
+                    event: Event::Answers(answer),
+                });
+                let next = Seat {
+                    number: number + 1,
+                    begun: None,
+                };
+                let _ = self.desk.replace(place, next);
+                Stepped::Done
+            }
+            Turned::Begins(begun) => {
+                self.journal.put(JournalEntry {
+                    actor,
+                    number,
+                    event: Event::Begins { cut: None },
+                });
+                let goes_on = Seat {
+                    number,
+                    begun: Some(begun),
+                };
+                let _ = self.desk.replace(place, goes_on);
+                Stepped::Ran
+            }
+        }
     }
 }

@@ -1,4 +1,4 @@
-use Rattle.partition_world.proofs.CentralLaw.{ends_complete}
+use Rattle.partition_world.proofs.CompleteLaw.{ends_complete}
 use Rattle.partition_world.proofs.laws.ends_are_complete.Goals as goal
 
 pub returns : goal.returns

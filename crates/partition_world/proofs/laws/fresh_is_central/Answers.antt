@@ -1,4 +1,4 @@
-use Rattle.partition_world.proofs.CentralLaw.{fresh_central}
+use Rattle.partition_world.proofs.CompleteLaw.{fresh_central}
 use Rattle.partition_world.proofs.laws.fresh_is_central.Goals as goal
 
 pub returns : goal.returns

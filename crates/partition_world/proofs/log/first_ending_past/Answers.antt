@@ -1,5 +1,5 @@
 use Rattle.std.proofs.Common.{◌≡◌, ◌+◌, ◌-◌, ◌/◌, ◌<◌, arith}
-use Rattle.partition_world.proofs.Search.{below_at, above_at, found, got}
+use Rattle.partition_world.proofs.Search.{below_at, above_at, found, front_found, got}
 use Rattle.partition_world.proofs.log.first_ending_past.Goals as goal
 
 pub loop-low-preserved-then-end-offset : goal.loop-low-preserved-then-end-offset
@@ -28,3 +28,8 @@ pub returns-clause-rest : goal.returns-clause-rest
 returns-clause-rest c =
     let same : c.loop-low.low ≡ c.loop-low.high = omega arith in
     found c.args.offset c.loop-low.low c.args.batches.now c.loop-low.invariant.below (rw (← same) at c.loop-low.invariant.above)
+
+pub returns-clause-front : goal.returns-clause-front
+returns-clause-front c =
+    let same : c.loop-low.low ≡ c.loop-low.high = omega arith in
+    front_found c.args.offset c.loop-low.low c.args.batches.now c.loop-low.invariant.below (rw (← same) at c.loop-low.invariant.above)

@@ -5,4 +5,5 @@ pub loop-smaller : goal.loop-smaller
 loop-smaller c = step_left c.loop.world c.args.actor.0 c.step.result c.step.new.self c.step.ensures.steps c.in_default.not-Nothing c.in_default.not-NoMemory
 
 pub loop-preserved : goal.loop-preserved
-loop-preserved c = later_more c.args.world.now c.loop.world c.step.new.self c.loop.invariant (step_later c.loop.world c.args.actor.0 c.step.result c.step.new.self c.step.ensures.steps)
+loop-preserved c =
+    later_more c.args.world.now c.loop.world c.step.new.self c.loop.invariant (step_later c.loop.world c.args.actor.0 c.step.result c.step.new.self c.step.ensures.steps c.step.ensures.central)

@@ -1,4 +1,4 @@
-use Rattle.partition_world.specs.Sound.{orders_left}
+use Rattle.partition_world.specs.Sound.{turns_left}
 use Rattle.partition_world.specs.Later.{IsLater}
 use Rattle.partition_world.proofs.runs.run_actor.Given as goal
 
@@ -6,4 +6,4 @@ abbrev pub invariant-loop : goal.invariant-loop
 invariant-loop l = IsLater l.initial.world l.world
 
 abbrev pub decreases-loop : goal.decreases-loop
-decreases-loop l = orders_left l.world.lists l.world.desk
+decreases-loop l = turns_left l.world.lists l.world.desk

@@ -1,12 +1,12 @@
-use Rattle.std.proofs.Common.{◌∙◌, sym}
-use Rattle.log_terms.proofs.Logs.{consecutive_snoc, end_append}
+use Rattle.std.proofs.Common.{rules, sym, subst}
+use Rattle.log_terms.specs.Log.{end_of}
+use Rattle.partition_world.specs.Log.{Lined, IsStored, MayTake}
+use Rattle.partition_world.proofs.LogSound.{push_log}
 use Rattle.partition_world.proofs.log.Log.push.Goals as goal
 
 pub invariant_of-self-2 : goal.invariant_of-self-2
 invariant_of-self-2 c =
-    let base = rw (← c.self.view_is) at c.requires.base in
-    rw c.in_ok-push.ensures.items (record {
-      consecutive = consecutive_snoc 0 c.self.inside.batches.items c.args.bytes.items c.self.invariant.consecutive base;
-      ends = c.requires.end ∙ sym (end_append 0 c.self.inside.batches.items _);
-      small = c.requires.small;
-    })
+    push_log c.self.inside.end c.args.end c.args.epoch c.self.inside.batches.items c.push_reserved.new.self.items c.args.bytes.items c.self.inside.line c.enter.new.line c.self.invariant
+    (subst (λ (l : Lined). IsStored (end_of l.batches) c.args.end c.args.epoch c.args.bytes.items) (sym c.self.view_is) c.requires.stored)
+    (subst (λ (l : Lined). MayTake l.line c.args.epoch) (sym c.self.view_is) c.requires.may)
+    (search rules) c.in_ok-enter.ensures.ok

@@ -1,52 +1,89 @@
-use Rattle.std.proofs.Common.{◌≡◌, ◌∙◌, refl, arith}
-use Rattle.log_terms.proofs.Lists.{within, length-slice_set}
-use Rattle.plain_log.specs.Orders.{IsListFor, IsOrderFor}
-use Rattle.partition_world.proofs.Lists.{some_at, at_end, left_some, left_less}
-use Rattle.partition_world.proofs.SoundLaw.{all_at, turn_sound}
+use Rattle.std.proofs.Common.{◌≡◌, refl, subst, arith}
+use Rattle.log_terms.proofs.Lists.{within}
+use Rattle.partition_world.specs.declared.begun.Turned.{Turned}
+use Rattle.partition_world.specs.declared.begun.Turned.TheVariants.{Answers, Begins}
+use Rattle.partition_world.specs.Held.{AtNode}
+use Rattle.partition_world.specs.Rows.{Row}
+use Rattle.partition_world.proofs.Lists.{some_at, at_end}
+use Rattle.partition_world.proofs.WorldSound.{list_at, order_at, room_at, sound_after}
 use Rattle.partition_world.proofs.world.World.take_turn.Goals as goal
 
-pub returns-then-seat-len : goal.returns-then-seat-len
-returns-then-seat-len c =
+pub returns-then-number-len : goal.returns-then-number-len
+returns-then-number-len c =
     let lists = c.self.inside.lists in
     let actor = some_at (λ l. l.actor.0 ≡ c.args.actor.0) lists c.in-Some.place c.get-list.result.now (rw c.as_slice.ensures at c.in-Some.ensures.found) c.get-list.ensures in
     rw (← c.self.view_is) (
       at_end _ c.args.actor.0 c.in-Some.place c.get-list.result.now c.get-seat.result.now c.self.invariant.fit.rising
-          (record { list = c.get-list.ensures; actor = actor; seat_is = c.get-seat.ensures }) (omega (arith, c.len.ensures, c.if-seat-len.true)),
+          (record { list = c.get-list.ensures; actor = actor; seat_is = c.get-seat.ensures }) (omega (arith, c.len.ensures, c.if-number-len.true)),
       refl,
     )
 
 pub turn-requires-clause-node : goal.turn-requires-clause-node
 turn-requires-clause-node c =
-    let list = all_at (IsListFor c.self.inside.config) c.self.inside.lists _ c.get-list.result.now c.self.invariant.fit.each c.get-list.ensures in
-    let order = all_at (IsOrderFor c.self.inside.config) c.get-list.result.now.orders _ c.get-order.result.now list.orders c.get-order.ensures in
-    omega (arith, order.broker, c.self.invariant.brokers, c.self.invariant.held.one)
+    let order = order_at c.self.inside.config c.self.inside.lists c.self.inside.held c.self.inside.desk c.self.inside.journal.room c.in-Some.place c.get-seat.result.now.number
+    c.get-list.result.now c.get-order.result.now c.self.invariant c.get-list.ensures c.get-order.ensures in
+    omega (arith, order.broker, c.self.invariant.held.count)
 
 pub turn-requires-clause-fit : goal.turn-requires-clause-fit
 turn-requires-clause-fit c =
-    let list = all_at (IsListFor c.self.inside.config) c.self.inside.lists _ c.get-list.result.now c.self.invariant.fit.each c.get-list.ensures in
-    let order = all_at (IsOrderFor c.self.inside.config) c.get-list.result.now.orders _ c.get-order.result.now list.orders c.get-order.ensures in
-    order.command
+    (order_at c.self.inside.config c.self.inside.lists c.self.inside.held c.self.inside.desk c.self.inside.journal.room c.in-Some.place c.get-seat.result.now.number
+    c.get-list.result.now c.get-order.result.now c.self.invariant c.get-list.ensures c.get-order.ensures).command
 
 pub put-requires : goal.put-requires
 put-requires c =
-    let left = left_some c.self.inside.lists c.self.inside.desk _ c.get-list.result.now c.get-seat.result.now c.get-list.ensures c.get-seat.ensures (omega (arith, c.len.ensures)) in
-    omega (arith, left, c.self.invariant.room)
+    room_at c.self.inside.config c.self.inside.lists c.self.inside.held c.self.inside.desk c.self.inside.journal.room c.in-Some.place c.get-list.result.now c.get-seat.result.now c.self.invariant
+    c.get-list.ensures c.get-seat.ensures (omega (arith, c.len.ensures))
 
-pub overflow_add-seat : goal.overflow_add-seat
-overflow_add-seat c =
-    let list = all_at (IsListFor c.self.inside.config) c.self.inside.lists _ c.get-list.result.now c.self.invariant.fit.each c.get-list.ensures in
+pub put-requires-in-Begins : goal.put-requires-in-Begins
+put-requires-in-Begins c =
+    room_at c.self.inside.config c.self.inside.lists c.self.inside.held c.self.inside.desk c.self.inside.journal.room c.in-Some.place c.get-list.result.now c.get-seat.result.now c.self.invariant
+    c.get-list.ensures c.get-seat.ensures (omega (arith, c.len.ensures))
+
+pub overflow_add-next : goal.overflow_add-next
+overflow_add-next c =
+    let list = list_at c.self.inside.config c.self.inside.lists c.self.inside.held c.self.inside.desk c.self.inside.journal.room c.in-Some.place c.get-list.result.now c.self.invariant c.get-list.ensures in
     omega (arith, list.few, c.len.ensures)
 
 pub replace-requires : goal.replace-requires
 replace-requires c = within c.self.inside.desk _ c.get-seat.result.now c.get-seat.ensures
 
-pub invariant_of-self-2 : goal.invariant_of-self-2
-invariant_of-self-2 c =
-    let less = left_less c.self.inside.lists c.self.inside.desk _ c.get-list.result.now c.get-seat.result.now c.get-list.ensures c.get-seat.ensures (omega (arith, c.len.ensures)) in
-    record {
-      brokers = c.self.invariant.brokers;
-      fit = c.self.invariant.fit;
-      held = turn_sound c.self.inside.held c.get-order.result.now.broker.0 c.get-order.result.now.command c.in-Ok.answer c.turn.new.self c.self.invariant.held c.in-Ok.ensures.row;
-      seats = rw c.replace.ensures.now (length-slice_set c.self.inside.desk c.in-Some.place _ ∙ c.self.invariant.seats);
-      room = rw (c.replace.ensures.now, c.put.ensures.room) (omega (arith, less, c.self.invariant.room));
-    }
+pub replace-requires-in-Begins : goal.replace-requires-in-Begins
+replace-requires-in-Begins c = within c.self.inside.desk _ c.get-seat.result.now c.get-seat.ensures
+
+pub invariant_of-self-in-Answers : goal.invariant_of-self-in-Answers
+invariant_of-self-in-Answers c =
+    sound_after c.self.inside.config c.self.inside.lists c.self.inside.held c.turn.new.self c.self.inside.desk c.replace.new.self c.self.inside.journal.room _ c.in-Some.place
+    c.get-list.result.now c.get-seat.result.now c.get-order.result.now (Answers c.in-Answers.answer) c.self.invariant c.get-list.ensures c.get-seat.ensures (omega (arith, c.len.ensures))
+    (subst (λ (t : Turned). AtNode c.self.inside.held c.get-order.result.now.broker.0 (λ x. Row c.self.inside.held c.get-order.result.now.broker.0 x c.get-seat.result.now.begun c.get-order.result.now.command t c.turn.new.self))
+    c.in-Answers.is c.in-Ok.ensures.row)
+    c.replace.ensures.now c.put.ensures.room
+
+pub invariant_of-self-in-Begins : goal.invariant_of-self-in-Begins
+invariant_of-self-in-Begins c =
+    sound_after c.self.inside.config c.self.inside.lists c.self.inside.held c.turn.new.self c.self.inside.desk _ c.self.inside.journal.room _ c.in-Some.place
+    c.get-list.result.now c.get-seat.result.now c.get-order.result.now (Begins c.in-Begins.begun) c.self.invariant c.get-list.ensures c.get-seat.ensures (omega (arith, c.len.ensures))
+    (subst (λ (t : Turned). AtNode c.self.inside.held c.get-order.result.now.broker.0 (λ x. Row c.self.inside.held c.get-order.result.now.broker.0 x c.get-seat.result.now.begun c.get-order.result.now.command t c.turn.new.self))
+    c.in-Begins.is c.in-Ok.ensures.row)
+    c.replace-in-Begins.ensures.now c.put-in-Begins.ensures.room
+
+pub returns-in-Answers : goal.returns-in-Answers
+returns-in-Answers c =
+    let actor = some_at (λ l. l.actor.0 ≡ c.args.actor.0) c.self.inside.lists c.in-Some.place c.get-list.result.now (rw c.as_slice.ensures at c.in-Some.ensures.found) c.get-list.ensures in
+    rw (← c.self.view_is) (
+      c.in-Answers.answer,
+      record {
+        place = c.in-Some.place;
+        list = c.get-list.result.now;
+        seat = c.get-seat.result.now;
+        order = c.get-order.result.now;
+        at = record { list = c.get-list.ensures; actor = actor; seat_is = c.get-seat.ensures };
+        next = c.get-order.ensures;
+        row = subst (λ (t : Turned). AtNode c.self.inside.held c.get-order.result.now.broker.0 (λ x. Row c.self.inside.held c.get-order.result.now.broker.0 x c.get-seat.result.now.begun c.get-order.result.now.command t c.turn.new.self))
+            c.in-Answers.is c.in-Ok.ensures.row;
+        desk = c.replace.ensures.now;
+        entered = c.put.ensures.items;
+        partition = refl;
+        config = refl;
+        lists = refl;
+      },
+    )

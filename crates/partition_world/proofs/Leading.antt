@@ -1,0 +1,73 @@
+-- A leader may append in the epoch that it leads.
+use Rattle.std.proofs.Common.{◌≡◌, sym, ℕ, ◌+◌, ◌^◌, ◌<◌, ◌≤◌, List, [], ◌∷◌, length, slice_get, Some, arith}
+use Rattle.log_terms.specs.Batch.{last_offset_delta_of}
+use Rattle.log_terms.specs.Log.{EndsAt}
+use Rattle.epoch_line.specs.Line.{IsLine, last_epoch}
+use Rattle.record_batch.specs.Build.{HeadTells, IsBuildable}
+use Rattle.record_batch.specs.Stamp.{stamped, SetsBaseAndEpoch}
+use Rattle.record_batch.specs.declared.rec.Rec.{Rec}
+use Rattle.plain_log.specs.declared.state.Role.{Role}
+use Rattle.plain_log.specs.declared.state.Role.TheVariants.{Idle, Leads, Follows, Joined}
+use Rattle.plain_log.specs.State.{leading}
+use Rattle.partition_world.specs.declared.held.Node.{Node}
+use Rattle.partition_world.specs.declared.held.Held.{Held}
+use Rattle.partition_world.specs.Log.{IsStored, MayTake}
+use Rattle.partition_world.specs.Sound.{HeldSound}
+
+-- what stands at a place is one
+pub same_at : {A : Type 0} (xs : List A) (i : ℕ) (x y : A) → slice_get xs i ≡ Some x → slice_get xs i ≡ Some y → x ≡ y
+same_at xs i x y at to = cc (at, to)
+
+-- a line's last epoch is one that a line can have
+last_few : (line : List (ℕ × ℕ)) (e : ℕ) → IsLine line → last_epoch line ≡ Some e → e < 2 ^ 31
+last_few [] e rises is = absurd cc
+last_few (entry ∷ []) e rises is = let same : entry.0 ≡ e = cc in omega (arith, rises.0, same)
+last_few (entry ∷ next ∷ line) e rises is = last_few (next ∷ line) e rises.3 is
+
+leading_is : (r : Role) (e : ℕ) → leading r ≡ Some e → r ≡ Leads e
+leading_is Idle e is = absurd cc
+leading_is (Leads f) e is = cc
+leading_is (Follows f) e is = absurd cc
+leading_is (Joined f) e is = absurd cc
+
+-- what the line of a leader takes
+pub record MayLead (x : Node) (e : ℕ) : Type 0 where
+  pub few : e < 2 ^ 31
+  pub may : MayTake x.log.line e
+
+pub may_lead : (n : ℕ) (h : Held) (b : ℕ) (x : Node) (e : ℕ) → HeldSound n h → slice_get h.nodes b ≡ Some x → leading x.role ≡ Some e → MayLead x e
+may_lead n h b x e sound at leads =
+    let node = sound.nodes b x at in
+    let last = node.leads e (leading_is x.role e leads) in
+    record {
+      few = last_few x.log.line e node.log.rises last;
+      may = λ k is. (let same : e ≡ k = cc (last, is) in omega (arith, same));
+    }
+
+-- a batch that was built for a leader's end
+pub stored_built : (batch : List ℕ) (recs : List Rec) (base end e : ℕ) → HeadTells batch base e recs → IsBuildable recs → end ≡ base + length recs → end ≤ 4611686018427387904
+    → e < 2 ^ 31 → IsStored base end e batch
+stored_built batch recs base end e head fit ends small few = record {
+  some = omega (arith, head.size);
+  base_is = sym head.base_offset;
+  end_is = omega (arith, head.base_offset, head.last_offset_delta, ends, fit.some);
+  epoch_is = sym head.leader_epoch;
+  small = small;
+  few = few;
+}
+
+-- a batch from outside that was stamped for it
+pub stored_placed : (bytes batch : List ℕ) (base end e count : ℕ) → SetsBaseAndEpoch bytes base e → batch ≡ stamped bytes base e → 61 ≤ length bytes
+    → count ≡ last_offset_delta_of bytes + 1 → end ≡ base + count → end ≤ 4611686018427387904 → e < 2 ^ 31 → IsStored base end e batch
+stored_placed bytes batch base end e count sets is long counted ends small few = rw is (record {
+  some = omega (arith, sets.size, long);
+  base_is = sym sets.base_offset;
+  end_is = omega (arith, sets.base_offset, sets.last_offset_delta, ends, counted);
+  epoch_is = sym sets.leader_epoch;
+  small = small;
+  few = few;
+})
+
+-- the high watermark that a node knows is an end of its log
+pub known_at : (n : ℕ) (h : Held) (b : ℕ) (x : Node) → HeldSound n h → slice_get h.nodes b ≡ Some x → EndsAt x.known x.log.batches
+known_at n h b x sound at = (sound.nodes b x at).known
