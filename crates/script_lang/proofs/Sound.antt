@@ -83,30 +83,25 @@ in-range (Append recs) said fits built = record { some = said; fits = fits }
 in-range (Raw bytes) said fits built = fits
 in-range Flush said fits built = tt
 in-range Roll said fits built = absurd (cc)
-in-range Elect said fits built = absurd (cc)
-in-range Unclean said fits built = absurd (cc)
-in-range Learn said fits built = absurd (cc)
-in-range Join said fits built = absurd (cc)
-in-range (Follow limit) said fits built = absurd (cc)
+in-range Elect said fits built = tt
+in-range Unclean said fits built = tt
+in-range Learn said fits built = tt
+in-range Join said fits built = tt
+in-range (Follow limit) said fits built = said
 in-range Ack said fits built = tt
-in-range Shrink said fits built = absurd (cc)
-in-range Expand said fits built = absurd (cc)
+in-range Shrink said fits built = tt
+in-range Expand said fits built = tt
 in-range Copy said fits built = absurd (cc)
 in-range Trim said fits built = absurd (cc)
 in-range Expire said fits built = absurd (cc)
-in-range (Raise start) said fits built = absurd (cc)
-in-range (Clock ms) said fits built = absurd (cc)
-in-range Stop said fits built = absurd (cc)
-in-range Up said fits built = absurd (cc)
+in-range (Raise start) said fits built = said
+in-range (Clock ms) said fits built = said
+in-range Stop said fits built = tt
+in-range Up said fits built = tt
 in-range (Fetch offset limit) said fits built = said
 in-range (Pack on) said fits built = absurd (cc)
 in-range (Copying on) said fits built = absurd (cc)
 in-range (Offset which) said fits built = absurd (cc)
-
-third : (a b c : Bool) → (a && b && c) ≡ true → c ≡ true
-third true true c h = h
-third true false c h = absurd (cc)
-third false b c h = absurd (cc)
 
 order-for : (options : Options) (order : Order) → IsSaidTo (brokers_of options) order → size_of order.command ≤ 1048576 → is_built_command order.command ≡ true → IsOrderFor (config_of options) order
 order-for options order said fits built = record { broker = said.broker; command = in-range order.command said.command fits built }
@@ -123,13 +118,12 @@ sound-order t self counts actor partition order at_once number is h range with f
       options = h.options;
       small = with.small;
       few = λ a. omega (arith, few-order t.actors actor.0 t.sums.commands partition order h.few a, count);
-      orders = orders-order (IsOrderFor (config_of t.options)) t.actors actor.0 partition order (order-for t.options order said fits (third at_once (actor.0 == 0) (is_built_command order.command) built)) h.orders;
+      orders = orders-order (IsOrderFor (config_of t.options)) t.actors actor.0 partition order (order-for t.options order said fits built) h.orders;
       unbegun = λ e. absurd (cc);
       actors = length-slice_set t.actors actor.0 _ ∙ h.actors;
       numbered = empty.numbered;
       empty = empty.empty;
       parts = empty.count;
-      built = h.built;
     }
 
 -- with turns
@@ -148,7 +142,6 @@ sound-turns t self counts actor turns partition is h with =
       numbered = empty.numbered;
       empty = empty.empty;
       parts = empty.count;
-      built = h.built;
     }
 
 -- with a fault
@@ -166,7 +159,6 @@ sound-fault t partition fault h =
       numbered = empty.numbered;
       empty = empty.empty;
       parts = empty.count;
-      built = h.built;
     }
 
 no-orders : (n a : ℕ) → (slot_at (replicate n idle) a).orders ≡ []
@@ -194,7 +186,6 @@ sound-new small = record {
   numbered = numbered-empty 0 64;
   empty = lists-empty 0 64;
   parts = refl;
-  built = refl;
 }
 
 parts-more : (n count : ℕ) → empty_parts n (suc count) ≡ empty_parts n count ++ empty_part (n + count) ∷ []

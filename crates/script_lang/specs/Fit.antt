@@ -1,8 +1,12 @@
 -- What a script that was read meets: a world can be made of it, and can run its lists.
-use Rattle.std.specs.Prelude.{◌≡◌, ℕ, ◌<◌, ◌≤◌, ◌+◌, false, List, [], ◌∷◌, length, All}
+use Rattle.std.specs.Prelude.{◌≡◌, ℕ, ◌<◌, ◌≤◌, ◌≤ℤ◌, ◌<ℤ◌, pos, ◌^◌, ◌+◌, false, List, [], ◌∷◌, ◌++◌, length, All}
+use Rattle.tier_base.specs.declared.names.ActorId.{ActorId}
+use Rattle.plain_log.specs.declared.command.ActorList.{ActorList}
 use Rattle.plain_log.specs.declared.command.Command.{Command}
-use Rattle.plain_log.specs.declared.command.Command.TheVariants.{Append, Fetch}
+use Rattle.plain_log.specs.declared.command.Command.TheVariants.{Append, Follow, Raise, Clock, Fetch}
 use Rattle.plain_log.specs.declared.command.Order.{Order}
+use Rattle.plain_log.specs.declared.command.Pace.{Pace}
+use Rattle.plain_log.specs.declared.command.Pace.TheVariants.{Until}
 use Rattle.plain_log.specs.Orders.{AreListsFor, IsConfig, IsOrderFor}
 use Rattle.script_lang.specs.declared.counting.Counts.{Counts}
 use Rattle.script_lang.specs.declared.form.Form.{Form}
@@ -21,6 +25,16 @@ abbrev pub AreNumbered : ℕ → List PartScript → Type 0
 AreNumbered n [] = Unit {0}
 AreNumbered n (part ∷ parts) = (part.partition.0 ≡ n) × AreNumbered (n + 1) parts
 
+-- the schedule steps the actor until it has answered so many of its commands
+pub record StepsTo (schedule : List Pace) (actor : ActorId) (number : ℕ) : Type 0 where
+  pub before : List Pace
+  pub after : List Pace
+  pub parts : schedule ≡ before ++ Until actor number ∷ after
+
+-- the schedule steps the actor of each list to the end of it
+abbrev pub StepsToEnds : PartScript → Type 0
+StepsToEnds part = All (λ (l : ActorList). StepsTo part.schedule l.actor (length l.orders)) part.lists
+
 -- a world can be made of each partition's part, and can run its lists
 pub record IsFit (script : Script) : Type 0 where
   pub config : IsConfig script.config
@@ -28,12 +42,14 @@ pub record IsFit (script : Script) : Type 0 where
   pub few : length script.parts ≤ 64
   pub numbered : AreNumbered 0 script.parts
   pub lists : All (λ (part : PartScript). AreListsFor script.config part.lists) script.parts
-  -- more brokers aren't built yet
-  pub built : script.config.brokers ≡ 1
+  pub ends : All StepsToEnds script.parts
 
 -- a command's numbers are in range, and an append has records
 abbrev pub IsSaid : Command → Type 0
 IsSaid (Append recs) = 0 < length recs
+IsSaid (Follow limit) = limit ≤ 2147483647
+IsSaid (Raise start) = start ≤ 4611686018427387904
+IsSaid (Clock ms) = (pos 0 ≤ℤ ms) × (ms <ℤ pos (2 ^ 63))
 IsSaid (Fetch offset limit) = (offset ≤ 4611686018427387904) × (limit ≤ 2147483647)
 IsSaid other = Unit {0}
 
@@ -87,5 +103,3 @@ pub record IsSound (t : Told) : Type 0 where
   pub numbered : AreNumbered 0 t.parts
   pub empty : All (λ (part : PartScript). part.lists ≡ []) t.parts
   pub parts : length t.parts ≡ 64
-  -- more brokers aren't built yet
-  pub built : brokers_of t.options ≡ 1

@@ -9,8 +9,8 @@
 --   5. TooMany, BatchTooLarge, FetchSum, CopySum, TurnSum     the limits (Limits)
 --   6. Unbuilt                            a form that isn't built yet
 --
--- Built are blank lines and comments, `partitions 1`, and of actor 0 append, raw, flush, ack and fetch.
--- Not built yet are the other options and more partitions, the other actors, later, turn, fault, and the other commands.
+-- Built are blank lines and comments, the options `brokers` and `partitions`, later, turn, and all commands but roll,
+-- copy, trim, expire, pack, copying and offset. Not built yet are these, the other options, and fault.
 --
 -- Behind the last line each partition's schedule steps its actors in rising order, each to the end of its list.
 use Rattle.std.specs.Prelude.{◌≡◌, ℕ, zero, suc, ◌+◌, ◌==◌, ◌&&◌, Bool, true, false, if◌then◌else◌, is_some, ℤ, pos, negsuc, List, [], ◌∷◌, ◌++◌, length, replicate, take, Option, Some, None, Result, Ok, Err}
@@ -21,7 +21,7 @@ use Rattle.tier_base.specs.declared.names.ActorId.{ActorId}
 use Rattle.tier_base.specs.declared.names.PartitionId.{PartitionId}
 use Rattle.tier_base.specs.declared.plain.Keep.{Keep}
 use Rattle.plain_log.specs.declared.command.Command.{Command}
-use Rattle.plain_log.specs.declared.command.Command.TheVariants.{Append, Raw, Flush, Ack, Fetch}
+use Rattle.plain_log.specs.declared.command.Command.TheVariants.{Append, Raw, Flush, Elect, Unclean, Learn, Join, Follow, Ack, Shrink, Expand, Raise, Clock, Stop, Up, Fetch}
 use Rattle.plain_log.specs.declared.command.Config.{Config}
 use Rattle.plain_log.specs.declared.command.Order.{Order}
 use Rattle.plain_log.specs.declared.command.Pace.{Pace}
@@ -140,21 +140,33 @@ abbrev pub is_built_command : Command → Bool
 is_built_command (Append recs) = true
 is_built_command (Raw bytes) = true
 is_built_command Flush = true
+is_built_command Elect = true
+is_built_command Unclean = true
+is_built_command Learn = true
+is_built_command Join = true
+is_built_command (Follow limit) = true
 is_built_command Ack = true
+is_built_command Shrink = true
+is_built_command Expand = true
+is_built_command (Raise start) = true
+is_built_command (Clock ms) = true
+is_built_command Stop = true
+is_built_command Up = true
 is_built_command (Fetch offset limit) = true
 is_built_command other = false
 
 -- the options that are built
 abbrev pub is_built_option : OptionLine → Bool
-is_built_option (Partitions n) = n == 1
+is_built_option (Brokers n) = true
+is_built_option (Partitions n) = true
 is_built_option other = false
 
 -- the forms that are built
 abbrev pub is_built : Form → Bool
 is_built Blank = true
 is_built (Given option) = is_built_option option
-is_built (Placed actor partition order at_once) = at_once && actor.0 == 0 && is_built_command order.command
-is_built (Turn actor turns) = false
+is_built (Placed actor partition order at_once) = is_built_command order.command
+is_built (Turn actor turns) = true
 is_built (Faulty partition fault) = false
 
 -- a form that is built

@@ -12,12 +12,14 @@ fn is_built_command(command: &Command) -> bool
     ensures { result ≡ is_built_command command.now }
 {
     match command {
-        Command::Append(_) => true,
-        Command::Raw(_) => true,
-        Command::Flush => true,
-        Command::Ack => true,
-        Command::Fetch { .. } => true,
-        _ => false,
+        Command::Roll => false,
+        Command::Copy => false,
+        Command::Trim => false,
+        Command::Expire => false,
+        Command::Pack(_) => false,
+        Command::Copying(_) => false,
+        Command::Offset(_) => false,
+        _ => true,
     }
 }
 
@@ -25,7 +27,8 @@ fn is_built_option(option: &OptionLine) -> bool
     ensures { result ≡ is_built_option option.now }
 {
     match option {
-        OptionLine::Partitions(n) => *n == 1,
+        OptionLine::Brokers(_) => true,
+        OptionLine::Partitions(_) => true,
         _ => false,
     }
 }
@@ -36,13 +39,8 @@ fn is_built(form: &Form) -> bool
     match form {
         Form::Blank => true,
         Form::Given(option) => is_built_option(option),
-        Form::Placed {
-            actor,
-            order,
-            at_once,
-            ..
-        } => *at_once && actor.0 == 0 && is_built_command(&order.command),
-        Form::Turn { .. } => false,
+        Form::Placed { order, .. } => is_built_command(&order.command),
+        Form::Turn { .. } => true,
         Form::Faulty { .. } => false,
     }
 }

@@ -31,8 +31,9 @@ fn bytes_that_no_line_has(rt: HostRuntime) -> Result<(), Fail> {
 fn words_that_cannot_stand_there(rt: HostRuntime) -> Result<(), Fail> {
     let alloc = rt.alloc();
     let why = Why::Word;
-    let bad: [(&[u8], u32); 47] = [
+    let bad: [(&[u8], u32); 48] = [
         (b"# c\n0 0 0 frob\n".as_slice(), 2),
+        (b"brokers 1\n# c\n0 0 0 frob\n".as_slice(), 3),
         (b"\n0 0 - flush\n".as_slice(), 2),
         (b"\n0 0 0 clock 5\n".as_slice(), 2),
         (b"x 0 0 flush\n".as_slice(), 1),
@@ -280,11 +281,7 @@ fn fetches_past_the_sum(rt: HostRuntime) -> Result<(), Fail> {
 fn forms_that_are_not_built(rt: HostRuntime) -> Result<(), Fail> {
     let alloc = rt.alloc();
     let why = Why::Unbuilt;
-    let bad: [(&[u8], u32); 46] = [
-        (b"brokers 1\n".as_slice(), 1),
-        (b"brokers 8\n".as_slice(), 1),
-        (b"partitions 2\n".as_slice(), 1),
-        (b"partitions 64\n".as_slice(), 1),
+    let bad: [(&[u8], u32); 29] = [
         (b"segment_bytes 100\n".as_slice(), 1),
         (b"segment_bytes 16777216\n".as_slice(), 1),
         (b"index_interval_bytes 0\n".as_slice(), 1),
@@ -298,41 +295,67 @@ fn forms_that_are_not_built(rt: HostRuntime) -> Result<(), Fail> {
         (b"local_retention_ms 9223372036854775807\n".as_slice(), 1),
         (b"local_retention_bytes -2\n".as_slice(), 1),
         (b"local_retention_bytes 0\n".as_slice(), 1),
-        (b"1 0 0 flush\n".as_slice(), 1),
-        (b"63 0 0 append 0,-,-\n".as_slice(), 1),
-        (b"later 0 0 0 flush\n".as_slice(), 1),
         (b"fault 0 store put 1 before\n".as_slice(), 1),
         (b"fault 0 meta append 4294967295 after\n".as_slice(), 1),
+        (b"fault 0 disk 0 sync 1 before\n".as_slice(), 1),
         (b"0 0 0 roll\n".as_slice(), 1),
-        (b"0 0 0 elect\n".as_slice(), 1),
-        (b"0 0 0 unclean\n".as_slice(), 1),
-        (b"0 0 0 learn\n".as_slice(), 1),
-        (b"0 0 0 join\n".as_slice(), 1),
-        (b"0 0 0 follow 0\n".as_slice(), 1),
-        (b"0 0 0 shrink\n".as_slice(), 1),
-        (b"0 0 0 expand\n".as_slice(), 1),
+        (b"later 63 0 0 roll\n".as_slice(), 1),
         (b"0 0 0 copy\n".as_slice(), 1),
         (b"0 0 0 trim\n".as_slice(), 1),
         (b"0 0 0 expire\n".as_slice(), 1),
-        (b"0 0 0 raise 0\n".as_slice(), 1),
-        (b"0 0 0 stop\n".as_slice(), 1),
-        (b"0 0 0 up\n".as_slice(), 1),
         (b"0 0 0 offset latest\n".as_slice(), 1),
         (b"0 0 0 offset at 0\n".as_slice(), 1),
-        (b"0 0 - clock 0\n".as_slice(), 1),
         (b"0 0 - pack 0\n".as_slice(), 1),
         (b"0 0 - copying 1\n".as_slice(), 1),
-        (b"0 0 0 flush\nturn 0 1048576\n".as_slice(), 2),
+        (b"brokers 8\n0 0 7 up\n0 0 7 roll\n".as_slice(), 3),
+        (b"partitions 64\n0 0 0 flush\n63 63 0 roll\n".as_slice(), 3),
         (
-            b"# more partitions than are built\npartitions 64\n0 0 0 flush\n63 63 0 flush\n".as_slice(),
-            2,
+            b"later 0 0 0 up\nturn 0 1\nlater 0 0 0 trim\n0 0 0 frob\n".as_slice(),
+            3,
         ),
-        (b"brokers 1\n# c\n0 0 0 frob\n".as_slice(), 1),
+        (b"brokers 1\npartitions 1\nretention_ms 0\n".as_slice(), 3),
+    ];
+    for (text, line) in bad {
+        let found = refusal(alloc, text);
+        let wanted = ScriptRefusal::Bad { line, why };
+        assert_eq!(rt; found, Some(wanted), "of {} bytes", text.len());
+    }
+    Ok(())
+}
+
+#[test]
+fn actors_of_two_partitions(rt: HostRuntime) -> Result<(), Fail> {
+    let alloc = rt.alloc();
+    let why = Why::ActorPartition;
+    let bad: [(&[u8], u32); 3] = [
         (
             b"partitions 2\n0 0 0 append 1000,-,:a\n1 1 0 append 1000,-,:b\n2 0 0 flush\n1 0 0 flush\n".as_slice(),
-            1,
+            5,
         ),
-        (b"0 0 0 copy\n".as_slice(), 1),
+        (
+            b"partitions 2\nlater 0 0 0 up\nlater 0 1 0 roll\n".as_slice(),
+            3,
+        ),
+        (b"partitions 64\n63 63 0 up\n63 62 0 up\n".as_slice(), 3),
+    ];
+    for (text, line) in bad {
+        let found = refusal(alloc, text);
+        let wanted = ScriptRefusal::Bad { line, why };
+        assert_eq!(rt; found, Some(wanted), "of {} bytes", text.len());
+    }
+    Ok(())
+}
+
+#[test]
+fn turns_past_the_sum(rt: HostRuntime) -> Result<(), Fail> {
+    let alloc = rt.alloc();
+    let why = Why::TurnSum;
+    let bad: [(&[u8], u32); 2] = [
+        (b"0 0 0 up\nturn 0 1048576\nturn 0 1\n".as_slice(), 3),
+        (
+            b"0 0 0 up\nlater 1 0 0 up\nturn 1 1048575\nturn 0 2\n".as_slice(),
+            4,
+        ),
     ];
     for (text, line) in bad {
         let found = refusal(alloc, text);

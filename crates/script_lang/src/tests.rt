@@ -26,7 +26,7 @@ pub(crate) fn refusal(alloc: Global, text: &[u8]) -> Option<ScriptRefusal> {
 #[test]
 fn good_scripts_are_read(rt: HostRuntime) -> Result<(), Fail> {
     let alloc = rt.alloc();
-    let good: [(&[u8], &str); 18] = [
+    let good: [(&[u8], &str); 23] = [
         (b"".as_slice(), "no line"),
         (b"\n".as_slice(), "an empty line"),
         (
@@ -83,6 +83,26 @@ fn good_scripts_are_read(rt: HostRuntime) -> Result<(), Fail> {
         (
             b"0 0 0 fetch 0 268435456\n".as_slice(),
             "one fetch at the bound of the sum",
+        ),
+        (
+            b"brokers 8\npartitions 64\n63 63 7 stop\n".as_slice(),
+            "the last actor, partition and broker",
+        ),
+        (
+            b"brokers 2\n0 0 1 elect\n0 0 1 learn\n0 0 0 unclean\n0 0 1 join\n0 0 1 follow 2147483647\n".as_slice(),
+            "elections and followers",
+        ),
+        (
+            b"0 0 0 shrink\n0 0 0 expand\n0 0 0 raise 4611686018427387904\n0 0 0 stop\n0 0 0 up\n".as_slice(),
+            "the registry, stop and up",
+        ),
+        (
+            b"0 0 - clock 9223372036854775807\n".as_slice(),
+            "the last time",
+        ),
+        (
+            b"later 1 0 0 flush\nturn 1 1048576\n".as_slice(),
+            "turns at their bound",
         ),
     ];
     for (text, what) in good {
@@ -209,6 +229,24 @@ fn a_script_has_options_lists_and_a_schedule(rt: HostRuntime) -> Result<(), Fail
     for part in empty.parts.as_slice() {
         assert_eq!(rt; part.lists.len(), 0);
         assert_eq!(rt; part.schedule.len(), 0);
+    }
+    Ok(())
+}
+
+#[test]
+fn later_orders_and_turns_are_scheduled(rt: HostRuntime) -> Result<(), Fail> {
+    let actor = ActorId(2);
+    let script = read(
+        rt.alloc(),
+        b"brokers 2\n0 0 0 flush\nlater 2 0 1 follow 1\nturn 2 1\n".as_slice(),
+    )?;
+    assert_eq!(rt; script.config.brokers, 2);
+    assert_eq!(rt; script.parts.len(), 1);
+    for part in script.parts.as_slice() {
+        assert_eq!(rt; part.lists.len(), 2);
+        let turn = Pace::Times { actor, turns: 1 };
+        let end = Pace::Until { actor, number: 1 };
+        assert!(rt; part.schedule.as_slice() == [until(1), turn, until(1), end].as_slice());
     }
     Ok(())
 }

@@ -7,7 +7,7 @@
 ghost use Rattle.std.specs.Prelude.{◌≡◌, ◌<◌, false, Ok, IfOk, OnOk, IsTrue};
 ghost use Rattle.script_lang.specs.Reading.{Reads};
 ghost use Rattle.script_lang.specs.declared.form.Form.{Form};
-ghost use Rattle.script_lang.specs.Script.{nothing_told, same_partition, known_actor, may_stand, sums_with, is_built_option, is_built, built_form, told_with, form_behind, line_behind, script_of, segment_bytes_of, slot_at};
+ghost use Rattle.script_lang.specs.Script.{nothing_told, same_partition, known_actor, may_stand, sums_with, is_built, built_form, told_with, form_behind, line_behind, script_of, segment_bytes_of, slot_at};
 ghost use Rattle.script_lang.specs.Fit.{IsOptionInRange, IsFormInRange, FitsBatch, AreCountsWith, IsFit};
 
 use crate::actors::Actors;
@@ -131,7 +131,6 @@ impl Told {
     fn with_option(self, option: OptionLine) -> Told
         requires range { IsOptionInRange option }
         requires unbegun { self.begun ≡ false }
-        requires built { IsTrue (is_built_option option) }
         ensures { result ≡ told_with self self.sums (Form.Given option) }
     {
         let mut told = self;
