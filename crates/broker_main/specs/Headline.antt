@@ -1,25 +1,39 @@
 -- The headline: whatever the script, the written trace is a run of the plain log.
-use Rattle.std.specs.Prelude.{◌≡◌, ℕ, List, [], ◌∷◌, Ok, Err}
+use Rattle.std.specs.Prelude.{◌≡◌, ℕ, false, List, [], ◌∷◌, Ok, Err}
 use Rattle.std.specs.declared.option.Option.{Option}
 use Rattle.std.specs.Io.KnownBytes.{Appends}
 use Rattle.tier_base.specs.Stream.{ReadsWhole, AppendsFront}
 use Rattle.plain_log.specs.declared.command.Config.{Config}
 use Rattle.plain_log.specs.declared.journal.JournalEntry.{JournalEntry}
 use Rattle.plain_log.specs.Runs.{IsPlainRun, IsComplete}
-use Rattle.plain_log.specs.Committed.{IsCommitted}
+use Rattle.plain_log.specs.Committed.{IsCommitted, IsLed}
+use Rattle.partition_world.specs.Whole.{Whole}
+use Rattle.partition_world.specs.Fresh.{IsFresh}
+use Rattle.partition_world.specs.Reaches.{Reaches}
 use Rattle.script_lang.specs.declared.refusal.Why.{Why}
 use Rattle.script_lang.specs.declared.script.PartScript.{PartScript}
 use Rattle.script_lang.specs.declared.script.Script.{Script}
 use Rattle.script_lang.specs.Script.{script_in}
 use Rattle.trace_text.specs.Trace.{trace_of}
 
--- a partition's number and journal: a run of the plain log over the partition's lists, each command answered once and
--- in order, each fetch out of one committed list
+-- the journal is that of a world which the partition's schedule reaches from the fresh one
+pub record IsReached (config : Config) (part : PartScript) (journal : List JournalEntry) : Type 0 where
+  pub first : Whole
+  pub last : Whole
+  pub fresh : IsFresh part.partition config part.lists first
+  pub reaches : Reaches first part.schedule last
+  pub its : last.journal.items ≡ journal
+
+-- a partition's number and journal: a run of the plain log over the partition's lists, by its schedule, each command
+-- answered once and in order, each fetch out of the log of one leader epoch, and while elections are clean out of one
+-- committed list
 pub record IsRunOf (config : Config) (part : PartScript) (run : ℕ × List JournalEntry) : Type 0 where
   pub partition : run.0 ≡ part.partition.0
   pub plain : IsPlainRun config part.lists run.1
   pub complete : IsComplete part.lists run.1
-  pub committed : IsCommitted part.lists run.1
+  pub led : IsLed part.lists run.1
+  pub committed : plain.last.unclean ≡ false → IsCommitted part.lists run.1
+  pub reached : IsReached config part run.1
 
 -- each partition has its run
 abbrev pub AreRunsOf : Config → List PartScript → List (ℕ × List JournalEntry) → Type 0

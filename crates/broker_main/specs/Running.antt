@@ -4,6 +4,7 @@ use Rattle.plain_log.specs.declared.command.Config.{Config}
 use Rattle.plain_log.specs.Orders.{AreListsFor}
 use Rattle.plain_log.specs.declared.journal.JournalEntry.{JournalEntry}
 use Rattle.script_lang.specs.declared.script.PartScript.{PartScript}
+use Rattle.script_lang.specs.Fit.{StepsToEnds}
 use Rattle.trace_text.specs.Trace.{journal_text, trace_of}
 use Rattle.broker_main.specs.Headline.{IsRunOf, AreRunsOf}
 
@@ -25,3 +26,4 @@ pub record IsSoFar (config : Config) (parts rest : List PartScript) (text : List
   pub all : run ++ rest ≡ parts
   pub text_is : IsRunText config run text
   pub fit : All (λ part. AreListsFor config part.lists) rest
+  pub ends : All StepsToEnds rest

@@ -97,4 +97,6 @@ fn told(rt: &HostRuntime, status: Status) -> ExitCode {
 }
 
 #[cfg(test)]
+mod broker_tests;
+#[cfg(test)]
 mod tests;

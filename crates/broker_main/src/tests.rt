@@ -8,7 +8,7 @@ use std::test::Fail;
 use tier_base::{MemorySink, MemorySource};
 
 /// The words of a call.
-fn words_of(alloc: Global, list: &[&str]) -> Result<Vec<String>, Fail> {
+pub(crate) fn words_of(alloc: Global, list: &[&str]) -> Result<Vec<String>, Fail> {
     let mut words = Vec::new(alloc);
     for word in list {
         words.push(String::from_str(alloc, word)?)?;
@@ -17,7 +17,7 @@ fn words_of(alloc: Global, list: &[&str]) -> Result<Vec<String>, Fail> {
 }
 
 /// A source of these bytes, whose calls of the plan fail.
-fn source_of(alloc: Global, bytes: &[u8], plan: &[u32]) -> Result<MemorySource, Fail> {
+pub(crate) fn source_of(alloc: Global, bytes: &[u8], plan: &[u32]) -> Result<MemorySource, Fail> {
     Ok(MemorySource::new(bytes.to_vec(alloc)?, plan.to_vec(alloc)?))
 }
 

@@ -6,8 +6,9 @@
 ghost use Rattle.std.specs.Prelude.{◌≡◌, ◌≢◌, ◌↔◌, ℕ, ◌+◌, ◌-◌, ◌<◌, ◌≤◌, ◌^◌, List, ◌++◌, All, Some, Err, length, IsOk, IfOk, IsErrOf, IsTrue};
 ghost use Rattle.tier_base.specs.Counts.{counted, Rose};
 ghost use Rattle.tier_base.specs.Stream.{Gave};
-ghost use Rattle.plain_log.specs.Orders.{AreListsFor};
+ghost use Rattle.plain_log.specs.Orders.{AreListsFor, IsConfig};
 ghost use Rattle.script_lang.specs.declared.refusal.Why.{Why};
+ghost use Rattle.script_lang.specs.Fit.{StepsToEnds};
 ghost use Rattle.script_lang.specs.Script.{script_in};
 ghost use Rattle.broker_main.specs.Words.{IsSim};
 ghost use Rattle.broker_main.specs.Headline.{IsTrace, WritesTrace, WritesFront, ReadsBad};
@@ -15,8 +16,8 @@ ghost use Rattle.broker_main.specs.Running.{AddsRun, IsRunText};
 ghost use Rattle.broker_main.specs.Endings.{IsDoneOrNoMemory, IsRefusedOrNoMemory};
 
 use crate::status::Status;
-use partition_world::{World, ends_are_complete, run_to_end};
-use plain_log::{Config, runs_are_committed};
+use partition_world::{World, ends_are_complete, reaches_later, run_in_order};
+use plain_log::{Config, runs_are_committed, runs_are_led};
 use script_lang::{PartScript, ScriptRefusal, Why, parse};
 use std::alloc::{AllocError, Global};
 use tier_base::{ReadRefusal, Row, Sink, Source, read_all, write_all};
@@ -25,26 +26,31 @@ use trace_text::print;
 /// The most bytes that a script may have.
 pub const SCRIPT_LIMIT: usize = 16_777_216;
 
-/// Runs a partition's lists on a fresh world, and puts the trace behind the text. The first partition's is not copied.
+/// Runs a partition's lists on a fresh world, by its schedule, and puts the trace behind the text. The first partition's
+/// is not copied.
 fn run_part(
     alloc: Global,
     config: Config,
     part: PartScript,
     text: Vec<u8>,
 ) -> Result<Vec<u8>, AllocError>
-    requires brokers { config.brokers ≡ 1 }
+    requires config { IsConfig config }
     requires fit { AreListsFor config part.lists }
+    requires ends { StepsToEnds part }
     ensures { IfOk result (λ new. AddsRun config part text.items new.items) }
 {
     ends_are_complete();
+    reaches_later();
+    runs_are_led();
     runs_are_committed();
     let PartScript {
         partition,
         lists,
+        schedule,
         ..
     } = part;
     let mut world = World::fresh(alloc, partition, config, lists)?;
-    run_to_end(alloc, &mut world)?;
+    run_in_order(alloc, &mut world, schedule.as_slice())?;
     let printed = print(alloc, partition, world.journal())?;
     joined(text, printed)
 }
@@ -63,8 +69,9 @@ fn joined(front: Vec<u8>, back: Vec<u8>) -> Result<Vec<u8>, AllocError>
 
 /// Runs each partition, in rising order.
 fn run_parts(alloc: Global, config: Config, parts: Row<PartScript>) -> Result<Vec<u8>, AllocError>
-    requires brokers { config.brokers ≡ 1 }
+    requires config { IsConfig config }
     requires fit { All (λ part. AreListsFor config part.lists) parts }
+    requires ends { All StepsToEnds parts }
     ensures { IfOk result (λ text. IsRunText config parts text.items) }
 {
     let mut text = Vec::new(alloc);

@@ -1,0 +1,71 @@
+//! Scripts of several brokers, actors and partitions, and their traces.
+//!
+//! The batches' bytes come from a writer of record batches that was made apart from this repository.
+
+use super::*;
+use crate::tests::{source_of, words_of};
+use std::test::Fail;
+use tier_base::MemorySink;
+
+/// Scripts and the traces that they give.
+const ROWS: [(&str, &str, &str); 9] = [
+    (
+        "a leader stops, is elected again, and its follower is cut to where their logs meet",
+        "brokers 2\n0 0 0 append 1000,-,:a\n0 0 0 append 1000,-,:b\n0 0 0 flush\n0 0 0 append 1000,-,:c\n1 0 1 follow 1000\n0 0 0 stop\n0 0 0 up\n0 0 0 learn\n0 0 0 elect\n0 0 0 learn\n0 0 0 append 1000,-,:d\n1 0 1 learn\n1 0 1 join\n1 0 1 follow 1000\n",
+        "0 0 0 = Ok 0 0 0\n0 0 1 = Ok 1 1 0\n0 0 2 = Ok 2\n0 0 3 = Ok 2 2 0\n0 1 0 begin\n0 1 0 = Copied 3\n0 0 4 = Ok\n0 0 5 = Up 2\n0 0 6 = NeedsElection 0\n0 0 7 = Ok 1\n0 0 8 = Leads 1\n0 0 9 = Ok 2 2 1\n0 1 1 = Follows 1\n0 1 2 = Cut 2\n0 1 3 begin\n0 1 3 = Copied 3\n",
+    ),
+    (
+        "a broker stops and comes up",
+        "0 0 0 stop\n0 0 0 stop\n0 0 0 fetch 0 1\n0 0 0 up\n0 0 0 up\n0 0 0 learn\n0 0 0 elect\n0 0 0 learn\n0 0 0 learn\n",
+        "0 0 0 = Ok\n0 0 1 = Down\n0 0 2 = Down\n0 0 3 = Up 0\n0 0 4 = IsUp\n0 0 5 = NeedsElection 0\n0 0 6 = Ok 1\n0 0 7 = Leads 1\n0 0 8 = Known\n",
+    ),
+    (
+        "replicas in sync, an election, and a leader that doesn't know of it",
+        "brokers 2\n1 0 1 expand\n1 0 1 shrink\n1 0 1 shrink\n0 0 0 shrink\n0 0 0 append 1000,-,:a\n0 0 0 flush\n0 0 0 ack\n1 0 1 follow 1\n1 0 1 expand\n1 0 1 flush\n1 0 1 ack\n1 0 1 expand\n1 0 1 elect\n0 0 0 append 1000,-,:z\n0 0 0 ack\n0 0 0 learn\n0 0 0 append 1000,-,:y\n",
+        "0 1 0 = Ok\n0 1 1 = Ok\n0 1 2 = NotInSync\n0 0 0 = IsLeader\n0 0 1 = Ok 0 0 0\n0 0 2 = Ok 1\n0 0 3 = Ok 1\n0 1 3 begin\n0 1 3 = Copied 1\n0 1 4 = Behind 0 1\n0 1 5 = Ok 1\n0 1 6 = Ok 1\n0 1 7 = Ok\n0 1 8 = Ok 1\n0 0 4 = Ok 1 1 0\n0 0 5 = StaleEpoch 1\n0 0 6 = Follows 1\n0 0 7 = NotLeader\n",
+    ),
+    (
+        "a follower stops between two turns",
+        "brokers 2\n0 0 0 append 1000,-,:a\nlater 2 0 1 follow 1\nturn 2 1\n1 0 1 stop\n1 0 1 elect\n1 0 1 up\n",
+        "0 0 0 = Ok 0 0 0\n0 2 0 begin\n0 1 0 = Ok\n0 1 1 = DownBroker\n0 1 2 = Up 0\n0 2 0 = Stopped\n",
+    ),
+    (
+        "a run ends where its leader epoch does",
+        "0 0 0 append 1000,-,:a\n0 0 0 flush\n0 0 0 ack\n0 0 0 elect\n0 0 0 learn\n0 0 0 append 1000,-,:b\n0 0 0 flush\n0 0 0 ack\n0 0 0 fetch 0 1000\n0 0 0 fetch 1 1000\n",
+        "0 0 0 = Ok 0 0 0\n0 0 1 = Ok 1\n0 0 2 = Ok 1\n0 0 3 = Ok 1\n0 0 4 = Leads 1\n0 0 5 = Ok 1 1 1\n0 0 6 = Ok 2\n0 0 7 = Ok 2\n0 0 8 = Run local 0 69 Piece 0000000000000000000000390000000002ebf1884b00000000000000000000000003e800000000000003e8ffffffffffffffffffffffffffff000000010e00000001026100\n0 0 9 = Run local 0 69 Mark 0000000000000001000000390000000102df1620d200000000000000000000000003e800000000000003e8ffffffffffffffffffffffffffff000000010e00000001026200\n",
+    ),
+    (
+        "the log start offset is raised by its leader, up to the high watermark",
+        "0 0 0 append 1000,-,:a 1000,-,:b 1000,-,:c\n0 0 0 append 1000,-,:d\n0 0 0 flush\n0 0 0 ack\n0 0 0 raise 1\n0 0 0 fetch 1 85\n0 0 0 fetch 0 1000\n0 0 0 raise 1\n0 0 0 raise 5\n0 0 0 stop\n0 0 0 raise 2\n",
+        "0 0 0 = Ok 0 2 0\n0 0 1 = Ok 3 3 0\n0 0 2 = Ok 4\n0 0 3 = Ok 4\n0 0 4 = Ok 1\n0 0 5 = Run local 0 85 Limit 00000000000000000000004900000000024b7d1a5100000000000200000000000003e800000000000003e8ffffffffffffffffffffffffffff000000030e000000010261000e000002010262000e00000401026300\n0 0 6 = OutOfRange 1 4\n0 0 7 = NotAbove 1\n0 0 8 = AboveMark 4\n0 0 9 = Ok\n0 0 10 = Down\n",
+    ),
+    (
+        "an unclean election commits what its broker has stable, and the old leader goes on by itself",
+        "brokers 2\n0 0 0 append 1000,-,:a\n0 0 0 append 1000,-,:b\n1 0 1 follow 69\n1 0 1 flush\n1 0 1 shrink\n0 0 0 flush\n0 0 0 ack\n1 0 1 elect\n1 0 1 unclean\n1 0 1 learn\n1 0 1 append 1000,-,:g\n1 0 1 flush\n1 0 1 ack\n1 0 1 fetch 1 1000\n0 0 0 fetch 1 1000\n0 0 0 learn\n0 0 0 follow 1\n0 0 0 join\n0 0 0 follow 1000\n0 0 0 follow 1000\n",
+        "0 0 0 = Ok 0 0 0\n0 0 1 = Ok 1 1 0\n0 1 0 begin\n0 1 0 = Copied 1\n0 1 1 = Ok 1\n0 1 2 = Ok\n0 0 2 = Ok 2\n0 0 3 = Ok 2\n0 1 3 = NotInSync\n0 1 4 = Ok 1\n0 1 5 = Leads 1\n0 1 6 = Ok 1 1 1\n0 1 7 = Ok 2\n0 1 8 = Ok 2\n0 1 9 = Run local 0 69 Mark 0000000000000001000000390000000102823ed97900000000000000000000000003e800000000000003e8ffffffffffffffffffffffffffff000000010e00000001026700\n0 0 4 = Run local 0 69 Mark 0000000000000001000000390000000002df1620d200000000000000000000000003e800000000000003e8ffffffffffffffffffffffffffff000000010e00000001026200\n0 0 5 = Follows 1\n0 0 6 = NotJoined\n0 0 7 = Cut 1\n0 0 8 begin\n0 0 8 = Copied 2\n0 0 9 = Level\n",
+    ),
+    (
+        "each turn of a follow tests anew",
+        "brokers 3\n0 0 0 append 1000,-,:a\n0 0 0 append 1000,-,:b\nlater 3 0 1 follow 1\nturn 3 1\n1 0 1 follow 1\nlater 4 0 2 follow 1\nturn 4 1\nturn 3 1\n1 0 1 flush\n1 0 1 elect\nturn 4 1\n2 0 2 follow 1\n1 0 2 join\n1 0 2 learn\n1 0 2 join\n0 0 - clock 7\n",
+        "0 0 0 = Ok 0 0 0\n0 0 1 = Ok 1 1 0\n0 3 0 begin\n0 1 0 begin\n0 1 0 = Copied 1\n0 4 0 begin\n0 3 0 = Passed 1\n0 1 1 = Ok 1\n0 1 2 = Ok 1\n0 4 0 = StaleEpoch 1\n0 2 0 = StaleEpoch 1\n0 1 3 = StaleEpoch 1\n0 1 4 = Follows 1\n0 1 5 = NoLeader\n0 0 2 = Ok\n",
+    ),
+    (
+        "two partitions have brokers, clocks and offsets of their own",
+        "brokers 2\npartitions 2\n0 0 0 append 1000,-,:a\n1 1 1 append 1000,-,:b\n1 1 0 append 1000,-,:c\n2 1 - clock 5\n",
+        "0 0 0 = Ok 0 0 0\n1 1 0 = NotLeader\n1 1 1 = Ok 0 0 0\n1 2 0 = Ok\n",
+    ),
+];
+
+#[test]
+fn scripts_of_several_brokers_give_their_traces(rt: HostRuntime) -> Result<(), Fail> {
+    let alloc = rt.alloc();
+    let words = words_of(alloc, &["sim"])?;
+    for (name, script, trace) in ROWS {
+        let mut source = source_of(alloc, script.as_bytes(), &[])?;
+        let mut sink = MemorySink::new(alloc, 10_000, 7, Vec::new(alloc))?;
+        let status = tiered(&rt, words.as_slice(), &mut source, &mut sink);
+        assert_eq!(rt; status, Status::Ok, "{name}");
+        assert_eq!(rt; sink.written(), trace.as_bytes(), "{name}");
+    }
+    Ok(())
+}
