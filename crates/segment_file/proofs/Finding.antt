@@ -1,23 +1,19 @@
 -- A batch is found where it stands, and what is found stands there.
-use Rattle.std.proofs.Common.{◌≡◌, ◌∙◌, ap, sym, refl, ℕ, zero, suc, ◌+◌, ◌-◌, ◌==◌, ◌^◌, ◌<◌, ◌≤◌, nat_lt, Bool, true, false, cond, not, List, [], ◌∷◌, ◌++◌, length, take, drop, slice_index, Option, Some, None, Result, Ok, Err, IsOk, arith, length-append, le-ltb}
-use Rattle.std.specs.Int.{w32, w64, from_be_bytes, cast_signed, cast_unsigned}
-use Rattle.std.proofs.lemmas.Bool.{eqb-true, ltb-false}
+use Rattle.std.proofs.Common.{◌≡◌, ◌∙◌, sym, refl, ℕ, zero, suc, ◌-◌, ◌==◌, ◌^◌, ◌<◌, ◌≤◌, nat_lt, Bool, true, false, List, [], ◌∷◌, ◌++◌, length, drop, slice_index, Result, Ok, Err, IsOk, arith, length-append, le-ltb}
+use Rattle.std.specs.Int.{w32}
+use Rattle.std.proofs.lemmas.Bool.{eqb-true}
 use Rattle.std.proofs.lemmas.Int.{of_z-to_z}
-use Rattle.std.proofs.lemmas.List.{take_at, take-append-le, take-append-drop}
+use Rattle.std.proofs.lemmas.List.{take_at, take-append-le}
 use Rattle.log_terms.specs.Batch.{field_at}
-use Rattle.record_batch.specs.declared.head.Head.{Head}
-use Rattle.record_batch.specs.declared.refusal.HeadRefusal.{HeadRefusal}
-use Rattle.record_batch.specs.declared.refusal.HeadRefusal.TheVariants.{Short, BadMagic, BadLength}
 use Rattle.record_batch.specs.declared.refusal.BatchRefusal.{BatchRefusal}
 use Rattle.record_batch.specs.Head.{head_of}
-use Rattle.record_batch.specs.Check.{Batch, IsBatchOf, head_refusal, head_in, checked, headed, first}
+use Rattle.record_batch.specs.Check.{Batch, head_refusal, checked, headed}
 use Rattle.record_batch.proofs.Passing.{passes, is_batch_of}
-use Rattle.segment_file.specs.declared.walking.Found.{Found}
 use Rattle.segment_file.specs.declared.walking.Found.TheVariants as found
-use Rattle.segment_file.specs.Walk.{size_in, tested_at, behind_at, found_at}
+use Rattle.segment_file.specs.Walk.{size_in, found_at}
 
 -- what bytes behind a batch leave as it is
-drop_append : (n : ℕ) (xs ys : List ℕ) → n ≤ length xs → drop n (xs ++ ys) ≡ drop n xs ++ ys
+pub drop_append : (n : ℕ) (xs ys : List ℕ) → n ≤ length xs → drop n (xs ++ ys) ≡ drop n xs ++ ys
 drop_append zero xs ys h = refl
 drop_append (suc n) [] ys h = absurd (omega (arith, h))
 drop_append (suc n) (x ∷ xs) ys h = drop_append n xs ys (omega (arith, h))
@@ -27,7 +23,7 @@ index_append n [] ys h = absurd (omega (arith, h))
 index_append zero (x ∷ xs) ys h = refl
 index_append (suc n) (x ∷ xs) ys h = index_append n xs ys (omega (arith, h))
 
-length_drop : (n : ℕ) (xs : List ℕ) → n ≤ length xs → length (drop n xs) ≡ length xs - n
+pub length_drop : (n : ℕ) (xs : List ℕ) → n ≤ length xs → length (drop n xs) ≡ length xs - n
 length_drop zero xs h = omega arith
 length_drop (suc n) [] h = absurd (omega (arith, h))
 length_drop (suc n) (x ∷ xs) h =
@@ -67,7 +63,7 @@ headed_front batch rest b e =
     let p = passes batch (rw e refl) in
     rw (head_kept batch rest is.long, p.head) refl
 
-not_empty : (n : ℕ) → 0 < n → (n == 0) ≡ false
+pub not_empty : (n : ℕ) → 0 < n → (n == 0) ≡ false
 not_empty n h = go (n == 0) refl
   where
     go : (t : Bool) → (n == 0) ≡ t → (n == 0) ≡ false
@@ -89,4 +85,12 @@ batch_found at batch rest ok = go (checked batch) refl ok
   where
     go : (r : Result Batch BatchRefusal) → checked batch ≡ r → IsOk r → found_at at (batch ++ rest) ≡ found.Batch (head_of batch)
     go (Ok b) e ok = found_front at batch rest b e
+    go (Err why) e ok = absurd (cc)
+
+-- its head tells its size
+pub head_sized : (batch : List ℕ) → IsOk (checked batch) → size_in (head_of batch) ≡ length batch
+head_sized batch ok = go (checked batch) refl ok
+  where
+    go : (r : Result Batch BatchRefusal) → checked batch ≡ r → IsOk r → size_in (head_of batch) ≡ length batch
+    go (Ok b) e ok = size_told batch b e
     go (Err why) e ok = absurd (cc)

@@ -1,3 +1,10 @@
 pub mod Finding
 pub mod Standing
 pub mod Runs
+pub mod Laying
+pub mod Searching
+pub mod Telling
+pub mod Placing
+pub mod Joining
+pub mod Gaining
+pub mod Tracking

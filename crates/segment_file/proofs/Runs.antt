@@ -1,12 +1,12 @@
 -- A run that begins, grows and ends.
-use Rattle.std.proofs.Common.{◌≡◌, ◌∙◌, ap, sym, refl, subst, ℕ, zero, suc, ◌+◌, ◌-◌, ◌^◌, ◌==◌, ◌<◌, ◌≤◌, ◌≢◌, min, nat_lt, Bool, true, false, List, [], ◌∷◌, ◌++◌, length, take, drop, Option, Some, None, Result, Ok, Err, IsOk, arith, append_assoc, append-nil, length-append, eq-eqb}
+use Rattle.std.proofs.Common.{◌≡◌, ◌∙◌, ap, sym, refl, ℕ, ◌+◌, ◌-◌, ◌==◌, ◌<◌, ◌≤◌, ◌≢◌, min, nat_lt, Bool, true, false, List, [], ◌∷◌, ◌++◌, length, drop, Option, Some, None, Result, Ok, Err, IsOk, arith, append_assoc, append-nil, length-append, eq-eqb}
 use Rattle.std.specs.Option.{ForSome}
 use Rattle.std.proofs.lemmas.Bool.{lt-ltb, ltb-false, ltb-true, eqb-true}
 use Rattle.log_terms.specs.Batch.{last_of}
 use Rattle.log_terms.specs.Log.{joined, from_offset}
 use Rattle.record_batch.specs.Head.{head_of}
 use Rattle.record_batch.specs.declared.refusal.BatchRefusal.{BatchRefusal}
-use Rattle.record_batch.specs.Check.{Batch, IsBatchOf, checked, headed}
+use Rattle.record_batch.specs.Check.{Batch, checked, headed}
 use Rattle.record_batch.proofs.Passing.{is_batch_of}
 use Rattle.tier_base.specs.declared.plain.Stop.{Stop}
 use Rattle.tier_base.specs.declared.plain.Stop.TheVariants.{Mark, Piece, Limit}
@@ -17,11 +17,11 @@ use Rattle.segment_file.specs.Run.{end_after, Begins, Follows, AreBatches, Stand
 use Rattle.segment_file.specs.Going.{IsNext, IsGoing, IsDone}
 use Rattle.segment_file.proofs.Finding.{size_told, size_kept, headed_front}
 
-joined_append : (xs ys : List (List ℕ)) → joined (xs ++ ys) ≡ joined xs ++ joined ys
+pub joined_append : (xs ys : List (List ℕ)) → joined (xs ++ ys) ≡ joined xs ++ joined ys
 joined_append [] ys = refl
 joined_append (x ∷ xs) ys = ap (λ (t : List ℕ). x ++ t) (joined_append xs ys) ∙ sym (append_assoc x (joined xs) (joined ys))
 
-joined_push : (xs : List (List ℕ)) (batch : List ℕ) → joined (xs ++ batch ∷ []) ≡ joined xs ++ batch
+pub joined_push : (xs : List (List ℕ)) (batch : List ℕ) → joined (xs ++ batch ∷ []) ≡ joined xs ++ batch
 joined_push xs batch = joined_append xs (batch ∷ []) ∙ ap (λ (t : List ℕ). joined xs ++ t) (append-nil batch)
 
 end_push : (last : Option ℕ) (xs : List (List ℕ)) (batch : List ℕ) → end_after last (xs ++ batch ∷ []) ≡ Some (last_of batch + 1)

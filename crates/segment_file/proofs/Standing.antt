@@ -1,5 +1,5 @@
 -- What is found stands there, with the numbers that its head tells.
-use Rattle.std.proofs.Common.{◌≡◌, ◌∙◌, ap, sym, refl, ℕ, zero, suc, ◌+◌, ◌-◌, ◌==◌, ◌^◌, ◌<◌, ◌≤◌, nat_lt, Bool, true, false, cond, List, [], ◌∷◌, ◌++◌, length, take, drop, get_or, ℤ, Result, Ok, Err, IsOk, arith, length-append, length-drop}
+use Rattle.std.proofs.Common.{◌≡◌, ◌∙◌, ap, sym, refl, ℕ, zero, suc, ◌+◌, ◌-◌, ◌==◌, ◌^◌, ◌<◌, ◌≤◌, nat_lt, Bool, true, false, cond, List, [], ◌∷◌, ◌++◌, length, take, drop, get_or, ℤ, Result, Ok, Err, IsOk, arith, length-drop}
 use Rattle.std.specs.Int.{w32, w64, from_be_bytes, cast_signed, cast_unsigned}
 use Rattle.std.proofs.lemmas.Bool.{ltb-false}
 use Rattle.std.proofs.lemmas.Int.{of_z-to_z}
@@ -12,7 +12,6 @@ use Rattle.record_batch.specs.declared.refusal.BatchRefusal.{BatchRefusal}
 use Rattle.record_batch.specs.Head.{head_of}
 use Rattle.record_batch.specs.Check.{Batch, head_in, checked, headed}
 use Rattle.record_batch.proofs.Passing.{is_batch_of}
-use Rattle.segment_file.specs.declared.walking.Found.{Found}
 use Rattle.segment_file.specs.declared.walking.Found.TheVariants as found
 use Rattle.segment_file.specs.Walk.{size_in, tested_at, behind_at, found_at}
 use Rattle.segment_file.proofs.Finding.{size_told, batch_found}
@@ -22,18 +21,18 @@ abbrev pub AreBytes : List ℕ → Type 0
 AreBytes bytes = (i : ℕ) → get_or bytes i 0 < 256
 
 -- and so can those of a part
-bytes_take : (n : ℕ) (bytes : List ℕ) → AreBytes bytes → AreBytes (take n bytes)
+pub bytes_take : (n : ℕ) (bytes : List ℕ) → AreBytes bytes → AreBytes (take n bytes)
 bytes_take zero bytes h i = omega arith
 bytes_take (suc n) [] h i = omega arith
 bytes_take (suc n) (b ∷ bytes) h zero = h zero
 bytes_take (suc n) (b ∷ bytes) h (suc i) = bytes_take n bytes (λ j. h (suc j)) i
 
-bytes_drop : (n : ℕ) (bytes : List ℕ) → AreBytes bytes → AreBytes (drop n bytes)
+pub bytes_drop : (n : ℕ) (bytes : List ℕ) → AreBytes bytes → AreBytes (drop n bytes)
 bytes_drop zero bytes h i = h i
 bytes_drop (suc n) [] h i = omega arith
 bytes_drop (suc n) (b ∷ bytes) h i = bytes_drop n bytes (λ j. h (suc j)) i
 
-front_bytes : (xs ys : List ℕ) → AreBytes (xs ++ ys) → AreBytes xs
+pub front_bytes : (xs ys : List ℕ) → AreBytes (xs ++ ys) → AreBytes xs
 front_bytes [] ys h i = omega arith
 front_bytes (x ∷ xs) ys h zero = h zero
 front_bytes (x ∷ xs) ys h (suc i) = front_bytes xs ys (λ j. h (suc j)) i
@@ -53,13 +52,13 @@ below_64 bs h =
     )
 
 -- the base offset that a head tells
-base_told : (batch : List ℕ) → AreBytes batch → cast_unsigned w64 (head_of batch).base_offset ≡ base_of batch
+pub base_told : (batch : List ℕ) → AreBytes batch → cast_unsigned w64 (head_of batch).base_offset ≡ base_of batch
 unfolding head_of base_of field_at
 base_told batch h =
     of_z-to_z w64 (from_be_bytes w64 (take 8 (drop 0 batch))) (below_64 (take 8 (drop 0 batch)) (bytes_take 8 (drop 0 batch) (bytes_drop 0 batch h)))
 
 -- and the last offset less that one
-delta_told : (batch : List ℕ) (b : Batch) → checked batch ≡ Ok b → cast_unsigned w32 (head_of batch).last_offset_delta ≡ last_offset_delta_of batch
+pub delta_told : (batch : List ℕ) (b : Batch) → checked batch ≡ Ok b → cast_unsigned w32 (head_of batch).last_offset_delta ≡ last_offset_delta_of batch
 unfolding head_of last_offset_delta_of
 delta_told batch b e =
     let few = (is_batch_of batch b e).few in
@@ -73,7 +72,7 @@ record Told (bytes : List ℕ) (head : Head) : Type 0 where
   is : checked (take size bytes) ≡ Ok batch
   head_is : batch.head ≡ head
 
-same_head : (h head : Head) → found.Batch h ≡ found.Batch head → h ≡ head
+pub same_head : (h head : Head) → found.Batch h ≡ found.Batch head → h ≡ head
 same_head h head e = cc
 
 by_tests : (at size : ℕ) (bytes : List ℕ) (head : Head) (r : Result Batch BatchRefusal) → size ≤ length bytes → checked (take size bytes) ≡ r
@@ -120,6 +119,7 @@ delta_fits batch b e = let few = (is_batch_of batch b e).few in omega (arith, fe
 -- a batch that stands at a place, and its head
 pub record Standing (at : ℕ) (bytes : List ℕ) (head : Head) : Type 0 where
   pub batch : List ℕ
+  pub head_is : head ≡ head_of batch
   pub is : IsOk (checked batch)
   pub parts : drop at bytes ≡ batch ++ drop (at + size_in head) bytes
   pub size : size_in head ≡ length batch
@@ -143,6 +143,7 @@ standing at bytes head clean fits e =
     let long : 61 ≤ length batch = is.long in
     let clean' : AreBytes batch = bytes_take t.size rest (bytes_drop at bytes clean) in record {
       batch = batch;
+      head_is = same;
       is = rw t.is refl;
       parts = rw (← back) (sym (take-append-drop t.size rest));
       size = size;

@@ -1,5 +1,5 @@
 -- A run on its way.
-use Rattle.std.specs.Prelude.{◌≡◌, ℕ, ◌+◌, ◌<◌, ◌≤◌, true, List, [], ◌∷◌, ◌++◌, length, drop, Option, Some, None, Result, Ok, Err}
+use Rattle.std.specs.Prelude.{◌≡◌, ℕ, ◌+◌, ◌<◌, ◌≤◌, true, List, ◌∷◌, ◌++◌, length, drop, Option, Some, None, Result, Ok, Err}
 use Rattle.log_terms.specs.Batch.{last_of}
 use Rattle.log_terms.specs.Log.{joined, from_offset}
 use Rattle.record_batch.specs.Check.{headed}

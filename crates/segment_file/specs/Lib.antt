@@ -1,3 +1,9 @@
 pub mod Walk
 pub mod Run
 pub mod Going
+pub mod Index
+pub mod Growing
+pub mod Segment
+pub mod Closed
+pub mod Gathering
+pub mod Marking

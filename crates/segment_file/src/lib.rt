@@ -1,14 +1,31 @@
 //! A log segment's bytes, seen as the batches that stand in them one after another.
 //!
-//! `walk` tells what stands at a place, and `take_run` cuts out the run of batches that a fetch is given.
+//! `walk` tells what stands at a place, and `take_run` cuts out the run of batches that a fetch is given. `Growing` is
+//! what memory keeps of the segment that batches are appended to, its offset index among it. `Closed` is a segment that
+//! is whole: its bytes are read once, and its indexes are made of them.
 #![tactic(auto)]
 
+mod closed;
+mod gathering;
+mod growing;
 mod laws;
+mod marking;
+mod placed;
+mod refusal;
+#[cfg(test)]
+mod segment_tests;
 mod taking;
 #[cfg(test)]
 mod tests;
 mod walking;
 
-pub use laws::a_batch_is_found;
+pub use closed::Closed;
+pub use growing::Growing;
+pub use laws::{
+    a_batch_is_found, a_batch_is_placed_last, a_cut_keeps_batches, a_head_places_its_batch,
+    a_segment_is_read_in_one_way, placed_batches_end, placed_batches_part,
+};
+pub use placed::Placed;
+pub use refusal::ClosedRefusal;
 pub use taking::{BadAt, Cutout, take_run};
 pub use walking::{Found, walk};

@@ -87,3 +87,26 @@ last-index (x ∷ []) zero h = refl
 last-index (x ∷ []) (suc k) h = absurd (omega (arith, h))
 last-index (x ∷ y ∷ xs) zero h = absurd (omega (arith, h))
 last-index (x ∷ y ∷ xs) (suc k) h = last-index (y ∷ xs) k (omega (arith, h))
+
+-- the second column is counted as the entries are
+pub count-seconds : {A B : Type 0} (p : B → Bool) (xs : List A) (ys : List B) → length xs ≡ length ys → count_by (λ e. p e.1) (zip xs ys) ≡ count_by p ys
+count-seconds p [] [] h = refl
+count-seconds p [] (y ∷ ys) h = absurd (omega (arith, h))
+count-seconds p (x ∷ xs) [] h = absurd (omega (arith, h))
+count-seconds p (x ∷ xs) (y ∷ ys) h =
+    sum_by-cons (λ e. cond (p e.1) 1 0) (x, y) (zip xs ys)
+    ∙ (ap (λ n. cond (p y) 1 0 + n) (count-seconds p xs ys (omega (arith, h))) ∙ sym (sum_by-cons (λ v. cond (p v) 1 0) y ys))
+
+-- and parted as they are
+pub parted-seconds : {A B : Type 0} (p : B → Bool) (xs : List A) (ys : List B) (a : A) → length xs ≡ length ys → IsPartitionedBy (λ e. p e.1) (zip xs ys) → IsPartitionedBy p ys
+parted-seconds p xs ys a even h i j d up within t =
+    let at-i = get_or-zip xs ys i (a, d) (omega (arith, up, within, even)) (omega (arith, up, within)) in
+    let at-j = get_or-zip xs ys j (a, d) (omega (arith, within, even)) within in
+    ap (λ e. p e.1) (sym at-i) ∙ h i j (a, d) up (omega (arith, within, even, length-zip xs ys)) (ap (λ e. p e.1) at-j ∙ t)
+
+-- the fronts of columns are the front of the entries
+pub zip-take : {A B : Type 0} (k : ℕ) (xs : List A) (ys : List B) → zip (take k xs) (take k ys) ≡ take k (zip xs ys)
+zip-take zero xs ys = refl
+zip-take (suc k) [] ys = refl
+zip-take (suc k) (x ∷ xs) [] = refl
+zip-take (suc k) (x ∷ xs) (y ∷ ys) = ap (λ es. (x, y) ∷ es) (zip-take k xs ys)

@@ -1,13 +1,13 @@
 -- Look-ups in an offset index, by its columns.
 use Rattle.std.proofs.Common.{◌≡◌, ◌∙◌, sym, ap, refl, ℕ, ◌+◌, ◌-◌, ◌^◌, ◌<◌, ◌≤◌, List, Some, None, true, false, length, get_or, take, ◌%◌, arith, subst, Result, Ok, Err, ◌++◌, ◌∷◌, [], OnOk, OnErr}
-use Rattle.std.specs.Prelude.{count_by, nat_le}
+use Rattle.std.specs.Prelude.{◌≢◌, Bool, drop, count_by, nat_le, nat_lt}
 use Rattle.std.specs.List.{zip}
 use Rattle.std.specs.Option.{ForSome}
-use Rattle.std.proofs.lemmas.List.{length_push, take_more, take_all}
+use Rattle.std.proofs.lemmas.List.{length_push, take_more, take_all, length-take-le, take-append-drop}
 use Rattle.std.proofs.lemmas.Nat.{from_be_bytes-to_be_bytes_4}
 use Rattle.std.specs.Int.{w32, to_be_bytes, from_be_bytes}
 use Rattle.sparse_index.specs.Bytes.{bytes_of, IsUnread}
-use Rattle.sparse_index.proofs.BytesLaws.{pieces-same, bytes-push, bytes-length, falls-unread}
+use Rattle.sparse_index.proofs.BytesLaws.{pieces-same, bytes-push, bytes-length, falls-unread, chain-front}
 use Rattle.std.specs.List.Sorted.{IsPartitionedBy}
 use Rattle.std.proofs.lemmas.Bool.{leb-true, le-leb, lt-leb, ltb-true, lt-ltb, and_parts, and_from}
 use Rattle.std.proofs.lemmas.Option.{slice_get-get_or, same_Some}
@@ -16,10 +16,10 @@ use Rattle.std.proofs.lemmas.Bool.Decides.{nat_tests}
 use Rattle.std.proofs.lemmas.List.Sums.{count_by-le-length}
 use Rattle.std.proofs.lemmas.Slice.Zip.{length-zip, get_or-zip}
 use Rattle.sparse_index.specs.Entries.{last_of}
-use Rattle.sparse_index.specs.Offsets.{OffsetTable, with_entry, FitsEntry, Rises, AreOffsets, is_up_to, may_follow, entry_bytes, place_of, find}
+use Rattle.sparse_index.specs.Offsets.{OffsetTable, with_entry, FitsEntry, Rises, AreOffsets, is_up_to, may_follow, entry_bytes, place_of, find, cut_to}
 use Rattle.sparse_index.specs.Columns.{AreColumns, table}
-use Rattle.sparse_index.proofs.Parted.{count-all, count-none, count-agree}
-use Rattle.sparse_index.proofs.Chains.{count-firsts, parted-firsts, chain-fits, chain-parted, chain-push, chain-last, last-index, zip-push, last-counted, last-none}
+use Rattle.sparse_index.proofs.Parted.{count-all, count-none, count-agree, filter-take}
+use Rattle.sparse_index.proofs.Chains.{count-firsts, parted-firsts, chain-fits, chain-parted, chain-push, chain-last, last-index, zip-push, last-counted, last-none, count-seconds, parted-seconds, zip-take}
 
 -- as many entries as offsets
 pub long : (offsets positions : List ℕ) → length offsets ≡ length positions → length (zip offsets positions) ≡ length offsets
@@ -155,3 +155,43 @@ bytes-more offsets positions i even l =
 
 pub bytes-all : (offsets positions : List ℕ) (i : ℕ) → length offsets ≡ length positions → length offsets ≤ i → bytes_of entry_bytes (take i (zip offsets positions)) ≡ bytes_of entry_bytes (zip offsets positions)
 bytes-all offsets positions i even l = ap (bytes_of entry_bytes) (take_all i (zip offsets positions) (omega (arith, l, long offsets positions even)))
+
+-- what begins before a position stands in front
+before-parted : (position : ℕ) (entries : List (ℕ × ℕ)) → AreOffsets entries → IsPartitionedBy (λ e. nat_lt e.1 position) entries
+before-parted position entries h = chain-parted FitsEntry Rises (λ e. nat_lt e.1 position) (λ x y r t. (let l = ltb-true _ _ t in lt-ltb _ _ (omega (arith, l, r.1)))) entries h
+
+-- so it does in the column
+pub positions-parted : (position : ℕ) (offsets positions : List ℕ) → length offsets ≡ length positions → AreOffsets (zip offsets positions) → IsPartitionedBy (λ item. nat_lt item position) positions
+positions-parted position offsets positions even h = parted-seconds (λ item. nat_lt item position) offsets positions 0 even (before-parted position (zip offsets positions) h)
+
+-- below a position is at or below the one before it
+pub up-to-agrees : (position : ℕ) → position ≢ 0 → (item : ℕ) → nat_le item (position - 1) ≡ nat_lt item position
+up-to-agrees position some item = grind (arith, nat_tests, some)
+
+pub parted-agrees : (p q : ℕ → Bool) → ((x : ℕ) → p x ≡ q x) → (xs : List ℕ) → IsPartitionedBy q xs → IsPartitionedBy p xs
+parted-agrees p q same xs h i j d up within t = same (get_or xs i d) ∙ h i j d up within (sym (same (get_or xs j d)) ∙ t)
+
+pub none-before : (xs : List ℕ) → count_by (λ item. nat_lt item 0) xs ≡ 0
+none-before xs = count-none (λ item. nat_lt item 0) xs (λ k d l. none (get_or xs k d))
+  where
+    none : (n : ℕ) → nat_lt n 0 ≡ false
+    none n = grind (arith, nat_tests)
+
+-- the front of an index is an index
+pub columns-cut : (base k : ℕ) (offsets positions : List ℕ) → k ≤ length positions → AreColumns base offsets positions → AreColumns base (take k offsets) (take k positions)
+columns-cut base k offsets positions within h =
+    let few : k ≤ length offsets = omega (arith, within, h.even) in
+    let entries = zip offsets positions in
+    let front : AreOffsets (take k entries) = chain-front FitsEntry Rises (take k entries) (drop k entries) (subst AreOffsets (sym (take-append-drop k entries)) h.entries) in record {
+      base_fits = h.base_fits;
+      even = length-take-le k offsets few ∙ sym (length-take-le k positions within);
+      entries = subst AreOffsets (sym (zip-take k offsets positions)) front;
+    }
+
+-- what it keeps
+pub table-cut : (base k position : ℕ) (offsets positions : List ℕ) → k ≡ count_by (λ item. nat_lt item position) positions → AreColumns base offsets positions
+    → table base (take k offsets) (take k positions) ≡ cut_to (table base offsets positions) position
+table-cut base k position offsets positions count h =
+    let entries = zip offsets positions in
+    let many : k ≡ count_by (λ e. nat_lt e.1 position) entries = count ∙ sym (count-seconds (λ item. nat_lt item position) offsets positions h.even) in
+    ap (from_entries base) (zip-take k offsets positions ∙ (ap (λ n. take n entries) many ∙ sym (filter-take (λ e. nat_lt e.1 position) entries (before-parted position entries h.entries))))

@@ -7,7 +7,7 @@
 -- Both columns rise strictly. Nothing follows the last entry.
 --
 -- Source: Kafka's OffsetIndex, an entry of two i32. None is negative, so both are below 2^31.
-use Rattle.std.specs.Prelude.{ℕ, ◌+◌, ◌^◌, ◌<◌, nat_le, nat_lt, ◌&&◌, Bool, List, [], ◌∷◌, ◌++◌, Some, None}
+use Rattle.std.specs.Prelude.{ℕ, ◌+◌, ◌^◌, ◌<◌, nat_le, nat_lt, ◌&&◌, Bool, List, [], ◌∷◌, ◌++◌, filter, Some, None}
 use Rattle.std.specs.Int.{w32, to_be_bytes}
 use Rattle.std.specs.declared.option.Option.{Option}
 use Rattle.sparse_index.specs.Entries.{IsChain, last_passing}
@@ -49,6 +49,10 @@ place_of base (Some entry) = (base + entry.0, entry.1)
 -- where to look for an offset
 abbrev pub find : OffsetTable → ℕ → ℕ × ℕ
 find index offset = place_of index.base (floor_of index offset)
+
+-- the entries of the batches that begin before a position
+abbrev pub cut_to : OffsetTable → ℕ → OffsetTable
+cut_to index position = record index { entries = filter (λ entry. nat_lt entry.1 position) index.entries }
 
 -- offset, then position
 abbrev pub entry_bytes : ℕ × ℕ → List ℕ

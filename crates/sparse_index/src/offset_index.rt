@@ -1,13 +1,14 @@
 //! The offset index, as two columns of one length.
 
-ghost use Rattle.std.specs.Prelude.{◌≡◌, ℕ, ◌+◌, ◌-◌, ◌^◌, ◌<◌, ◌≤◌, [], map, length, count_by, ◌∷◌, ◌++◌, IfOk, OnOk, OnErr};
+ghost use Rattle.std.specs.Prelude.{◌≡◌, ℕ, ◌+◌, ◌-◌, ◌^◌, ◌<◌, ◌≤◌, [], map, length, count_by, nat_lt, ◌∷◌, ◌++◌, IfOk, OnOk, OnErr};
 ghost use Rattle.std.specs.Option.{ForSome};
 ghost use Rattle.sparse_index.specs.Entries.{last_of};
 ghost use Rattle.std.specs.List.{zip};
+ghost use Rattle.std.specs.List.Sorted.{IsPartitionedBy};
 ghost use Rattle.sparse_index.specs.Bytes.{bytes_of};
 ghost use Rattle.sparse_index.specs.Columns.{AreColumns, table};
 ghost use Rattle.sparse_index.specs.Reading.{ReadsOffsets};
-ghost use Rattle.sparse_index.specs.Offsets.{AreOffsets, Rises, with_entry, is_up_to, find, entry_bytes, may_follow};
+ghost use Rattle.sparse_index.specs.Offsets.{AreOffsets, Rises, with_entry, is_up_to, find, cut_to, entry_bytes, may_follow};
 
 use crate::columns::{push_both, push_u32, read_u32};
 use crate::halving::count_up_to;
@@ -81,6 +82,22 @@ impl OffsetIndex {
         let positions = self.positions.as_slice();
         find_in(self.base, offsets, positions, offset)
     }
+    /// The last entry, relative offset and position.
+    pub fn last(&self) -> Option<(u32, u32)>
+        ensures last { result ≡ last_of self.now.entries }
+        ensures stand { AreOffsets self.now.entries }
+    {
+        last_of(self.offsets.as_slice(), self.positions.as_slice())
+    }
+
+    /// Drops the entries of the batches that begin at or past a position.
+    pub fn cut_to(&mut self, position: u32)
+        ensures { self.new ≡ cut_to self.old position }
+    {
+        let kept = positions_before(self.positions.as_slice(), position);
+        self.offsets.truncate(kept);
+        self.positions.truncate(kept);
+    }
 }
 
 impl OffsetIndex {
@@ -116,14 +133,6 @@ impl OffsetIndex {
             at = at.saturating_add(1);
         }
         Ok(index)
-    }
-
-    /// The last entry.
-    fn last(&self) -> Option<(u32, u32)>
-        ensures last { result ≡ last_of self.now.entries }
-        ensures stand { AreOffsets self.now.entries }
-    {
-        last_of(self.offsets.as_slice(), self.positions.as_slice())
     }
 
     /// Adds an entry that may follow.
@@ -163,6 +172,18 @@ fn count_in(base: u64, offsets: &[u32], positions: &[u32], offset: u64) -> usize
         return offsets.len();
     }
     count_up_to(offsets, far as u32)
+}
+
+/// How many positions are below one: those in front.
+fn positions_before(positions: &[u32], position: u32) -> usize
+    requires { IsPartitionedBy (λ item. nat_lt item position) positions.now }
+    ensures count { result ≡ count_by (λ item. nat_lt item position) positions.now }
+    ensures within { result ≤ length positions.now }
+{
+    if position == 0 {
+        return 0;
+    }
+    count_up_to(positions, position - 1)
 }
 
 /// The last entry of columns of one length.

@@ -19,6 +19,12 @@ fn indexes_answer_as_the_rows_say(rt: HostRuntime) -> Result<(), Fail> {
         index.offsets() == [60, 120].as_slice(),
         "the relative offsets"
     );
+    index.cut_to(8280);
+    assert_eq!(rt;
+        index.last(),
+        Some((60, 4140)),
+        "the batch at the cut is gone"
+    );
     let again = OffsetIndex::from_bytes(alloc, 7, row)?;
     assert_eq!(rt;
         again.find(127),

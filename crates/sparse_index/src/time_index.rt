@@ -90,6 +90,14 @@ impl TimeIndex {
         below_in(self.base, times, offsets, ts)
     }
 
+    /// The last entry, timestamp and relative offset.
+    pub fn last(&self) -> Option<(i64, u32)>
+        ensures last { result ≡ last_of self.now.entries }
+        ensures stand { AreMoments self.now.entries }
+    {
+        last_of(self.times.as_slice(), self.offsets.as_slice())
+    }
+
     /// The bytes of the entries.
     pub fn to_bytes(&self, alloc: Global) -> Result<Vec<u8>, AllocError>
         ensures { IfOk result (λ bytes. bytes.items ≡ bytes_of moment_bytes self.now.entries) }
@@ -122,14 +130,6 @@ impl TimeIndex {
             at = at.saturating_add(1);
         }
         Ok(index)
-    }
-
-    /// The last entry.
-    fn last(&self) -> Option<(i64, u32)>
-        ensures last { result ≡ last_of self.now.entries }
-        ensures stand { AreMoments self.now.entries }
-    {
-        last_of(self.times.as_slice(), self.offsets.as_slice())
     }
 
     /// Adds an entry that may follow.

@@ -1,4 +1,4 @@
-use Rattle.std.proofs.Common.{◌≤◌, ℕ, refl, arith}
+use Rattle.std.proofs.Common.{◌≤◌, refl, arith}
 use Rattle.segment_file.specs.declared.taking.Going.{Going}
 use Rattle.segment_file.proofs.Runs.{begun_here, passed_more}
 use Rattle.segment_file.proofs.taking.begun.Goals as goal

@@ -1,4 +1,4 @@
-use Rattle.std.proofs.Common.{◌≡◌, ◌+◌, ◌<◌, ◌≤◌, sym, ◌∙◌, refl, ℕ, drop, arith}
+use Rattle.std.proofs.Common.{◌≡◌, ◌+◌, ◌<◌, ◌≤◌, sym, ◌∙◌, refl, drop, arith}
 use Rattle.log_terms.specs.Batch.{base_of, last_offset_delta_of, last_of}
 use Rattle.record_batch.specs.Head.{head_of}
 use Rattle.segment_file.specs.Run.{Begins}

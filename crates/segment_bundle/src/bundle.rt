@@ -1,0 +1,117 @@
+//! The four parts of a remote segment, and what they were made of. The module Parts of specs/ says what each holds.
+
+ghost use Rattle.std.specs.Prelude.{◌≡◌, ◌+◌, ◌<◌, ◌^◌, ℕ, List, IfOk};
+ghost use Rattle.log_terms.specs.Log.{joined};
+ghost use Rattle.epoch_line.specs.Line.{cut_end};
+ghost use Rattle.epoch_line.specs.Text.{text_of};
+ghost use Rattle.segment_file.specs.Segment.{IsSegment};
+ghost use Rattle.segment_bundle.specs.Parts.{part_in, parts_of, IsBundle};
+
+use bytes::Bytes;
+use epoch_line::Line;
+use segment_file::Closed;
+use std::alloc::{AllocError, Global};
+use std::marker::Model;
+use tier_base::Part;
+
+/// The parts of a remote segment. The log part is the source itself.
+#[derive(Drop)]
+pub struct Bundle {
+    source: Bytes,
+    line: Line,
+    interval: u32,
+    index: Bytes,
+    times: Bytes,
+    epochs: Bytes,
+}
+
+impl Model for Bundle {
+    ghost use Rattle.segment_bundle.specs.Parts.{Bundled, bundled, IsBundle};
+
+    ghost Value = { Bundled };
+
+    ghost view = { λ b. bundled b.source b.line b.interval b.index b.times b.epochs };
+
+    ghost invariant = { λ b. IsBundle (bundled b.source b.line b.interval b.index b.times b.epochs) };
+}
+
+impl Bundle {
+    /// The bundle of a closed segment, of its log's line, and of the interval of the indexes in bytes.
+    pub fn of(
+        alloc: Global,
+        closed: &Closed,
+        line: &Line,
+        interval: u32,
+    ) -> Result<Bundle, AllocError>
+        ensures source { IfOk result (λ bundle. bundle.source ≡ closed.now.bytes) }
+        ensures line { IfOk result (λ bundle. bundle.line ≡ line.now) }
+        ensures interval { IfOk result (λ bundle. bundle.interval ≡ interval) }
+        ensures parts { IfOk result (λ bundle. (batches : List (List ℕ)) → IsSegment closed.now.base batches
+            → closed.now.bytes ≡ joined batches → bundle.parts ≡ parts_of batches line.now interval) }
+    {
+        let source = share(closed.bytes())?;
+        let (offsets, moments) = closed.indexes(alloc, interval)?;
+        let index = Bytes::from_vec(offsets.to_bytes(alloc)?)?;
+        let times = Bytes::from_vec(moments.to_bytes(alloc)?)?;
+        let epochs = Bytes::from_vec(epoch_text(alloc, line, closed.last())?)?;
+        Ok(Bundle {
+            source,
+            line: line.copy(alloc)?,
+            interval,
+            index,
+            times,
+            epochs,
+        })
+    }
+
+    /// The segment's bytes that the parts were made of.
+    pub fn source(&self) -> &Bytes
+        ensures source { result.now ≡ self.now.source }
+        ensures bundle { IsBundle self.now }
+    {
+        &self.source
+    }
+
+    /// The line that the epoch text was made of.
+    pub fn line(&self) -> &Line
+        ensures { result.now ≡ self.now.line }
+    {
+        &self.line
+    }
+
+    /// The interval of the indexes, in bytes.
+    pub fn interval(&self) -> u32
+        ensures { result ≡ self.now.interval }
+    {
+        self.interval
+    }
+
+    /// The bytes of a part.
+    pub fn part(&self, part: Part) -> &Bytes
+        ensures { result.now ≡ part_in self.now.parts part }
+    {
+        match part {
+            Part::Log => &self.source,
+            Part::Index => &self.index,
+            Part::TimeIndex => &self.times,
+            Part::Epochs => &self.epochs,
+        }
+    }
+}
+
+/// The same bytes, shared.
+fn share(bytes: &Bytes) -> Result<Bytes, AllocError>
+    ensures { IfOk result (λ shared. shared ≡ bytes.now) }
+{
+    bytes.clone()
+}
+
+/// The text of the entries that start at or below a last offset.
+fn epoch_text(alloc: Global, line: &Line, last: u64) -> Result<Vec<u8>, AllocError>
+    requires { last < 2 ^ 62 }
+    ensures { IfOk result (λ text. text.items ≡ text_of (cut_end line.now (last + 1))) }
+{
+    let mut entries = line.copy(alloc)?;
+    entries.cut_end(last + 1);
+    entries.to_text(alloc)
+}
