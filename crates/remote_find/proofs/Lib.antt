@@ -1,1 +1,2 @@
+pub mod Clipping
 pub mod Following

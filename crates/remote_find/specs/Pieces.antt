@@ -1,11 +1,14 @@
 -- The pieces of remote segments that a log is read from, by the line of epochs of the log itself.
 --
 -- Source: KIP-405, where an offset is looked up with the leader epoch that the reading log has for it.
-use Rattle.std.specs.Prelude.{ℕ, zero, suc, ◌+◌, ◌-◌, ◌==◌, nat_lt, nat_le, min, max, if◌then◌else◌, List, [], ◌∷◌, Option, Some, None}
+use Rattle.std.specs.Prelude.{◌≡◌, ℕ, ◌<◌, ◌≤◌, zero, suc, ◌+◌, ◌-◌, ◌==◌, nat_lt, nat_le, true, min, max}
+use Rattle.std.specs.Prelude.{if◌then◌else◌, List, [], ◌∷◌, Option, Some, None}
+use Rattle.std.specs.List.{AllByRecursion}
 use Rattle.log_terms.specs.Line.{epoch_at}
 use Rattle.epoch_line.specs.Line.{end_of}
 use Rattle.segment_meta.specs.declared.note.Entry.{Entry}
-use Rattle.remote_view.specs.Lookup.{finished}
+use Rattle.remote_view.specs.Fold.{entry_of}
+use Rattle.remote_view.specs.Lookup.{is_readable, finished}
 use Rattle.remote_find.specs.declared.piece.Piece.{Piece}
 
 infixl 10 ◌>>=◌
@@ -39,6 +42,18 @@ piece_below entries line log_end offset = do
 abbrev pub piece_at : List Entry → List (ℕ × ℕ) → ℕ → ℕ → Option Piece
 piece_at entries line log_end offset =
     if nat_lt offset log_end then piece_below entries line log_end offset else None
+
+-- what a piece says: it holds its offset, and lies within a finished copy's offsets and in one epoch of the line and of
+-- the copy's map; where the line has no start past the log's end, it ends there or before
+pub record IsPieceOf (entries : List Entry) (line : List (ℕ × ℕ)) (log_end offset epoch : ℕ) (entry : Entry)
+    (piece : Piece) : Type 0 where
+  pub copy : entry_of piece.id entries ≡ Some entry
+  pub readable : is_readable entry.state ≡ true
+  pub holds : (piece.from ≤ offset) × (offset < piece.to)
+  pub within : (entry.start ≤ piece.from) × (piece.to ≤ entry.end + 1)
+  pub of_line : (o : ℕ) → piece.from ≤ o → o < piece.to → epoch_at line o ≡ Some epoch
+  pub of_copy : (o : ℕ) → piece.from ≤ o → o < piece.to → epoch_at entry.map o ≡ Some epoch
+  pub below : AllByRecursion (λ start. start.1 ≤ log_end) line → piece.to ≤ log_end
 
 -- what look-ups give: a piece for each offset that has one
 abbrev pub Pieces : Type 0

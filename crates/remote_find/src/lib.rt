@@ -4,10 +4,12 @@
 //! only where its map gives the epoch that the reading log has there, and only as far as this epoch goes in both.
 #![tactic(auto)]
 
+mod laws;
 mod piece;
 mod pieces;
 #[cfg(test)]
 mod tests;
 
+pub use laws::a_piece_lies_in_one_copy_and_epoch;
 pub use piece::Piece;
 pub use pieces::{chain, covered_to, find};

@@ -1,11 +1,11 @@
 //! Looking up one offset, and following pieces one after another. The module Pieces of specs/ says what is found.
 
 ghost use Rattle.std.specs.Prelude.{◌≡◌, ◌<◌, ◌^◌, IfOk};
-ghost use Rattle.remote_find.specs.Pieces.{start_of, clipped, piece_below, piece_at, covered_to, chain};
+ghost use Rattle.remote_find.specs.Pieces.{clipped, piece_below, piece_at, covered_to, chain};
 
 use crate::piece::Piece;
 use epoch_line::Line;
-use remote_view::View;
+use remote_view::{View, span_of};
 use segment_meta::Entry;
 use std::alloc::{AllocError, Global};
 
@@ -25,39 +25,21 @@ pub fn find(view: &View, line: &Line, log_end: u64, offset: u64) -> Option<Piece
     clipped(entry, line, log_end, epoch)
 }
 
-/// Where an epoch starts.
-fn start_of(entries: &[(u32, u64)], epoch: u32) -> Option<u64>
-    ensures { result ≡ start_of entries.now epoch }
-{
-    for entry in entries {
-        if entry.0 == epoch {
-            return Some(entry.1);
-        }
-    }
-    None
-}
-
 /// The part of a segment that is of an epoch, in the segment's map and in the line alike.
 fn clipped(entry: &Entry, line: &Line, log_end: u64, epoch: u32) -> Option<Piece>
     requires { entry.now.end < 2 ^ 62 }
     ensures { result ≡ clipped line.now log_end epoch entry.now }
 {
-    let Some(first) = start_of(entry.map.entries(), epoch) else {
+    let Some(span) = span_of(entry.map.entries(), epoch, entry.end + 1) else {
         return None;
     };
-    let Some(own_first) = start_of(line.entries(), epoch) else {
-        return None;
-    };
-    let Some(end) = entry.map.end_of(epoch, entry.end + 1) else {
-        return None;
-    };
-    let Some(own_end) = line.end_of(epoch, log_end) else {
+    let Some(own) = span_of(line.entries(), epoch, log_end) else {
         return None;
     };
     Some(Piece {
         id: entry.id,
-        from: first.max(own_first),
-        to: end.min(own_end),
+        from: span.from.max(own.from),
+        to: span.to.min(own.to),
     })
 }
 

@@ -1,3 +1,12 @@
+pub mod Best
 pub mod Changes
 pub mod Finding
 pub mod Folding
+pub mod Halving
+pub mod Ids
+pub mod Keeping
+pub mod Lying
+pub mod Overlay
+pub mod Placing
+pub mod Renewing
+pub mod Treads

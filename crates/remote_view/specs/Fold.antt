@@ -1,7 +1,8 @@
 -- What the notes of a metadata log come to: the fold of them, in their order.
 --
 -- Source: KIP-405, where each broker keeps such a view of a partition's remote segments.
-use Rattle.std.specs.Prelude.{ℕ, ◌^◌, ◌<◌, ◌≤◌, ℤ, if◌then◌else◌, is_some, List, [], ◌∷◌, ◌++◌, length, Option, Some, None}
+use Rattle.std.specs.Prelude.{◌≡◌, ℕ, ◌^◌, ◌<◌, ◌≤◌, ℤ, if◌then◌else◌, is_some, List, [], ◌∷◌, ◌++◌, length, filter}
+use Rattle.std.specs.Prelude.{not, Option, Some, None}
 use Rattle.std.specs.List.{AllByRecursion}
 use Rattle.std.specs.Option.{option_map}
 use Rattle.std.specs.Str.{bytes_eq}
@@ -9,6 +10,7 @@ use Rattle.tier_base.specs.declared.names.BrokerId.{BrokerId}
 use Rattle.tier_base.specs.declared.names.SegmentId.{SegmentId}
 use Rattle.tier_base.specs.declared.plain.State.{State}
 use Rattle.tier_base.specs.Counts.{counted}
+use Rattle.tier_base.specs.Key.{IsId}
 use Rattle.segment_meta.specs.declared.note.Entry.{Entry}
 use Rattle.segment_meta.specs.declared.note.Note.{Note}
 use Rattle.segment_meta.specs.declared.note.Note.TheVariants.{Add, Update}
@@ -64,8 +66,9 @@ fed view note = record { entries = noted view.entries note; notes = counted view
 abbrev pub view_of : List Note → Seen
 view_of notes = record { entries = fold notes; notes = counted 0 (length notes) }
 
--- an entry's offsets, and its map of epochs in them
+-- an entry's id, its offsets, and its map of epochs in them
 pub record IsKept (entry : Entry) : Type 0 where
+  pub id : IsId entry.id
   pub ordered : entry.start ≤ entry.end
   pub bounded : entry.end < 2 ^ 62
   pub map : IsMap entry.start entry.end entry.map
@@ -73,3 +76,12 @@ pub record IsKept (entry : Entry) : Type 0 where
 -- each entry is
 abbrev pub AreKept : List Entry → Type 0
 AreKept entries = AllByRecursion IsKept entries
+
+-- no two entries have one id
+abbrev pub AreDistinct : List Entry → Type 0
+AreDistinct [] = Unit {0}
+AreDistinct (entry ∷ entries) = (entry_of entry.id entries ≡ None) × AreDistinct entries
+
+-- the entries of other ids
+abbrev pub others : SegmentId → List Entry → List Entry
+others id entries = filter (λ entry. not (bytes_eq entry.id.0 id.0)) entries

@@ -1,11 +1,13 @@
 -- What is looked up in a view.
-use Rattle.std.specs.Prelude.{ℕ, ◌==◌, ◌&&◌, ◌||◌, nat_lt, nat_le, not, Bool, true, false, if◌then◌else◌, List, [], ◌∷◌, filter, Option, Some, None}
+use Rattle.std.specs.Prelude.{◌≡◌, ℕ, ◌==◌, ◌&&◌, ◌||◌, nat_lt, nat_le, not, Bool, true, false, if◌then◌else◌, List}
+use Rattle.std.specs.Prelude.{[], ◌∷◌, filter, All, Contains, Option, Some, None}
 use Rattle.std.specs.Int.{w128, from_be_bytes}
 use Rattle.log_terms.specs.Line.{epoch_at}
 use Rattle.tier_base.specs.declared.names.SegmentId.{SegmentId}
 use Rattle.tier_base.specs.declared.plain.State.{State}
 use Rattle.tier_base.specs.declared.plain.State.TheVariants.{CopyFinished, DeleteFinished}
 use Rattle.segment_meta.specs.declared.note.Entry.{Entry}
+use Rattle.remote_view.specs.Fold.{entry_of}
 
 -- the segment can be read
 abbrev pub is_readable : State → Bool
@@ -50,6 +52,13 @@ best_from best (entry ∷ entries) = best_from (Some (better_of best entry)) ent
 -- the best entry that gives this epoch at an offset
 abbrev pub finished : ℕ → ℕ → List Entry → Option Entry
 finished epoch offset entries = best_from None (filter (covers epoch offset) entries)
+
+-- an entry is one of these, it covers the offset, and none that does is better. It is the entry of its id
+pub record IsBest (epoch offset : ℕ) (entries : List Entry) (best : Entry) : Type 0 where
+  pub there : Contains entries best
+  pub holds : covers epoch offset best ≡ true
+  pub none_better : All (λ entry. covers epoch offset entry ≡ true → is_better entry best ≡ false) entries
+  pub of_id : entry_of best.id entries ≡ Some best
 
 -- an entry ends below a log start, and its objects may still stand
 abbrev pub is_due : ℕ → Entry → Bool

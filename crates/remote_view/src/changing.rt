@@ -1,9 +1,10 @@
 //! Changes of entries.
 
-ghost use Rattle.std.specs.Prelude.{◌≡◌, IfOk};
+ghost use Rattle.std.specs.Prelude.{◌≡◌, ◌<◌, length, All, IfOk};
 ghost use Rattle.segment_meta.specs.Rules.{IsAdded};
 ghost use Rattle.std.specs.Str.{bytes_eq};
-ghost use Rattle.remote_view.specs.Fold.{changed, updated};
+ghost use Rattle.tier_base.specs.Key.{IsId};
+ghost use Rattle.remote_view.specs.Fold.{updated};
 
 use segment_meta::Entry;
 use std::alloc::{AllocError, Global};
@@ -38,7 +39,7 @@ pub(crate) fn copied(alloc: Global, entry: &Entry) -> Result<Entry, AllocError>
 }
 
 /// Sets what an update tells.
-fn update(entry: &mut Entry, broker: BrokerId, event_ts: i64, state: State)
+pub(crate) fn update(entry: &mut Entry, broker: BrokerId, event_ts: i64, state: State)
     ensures { entry.new ≡ updated broker event_ts state entry.old }
 {
     entry.broker = broker;
@@ -46,20 +47,18 @@ fn update(entry: &mut Entry, broker: BrokerId, event_ts: i64, state: State)
     entry.state = state;
 }
 
-/// Updates an id's entry.
-pub(crate) fn change(
-    entries: &mut Vec<Entry>,
-    id: &SegmentId,
-    broker: BrokerId,
-    event_ts: i64,
-    state: State,
-)
-    ensures { entries.new.items ≡ changed id.now (updated broker event_ts state) entries.old.items }
+/// Sixteen bytes are an id's.
+fn are_sixteen(bytes: &[u8; 16])
+    ensures { (length bytes.now ≡ 16) × All (λ b. b < 256) bytes.now }
 {
-    for i in 0..entries.len() {
-        if is_same(&entries[i].id, id) {
-            update(&mut entries[i], broker, event_ts, state);
-            return;
-        }
+    for i in 0..16 {
+        let _ = bytes[i];
     }
+}
+
+/// An entry's id is one.
+pub(crate) fn has_id(entry: &Entry)
+    ensures { IsId entry.now.id }
+{
+    are_sixteen(entry.id.0.as_bytes());
 }

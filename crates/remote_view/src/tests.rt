@@ -1,6 +1,7 @@
 //! Worked rows, by hand. Each call is made once with ample memory.
 
-use crate::View;
+use crate::plain::{finished_in, state_in};
+use crate::{Tread, View};
 use segment_meta::{Entry, decode};
 use std::alloc::Global;
 use std::test::Fail;
@@ -172,5 +173,106 @@ fn a_segment_is_due_below_the_start(rt: HostRuntime) -> Result<(), Fail> {
     assert!(rt; is_of(view.due(20), 0), "its deletion isn't whole");
     take(&mut view, alloc, UPDATE.as_slice(), 0, STATE, 3)?;
     assert!(rt; is_of(view.due(20), 1), "now it is");
+    Ok(())
+}
+
+fn tread(from: u64, to: u64, attempt: u64) -> Tread {
+    Tread {
+        from,
+        to,
+        id: id(attempt),
+    }
+}
+
+#[test]
+fn stair_rows(rt: HostRuntime) -> Result<(), Fail> {
+    let alloc = rt.alloc();
+    let mut view = two_copies(alloc)?;
+    let both = [tread(0, 10, 0), tread(10, 15, 1)];
+    assert!(rt;
+        view.stair(0) == both.as_slice(),
+        "the second shows behind the first"
+    );
+    assert!(rt; view.stair(1) == [tread(10, 20, 0)].as_slice(), "epoch 1");
+    assert!(rt; view.stair(2).is_empty(), "no such epoch");
+    take(&mut view, alloc, UPDATE.as_slice(), 0, STATE, 2)?;
+    assert!(rt;
+        view.stair(0) == [tread(0, 15, 1)].as_slice(),
+        "the first is gone"
+    );
+    assert!(rt; view.stair(1).is_empty(), "and nothing lay under it");
+    Ok(())
+}
+
+/// Where the last bytes of a start, an end, and the start of the first epoch stand in the note of one epoch.
+const START: usize = 27;
+
+const END: usize = 35;
+
+const FIRST: usize = 74;
+
+/// Feeds a copy of epoch 0 that has finished.
+fn take_copy(view: &mut View, alloc: Global, attempt: u8, start: u8, end: u8) -> Result<(), Fail> {
+    let mut bytes = Vec::new(alloc);
+    for (i, byte) in ONE_EPOCH.iter().enumerate() {
+        match i {
+            ATTEMPT => bytes.push(attempt)?,
+            START | FIRST => bytes.push(start)?,
+            END => bytes.push(end)?,
+            _ => bytes.push(*byte)?,
+        }
+    }
+    let note = decode(alloc, bytes.as_slice())?;
+    view.feed(&note)?;
+    take(view, alloc, UPDATE.as_slice(), attempt, STATE, 1)
+}
+
+fn id_of(entry: Option<&Entry>) -> Option<SegmentId> {
+    match entry {
+        Some(entry) => Some(entry.id),
+        None => None,
+    }
+}
+
+/// Whether the view answers as a pass over all of its entries does.
+fn is_plain(view: &View, most: u64, attempts: u64) -> bool {
+    for offset in 0..most {
+        for epoch in 0..2 {
+            let plain = finished_in(view.entries(), epoch, offset);
+            if id_of(view.finished(epoch, offset)) != id_of(plain) {
+                return false;
+            }
+        }
+    }
+    for attempt in 0..attempts {
+        if view.state(id(attempt)) != state_in(view.entries(), &id(attempt)) {
+            return false;
+        }
+    }
+    true
+}
+
+#[test]
+fn searches_answer_as_passes_do(rt: HostRuntime) -> Result<(), Fail> {
+    let alloc = rt.alloc();
+    let mut view = two_copies(alloc)?;
+    let copies: [(u8, u8, u8); 8] = [
+        (2, 30, 39),
+        (3, 3, 6),
+        (4, 12, 33),
+        (5, 0, 2),
+        (6, 20, 29),
+        (7, 5, 33),
+        (8, 7, 7),
+        (9, 2, 41),
+    ];
+    for (attempt, start, end) in copies {
+        take_copy(&mut view, alloc, attempt, start, end)?;
+        assert!(rt; is_plain(&view, 45, 12), "a copy from {start} to {end}");
+    }
+    for attempt in [9u8, 2, 7, 0, 4] {
+        take(&mut view, alloc, UPDATE.as_slice(), attempt, STATE, 2)?;
+        assert!(rt; is_plain(&view, 45, 12), "without copy {attempt}");
+    }
     Ok(())
 }

@@ -1,14 +1,24 @@
-//! A view and its calls, over a plain list of entries.
+//! A view and its calls: entries by their ids, and stairs by their epochs.
+//!
+//! Everything is found by a search in an order, but for what a log start leaves behind. A note that makes a step changes the
+//! entry and the stairs of its epochs together, once there is memory for all of it.
 
-ghost use Rattle.std.specs.Prelude.{◌≡◌, [], OnOk, OnErr, IfSome};
+ghost use Rattle.std.specs.Prelude.{◌≡◌, ◌≢◌, [], OnOk, OnErr, IfSome};
 ghost use Rattle.std.specs.Option.{option_map};
+ghost use Rattle.tier_base.specs.declared.plain.State.TheVariants.{CopyStarted};
 ghost use Rattle.segment_meta.specs.declared.note.Note.TheVariants.{Add, Update};
 ghost use Rattle.segment_meta.specs.Rules.{IsNote, IsAdded};
-ghost use Rattle.remote_view.specs.Fold.{IsKept, AreKept, state_of, noted, fed};
+ghost use Rattle.remote_view.specs.Fold.{IsKept, AreKept, AreDistinct, state_of, noted, fed};
 ghost use Rattle.remote_view.specs.Lookup.{finished, due};
+ghost use Rattle.remote_view.specs.Stairs.{IsStair};
 
-use crate::changing::{change, copied};
-use crate::lookup::{due_in, finished_in, state_in};
+use crate::changing::{copied, has_id};
+use crate::known::Known;
+use crate::lookup::due_in;
+use crate::seeking::id_at;
+use crate::stairs::Stairs;
+use crate::stepping::fresh;
+use crate::tread::Tread;
 use segment_meta::{Entry, Note, next_state};
 use std::alloc::{AllocError, Global};
 use std::marker::Model;
@@ -18,18 +28,20 @@ use tier_base::{BrokerId, SegmentId, State};
 #[derive(Drop)]
 pub struct View {
     alloc: Global,
-    entries: Vec<Entry>,
+    known: Known,
+    stairs: Stairs,
     notes: u64,
 }
 
 impl Model for View {
-    ghost use Rattle.remote_view.specs.Fold.{Seen, AreKept};
+    ghost use Rattle.remote_view.specs.Fold.{Seen};
+    ghost use Rattle.remote_view.specs.Storing.{IsViewed};
 
     ghost Value = { Seen };
 
-    ghost view = { λ v. record { entries = v.entries.items; notes = v.notes } };
+    ghost view = { λ v. record { entries = v.known; notes = v.notes } };
 
-    ghost invariant = { λ v. AreKept v.entries.items };
+    ghost invariant = { λ v. IsViewed v.known v.stairs };
 }
 
 impl View {
@@ -39,7 +51,8 @@ impl View {
     {
         View {
             alloc,
-            entries: Vec::new(alloc),
+            known: Known::new(alloc),
+            stairs: Stairs::new(alloc),
             notes: 0,
         }
     }
@@ -58,7 +71,7 @@ impl View {
                 event_ts,
                 state,
                 ..
-            } => self.update(id, *broker, *event_ts, *state),
+            } => self.update(id, *broker, *event_ts, *state)?,
         }
         self.notes = self.notes.saturating_add(1);
         Ok(())
@@ -75,7 +88,10 @@ impl View {
     pub fn state(&self, id: SegmentId) -> Option<State>
         ensures { result ≡ state_of id self.now.entries }
     {
-        state_in(self.entries(), &id)
+        match self.known.get(&id) {
+            Some(entry) => Some(entry.state),
+            None => None,
+        }
     }
 
     /// The segment to read an offset of an epoch from: of those that hold it the one that ends last.
@@ -83,15 +99,26 @@ impl View {
         ensures best { option_map (λ e. e.now) result ≡ finished epoch offset self.now.entries }
         ensures kept { IfSome result (λ e. IsKept e.now) }
     {
-        finished_in(self.entries(), epoch, offset)
+        match id_at(self.stair(epoch), offset) {
+            Some(id) => self.known.get(&id),
+            None => None,
+        }
+    }
+
+    /// Which segments an epoch is read from, by ranges of offsets. The ranges rise.
+    pub fn stair(&self, epoch: u32) -> &[Tread]
+        ensures { IsStair self.now.entries epoch result.now }
+    {
+        self.stairs.stair(epoch)
     }
 
     /// All entries, in the order of their first notes.
     pub fn entries(&self) -> &[Entry]
         ensures entries { result.now ≡ self.now.entries }
         ensures kept { AreKept self.now.entries }
+        ensures distinct { AreDistinct self.now.entries }
     {
-        self.entries.as_slice()
+        self.known.entries()
     }
 
     /// The first segment that a log start leaves behind, and whose deletion isn't whole.
@@ -107,21 +134,35 @@ impl View {
         ensures ok { OnOk result (self.new ≡ record self.old { entries = noted self.old.entries (Add entry.now) }) }
         ensures err { OnErr result (self.new ≡ self.old) }
     {
-        if next_state(state_in(self.entries(), &entry.id), entry.state).is_none() {
+        if self.known.get(&entry.id).is_some() {
             return Ok(());
         }
-        let entry = copied(self.alloc, entry)?;
-        self.entries.push(entry)?;
-        Ok(())
+        has_id(entry);
+        self.known.add(copied(self.alloc, entry)?)
     }
 
     /// Updates an entry, where that is a step.
-    fn update(&mut self, id: &SegmentId, broker: BrokerId, event_ts: i64, state: State)
-        ensures { self.new ≡ record self.old { entries = noted self.old.entries (Update id.now broker event_ts state None) } }
+    fn update(
+        &mut self,
+        id: &SegmentId,
+        broker: BrokerId,
+        event_ts: i64,
+        state: State,
+    ) -> Result<(), AllocError>
+        requires { state ≢ CopyStarted }
+        ensures ok { OnOk result (self.new
+            ≡ record self.old { entries = noted self.old.entries (Update id.now broker event_ts state None) }) }
+        ensures err { OnErr result (self.new ≡ self.old) }
     {
-        if next_state(state_in(self.entries(), id), state).is_none() {
-            return;
+        let Some(entry) = self.known.get(id) else {
+            return Ok(());
+        };
+        if next_state(Some(entry.state), state).is_none() {
+            return Ok(());
         }
-        change(&mut self.entries, id, broker, event_ts, state);
+        let fresh = fresh(self.alloc, &self.known, &mut self.stairs, entry, state)?;
+        self.known.change(id, broker, event_ts, state);
+        self.stairs.replace_all(fresh);
+        Ok(())
     }
 }

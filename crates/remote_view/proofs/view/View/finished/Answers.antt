@@ -1,6 +1,12 @@
-use Rattle.remote_view.proofs.Finding.{finished_kept}
+use Rattle.std.proofs.Common.{◌∙◌}
+use Rattle.remote_view.proofs.Finding.{finished_kept, by_stair}
 use Rattle.remote_view.proofs.view.View.finished.Goals as goal
 
-pub returns-clause-kept : goal.returns-clause-kept
-returns-clause-kept c =
-    finished_kept c.args.epoch c.args.offset c.entries.result.now c.finished_in.result (rw (c.entries.ensures.entries) c.entries.ensures.kept) c.finished_in.ensures
+pub returns-in-Some-clause-best : goal.returns-in-Some-clause-best
+returns-in-Some-clause-best c =
+    rw (← c.self.view_is) (c.get.ensures ∙ by_stair c.args.epoch c.args.offset c.self.inside.known c.stair.result.now c.in-Some.id c.self.invariant.distinct (rw (← c.self.view_is) at c.stair.ensures) c.in-Some.ensures)
+
+pub returns-in-Some-clause-kept : goal.returns-in-Some-clause-kept
+returns-in-Some-clause-kept c =
+    finished_kept c.args.epoch c.args.offset c.self.inside.known c.get.result c.self.invariant.kept
+    (c.get.ensures ∙ by_stair c.args.epoch c.args.offset c.self.inside.known c.stair.result.now c.in-Some.id c.self.invariant.distinct (rw (← c.self.view_is) at c.stair.ensures) c.in-Some.ensures)

@@ -1,5 +1,19 @@
-use Rattle.remote_view.proofs.Changes.{change_keeps}
+use Rattle.std.proofs.Common.{◌≡◌, ◌∙◌, ap, sym, w64, to_z, of_z, rules}
+use Rattle.tier_base.specs.declared.names.SegmentId.{SegmentId}
+use Rattle.remote_view.specs.Fold.{entry_of}
+use Rattle.remote_view.proofs.Changes.{found_id, viewed_update}
 use Rattle.remote_view.proofs.view.View.update.Goals as goal
 
-pub invariant_of-self : goal.invariant_of-self
-invariant_of-self c = rw (c.change.ensures) (change_keeps c.args.id.now c.args.broker _ c.args.state c.self.inside.entries.items c.self.invariant)
+pub fresh-requires-clause-here : goal.fresh-requires-clause-here
+fresh-requires-clause-here c =
+    ap (λ (id : SegmentId). entry_of id c.self.inside.known) (found_id c.args.id.now c.self.inside.known c.in-Some.entry.now (sym c.in-Some.ensures)) ∙ sym c.in-Some.ensures
+
+pub replace_all-requires : goal.replace_all-requires
+replace_all-requires c = (c.in_ok-fresh.ensures.ok c.args.broker c.args.event_ts).room
+
+pub invariant_of-self-2 : goal.invariant_of-self-2
+invariant_of-self-2 c =
+    let ts : to_z w64 (of_z w64 c.args.event_ts) ≡ c.args.event_ts = search rules in
+    let one = found_id c.args.id.now c.self.inside.known c.in-Some.entry.now (sym c.in-Some.ensures) in
+    viewed_update c.self.inside.known c.change.new.self c.self.inside.stairs c.fresh.new.stairs c.replace_all.new.self c.in_ok-fresh.fresh c.args.id.now c.in-Some.entry.now c.args.broker c.args.event_ts c.args.state
+    c.self.invariant one (rw ts at c.change.ensures) (c.in_ok-fresh.ensures.ok c.args.broker c.args.event_ts) c.replace_all.ensures

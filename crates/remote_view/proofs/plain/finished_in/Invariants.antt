@@ -2,7 +2,7 @@ use Rattle.std.proofs.Common.{◌≡◌, drop}
 use Rattle.std.specs.Prelude.{filter}
 use Rattle.std.specs.Option.{option_map}
 use Rattle.remote_view.specs.Lookup.{covers, best_from, finished}
-use Rattle.remote_view.proofs.lookup.finished_in.Given as goal
+use Rattle.remote_view.proofs.plain.finished_in.Given as goal
 
 abbrev pub invariant-loop-entry : goal.invariant-loop-entry
 invariant-loop-entry l =

@@ -1,0 +1,16 @@
+-- Where an id's entry stands among the entries.
+use Rattle.std.specs.Prelude.{ℕ, suc, zero, if◌then◌else◌, List, [], ◌∷◌, Option, Some, None, option_map}
+use Rattle.std.specs.Str.{bytes_eq}
+use Rattle.std.specs.declared.cmp.Ordering.{Ordering}
+use Rattle.tier_base.specs.declared.names.SegmentId.{SegmentId}
+use Rattle.tier_base.specs.contracts.names.SegmentIdOrd.TheImpl as id_ord
+use Rattle.segment_meta.specs.declared.note.Entry.{Entry}
+
+-- the order of ids
+abbrev pub id_cmp : SegmentId → SegmentId → Ordering
+id_cmp = (id_ord.ghosts).cmp
+
+-- the place of an id's entry
+abbrev pub place_of : SegmentId → List Entry → Option ℕ
+place_of id [] = None
+place_of id (entry ∷ entries) = if bytes_eq entry.id.0 id.0 then Some zero else option_map suc (place_of id entries)

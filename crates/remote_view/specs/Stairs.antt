@@ -1,0 +1,44 @@
+-- Stairs: which segment an offset of an epoch is read from, by ranges of offsets.
+--
+-- An epoch's stair is a list of treads, which rise. What it gives at an offset is the best copy there, so that one
+-- search in it answers what a pass over all entries would.
+use Rattle.std.specs.Prelude.{◌≡◌, ℕ, ◌<◌, ◌≤◌, ◌==◌, ◌&&◌, nat_lt, nat_le, Bool, false, if◌then◌else◌, List, [], ◌∷◌}
+use Rattle.std.specs.Prelude.{Option, Some, None, option_map}
+use Rattle.std.specs.Str.{bytes_eq}
+use Rattle.epoch_line.specs.Line.{start_or}
+use Rattle.tier_base.specs.declared.names.SegmentId.{SegmentId}
+use Rattle.segment_meta.specs.declared.note.Entry.{Entry}
+use Rattle.remote_view.specs.declared.spans.Span.{Span}
+use Rattle.remote_view.specs.declared.tread.Tread.{Tread}
+use Rattle.remote_view.specs.Lookup.{finished}
+
+-- where an epoch starts in a line, and where it ends: at the next one's start, or else at the line's own end
+abbrev pub span_of : List (ℕ × ℕ) → ℕ → ℕ → Option Span
+span_of [] epoch end = None
+span_of (entry ∷ line) epoch end =
+    if entry.0 == epoch then Some (record { from = entry.1; to = start_or end line }) else span_of line epoch end
+
+-- the offset is in a range
+abbrev pub is_within : ℕ → ℕ → ℕ → Bool
+is_within from to offset = nat_le from offset && nat_lt offset to
+
+-- the segment that a stair gives at an offset
+abbrev pub id_at : List Tread → ℕ → Option SegmentId
+id_at [] offset = None
+id_at (tread ∷ stair) offset = if is_within tread.from tread.to offset then Some tread.id else id_at stair offset
+
+-- a tread ends at or before the start of the next one, and has another segment where they touch
+abbrev pub IsUnder : Tread → List Tread → Type 0
+IsUnder tread [] = Unit {0}
+IsUnder tread (next ∷ stair) =
+    (tread.to ≤ next.from) × (tread.to ≡ next.from → bytes_eq tread.id.0 next.id.0 ≡ false)
+
+-- treads rise, and none is empty
+abbrev pub Rises : List Tread → Type 0
+Rises [] = Unit {0}
+Rises (tread ∷ stair) = (tread.from < tread.to) × IsUnder tread stair × Rises stair
+
+-- the stair of an epoch over entries: at each offset it gives the best copy's segment, if there is one
+pub record IsStair (entries : List Entry) (epoch : ℕ) (stair : List Tread) : Type 0 where
+  pub rises : Rises stair
+  pub best : (offset : ℕ) → id_at stair offset ≡ option_map (λ entry. entry.id) (finished epoch offset entries)

@@ -1,0 +1,45 @@
+-- The stairs of all epochs, as they are kept.
+use Rattle.std.specs.Prelude.{◌≡◌, ℕ, ◌==◌, ◌||◌, Bool, true, false, if◌then◌else◌, List, [], ◌∷◌, is_some, unwrap_or}
+use Rattle.std.specs.List.{AllByRecursion}
+use Rattle.std.specs.Ordering.{nat_cmp}
+use Rattle.std.specs.BTreeMap.{get}
+use Rattle.segment_meta.specs.declared.note.Entry.{Entry}
+use Rattle.remote_view.specs.declared.tread.Tread.{Tread}
+use Rattle.remote_view.specs.declared.stairs.Stair.{Stair}
+use Rattle.remote_view.specs.declared.stairs.Stairs.{Stairs}
+use Rattle.remote_view.specs.Fold.{AreKept, AreDistinct}
+use Rattle.remote_view.specs.Stairs.{IsStair}
+
+-- the stair of an epoch; one that was never made is empty
+abbrev pub stair_on : Stairs → ℕ → List Tread
+stair_on stairs epoch = unwrap_or (get nat_cmp stairs.treads epoch) []
+
+-- there is room for an epoch's stair
+abbrev pub has_room : Stairs → ℕ → Bool
+has_room stairs epoch = is_some (get nat_cmp stairs.treads epoch)
+
+-- one of the stairs is of an epoch
+abbrev pub names : ℕ → List Stair → Bool
+names epoch [] = false
+names epoch (stair ∷ stairs) = (stair.epoch == epoch) || names epoch stairs
+
+-- the first of the stairs that is of an epoch, or else another
+abbrev pub replaced : List Stair → ℕ → List Tread → List Tread
+replaced [] epoch old = old
+replaced (stair ∷ stairs) epoch old = if stair.epoch == epoch then stair.treads else replaced stairs epoch old
+
+-- there is room for each
+abbrev pub HaveRoom : Stairs → List Stair → Type 0
+HaveRoom stairs fresh = AllByRecursion (λ stair. has_room stairs stair.epoch ≡ true) fresh
+
+-- some stairs are right over entries, there is room for them, and those of the other epochs are right as they are
+pub record IsFresh (entries : List Entry) (stairs : Stairs) (fresh : List Stair) : Type 0 where
+  pub each : AllByRecursion (λ stair. IsStair entries stair.epoch stair.treads) fresh
+  pub room : HaveRoom stairs fresh
+  pub kept : (epoch : ℕ) → names epoch fresh ≡ false → IsStair entries epoch (stair_on stairs epoch)
+
+-- what holds of a view's entries and stairs
+pub record IsViewed (entries : List Entry) (stairs : Stairs) : Type 0 where
+  pub kept : AreKept entries
+  pub distinct : AreDistinct entries
+  pub right : (epoch : ℕ) → IsStair entries epoch (stair_on stairs epoch)

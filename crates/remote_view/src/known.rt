@@ -1,0 +1,83 @@
+//! Entries in the order of their first notes, each found by its id.
+
+ghost use Rattle.std.specs.Prelude.{◌≡◌, [], ◌∷◌, ◌++◌, None, OnOk, OnErr};
+ghost use Rattle.std.specs.Option.{option_map};
+ghost use Rattle.remote_view.specs.Fold.{entry_of, changed, updated};
+
+use crate::changing::update;
+use segment_meta::Entry;
+use std::alloc::{AllocError, Global};
+use std::collections::BTreeMap;
+use std::marker::Model;
+use tier_base::{BrokerId, SegmentId, State};
+
+/// The entries.
+#[derive(Drop)]
+pub(crate) struct Known {
+    entries: Vec<Entry>,
+    places: BTreeMap<SegmentId, usize>,
+}
+
+impl Model for Known {
+    ghost use Rattle.std.specs.Prelude.{◌≡◌, List};
+    ghost use Rattle.std.specs.BTreeMap.{get};
+    ghost use Rattle.tier_base.specs.declared.names.SegmentId.{SegmentId};
+    ghost use Rattle.segment_meta.specs.declared.note.Entry.{Entry};
+    ghost use Rattle.remote_view.specs.Places.{id_cmp, place_of};
+
+    ghost Value = { List Entry };
+
+    ghost view = { λ k. k.entries.items };
+
+    ghost invariant = { λ k. (id : SegmentId) → get id_cmp k.places id ≡ place_of id k.entries.items };
+}
+
+impl Known {
+    /// No entries yet.
+    pub fn new(alloc: Global) -> Known
+        ensures { result ≡ [] }
+    {
+        Known {
+            entries: Vec::new(alloc),
+            places: BTreeMap::new(alloc),
+        }
+    }
+
+    /// All entries, in their order.
+    pub fn entries(&self) -> &[Entry]
+        ensures { result.now ≡ self.now }
+    {
+        self.entries.as_slice()
+    }
+
+    /// The entry of an id.
+    pub fn get(&self, id: &SegmentId) -> Option<&Entry>
+        ensures { option_map (λ e. e.now) result ≡ entry_of id.now self.now }
+    {
+        match self.places.get(id) {
+            Some(place) => Some(&self.entries[*place]),
+            None => None,
+        }
+    }
+
+    /// Adds an entry of a new id.
+    pub fn add(&mut self, entry: Entry) -> Result<(), AllocError>
+        requires { entry_of entry.id self.old ≡ None }
+        ensures ok { OnOk result (self.new ≡ self.old ++ entry ∷ []) }
+        ensures err { OnErr result (self.new ≡ self.old) }
+    {
+        self.entries.reserve(1)?;
+        self.places.insert(entry.id, self.entries.len())?;
+        self.entries.push_reserved(entry);
+        Ok(())
+    }
+
+    /// Updates an id's entry.
+    pub fn change(&mut self, id: &SegmentId, broker: BrokerId, event_ts: i64, state: State)
+        ensures { self.new ≡ changed id.now (updated broker event_ts state) self.old }
+    {
+        if let Some(place) = self.places.get(id).copied() {
+            update(&mut self.entries[place], broker, event_ts, state);
+        }
+    }
+}

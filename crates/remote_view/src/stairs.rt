@@ -1,0 +1,80 @@
+//! The stairs of all epochs, each found by its epoch.
+//!
+//! What replaces a stair is put where room was made for it before, which takes no memory. So all the stairs that a note
+//! changes are made first, and then they replace the old ones together.
+
+ghost use Rattle.std.specs.Prelude.{◌≡◌, ℕ, [], true, OnOk, if◌then◌else◌, ◌==◌};
+ghost use Rattle.remote_view.specs.Storing.{stair_on, has_room, replaced, HaveRoom};
+
+use crate::tread::Tread;
+use std::alloc::{AllocError, Global};
+use std::collections::BTreeMap;
+use tier_base::Row;
+
+/// An epoch's stair.
+#[derive(Drop)]
+pub(crate) struct Stair {
+    pub epoch: u32,
+    pub treads: Row<Tread>,
+}
+
+/// The stairs.
+#[derive(Drop)]
+pub(crate) struct Stairs {
+    treads: BTreeMap<u32, Row<Tread>>,
+}
+
+impl Stairs {
+    /// Empty stairs.
+    pub fn new(alloc: Global) -> Stairs
+        ensures { (epoch : ℕ) → stair_on result epoch ≡ [] }
+    {
+        Stairs {
+            treads: BTreeMap::new(alloc),
+        }
+    }
+
+    /// The stair of an epoch.
+    pub fn stair(&self, epoch: u32) -> &[Tread]
+        ensures { result.now ≡ stair_on self.now epoch }
+    {
+        match self.treads.get(&epoch) {
+            Some(stair) => stair.as_slice(),
+            None => &[],
+        }
+    }
+
+    /// Makes room for an epoch's stair.
+    pub fn reserve(&mut self, alloc: Global, epoch: u32) -> Result<(), AllocError>
+        ensures same { (e : ℕ) → stair_on self.new e ≡ stair_on self.old e }
+        ensures kept { (e : ℕ) → has_room self.old e ≡ true → has_room self.new e ≡ true }
+        ensures ok { OnOk result (has_room self.new epoch ≡ true) }
+    {
+        if self.treads.contains_key(&epoch) {
+            return Ok(());
+        }
+        self.treads.insert(epoch, Row::new(alloc))?;
+        Ok(())
+    }
+
+    /// Replaces an epoch's stair, where there is room.
+    fn replace(&mut self, stair: Stair)
+        requires { has_room self.old stair.epoch ≡ true }
+        ensures stairs { (e : ℕ) → stair_on self.new e
+            ≡ (if stair.epoch == e then stair.treads else stair_on self.old e) }
+        ensures room { (e : ℕ) → has_room self.old e ≡ true → has_room self.new e ≡ true }
+    {
+        let _ = self.treads.insert(stair.epoch, stair.treads);
+    }
+
+    /// Replaces stairs for which there is room.
+    pub fn replace_all(&mut self, stairs: Row<Stair>)
+        requires { HaveRoom self.old stairs }
+        ensures { (e : ℕ) → stair_on self.new e ≡ replaced stairs e (stair_on self.old e) }
+    {
+        let mut stairs = stairs;
+        while let Some(stair) = stairs.pop() {
+            self.replace(stair);
+        }
+    }
+}

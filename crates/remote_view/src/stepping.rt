@@ -1,0 +1,116 @@
+//! The stairs after a note: those that an entry's step changes are made anew, and nothing else changes.
+//!
+//! A copy that finishes is laid over the stairs of its epochs. One whose deletion starts leaves them, and what lay under
+//! it shows again: those stairs are made of the other entries.
+
+ghost use Rattle.std.specs.Prelude.{◌≡◌, ℕ, ℤ, true, Some, is_some, OnOk, IfOk};
+ghost use Rattle.tier_base.specs.declared.names.BrokerId.{BrokerId};
+ghost use Rattle.segment_meta.specs.Steps.{next_state};
+ghost use Rattle.remote_view.specs.Fold.{entry_of, changed, updated, IsKept, AreKept, AreDistinct, others};
+ghost use Rattle.remote_view.specs.Stairs.{Rises, IsStair};
+ghost use Rattle.remote_view.specs.Laying.{IsLaidIn};
+ghost use Rattle.remote_view.specs.Storing.{stair_on, IsFresh};
+
+use crate::changing::is_same;
+use crate::known::Known;
+use crate::laying::lay;
+use crate::lookup::is_readable;
+use crate::spans::span_of;
+use crate::stairs::{Stair, Stairs};
+use crate::tread::Tread;
+use segment_meta::Entry;
+use std::alloc::{AllocError, Global};
+use tier_base::{Row, SegmentId, State};
+
+/// Lays an entry over a stair where it gives the stair's epoch.
+fn lay_in(
+    alloc: Global,
+    known: &Known,
+    stair: Row<Tread>,
+    entry: &Entry,
+    epoch: u32,
+) -> Result<Row<Tread>, AllocError>
+    requires kept { IsKept entry.now }
+    requires rises { Rises stair }
+    ensures { IfOk result (λ laid. IsLaidIn known.now entry.now epoch stair laid) }
+{
+    match span_of(entry.map.entries(), epoch, entry.end + 1) {
+        Some(span) => lay(alloc, known, stair, entry, span),
+        None => Ok(stair),
+    }
+}
+
+/// The stair of an epoch over all entries but an id's.
+fn rebuilt(
+    alloc: Global,
+    known: &Known,
+    id: &SegmentId,
+    epoch: u32,
+) -> Result<Row<Tread>, AllocError>
+    requires kept { AreKept known.now }
+    requires distinct { AreDistinct known.now }
+    ensures { IfOk result (λ stair. IsStair (others id.now known.now) epoch stair) }
+{
+    let mut stair = Row::new(alloc);
+    for entry in known.entries() {
+        if is_readable(entry.state) && !is_same(&entry.id, id) {
+            stair = lay_in(alloc, known, stair, entry, epoch)?;
+        }
+    }
+    Ok(stair)
+}
+
+/// The stair of an epoch after an entry's step from or to a finished copy.
+fn anew(
+    alloc: Global,
+    known: &Known,
+    stair: &[Tread],
+    entry: &Entry,
+    state: State,
+    epoch: u32,
+) -> Result<Row<Tread>, AllocError>
+    requires kept { AreKept known.now }
+    requires distinct { AreDistinct known.now }
+    requires stair { IsStair known.now epoch stair.now }
+    requires here { entry_of entry.now.id known.now ≡ Some entry.now }
+    requires step { is_some (next_state (Some entry.now.state) state) ≡ true }
+    ensures { IfOk result (λ laid. (broker : BrokerId) (event_ts : ℤ)
+        → IsStair (changed entry.now.id (updated broker event_ts state) known.now) epoch laid) }
+{
+    if is_readable(state) {
+        let stair = Row::from_vec(Vec::from_slice(alloc, stair)?);
+        lay_in(alloc, known, stair, entry, epoch)
+    } else {
+        rebuilt(alloc, known, &entry.id, epoch)
+    }
+}
+
+/// The stairs that an entry's step changes, and room for them.
+pub(crate) fn fresh(
+    alloc: Global,
+    known: &Known,
+    stairs: &mut Stairs,
+    entry: &Entry,
+    state: State,
+) -> Result<Row<Stair>, AllocError>
+    requires kept { AreKept known.now }
+    requires distinct { AreDistinct known.now }
+    requires stairs { (epoch : ℕ) → IsStair known.now epoch (stair_on stairs.old epoch) }
+    requires here { entry_of entry.now.id known.now ≡ Some entry.now }
+    requires step { is_some (next_state (Some entry.now.state) state) ≡ true }
+    ensures same { (epoch : ℕ) → stair_on stairs.new epoch ≡ stair_on stairs.old epoch }
+    ensures ok { IfOk result (λ fresh. (broker : BrokerId) (event_ts : ℤ)
+        → IsFresh (changed entry.now.id (updated broker event_ts state) known.now) stairs.new fresh) }
+{
+    let mut fresh = Row::new(alloc);
+    if !is_readable(entry.state) && !is_readable(state) {
+        return Ok(fresh);
+    }
+    for pair in entry.map.entries() {
+        let epoch = pair.0;
+        stairs.reserve(alloc, epoch)?;
+        let treads = anew(alloc, known, stairs.stair(epoch), entry, state, epoch)?;
+        fresh.push(Stair { epoch, treads })?;
+    }
+    Ok(fresh)
+}
