@@ -1,0 +1,8 @@
+use Rattle.disk_model.specs.declared.call.DiskCall.TheVariants as call
+use Rattle.folder_yard.proofs.Tallies.{quiet}
+use Rattle.folder_yard.proofs.folder_disk.FolderDiskDisk.cut.Goals as goal
+
+pub returns-clause-control : goal.returns-clause-control
+returns-clause-control g c =
+    let d = c.args.self.now in
+    quiet call.Cut _ d.tally c.note.new.self d.handed c.note.ensures.ran

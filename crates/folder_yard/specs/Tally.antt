@@ -1,0 +1,26 @@
+-- The counts of a device that works on something outside the program: it has no plan of faults, and each
+-- of its calls can fail.
+use Rattle.std.specs.Prelude.{ℕ, Bool, false, List, []}
+use Rattle.std.proofs.Math.ListN.{get_or}
+use Rattle.tier_base.specs.Device.{Control}
+
+-- faults, and calls since it was armed
+pub record Counts : Type 0 where
+  pub armed : Bool
+  -- how many calls were made, by the kind's code
+  pub counts : List ℕ
+  pub faults : ℕ
+
+module _ {K : Type 0} (code : K → ℕ) where
+  -- what a device with these counts tells, where the last read gave these bytes
+  abbrev pub control_of : Counts → List ℕ → Control code
+  control_of t handed =
+      record {
+        faults = t.faults;
+        plan = [];
+        armed = t.armed;
+        made = λ kind. get_or t.counts (code kind) 0;
+        calm = false;
+        ruled = false;
+        handed = handed;
+      }

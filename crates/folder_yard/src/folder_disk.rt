@@ -1,0 +1,166 @@
+//! A disk over a folder of the operating system.
+
+ghost use Rattle.std.specs.Prelude.{◌≡◌, ◌↔◌, [], false, if◌then◌else◌, Ok, IfOk, IsOk, IsErr};
+ghost use Rattle.tier_base.specs.Device.{IsFresh};
+ghost use Rattle.disk_model.specs.Call.{call_code};
+ghost use Rattle.disk_model.specs.Content.{bytes_in};
+ghost use Rattle.disk_model.specs.Deaf.{nothing_told, deaf_lawful};
+ghost use Rattle.folder_yard.specs.Tally.{control_of};
+
+use crate::folder::Folder;
+use crate::tally::Tally;
+use bytes::Bytes;
+use disk_model::{Disk, DiskCall};
+use std::alloc::AllocError;
+use std::io::{self, ErrorKind};
+use std::rt::Files;
+use tier_base::{Failed, FileName, Row, Trouble, give};
+
+/// A disk whose files stand in a folder. It tells no content, and every failure of the system is a
+/// fault. No call of it is planned to fail, and each may.
+#[derive(Drop)]
+pub struct FolderDisk<R: Files + AllocGlobal + Clone + Drop> {
+    folder: Folder<R>,
+    tally: Tally<DiskCall>,
+    handed: Bytes,
+    spare: u32,
+}
+
+impl<R: Files + AllocGlobal + Clone + Drop> FolderDisk<R> {
+    /// Opens a disk over a folder, which is made where it is absent, with those above it. What was
+    /// written and not put in its place is removed.
+    pub fn open(rt: R, path: &str) -> Result<FolderDisk<R>, Trouble>
+        ensures fresh { IfOk result (λ disk. IsFresh (⟦<FolderDisk<R> as Disk>⟧.control disk)) }
+        ensures plan { IfOk result (λ disk. (⟦<FolderDisk<R> as Disk>⟧.control disk).plan ≡ []) }
+        ensures calm { IfOk result (λ disk.
+            (⟦<FolderDisk<R> as Disk>⟧.control disk).calm ≡ false) }
+        ensures ruled { IfOk result (λ disk.
+            (⟦<FolderDisk<R> as Disk>⟧.control disk).ruled ≡ false) }
+        ensures spare { IfOk result (λ disk. ⟦<FolderDisk<R> as Disk>⟧.spare disk ≡ 0) }
+    {
+        let folder = told(Folder::open(rt, path))?;
+        Ok(FolderDisk {
+            folder,
+            tally: Tally::new(),
+            handed: Bytes::new(),
+            spare: 0,
+        })
+    }
+
+    /// Answers whether calls are counted.
+    pub fn is_armed(&self) -> bool
+        ensures { result ≡ (⟦<FolderDisk<R> as Disk>⟧.control self.now).armed }
+    {
+        self.tally.is_armed()
+    }
+
+    /// Counts the calls that failed.
+    pub fn faults(&self) -> u64
+        ensures { result ≡ (⟦<FolderDisk<R> as Disk>⟧.control self.now).faults }
+    {
+        self.tally.faults()
+    }
+}
+
+impl<R: Files + AllocGlobal + Clone + Drop> Disk for FolderDisk<R> {
+    ghost content = { λ d. nothing_told };
+
+    ghost control = { λ d. control_of call_code d.tally d.handed };
+
+    ghost spare = { λ d. d.spare };
+
+    fn append(&mut self, name: FileName, bytes: &[u8]) -> Result<(), Trouble> {
+        let outcome = done(self.folder.append(name, bytes));
+        give(self.tally.note(DiskCall::Append, outcome), ())
+    }
+
+    // The folder's calls take no memory, so the room is a number alone.
+    fn reserve(&mut self, calls: u32) -> Result<(), AllocError> {
+        self.spare = self.spare.max(calls);
+        Ok(())
+    }
+
+    fn sync(&mut self, name: FileName) -> Result<(), Failed> {
+        self.spare -= 1;
+        let outcome = done(self.folder.sync(name));
+        self.tally.note(DiskCall::Sync, outcome)
+    }
+
+    fn read(&mut self, name: FileName, at: u64) -> Result<Option<Bytes>, Trouble> {
+        let outcome = told(self.folder.read(name, at));
+        let shared = share(&outcome)?;
+        let answer = self.tally.note_any(DiskCall::Read, outcome);
+        hand(&mut self.handed, answer.is_ok(), shared);
+        answer
+    }
+
+    fn cut(&mut self, name: FileName, len: u64) -> Result<(), Failed> {
+        self.spare -= 1;
+        let outcome = done(self.folder.cut(name, len));
+        self.tally.note(DiskCall::Cut, outcome)
+    }
+
+    fn replace(&mut self, name: FileName, bytes: &[u8]) -> Result<(), Trouble> {
+        let outcome = done(self.folder.replace(name, bytes));
+        give(self.tally.note(DiskCall::Replace, outcome), ())
+    }
+
+    fn remove(&mut self, name: FileName) -> Result<(), Failed> {
+        self.spare -= 1;
+        let outcome = done(self.folder.remove(name));
+        self.tally.note(DiskCall::Remove, outcome)
+    }
+
+    fn list(&mut self) -> Result<Row<FileName>, Trouble> {
+        let names = told(self.folder.list());
+        self.tally.note_any(DiskCall::List, names)
+    }
+
+    fn arm(&mut self) {
+        self.tally.arm();
+    }
+
+    ghost lawful = { λ d. deaf_lawful };
+}
+
+/// Whether a call that changes files went well. Want of memory in the system is a failure too, since
+/// the call may have been done in part.
+fn done(outcome: io::Result<()>) -> Result<(), Failed>
+    ensures { IsOk result ↔ IsOk outcome }
+{
+    match outcome {
+        Ok(()) => Ok(()),
+        Err(_) => Err(Failed),
+    }
+}
+
+/// What a call answered that changes nothing.
+fn told<T: Drop>(outcome: io::Result<T>) -> Result<T, Trouble>
+    ensures value { IfOk outcome (λ value. result ≡ Ok value) }
+    ensures failed { IsErr outcome → IsErr result }
+{
+    match outcome {
+        Ok(value) => Ok(value),
+        Err(error) if error.kind() == ErrorKind::OutOfMemory => Err(Trouble::NoMemory),
+        Err(_) => Err(Trouble::Failed),
+    }
+}
+
+/// Shares the bytes that a read found.
+fn share(file: &Result<Option<Bytes>, Trouble>) -> Result<Bytes, AllocError>
+    ensures { IfOk result (λ shared. IfOk file.now (λ found. shared ≡ bytes_in found)) }
+{
+    match file {
+        Ok(Some(bytes)) => bytes.clone(),
+        _ => Ok(Bytes::new()),
+    }
+}
+
+/// Hands bytes where they are given.
+fn hand(handed: &mut Bytes, given: bool, bytes: Bytes)
+    ensures { handed.new ≡ (if given then bytes else handed.old) }
+{
+    if given {
+        *handed = bytes;
+    }
+}
