@@ -1,0 +1,13 @@
+-- A log by its fields.
+use Rattle.std.proofs.Common.{◌≡◌, ℕ, Bool, List, refl, IsTrue}
+use Rattle.tier_base.specs.declared.plain.Settings.{Settings}
+use Rattle.disk_model.specs.Content.{Content}
+use Rattle.segment_file.specs.Growing.{Grown}
+use Rattle.local_log.specs.Log.{Log, Becomes}
+
+module _ {D : Type 0} where
+  -- a log of these fields
+  pub becomes_by : (content : D → Content) (then new : Log D) → new.settings ≡ then.settings → new.incarnation ≡ then.incarnation → new.local_start ≡ then.local_start
+      → new.end ≡ then.end → new.stable ≡ then.stable → new.line ≡ then.line → new.closed ≡ then.closed → new.active ≡ then.active → new.broken ≡ then.broken
+      → (content new.disk).tells ≡ (content then.disk).tells → (IsTrue (content then.disk).tells → new.batches ≡ then.batches) → Becomes content then new
+  becomes_by content then new s i l e st ln cl ac br tells batches = record { fields = rw (← s, ← i, ← l, ← e, ← st, ← ln, ← cl, ← ac, ← br) refl; tells = tells; batches = batches }

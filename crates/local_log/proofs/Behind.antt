@@ -1,0 +1,66 @@
+-- An append behind a roll: the open segment is synced and closed, and a new one is appended to.
+use Rattle.std.proofs.Common.{◌≡◌, ◌∙◌, ap, sym, subst, ℕ, ◌<◌, Bool, true, List, [], ◌∷◌, ◌++◌, map, IsTrue}
+use Rattle.std.proofs.lemmas.List.{append-nil}
+use Rattle.tier_base.specs.declared.plain.FileName.TheVariants as file
+use Rattle.disk_model.specs.Content.{Content, Lawful, Files, Image, Keeps, LeavesOnly, Changes, Begins, appended, Grown as MayGrow}
+use Rattle.segment_file.specs.Growing.{Grown}
+use Rattle.log_steps.specs.Reopens.{Reopens}
+use Rattle.log_steps.proofs.Moments.{leaves_then}
+use Rattle.log_steps.proofs.Published.{undone_files}
+use Rattle.local_log.specs.Stored.{all_batches, size_of, end_of}
+use Rattle.local_log.specs.Listing.{IsLaidOut}
+use Rattle.local_log.specs.Inside.{HasLog}
+use Rattle.local_log.proofs.Pieces.{all_append}
+use Rattle.local_log.proofs.Having.{OpensUpTo, has_kept, has_same}
+use Rattle.local_log.proofs.Rolling.{twice_since, roll_has, roll_batches}
+use Rattle.local_log.proofs.Appended.{appended_since, appended_reopens, appended_kept}
+
+module _ (d m m2 : Content) (laws : Lawful d) (laws-m : Lawful m) (laws2 : Lawful m2) (incarnation local_start : ℕ) (closed : List Grown) (active : Grown) (line : List (ℕ × ℕ)) (stable : ℕ) (has : HasLog d incarnation local_start closed active line stable) (k : Keeps d m) (k2 : Keeps m m2) where
+  -- the log as it was, on the disk by now
+  pub still : HasLog m2 incarnation local_start closed active line stable
+  still = has_kept m laws-m incarnation local_start closed active line stable (has_kept d laws incarnation local_start closed active line stable has m laws-m k) m2 laws2 k2
+
+  module _ (interval : ℕ) (laid : IsLaidOut active) (some : 0 < size_of active) (synced : (c : Files) → Image m2 c → Begins (m.files (file.Log active.base)) (c (file.Log active.base))) where
+    abbrev pub next : Grown
+    next = record { base = end_of active; interval = interval; batches = [] }
+
+    abbrev pub all_closed : List Grown
+    all_closed = closed ++ active ∷ []
+
+    pub rolled_has : HasLog m2 incarnation local_start all_closed next line stable
+    rolled_has = roll_has d m m2 laws laws-m laws2 incarnation local_start closed active line stable has k k2 interval laid some synced
+
+    module _ (d' : Content) (laws' : Lawful d') (more : List ℕ) (M : Bool → Type 0) (change : Changes (file.Log (end_of active)) (appended more) MayGrow M m2 d') where
+      pub behind_since : LeavesOnly d d' (OpensUpTo incarnation local_start stable (all_batches d.files all_closed) line)
+      behind_since =
+          leaves_then d m2 d' _ (twice_since d m m2 laws laws-m laws2 incarnation local_start closed active line stable has k k2)
+          (subst (λ (l : List (List ℕ)). LeavesOnly m2 d' (OpensUpTo incarnation local_start stable l line))
+          (roll_batches d m m2 laws laws-m laws2 incarnation local_start closed active line stable has k k2 interval laid some synced)
+          (appended_since m2 d' laws2 laws' incarnation local_start all_closed next line stable rolled_has more M change))
+
+      pub behind_reopens : Reopens d'
+      behind_reopens = appended_reopens m2 d' laws2 laws' incarnation local_start all_closed next line stable rolled_has more M change
+
+      pub behind_tells : d'.tells ≡ d.tells
+      behind_tells = change.tells ∙ k2.tells ∙ k.tells
+
+      told2 : IsTrue d.tells → IsTrue m2.tells
+      told2 t = subst IsTrue (sym (k2.tells ∙ k.tells)) t
+
+      none_more : (f : Files) → all_batches f (all_closed ++ next ∷ []) ≡ all_batches f all_closed
+      none_more f = all_append f all_closed (next ∷ []) ∙ append-nil (all_batches f all_closed)
+
+      pub behind_kept : IsTrue d.tells → all_batches d'.files all_closed ≡ all_batches d.files all_closed
+      behind_kept t =
+          sym (none_more d'.files)
+          ∙ appended_kept m2 d' laws2 laws' incarnation local_start all_closed next line stable rolled_has more M change (told2 t)
+          ∙ roll_batches d m m2 laws laws-m laws2 incarnation local_start closed active line stable has k k2 interval laid some synced
+
+      -- it wasn't done
+      pub behind_dry : (M true → ⊥) → HasLog d' incarnation local_start closed active line stable
+      behind_dry not =
+          has_same m2 laws2 incarnation local_start closed active line stable still d' laws' change.tells (change.undone not)
+          (λ t. undone_files (file.Log (end_of active)) (appended more) M m2.files d'.files not (change.files t))
+
+      pub behind_batches : (l : List (List ℕ)) → (IsTrue m2.tells → l ≡ all_batches m2.files (all_closed ++ next ∷ [])) → IsTrue d.tells → l ≡ all_batches d.files all_closed
+      behind_batches l is t = is (told2 t) ∙ roll_batches d m m2 laws laws-m laws2 incarnation local_start closed active line stable has k k2 interval laid some synced

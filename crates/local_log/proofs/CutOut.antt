@@ -1,0 +1,332 @@
+-- A run that is cut out of a segment's bytes, and bytes without one.
+use Rattle.std.proofs.Common.{◌≡◌, ◌≢◌, ◌∙◌, ap, sym, refl, subst, inr, ℕ, ◌+◌, ◌-◌, ◌<◌, ◌≤◌, min, nat_lt, Bool, true, false, List, [], ◌∷◌, ◌++◌, length, take, drop, Option, Some, None, Result, Ok, Err, IsOk, arith, append_assoc, length-append}
+use Rattle.std.specs.Prelude.{slice_range}
+use Rattle.std.specs.Option.{ForSome}
+use Rattle.std.proofs.lemmas.List.{append-nil, take_at, take-append-drop}
+use Rattle.std.proofs.lemmas.Option.{same_Some}
+use Rattle.std.proofs.lemmas.Bool.{ltb-true}
+use mathlib.Core.List.{IsPrefix}
+use Rattle.tier_base.specs.declared.plain.Stop.{Stop}
+use Rattle.tier_base.specs.declared.plain.Stop.TheVariants.{Mark, Piece, Limit}
+use Rattle.disk_model.specs.Content.{Files}
+use Rattle.log_terms.specs.Batch.{base_of, last_of}
+use Rattle.log_terms.specs.Log.{joined, IsConsecutive, end_from, from_offset}
+use Rattle.log_terms.proofs.Logs.{end_append, end_above, consecutive_prefix, nested}
+use Rattle.record_batch.specs.declared.head.Head.{Head}
+use Rattle.record_batch.specs.declared.refusal.HeadRefusal.{HeadRefusal}
+use Rattle.record_batch.specs.Head.{head_of}
+use Rattle.record_batch.specs.Check.{checked, headed}
+use Rattle.record_batch.proofs.Passing.{checked_long}
+use Rattle.segment_file.specs.declared.walking.Found.TheVariants as found
+use Rattle.segment_file.specs.declared.taking.Cutout.{Cutout}
+use Rattle.segment_file.specs.Walk.{size_in, found_at}
+use Rattle.segment_file.specs.Growing.{Grown, AreParted, BeginsSearch, end_after as placed_end, size_after}
+use Rattle.segment_file.specs.Run.{end_after, Begins, Follows, AreBatches, Stand, NoBatch, would_pass, Fits, GoesOn, StopIs, IsRun, IsBadAt}
+use Rattle.segment_file.proofs.Finding.{batch_found, head_sized}
+use Rattle.segment_file.proofs.Standing.{same_head}
+use Rattle.segment_file.proofs.Joining.{consecutive_parts}
+use Rattle.segment_file.proofs.Placing.{placed_parts}
+use Rattle.log_steps.specs.Fronts.{Each}
+use Rattle.log_steps.specs.Opens.{IsPlaced}
+use Rattle.log_steps.proofs.Lists.{each_map, each_left, each_right}
+use Rattle.local_log.specs.Stored.{bytes_of, size_of, end_of, IsStored}
+use Rattle.local_log.specs.Reading.{HasNoRun, IsCut, passes}
+use Rattle.local_log.specs.declared.reading.RunOut.{RunOut}
+use Rattle.local_log.proofs.Pieces.{joined_append, stored_end}
+use Rattle.local_log.proofs.Heads.{headed_batch}
+use Rattle.local_log.proofs.Edges.{Ends, from_skip}
+
+-- there is no run in nothing
+pub no_run_in_nothing : (offset limit bound position : ℕ) → HasNoRun [] offset limit bound position 0
+no_run_in_nothing offset limit bound position = record {
+  found = 0;
+  bad = record {
+    batches = [];
+    rest = [];
+    stand = record { parts = refl; follow = tt; place = refl };
+    fits = tt;
+    goes_on = tt;
+    nothing = λ batch more e follows. (let long = checked_long batch follows.is in let n = ap length e ∙ length-append batch more in absurd (omega (arith, long, n)));
+  };
+  place = inr (refl, refl);
+}
+
+abbrev pub AreChecked : List (List ℕ) → Type 0
+AreChecked batches = Each (λ (b : List ℕ). IsOk (checked b)) batches
+
+drop_at : (xs ys : List ℕ) → drop (length xs) (xs ++ ys) ≡ ys
+drop_at [] ys = refl
+drop_at (x ∷ xs) ys = drop_at xs ys
+
+-- two lists of one length that begin one list
+front_same : (xs ys cs ds : List ℕ) → length xs ≡ length ys → xs ++ cs ≡ ys ++ ds → (xs ≡ ys) × (cs ≡ ds)
+front_same [] [] cs ds l e = (refl, e)
+front_same [] (y ∷ ys) cs ds l e = absurd (omega (arith, l))
+front_same (x ∷ xs) [] cs ds l e = absurd (omega (arith, l))
+front_same (x ∷ xs) (y ∷ ys) cs ds l e =
+    let first : x ≡ y = cc in
+    let others : xs ++ cs ≡ ys ++ ds = cc in
+    let rest = front_same xs ys cs ds (omega (arith, l)) others in
+    (ap (λ z. z ∷ xs) first ∙ ap (λ zs. y ∷ zs) rest.0, rest.1)
+
+-- bytes begin with one batch alone
+batch_same : (x y cs ds : List ℕ) → IsOk (checked x) → IsOk (checked y) → x ++ cs ≡ y ++ ds → (x ≡ y) × (cs ≡ ds)
+batch_same x y cs ds okx oky e =
+    let one : found_at 0 (x ++ cs) ≡ found.Batch (head_of x) = batch_found 0 x cs okx in
+    let two : found_at 0 (y ++ ds) ≡ found.Batch (head_of y) = batch_found 0 y ds oky in
+    let same : head_of x ≡ head_of y = same_head (head_of x) (head_of y) (sym one ∙ (ap (found_at 0) e ∙ two)) in
+    front_same x y cs ds (sym (head_sized x okx) ∙ (ap size_in same ∙ head_sized y oky)) e
+
+-- others go on behind these, and so do the bytes
+abbrev Goes : List (List ℕ) → List (List ℕ) → List ℕ → List ℕ → Type 0
+Goes xs ys rest tail = (more : List (List ℕ)) × (ys ≡ xs ++ more) × (rest ≡ joined more ++ tail)
+
+-- batches that follow at the front of bytes are the first of those that stand there
+fronts : (last : Option ℕ) (n offset bound : ℕ) (xs ys : List (List ℕ)) (rest tail : List ℕ) → ((x : List ℕ) → Follows last offset bound x → n < bound)
+    → AreBatches last offset bound xs → AreChecked ys → IsConsecutive n ys → bound ≤ end_from n ys → joined xs ++ rest ≡ joined ys ++ tail → Goes xs ys rest tail
+fronts last n offset bound [] ys rest tail low are ok c up e = (ys, refl, e)
+fronts last n offset bound (x ∷ xs) [] rest tail low are ok c up e = let lt = low x are.0 in absurd (omega (arith, lt, up))
+fronts last n offset bound (x ∷ xs) (y ∷ ys) rest tail low are ok c up e =
+    let bytes : y ++ (joined ys ++ tail) ≡ x ++ (joined xs ++ rest) = sym (append_assoc y (joined ys) tail) ∙ sym e ∙ append_assoc x (joined xs) rest in
+    let both = batch_same y x (joined ys ++ tail) (joined xs ++ rest) ok.0 are.0.is bytes in
+    let c' : IsConsecutive (last_of x + 1) ys = subst (λ (z : List ℕ). IsConsecutive (last_of z + 1) ys) both.0 c.1 in
+    let up' : bound ≤ end_from (last_of x + 1) ys = subst (λ (z : List ℕ). bound ≤ end_from (last_of z + 1) ys) both.0 up in
+    let others = fronts (Some (last_of x + 1)) (last_of x + 1) offset bound xs ys rest tail (λ z f. (let b = f.begins in let l = f.below in omega (arith, b, l))) are.1 ok.1 c' up' (sym both.1) in
+    (others.0, ap (λ z. z ∷ ys) both.0 ∙ ap (λ zs. x ∷ zs) others.1, others.2)
+
+-- the batch behind a beginning ends at or below a later end
+next_below : (n : ℕ) (xs : List (List ℕ)) (m : List ℕ) (more ls : List (List ℕ)) → IsConsecutive n (xs ++ m ∷ more) → IsPrefix ls (xs ++ m ∷ more) → end_from n xs < end_from n ls → last_of m + 1 ≤ end_from n ls
+next_below n [] m more [] c p lt = absurd (omega (arith, lt))
+next_below n [] m more (l ∷ ls) c p lt =
+    let same : m ≡ l = cc (p.1) in
+    let d = consecutive_prefix n (l ∷ ls) (m ∷ more) p c in
+    let up = end_above (last_of l + 1) ls d.1 in
+    subst (λ (z : List ℕ). last_of z + 1 ≤ end_from n (l ∷ ls)) (sym same) up
+next_below n (x ∷ xs) m more [] c p lt =
+    let d = consecutive_parts (last_of x + 1) xs (m ∷ more) c.1 in
+    let up = end_above (last_of x + 1) xs d.0 in
+    absurd (omega (arith, lt, up, c.0))
+next_below n (x ∷ xs) m more (l ∷ ls) c p lt =
+    let same : x ≡ l = cc (p.1) in
+    let others : ls ++ p.0 ≡ xs ++ m ∷ more = cc (p.1) in
+    let lt' : end_from (last_of x + 1) xs < end_from (last_of x + 1) ls = subst (λ (z : List ℕ). end_from (last_of x + 1) xs < end_from (last_of z + 1) ls) (sym same) lt in
+    subst (λ (z : List ℕ). last_of m + 1 ≤ end_from (last_of z + 1) ls) same (next_below (last_of x + 1) xs m more ls c.1 (p.0, others) lt')
+
+-- batches up to an offset, and those from it on
+from_parts : (offset : ℕ) (xs : List (List ℕ)) → (skipped : List (List ℕ)) × (xs ≡ skipped ++ from_offset offset xs)
+from_parts offset [] = ([], refl)
+from_parts offset (x ∷ xs) = go (nat_lt (last_of x) offset) refl (from_parts offset xs)
+  where
+    go : (t : Bool) → nat_lt (last_of x) offset ≡ t → ((skipped : List (List ℕ)) × (xs ≡ skipped ++ from_offset offset xs)) → (skipped : List (List ℕ)) × (x ∷ xs ≡ skipped ++ from_offset offset (x ∷ xs))
+    go true e r = rw e (x ∷ r.0, ap (λ (l : List (List ℕ)). x ∷ l) r.1)
+    go false e r = rw e ([], refl)
+
+from_more : (offset : ℕ) (xs ys : List (List ℕ)) (first : List ℕ) (others : List (List ℕ)) → from_offset offset xs ≡ first ∷ others → from_offset offset (xs ++ ys) ≡ first ∷ others ++ ys
+from_more offset [] ys first others e = absurd (cc (e))
+from_more offset (x ∷ xs) ys first others e = go (nat_lt (last_of x) offset) refl (from_more offset xs ys first others)
+  where
+    go : (t : Bool) → nat_lt (last_of x) offset ≡ t → (from_offset offset xs ≡ first ∷ others → from_offset offset (xs ++ ys) ≡ first ∷ others ++ ys) → from_offset offset (x ∷ xs ++ ys) ≡ first ∷ others ++ ys
+    go true t more = rw t (more (rw t at e))
+    go false t more = let l : x ∷ xs ≡ first ∷ others = rw t at e in rw t (ap (λ (zs : List (List ℕ)). zs ++ ys) l)
+
+-- none of them is past the offset
+none_from : (n offset : ℕ) (xs : List (List ℕ)) → n ≤ offset → from_offset offset xs ≡ [] → end_from n xs ≤ offset
+none_from n offset [] le e = le
+none_from n offset (x ∷ xs) le e = go (nat_lt (last_of x) offset) refl (none_from (last_of x + 1) offset xs)
+  where
+    go : (t : Bool) → nat_lt (last_of x) offset ≡ t → (last_of x + 1 ≤ offset → from_offset offset xs ≡ [] → end_from (last_of x + 1) xs ≤ offset) → end_from n (x ∷ xs) ≤ offset
+    go true t more = (let h : last_of x < offset = ltb-true (last_of x) offset t in more (omega (arith, h)) (rw t at e))
+    go false t more = let l : x ∷ xs ≡ [] = rw t at e in absurd (cc (l))
+
+-- two ways to say where batches end
+end_some : (n : ℕ) (xs : List (List ℕ)) → end_after (Some n) xs ≡ Some (end_from n xs)
+end_some n [] = refl
+end_some n (x ∷ xs) = end_some (last_of x + 1) xs
+
+end_of_run : (last : Option ℕ) (n : ℕ) (skipped : List (List ℕ)) (first : List ℕ) (others : List (List ℕ)) → end_after last (skipped ++ first ∷ others) ≡ Some (end_from n (first ∷ others))
+end_of_run last n [] first others = end_some (last_of first + 1) others
+end_of_run last n (x ∷ skipped) first others = end_of_run (Some (last_of x + 1)) n skipped first others
+
+ends_within : (last : Option ℕ) (offset bound : ℕ) (xs : List (List ℕ)) → ForSome last (λ e. e ≤ bound) → AreBatches last offset bound xs → ForSome (end_after last xs) (λ e. e ≤ bound)
+ends_within last offset bound [] le are = le
+ends_within last offset bound (x ∷ xs) le are = ends_within (Some (last_of x + 1)) offset bound xs (λ y e. subst (λ (k : ℕ). k ≤ bound) (same_Some (last_of x + 1) y e) are.0.below) are.1
+
+cancel : (xs ys zs : List (List ℕ)) → xs ++ ys ≡ xs ++ zs → ys ≡ zs
+cancel [] ys zs e = e
+cancel (x ∷ xs) ys zs e = let others : xs ++ ys ≡ xs ++ zs = cc (e) in cancel xs ys zs others
+
+-- what is read of a stored segment from a position on that an index gives
+module _ (f : Files) (line : List (ℕ × ℕ)) (g : Grown) (s : IsStored f line g) (offset limit mark piece position : ℕ)
+    (search : BeginsSearch g.base g.batches offset position) (start : g.base ≤ offset) (under : offset < mark) (inside : offset < piece)
+    (edge : Ends g.base s.batches (min mark piece)) (low : piece ≤ end_of g) where
+  abbrev pub parted : AreParted 0 s.batches search.front search.rest
+  parted = placed_parts 0 s.batches search.front search.rest (sym s.placed ∙ search.parts)
+
+  abbrev pub former : List (List ℕ)
+  former = parted.former
+
+  abbrev pub latter : List (List ℕ)
+  latter = parted.latter
+
+  abbrev pub n : ℕ
+  n = end_from g.base former
+
+  size : position ≡ length (joined former)
+  size = let e = parted.size in let h = search.place in omega (arith, e, h)
+
+  early : n ≤ offset
+  early = let e = parted.ends g.base in let h = search.before start in omega (arith, e, h)
+
+  abbrev pub tail : List ℕ
+  tail = drop (size_of g) (bytes_of f g)
+
+  all : bytes_of f g ≡ joined s.batches ++ tail
+  all = sym (take-append-drop (size_of g) (bytes_of f g)) ∙ ap (λ (l : List ℕ). l ++ tail) s.stands.bytes
+
+  pub bytes_are : drop position (bytes_of f g) ≡ joined latter ++ tail
+  bytes_are =
+      ap (drop position) (all ∙ ap (λ (l : List (List ℕ)). joined l ++ tail) parted.parts ∙ ap (λ (l : List ℕ). l ++ tail) (joined_append former latter) ∙ append_assoc (joined former) (joined latter) tail)
+      ∙ ap (λ (k : ℕ). drop k (joined former ++ (joined latter ++ tail))) size
+      ∙ drop_at (joined former) (joined latter ++ tail)
+
+  whole : IsConsecutive g.base (former ++ latter)
+  whole = subst (IsConsecutive g.base) parted.parts s.stands.consecutive
+
+  row : IsConsecutive n latter
+  row = (consecutive_parts g.base former latter whole).1
+
+  oks : AreChecked latter
+  oks = each_right (λ (b : List ℕ). IsOk (checked b)) former latter (subst AreChecked parted.parts (each_map (λ (b : List ℕ) (p : IsPlaced line g.base b). p.is) s.batches s.stands.placed))
+
+  end_is : end_of g ≡ end_from n latter
+  end_is = stored_end f line g s ∙ ap (end_from g.base) parted.parts ∙ end_append g.base former latter
+
+  later : n < min mark piece
+  later = omega (arith, early, under, inside)
+
+  high : min mark piece ≤ end_from n latter
+  high = omega (arith, low, end_is)
+
+  -- the bound is an edge of what is read
+  edge' : Ends n latter (min mark piece)
+  edge' =
+      let q : IsPrefix edge.0 (former ++ latter) = subst (IsPrefix edge.0) parted.parts edge.1 in
+      let p = nested g.base former edge.0 (former ++ latter) whole (latter, refl) q (omega (arith, later, edge.2)) in
+      let more : former ++ (p.0 ++ q.0) ≡ former ++ latter = sym (append_assoc former p.0 q.0) ∙ ap (λ (l : List (List ℕ)). l ++ q.0) p.1 ∙ q.1 in
+      (p.0, (q.0, cancel former (p.0 ++ q.0) latter more), sym (end_append g.base former p.0) ∙ ap (end_from g.base) p.1 ∙ edge.2)
+
+  module _ (batches : List (List ℕ)) (rest : List ℕ) (at : ℕ) (stand : Stand offset (min mark piece) (drop position (bytes_of f g)) batches rest at) where
+    pub goes : Goes batches latter rest tail
+    goes = fronts None n offset (min mark piece) batches latter rest tail (λ x f. later) stand.follow oks row high (sym stand.parts ∙ bytes_are)
+
+  -- a run isn't missed
+  pub never_bad : (at : ℕ) → IsBadAt (drop position (bytes_of f g)) offset limit (min mark piece) at → ⊥
+  never_bad at bad = none (goes bad.batches bad.rest at bad.stand)
+    where
+      going : (fs : List (List ℕ)) → from_offset offset bad.batches ≡ fs → GoesOn limit (min mark piece) (end_after None bad.batches) fs bad.rest → end_from n bad.batches < min mark piece
+      going [] e on = let h = none_from n offset bad.batches early e in omega (arith, h, under, inside)
+      going (first ∷ run) e on =
+          let p = from_parts offset bad.batches in
+          let is : bad.batches ≡ p.0 ++ first ∷ run = p.1 ∙ ap (λ (l : List (List ℕ)). p.0 ++ l) e in
+          let one : end_after None bad.batches ≡ Some (end_from n (first ∷ run)) = ap (end_after None) is ∙ end_of_run None n p.0 first run in
+          let two : end_from n bad.batches ≡ end_from n (first ∷ run) = ap (end_from n) is ∙ end_append n p.0 (first ∷ run) in
+          let lt : end_from n (first ∷ run) < min mark piece = on.0 (end_from n (first ∷ run)) one in
+          subst (λ (k : ℕ). k < min mark piece) (sym two) lt
+
+      lt : end_from n bad.batches < min mark piece
+      lt = going (from_offset offset bad.batches) refl bad.goes_on
+
+      begins : (bs : List (List ℕ)) (m : List ℕ) (ms : List (List ℕ)) → IsConsecutive n (bs ++ m ∷ ms) → Begins (end_after None bs) offset (base_of m)
+      begins [] m ms c = omega (arith, c.0, early)
+      begins (x ∷ xs) m ms c = subst (λ (o : Option ℕ). Begins o offset (base_of m)) (sym (end_some (last_of x + 1) xs)) ((consecutive_parts n (x ∷ xs) (m ∷ ms) c).1.0)
+
+      next : (more : List (List ℕ)) → latter ≡ bad.batches ++ more → bad.rest ≡ joined more ++ tail → ⊥
+      next [] parts e =
+          let same : end_from n latter ≡ end_from n bad.batches = ap (end_from n) (parts ∙ append-nil bad.batches) in
+          absurd (omega (arith, same, lt, high))
+      next (m ∷ ms) parts e =
+          let row' = subst (IsConsecutive n) parts row in
+          let ok = each_right (λ (b : List ℕ). IsOk (checked b)) bad.batches (m ∷ ms) (subst AreChecked parts oks) in
+          let at_edge : end_from n edge'.0 ≡ min mark piece = edge'.2 in
+          let lt' : end_from n bad.batches < end_from n edge'.0 = omega (arith, at_edge, lt) in
+          let below = next_below n bad.batches m ms edge'.0 row' (subst (IsPrefix edge'.0) parts edge'.1) lt' in
+          bad.nothing m (joined ms ++ tail) (e ∙ append_assoc m (joined ms) tail) (record {
+            is = ok.0;
+            begins = begins bad.batches m ms row';
+            below = omega (arith, below, at_edge);
+          })
+
+      none : Goes bad.batches latter bad.rest tail → ⊥
+      none h = next h.0 h.1 h.2
+
+  -- the run in terms of the segment's batches, and of others behind them
+  pub record Told (cut : Cutout) (r : IsRun (drop position (bytes_of f g)) offset limit mark piece cut) (beyond : List (List ℕ)) : Type 0 where
+    pub rest : List (List ℕ)
+    pub parts : from_offset offset (s.batches ++ beyond) ≡ r.first ∷ r.others ++ rest
+    pub bytes : slice_range (drop position (bytes_of f g)) cut.from cut.to ≡ joined (r.first ∷ r.others)
+    pub next : cut.next ≡ end_from offset (r.first ∷ r.others)
+    pub below : cut.next ≤ min mark piece
+    pub stop : StopIs cut.stop cut.next mark piece (passes limit (length (joined (r.first ∷ r.others))) rest)
+
+  module _ (cut : Cutout) (r : IsRun (drop position (bytes_of f g)) offset limit mark piece cut) (beyond : List (List ℕ)) where
+    abbrev pub run : List (List ℕ)
+    run = r.first ∷ r.others
+
+    h : Goes r.batches latter r.rest tail
+    h = goes r.batches r.rest cut.to r.stand
+
+    p : (skipped : List (List ℕ)) × (r.batches ≡ skipped ++ from_offset offset r.batches)
+    p = from_parts offset r.batches
+
+    is : r.batches ≡ p.0 ++ run
+    is = p.1 ∙ ap (λ (l : List (List ℕ)). p.0 ++ l) r.run
+
+    next_is : cut.next ≡ end_from offset run
+    next_is = same_Some cut.next (end_from offset run) (sym r.ends ∙ ap (end_after None) is ∙ end_of_run None offset p.0 r.first r.others)
+
+    below_is : cut.next ≤ min mark piece
+    below_is = ends_within None offset (min mark piece) r.batches (λ y e. absurd (cc (e))) r.stand.follow cut.next r.ends
+
+    parts_are : from_offset offset (s.batches ++ beyond) ≡ run ++ (h.0 ++ beyond)
+    parts_are =
+        ap (λ (l : List (List ℕ)). from_offset offset (l ++ beyond)) (parted.parts ∙ ap (λ (l : List (List ℕ)). former ++ l) h.1)
+        ∙ ap (from_offset offset) (append_assoc former (r.batches ++ h.0) beyond)
+        ∙ from_skip g.base offset former ((r.batches ++ h.0) ++ beyond) ((consecutive_parts g.base former latter whole).0) early
+        ∙ ap (from_offset offset) (append_assoc r.batches h.0 beyond)
+        ∙ from_more offset r.batches (h.0 ++ beyond) r.first r.others r.run
+
+    from_is : cut.from ≡ length (joined p.0)
+    from_is =
+        let sum : length (joined r.batches) ≡ length (joined p.0) + length (joined run) = ap (λ (l : List (List ℕ)). length (joined l)) is ∙ ap length (joined_append p.0 run) ∙ length-append (joined p.0) (joined run) in
+        let place = r.stand.place in
+        let to = r.from in
+        omega (arith, sum, place, to)
+
+    bytes_cut : slice_range (drop position (bytes_of f g)) cut.from cut.to ≡ joined run
+    bytes_cut =
+        let long : cut.to - cut.from ≡ length (joined run) = (let to = r.from in omega (arith, to)) in
+        let there : drop position (bytes_of f g) ≡ joined p.0 ++ (joined run ++ r.rest) =
+        r.stand.parts ∙ ap (λ (l : List (List ℕ)). joined l ++ r.rest) is ∙ ap (λ (l : List ℕ). l ++ r.rest) (joined_append p.0 run) ∙ append_assoc (joined p.0) (joined run) r.rest in
+        ap (λ (l : List ℕ). slice_range l cut.from cut.to) there
+        ∙ ap (λ (k : ℕ). take k (drop cut.from (joined p.0 ++ (joined run ++ r.rest)))) long
+        ∙ ap (λ (k : ℕ). take (length (joined run)) (drop k (joined p.0 ++ (joined run ++ r.rest)))) from_is
+        ∙ ap (take (length (joined run))) (drop_at (joined p.0) (joined run ++ r.rest))
+        ∙ take_at (joined run) r.rest (length (joined run)) refl
+
+    passed : (more : List (List ℕ)) → latter ≡ r.batches ++ more → r.rest ≡ joined more ++ tail → cut.next ≢ piece → would_pass limit (length (joined run)) (headed r.rest) ≡ true
+        → passes limit (length (joined run)) (more ++ beyond) ≡ true
+    passed [] parts e other pass =
+        let last : end_from n latter ≡ end_from offset run = ap (end_from n) (parts ∙ append-nil r.batches ∙ is) ∙ end_append n p.0 run in
+        absurd (other (omega (arith, last, next_is, below_is, low, end_is)))
+    passed (m ∷ ms) parts e other pass =
+        let ok = each_right (λ (b : List ℕ). IsOk (checked b)) r.batches (m ∷ ms) (subst AreChecked parts oks) in
+        let head : headed r.rest ≡ Ok (head_of m) = ap headed (e ∙ append_assoc m (joined ms) tail) ∙ headed_batch m (joined ms ++ tail) ok.0 in
+        sym (ap (would_pass limit (length (joined run))) head ∙ ap (λ (k : ℕ). nat_lt limit (length (joined run) + k)) (head_sized m ok.0)) ∙ pass
+
+    stops : (stop : Stop) → StopIs stop cut.next mark piece (would_pass limit (length (joined run)) (headed r.rest)) → StopIs stop cut.next mark piece (passes limit (length (joined run)) (h.0 ++ beyond))
+    stops Mark why = why
+    stops Piece why = why
+    stops Limit why = (why.0, why.1, passed h.0 h.1 h.2 why.1 why.2)
+
+    pub told : Told cut r beyond
+    told = record { rest = h.0 ++ beyond; parts = parts_are; bytes = bytes_cut; next = next_is; below = below_is; stop = stops cut.stop r.stop_is }

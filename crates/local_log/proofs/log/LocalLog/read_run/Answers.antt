@@ -1,0 +1,111 @@
+use Rattle.std.proofs.Common.{◌≡◌, ◌≢◌, ◌∙◌, ◌≤◌, ◌<◌, ◌==◌, ℕ, Bool, true, false, List, sym, ap, subst, arith, eq-eqb, IsTrue, drop, min, option_map}
+use Rattle.std.specs.Prelude.{unwrap_or}
+use Rattle.tier_base.specs.declared.plain.FileName.TheVariants as file
+use Rattle.disk_model.specs.Content.{Lawful, bytes_in}
+use Rattle.segment_file.specs.Growing.{Grown, BeginsSearch}
+use Rattle.local_log.specs.Log.{Log}
+use Rattle.local_log.specs.Stored.{bytes_of}
+use Rattle.local_log.specs.Reading.{first_past, begin_of, is_edge, piece_end, IsEdge, IsCut, IsRunOf, CutFails}
+use Rattle.local_log.proofs.Having.{start_since}
+use Rattle.local_log.proofs.Edges.{holder}
+use Rattle.local_log.proofs.RunsTold.{ok_more, err_more, file_bytes, piece_past, edge_told, fails_told, run_told}
+use Rattle.local_log.proofs.log.LocalLog.read_run.Goals as goal
+
+pub returns-then-end-mark-clause-any_moment : goal.returns-then-end-mark-clause-any_moment
+returns-then-end-mark-clause-any_moment g c =
+    let s = c.self.inside in
+    let d = g.D.Disk.content s.disk in
+    let laws : Lawful d = g.met.D.Disk.lawful s.disk in
+    let unbroken : s.broken ≡ false = ap (λ (l : Log g.row.D.Denot). l.broken) c.self.view_is ∙ c.requires.unbroken in
+    rw (← c.self.view_is) (start_since d laws s.incarnation s.local_start s.closed.items s.active s.line s.stable (c.self.invariant.has unbroken))
+
+pub returns-then-end-mark-clause-whole : goal.returns-then-end-mark-clause-whole
+returns-then-end-mark-clause-whole g c there edge =
+    let s = c.self.inside in
+    let content = g.D.Disk.content in
+    let are = c.self.invariant.segments in
+    let marked_is : c.segment_at-marked.result.now ≡ holder c.args.mark s.closed.items s.active =
+    c.segment_at-marked.ensures ∙ ap (λ (l : List Grown). unwrap_or (first_past c.args.mark l) s.active) c.as_slice.ensures.value in
+    let unbroken : s.broken ≡ false = ap (λ (l : Log g.row.D.Denot). l.broken) c.self.view_is ∙ c.requires.unbroken in
+    let start : s.local_start ≤ c.args.offset = subst (λ (l : Log g.row.D.Denot). l.local_start ≤ c.args.offset) (sym c.self.view_is) c.requires.start in
+    let t : IsTrue (content s.disk).tells = subst (λ (l : Log g.row.D.Denot). IsTrue (content l.disk).tells) (sym c.self.view_is) there in
+    let on = subst (λ (l : Log g.row.D.Denot). IsEdge l c.args.mark) (sym c.self.view_is) edge in
+    let is = edge_told content s c.self.invariant unbroken t c.args.mark (omega (arith, start, c.requires.below)) in
+    let same : c.place_of-end.result.0 ≡ c.args.mark = c.place_of-end.ensures.offset ∙ ap (λ (x : Grown). begin_of x c.args.mark) marked_is ∙ sym is ∙ on in
+    absurd (c.if-end-mark.true same)
+
+pub run_in-requires-clause-inside : goal.run_in-requires-clause-inside
+run_in-requires-clause-inside g c =
+    let s = c.self.inside in
+    let content = g.D.Disk.content in
+    let are = c.self.invariant.segments in
+    let marked_is : c.segment_at-marked.result.now ≡ holder c.args.mark s.closed.items s.active =
+    c.segment_at-marked.ensures ∙ ap (λ (l : List Grown). unwrap_or (first_past c.args.mark l) s.active) c.as_slice.ensures.value in
+    let begins : begin_of (holder c.args.mark s.closed.items s.active) c.args.mark ≡ c.args.mark =
+    sym (c.place_of-end.ensures.offset ∙ ap (λ (x : Grown). begin_of x c.args.mark) marked_is) ∙ omega (arith, c.if-end-mark.false) in
+    let edge = eq-eqb (begin_of (holder c.args.mark s.closed.items s.active) c.args.mark) c.args.mark begins in
+    let seg_is : c.segment_at-segment.result.now ≡ holder c.args.offset s.closed.items s.active =
+    c.segment_at-segment.ensures ∙ ap (λ (l : List Grown). unwrap_or (first_past c.args.offset l) s.active) c.as_slice-2.ensures.value in
+    let end_is : c.piece_at-piece.result.end ≡ piece_end s.line (holder c.args.offset s.closed.items s.active) c.args.offset =
+    c.piece_at-piece.ensures.end
+    ∙ ap (λ (x : Grown). piece_end c.entries.result.now x c.args.offset) seg_is
+    ∙ ap (λ (l : List (ℕ × ℕ)). piece_end l (holder c.args.offset s.closed.items s.active) c.args.offset) c.entries.ensures.entries in
+    let past = (piece_past s.local_start s.closed.items s.active s.line c.args.offset c.args.mark are c.requires.below edge).above in
+    omega (arith, end_is, past)
+
+pub returns-clause-run : goal.returns-clause-run
+returns-clause-run g c =
+    let s = c.self.inside in
+    let content = g.D.Disk.content in
+    let are = c.self.invariant.segments in
+    let marked_is : c.segment_at-marked.result.now ≡ holder c.args.mark s.closed.items s.active =
+    c.segment_at-marked.ensures ∙ ap (λ (l : List Grown). unwrap_or (first_past c.args.mark l) s.active) c.as_slice.ensures.value in
+    let begins : begin_of (holder c.args.mark s.closed.items s.active) c.args.mark ≡ c.args.mark =
+    sym (c.place_of-end.ensures.offset ∙ ap (λ (x : Grown). begin_of x c.args.mark) marked_is) ∙ omega (arith, c.if-end-mark.false) in
+    let edge = eq-eqb (begin_of (holder c.args.mark s.closed.items s.active) c.args.mark) c.args.mark begins in
+    let seg_is : c.segment_at-segment.result.now ≡ holder c.args.offset s.closed.items s.active =
+    c.segment_at-segment.ensures ∙ ap (λ (l : List Grown). unwrap_or (first_past c.args.offset l) s.active) c.as_slice-2.ensures.value in
+    let end_is : c.piece_at-piece.result.end ≡ piece_end s.line (holder c.args.offset s.closed.items s.active) c.args.offset =
+    c.piece_at-piece.ensures.end
+    ∙ ap (λ (x : Grown). piece_end c.entries.result.now x c.args.offset) seg_is
+    ∙ ap (λ (l : List (ℕ × ℕ)). piece_end l (holder c.args.offset s.closed.items s.active) c.args.offset) c.entries.ensures.entries in
+    let unbroken : s.broken ≡ false = ap (λ (l : Log g.row.D.Denot). l.broken) c.self.view_is ∙ c.requires.unbroken in
+    let start : s.local_start ≤ c.args.offset = subst (λ (l : Log g.row.D.Denot). l.local_start ≤ c.args.offset) (sym c.self.view_is) c.requires.start in
+    let from = c.piece_at-piece.result.from in
+    let search = subst (λ (x : Grown). BeginsSearch x.base x.batches c.args.offset from) seg_is c.piece_at-piece.ensures.from in
+    ok_more _ _ c.run_in.result (λ out cut there. (
+    let t : IsTrue (content s.disk).tells = subst (λ (l : Log g.row.D.Denot). IsTrue (content l.disk).tells) (sym c.self.view_is) there in
+    let file_is = subst (λ (l : Log g.row.D.Denot). c.in_ok-file.file ≡ option_map (drop from) ((content l.disk).files (file.Log c.piece_at-piece.result.base))) (sym c.self.view_is) (c.in_ok-file.ensures.file there) in
+    let bytes_are = ap bytes_in file_is ∙ file_bytes from ((content s.disk).files (file.Log c.piece_at-piece.result.base)) ∙ ap (λ (b : ℕ). drop from (bytes_in ((content s.disk).files (file.Log b)))) (c.piece_at-piece.ensures.base ∙ ap (λ (x : Grown). x.base) seg_is) in
+    let whole = subst (λ (n : ℕ). IsCut (bytes_in c.in_ok-file.file) c.args.offset c.args.limit c.args.mark n out) end_is cut in
+    subst (λ (l : Log g.row.D.Denot). IsRunOf l c.args.offset c.args.limit c.args.mark out) c.self.view_is
+    (run_told content s c.self.invariant unbroken t c.args.offset c.args.limit c.args.mark from start c.requires.below edge search (bytes_in c.in_ok-file.file) out bytes_are whole)
+    )) c.run_in.ensures.ok
+
+pub returns-clause-whole : goal.returns-clause-whole
+returns-clause-whole g c =
+    let s = c.self.inside in
+    let content = g.D.Disk.content in
+    let are = c.self.invariant.segments in
+    let marked_is : c.segment_at-marked.result.now ≡ holder c.args.mark s.closed.items s.active =
+    c.segment_at-marked.ensures ∙ ap (λ (l : List Grown). unwrap_or (first_past c.args.mark l) s.active) c.as_slice.ensures.value in
+    let begins : begin_of (holder c.args.mark s.closed.items s.active) c.args.mark ≡ c.args.mark =
+    sym (c.place_of-end.ensures.offset ∙ ap (λ (x : Grown). begin_of x c.args.mark) marked_is) ∙ omega (arith, c.if-end-mark.false) in
+    let edge = eq-eqb (begin_of (holder c.args.mark s.closed.items s.active) c.args.mark) c.args.mark begins in
+    let seg_is : c.segment_at-segment.result.now ≡ holder c.args.offset s.closed.items s.active =
+    c.segment_at-segment.ensures ∙ ap (λ (l : List Grown). unwrap_or (first_past c.args.offset l) s.active) c.as_slice-2.ensures.value in
+    let end_is : c.piece_at-piece.result.end ≡ piece_end s.line (holder c.args.offset s.closed.items s.active) c.args.offset =
+    c.piece_at-piece.ensures.end
+    ∙ ap (λ (x : Grown). piece_end c.entries.result.now x c.args.offset) seg_is
+    ∙ ap (λ (l : List (ℕ × ℕ)). piece_end l (holder c.args.offset s.closed.items s.active) c.args.offset) c.entries.ensures.entries in
+    let unbroken : s.broken ≡ false = ap (λ (l : Log g.row.D.Denot). l.broken) c.self.view_is ∙ c.requires.unbroken in
+    let start : s.local_start ≤ c.args.offset = subst (λ (l : Log g.row.D.Denot). l.local_start ≤ c.args.offset) (sym c.self.view_is) c.requires.start in
+    let from = c.piece_at-piece.result.from in
+    let search = subst (λ (x : Grown). BeginsSearch x.base x.batches c.args.offset from) seg_is c.piece_at-piece.ensures.from in
+    err_more _ _ c.run_in.result (λ e fails there at_edge. (
+    let t : IsTrue (content s.disk).tells = subst (λ (l : Log g.row.D.Denot). IsTrue (content l.disk).tells) (sym c.self.view_is) there in
+    let file_is = subst (λ (l : Log g.row.D.Denot). c.in_ok-file.file ≡ option_map (drop from) ((content l.disk).files (file.Log c.piece_at-piece.result.base))) (sym c.self.view_is) (c.in_ok-file.ensures.file there) in
+    let bytes_are = ap bytes_in file_is ∙ file_bytes from ((content s.disk).files (file.Log c.piece_at-piece.result.base)) ∙ ap (λ (b : ℕ). drop from (bytes_in ((content s.disk).files (file.Log b)))) (c.piece_at-piece.ensures.base ∙ ap (λ (x : Grown). x.base) seg_is) in
+    let whole = subst (λ (n : ℕ). CutFails c.piece_at-piece.result.base from (bytes_in c.in_ok-file.file) c.args.offset c.args.limit (min c.args.mark n) e) end_is fails in
+    fails_told content s c.self.invariant unbroken t c.args.offset c.args.limit c.args.mark from start c.requires.below edge search c.piece_at-piece.result.base (bytes_in c.in_ok-file.file) e bytes_are whole
+    )) c.run_in.ensures.err

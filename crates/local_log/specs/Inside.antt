@@ -1,0 +1,65 @@
+-- What the fields of a log mean, and what they keep.
+use Rattle.std.specs.Prelude.{◌≡◌, ℕ, ◌+◌, ◌^◌, ◌≤◌, ◌<◌, false, List, [], ◌∷◌, ◌++◌, length, map, None, IsTrue}
+use Rattle.tier_base.specs.declared.plain.FileName.TheVariants as file
+use Rattle.disk_model.specs.Content.{Content, Files}
+use Rattle.log_terms.specs.Log.{up_to, end_from}
+use Rattle.epoch_line.specs.Line.{IsLine, cut_end}
+use Rattle.log_manifest.specs.declared.manifest.Manifest.{Manifest}
+use Rattle.log_manifest.specs.Rules.{IsManifest}
+use Rattle.log_manifest.specs.Spelling.{manifest_bytes}
+use Rattle.segment_file.specs.Growing.{Grown}
+use Rattle.log_steps.specs.Fronts.{Each}
+use Rattle.log_steps.specs.Opens.{Opened, IsRead}
+use Rattle.log_steps.specs.Reopens.{Reopens}
+use Rattle.log_steps.specs.Stands.{Stands}
+use Rattle.local_log.specs.declared.log.LocalLog.TheInside.{Inside}
+use Rattle.local_log.specs.Stored.{bytes_of, all_batches, size_of, end_of, extent_of, IsStored}
+use Rattle.local_log.specs.Log.{Log, AreSettings, IsStable}
+use Rattle.local_log.specs.Listing.{AreSegmentsOf}
+
+-- the disk has the log: its images the stable log, and its files all of it
+pub record HasLog (d : Content) (incarnation local_start : ℕ) (closed : List Grown) (active : Grown) (line : List (ℕ × ℕ)) (stable : ℕ) : Type 0 where
+  -- what each image's manifest says, and what it is read as
+  pub listed : Manifest
+  pub opened : Opened
+  pub rules : IsManifest listed
+  pub fits : listed.incarnation < 2 ^ 32
+  pub images : Stands d (manifest_bytes listed) listed.segments (map extent_of closed)
+  pub read : IsTrue d.tells → IsRead listed d.files opened
+  pub incarnation_is : opened.incarnation ≡ incarnation
+  pub start_is : opened.local_start ≡ local_start
+  pub end_is : IsTrue d.tells → end_from opened.local_start opened.batches ≡ stable
+  pub batches_are : IsTrue d.tells → opened.batches ≡ up_to stable (all_batches d.files (closed ++ active ∷ []))
+  pub line_is : cut_end opened.line stable ≡ cut_end line stable
+  -- what reads
+  pub stored : IsTrue d.tells → Each (IsStored d.files line) (closed ++ active ∷ [])
+  pub exact : IsTrue d.tells → length (bytes_of d.files active) ≡ size_of active
+  pub clear : IsTrue d.tells → (b : ℕ) → active.base < b → d.files (file.Log b) ≡ None
+
+module _ {D : Type 0} (content : D → Content) where
+  abbrev pub log_in : Inside D → Log D
+  log_in log = record {
+    disk = log.disk;
+    settings = log.settings;
+    incarnation = log.incarnation;
+    local_start = log.local_start;
+    batches = all_batches (content log.disk).files (log.closed.items ++ log.active ∷ []);
+    end = end_of log.active;
+    stable = log.stable;
+    line = log.line;
+    closed = log.closed.items;
+    active = log.active;
+    broken = log.broken;
+  }
+
+  pub record IsSound (log : Inside D) : Type 0 where
+    pub segments : AreSegmentsOf log.local_start log.closed.items log.active
+    pub settings : AreSettings log.settings
+    pub opened : 1 ≤ log.incarnation
+    pub fits : log.incarnation < 2 ^ 32
+    pub line : IsLine log.line
+    pub line_within : Each (λ (entry : ℕ × ℕ). entry.1 ≤ end_of log.active) log.line
+    pub stable_within : log.stable ≤ end_of log.active
+    pub has : log.broken ≡ false → HasLog (content log.disk) log.incarnation log.local_start log.closed.items log.active log.line log.stable
+    -- a broken log can be opened again too
+    pub reopens : Reopens (content log.disk)

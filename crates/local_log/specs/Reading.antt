@@ -1,0 +1,177 @@
+-- What is read of a log: the run at an offset, and its closed segments.
+--
+-- A run has the batch that holds the offset, and as many further ones as the mark and the limit allow. It lies in a
+-- piece: in one segment, and before the next epoch starts. A start that is no batch's end ends no piece.
+use Rattle.std.specs.Prelude.{◌≡◌, ℕ, ◌+◌, ◌-◌, ◌<◌, ◌≤◌, ◌⊎◌, ◌==◌, ◌&&◌, nat_lt, min, Bool, true, false, if◌then◌else◌, List, [], ◌∷◌, ◌++◌, length, take, Option, Some, None, unwrap_or, slice_range}
+use Rattle.tier_base.specs.declared.plain.FileName.{FileName}
+use Rattle.tier_base.specs.declared.plain.FileName.TheVariants as file
+use Rattle.log_terms.specs.Log.{joined, from_offset, up_to, end_from}
+use Rattle.segment_file.specs.declared.taking.Cutout.{Cutout}
+use Rattle.segment_file.specs.Growing.{Grown, end_after, size_after, ending_by, BeginsSearch}
+use Rattle.segment_file.specs.Index.{index_of}
+use Rattle.segment_file.specs.Closed.{Whole, IsWhole, IsBadPlace}
+use Rattle.segment_file.specs.Run.{Fits, StopIs, IsRun, IsBadAt}
+use Rattle.local_log.specs.Stored.{size_of, end_of}
+use Rattle.local_log.specs.Log.{Log}
+use Rattle.local_log.specs.declared.refusal.LogRefusal.{LogRefusal}
+use Rattle.local_log.specs.declared.refusal.LogRefusal.TheVariants.{LastOffset, TooManySegments, EmptySegment, Damaged, DiskFault, NoMemory}
+use Rattle.local_log.specs.declared.reading.RunOut.{RunOut}
+
+-- the first segment that ends past an offset
+abbrev pub first_past : ℕ → List Grown → Option Grown
+first_past offset [] = None
+first_past offset (segment ∷ segments) =
+    if nat_lt offset (end_of segment) then Some segment else first_past offset segments
+
+-- where the batch begins that holds an offset, or where the segment ends
+abbrev pub begin_of : Grown → ℕ → ℕ
+begin_of segment offset = end_after segment.base (ending_by offset segment.batches)
+
+-- its position in the segment's file
+abbrev pub position_of : Grown → ℕ → ℕ
+position_of segment offset = size_after 0 (ending_by offset segment.batches)
+
+-- a batch of the segment begins or ends at this offset
+abbrev pub is_edge : Grown → ℕ → Bool
+is_edge segment offset = begin_of segment offset == offset
+
+-- where the piece ends that holds an offset of a segment
+abbrev pub piece_end : List (ℕ × ℕ) → Grown → ℕ → ℕ
+piece_end [] segment offset = end_of segment
+piece_end (entry ∷ line) segment offset =
+    if nat_lt offset entry.1 && is_edge segment entry.1 then entry.1 else piece_end line segment offset
+
+-- behind so many bytes the next batch would pass the limit
+abbrev pub passes : ℕ → ℕ → List (List ℕ) → Bool
+passes limit size [] = false
+passes limit size (batch ∷ batches) = nat_lt limit (size + length batch)
+
+-- a run was cut out of bytes, of a piece that ends there
+pub record IsCut (bytes : List ℕ) (offset limit mark piece : ℕ) (out : RunOut) : Type 0 where
+  pub cut : Cutout
+  pub is : IsRun bytes offset limit mark piece cut
+  pub part : out.bytes ≡ slice_range bytes cut.from cut.to
+  pub next_is : out.next ≡ cut.next
+  pub stop_is : out.stop ≡ cut.stop
+
+-- bytes that stand at a position have no such run from this place on; those of an absent file have none at 0
+pub record HasNoRun (bytes : List ℕ) (offset limit bound position at : ℕ) : Type 0 where
+  pub found : ℕ
+  pub bad : IsBadAt bytes offset limit bound found
+  pub place : (at ≡ position + found) ⊎ ((bytes ≡ []) × (at ≡ 0))
+
+-- the segment of this base and size is the front of bytes
+pub record IsFront (base size : ℕ) (bytes : List ℕ) (segment : Whole) : Type 0 where
+  pub whole : IsWhole segment
+  pub base_is : segment.base ≡ base
+  pub long : size ≤ length bytes
+  pub bytes_are : segment.bytes ≡ take size bytes
+
+-- bytes are no segment of this base from this place on, or end there, before the segment does
+pub record HasNoSegment (base size : ℕ) (bytes : List ℕ) (at : ℕ) : Type 0 where
+  pub bad : IsBadPlace base (take size bytes) at ⊎ ((at ≡ length bytes) × (at < size))
+
+-- why bytes aren't read as a segment
+abbrev pub FrontFails : ℕ → ℕ → List ℕ → LogRefusal → Type 0
+FrontFails base size bytes LastOffset = ⊥
+FrontFails base size bytes TooManySegments = ⊥
+FrontFails base size bytes EmptySegment = ⊥
+FrontFails base size bytes (Damaged name at) = (name ≡ file.Log base) × HasNoSegment base size bytes at
+FrontFails base size bytes DiskFault = ⊥
+FrontFails base size bytes NoMemory = Unit {0}
+
+-- why nothing was cut out of bytes that stand at a position of a segment's file
+abbrev pub CutFails : ℕ → ℕ → List ℕ → ℕ → ℕ → ℕ → LogRefusal → Type 0
+CutFails base position bytes offset limit bound LastOffset = ⊥
+CutFails base position bytes offset limit bound TooManySegments = ⊥
+CutFails base position bytes offset limit bound EmptySegment = ⊥
+CutFails base position bytes offset limit bound (Damaged name at) =
+    (name ≡ file.Log base) × HasNoRun bytes offset limit bound position at
+CutFails base position bytes offset limit bound DiskFault = ⊥
+CutFails base position bytes offset limit bound NoMemory = Unit {0}
+
+-- the disk failed, or there was no memory
+abbrev pub IsOfDevice : LogRefusal → Type 0
+IsOfDevice LastOffset = ⊥
+IsOfDevice TooManySegments = ⊥
+IsOfDevice EmptySegment = ⊥
+IsOfDevice (Damaged name at) = ⊥
+IsOfDevice DiskFault = Unit {0}
+IsOfDevice NoMemory = Unit {0}
+
+module _ {D : Type 0} where
+  -- the segment that holds an offset; the open one for those past the end
+  abbrev pub segment_at : Log D → ℕ → Grown
+  segment_at log offset = unwrap_or (first_past offset log.closed) log.active
+
+  -- the piece ends there that holds an offset
+  abbrev pub piece_of : Log D → ℕ → ℕ
+  piece_of log offset = piece_end log.line (segment_at log offset) offset
+
+  -- a batch of the log ends at this offset, or its first one begins there
+  abbrev pub IsEdge : Log D → ℕ → Type 0
+  IsEdge log offset = end_from log.local_start (up_to offset log.batches) ≡ offset
+
+  -- the run of a log at an offset
+  pub record IsRunOf (log : Log D) (offset limit mark : ℕ) (out : RunOut) : Type 0 where
+    pub first : List ℕ
+    pub others : List (List ℕ)
+    pub rest : List (List ℕ)
+    pub parts : from_offset offset log.batches ≡ first ∷ others ++ rest
+    pub bytes_are : out.bytes ≡ joined (first ∷ others)
+    pub fits : Fits limit (first ∷ others)
+    pub next_is : out.next ≡ end_from offset (first ∷ others)
+    pub below : out.next ≤ mark
+    pub within : out.next ≤ piece_of log offset
+    pub stop_is : StopIs out.stop out.next mark (piece_of log offset) (passes limit (length out.bytes) rest)
+
+  -- what is answered for the first closed segment that ends past an offset
+  abbrev pub IsClosedFrom : Log D → ℕ → List ℕ → Option Whole → Type 0
+  IsClosedFrom log offset handed None = first_past offset log.closed ≡ None
+  IsClosedFrom log offset handed (Some whole) =
+      (segment : Grown) × (first_past offset log.closed ≡ Some segment) × IsFront segment.base (size_of segment) handed whole
+
+  -- why it isn't read
+  abbrev pub ClosedFails : Log D → ℕ → List ℕ → LogRefusal → Type 0
+  ClosedFails log offset handed LastOffset = ⊥
+  ClosedFails log offset handed TooManySegments = ⊥
+  ClosedFails log offset handed EmptySegment = ⊥
+  ClosedFails log offset handed (Damaged name at) =
+      (segment : Grown) × (first_past offset log.closed ≡ Some segment) × (name ≡ file.Log segment.base)
+      × HasNoSegment segment.base (size_of segment) handed at
+  ClosedFails log offset handed DiskFault = Unit {0}
+  ClosedFails log offset handed NoMemory = Unit {0}
+
+  -- the segment's batches stand in the log, from its base to its last offset
+  pub record IsPartOf (log : Log D) (whole : Whole) : Type 0 where
+    pub before : List (List ℕ)
+    pub batches : List (List ℕ)
+    pub after : List (List ℕ)
+    pub parts : log.batches ≡ before ++ (batches ++ after)
+    pub begins : end_from log.local_start before ≡ whole.base
+    pub bytes_are : whole.bytes ≡ joined batches
+    pub ends : end_from whole.base batches ≡ whole.last + 1
+
+  -- no batch ends at the mark, and this is where the one begins that holds it, or where the log ends
+  pub record MissesMark (log : Log D) (mark : ℕ) (name : FileName) (at : ℕ) : Type 0 where
+    pub missed : is_edge (segment_at log mark) mark ≡ false
+    pub name_is : name ≡ file.Log (segment_at log mark).base
+    pub place : at ≡ position_of (segment_at log mark) mark
+
+  -- a batch ends at the mark, and what was read from a position on has no run
+  pub record MissesRun (log : Log D) (offset limit mark : ℕ) (handed : List ℕ) (name : FileName) (at : ℕ) : Type 0 where
+    pub edge : is_edge (segment_at log mark) mark ≡ true
+    pub name_is : name ≡ file.Log (segment_at log offset).base
+    pub position : ℕ
+    pub search : BeginsSearch (segment_at log offset).base (segment_at log offset).batches offset position
+    pub bad : HasNoRun handed offset limit (min mark (piece_of log offset)) position at
+
+  -- why there is no run
+  abbrev pub RunFails : Log D → ℕ → ℕ → ℕ → List ℕ → LogRefusal → Type 0
+  RunFails log offset limit mark handed LastOffset = ⊥
+  RunFails log offset limit mark handed TooManySegments = ⊥
+  RunFails log offset limit mark handed EmptySegment = ⊥
+  RunFails log offset limit mark handed (Damaged name at) =
+      MissesMark log mark name at ⊎ MissesRun log offset limit mark handed name at
+  RunFails log offset limit mark handed DiskFault = is_edge (segment_at log mark) mark ≡ true
+  RunFails log offset limit mark handed NoMemory = is_edge (segment_at log mark) mark ≡ true

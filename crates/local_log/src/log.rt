@@ -1,0 +1,455 @@
+//! The log of a broker on its disk.
+//!
+//! A write that the disk answers with a fault may have been done or not, so the log is broken then and may only be closed;
+//! opening it again finds what is stable. Want of memory is found before the first change, or changes no image.
+
+ghost use Rattle.std.specs.Prelude.{◌≡◌, ◌⊎◌, ◌↔◌, ◌+◌, ◌≤◌, ◌<◌, ◌^◌, List, [], ℕ, length, false, true, None, IfOk, IfErr, OnOk, OnErr, IsTrue, IsFalse, IsErrOf};
+ghost use Rattle.disk_model.specs.Content.{LeavesOnly, Image, Files};
+ghost use Rattle.tier_base.specs.Counts.{Rose};
+ghost use Rattle.tier_base.specs.Device.{Lasts};
+ghost use Rattle.log_terms.specs.Batch.{last_of};
+ghost use Rattle.epoch_line.specs.Line.{IsLine, last_epoch, assign, cut_end};
+ghost use Rattle.log_steps.specs.Opens.{Opens};
+ghost use Rattle.log_steps.specs.Reopens.{Reopens};
+ghost use Rattle.tier_base.specs.declared.plain.FileName.{FileName};
+ghost use Rattle.tier_base.specs.declared.fault.Trouble.TheVariants as fault;
+ghost use Rattle.local_log.specs.declared.refusal.CreateRefusal.TheVariants as create;
+ghost use Rattle.local_log.specs.declared.refusal.LogRefusal.TheVariants.{LastOffset, TooManySegments, EmptySegment, DiskFault, NoMemory};
+ghost use Rattle.std.specs.Option.{ForSome};
+ghost use Rattle.log_steps.specs.Fronts.{Each};
+ghost use Rattle.local_log.specs.Stored.{size_of};
+ghost use Rattle.local_log.specs.Run.{IsRun, is_due, rolled, IsAppended, IsAppendedTo};
+ghost use Rattle.local_log.specs.Taking.{line_or};
+ghost use Rattle.local_log.specs.Log.{IsFirst, committed, Committing, AreSettings, Becomes, OpensStable, stable_log, Creating, first_log};
+
+use crate::listing::listing;
+use crate::refusal::{CreateRefusal, LogRefusal};
+use crate::run::{LAST_OFFSET, first_asked, rolls_before, take_in};
+use disk_model::{Disk, FileName};
+use epoch_line::Line;
+use log_steps::publish;
+use segment_file::Growing;
+use std::alloc::{AllocError, Global};
+use std::marker::Model;
+use std::mem;
+use tier_base::{Failed, Settings, Trouble};
+
+/// The most segments of a log.
+const MOST_SEGMENTS: usize = 4_096;
+
+/// A log over a disk.
+#[derive(Drop)]
+pub struct LocalLog<D: Disk> {
+    pub(crate) alloc: Global,
+    pub(crate) disk: D,
+    settings: Settings,
+    incarnation: u32,
+    local_start: u64,
+    pub(crate) closed: Vec<Growing>,
+    pub(crate) active: Growing,
+    pub(crate) line: Line,
+    stable: u64,
+    broken: bool,
+}
+
+impl<D: Disk> Model for LocalLog<D> {
+    ghost use Rattle.local_log.specs.Log.{Log};
+
+    ghost Value = { Log D };
+
+    ghost use Rattle.local_log.specs.Inside.{log_in, IsSound};
+
+    ghost view = { log_in D.content };
+
+    ghost invariant = { IsSound D.content };
+}
+
+impl<D: Disk> LocalLog<D> {
+    /// Makes the empty log at 0 over a disk with no files.
+    pub fn create(
+        alloc: Global,
+        disk: D,
+        settings: Settings,
+    ) -> Result<LocalLog<D>, (D, CreateRefusal)>
+        requires settings { AreSettings settings }
+        requires empty { IsTrue (D.content disk).tells → (n : FileName) → (D.content disk).files n ≡ None }
+        ensures log { IfOk result (λ log. IsFirst settings log) }
+        ensures batches { IfOk result (λ log. IsTrue (D.content disk).tells → log.batches ≡ []) }
+        ensures durable { IfOk result (λ log. (c : Files) → Image (D.content log.disk) c → Opens c first_log) }
+
+        // A crash at any moment of the call leaves what it might have left before, or the new log.
+        ensures any_moment { IfOk result (λ log. LeavesOnly (D.content disk) (D.content log.disk) (Creating (D.content disk))) }
+        ensures any_moment_err { IfErr result (λ e. LeavesOnly (D.content disk) (D.content e.0) (Creating (D.content disk))) }
+        ensures again { IfErr result (λ e. Reopens (D.content disk) → Reopens (D.content e.0)) }
+
+        ensures control { IfOk result (λ log. Lasts (D.control disk) (D.control log.disk)) }
+        ensures control_err { IfErr result (λ e. Lasts (D.control disk) (D.control e.0)) }
+        ensures cause { IfErr result (λ e. e.1 ≡ create.DiskFault → Rose (D.control disk).faults (D.control e.0).faults) }
+    {
+        let mut disk = disk;
+        let active = Growing::new(alloc, 0, settings.index_interval);
+        let line = Line::new(alloc);
+        let bytes = match listing(alloc, 1, 0, &[], &active, &line) {
+            Ok(bytes) => bytes,
+            Err(AllocError) => return Err((disk, CreateRefusal::NoMemory)),
+        };
+        match disk.replace(FileName::Manifest, &bytes) {
+            Ok(()) => Ok(LocalLog {
+                alloc,
+                disk,
+                settings,
+                incarnation: 1,
+                local_start: 0,
+                closed: Vec::new(alloc),
+                active,
+                line,
+                stable: 0,
+                broken: false,
+            }),
+            Err(Trouble::NoMemory) => Err((disk, CreateRefusal::NoMemory)),
+            Err(Trouble::Failed) => Err((disk, CreateRefusal::DiskFault)),
+        }
+    }
+
+    /// Every image opens as the stable log.
+    pub fn stands(&self)
+        ensures { self.now.broken ≡ false → (c : Files) → Image (D.content self.now.disk) c → OpensStable self.now c }
+    {
+        let _ = &self.active;
+    }
+
+    /// Gives the disk back. A log can be opened from it again, also where this one is broken.
+    pub fn close(self) -> D
+        ensures disk { result ≡ self.disk }
+        ensures again { Reopens (D.content result) }
+    {
+        self.disk
+    }
+
+    /// Appends the first batches of a run that stand in one segment, and answers their first and their last offset. It
+    /// rolls before them where that is due. They aren't stable before the next `flush`.
+    pub fn append(&mut self, run: &[u8]) -> Result<(u64, u64), LogRefusal>
+        requires unbroken { self.old.broken ≡ false }
+        requires run { IsRun self.old.end self.old.line run.now }
+        ensures ok { IfOk result (λ answer. IsAppended D.content self.old self.new run.now answer) }
+
+        // A crash at any moment of the call leaves the stable log of before.
+        ensures any_moment { LeavesOnly (D.content self.old.disk) (D.content self.new.disk)
+            (OpensStable self.old) }
+
+        // Each cause, where no earlier one holds.
+        ensures last_offset { IsErrOf result LastOffset ↔ (2 ^ 62 ≤ last_of run.now) }
+        ensures many { IsErrOf result TooManySegments
+            ↔ (last_of run.now < 2 ^ 62) × IsTrue (is_due self.old run.now) × (4095 ≤ length self.old.closed) }
+        ensures unchanged { (IsErrOf result LastOffset ⊎ IsErrOf result TooManySegments) → self.new ≡ self.old }
+        ensures no_memory { IsErrOf result NoMemory → Becomes D.content self.old self.new }
+        ensures broken { IsErrOf result DiskFault → Becomes D.content (record self.old { broken = true }) self.new }
+        ensures control { Lasts (D.control self.old.disk) (D.control self.new.disk) }
+        ensures cause { IsErrOf result DiskFault → Rose (D.control self.old.disk).faults (D.control self.new.disk).faults }
+    {
+        let most = self.settings.segment_bytes;
+        let base = self.active.base();
+        let size = self.active.size();
+        let first = first_asked(run);
+        if first.last >= LAST_OFFSET {
+            return Err(LogRefusal::LastOffset);
+        }
+        if !rolls_before(most, base, size, first.size, first.last) {
+            return self.append_here(run);
+        }
+        if self.closed.len() + 1 >= MOST_SEGMENTS {
+            return Err(LogRefusal::TooManySegments);
+        }
+        self.append_behind(run)
+    }
+
+    /// Appends to the open segment.
+    fn append_here(&mut self, run: &[u8]) -> Result<(u64, u64), LogRefusal>
+        requires unbroken { self.old.broken ≡ false }
+        requires run { IsRun self.old.end self.old.line run.now }
+        requires fits { is_due self.old run.now ≡ false }
+        requires low { last_of run.now < 2 ^ 62 }
+        ensures ok { IfOk result (λ answer. IsAppendedTo D.content self.old self.old self.new run.now answer) }
+        ensures others { OnErr result (IsErrOf result NoMemory ⊎ IsErrOf result DiskFault) }
+
+        // A crash at any moment of the call leaves the stable log of before.
+        ensures any_moment { LeavesOnly (D.content self.old.disk) (D.content self.new.disk)
+            (OpensStable self.old) }
+
+        ensures no_memory { IsErrOf result NoMemory → Becomes D.content self.old self.new }
+        ensures broken { IsErrOf result DiskFault → Becomes D.content (record self.old { broken = true }) self.new }
+        ensures control { Lasts (D.control self.old.disk) (D.control self.new.disk) }
+        ensures cause { IsErrOf result DiskFault → Rose (D.control self.old.disk).faults (D.control self.new.disk).faults }
+    {
+        let end = self.active.end();
+        let most = self.settings.segment_bytes;
+        let (len, line) = take_in(self.alloc, &mut self.active, &self.line, run, most)?;
+        let (taken, _) = run.split_at(len);
+        let outcome = self.disk.append(FileName::Log(self.active.base()), taken);
+        replace_if(&mut self.line, line, outcome.is_ok());
+        match outcome {
+            Ok(()) => Ok((end, self.active.end() - 1)),
+            Err(trouble) => {
+                self.active.cut_to(end);
+                Err(refused(&mut self.broken, trouble))
+            }
+        }
+    }
+
+    /// Closes the open segment and appends to a new one. The closing one is synced before anything is appended.
+    fn append_behind(&mut self, run: &[u8]) -> Result<(u64, u64), LogRefusal>
+        requires unbroken { self.old.broken ≡ false }
+        requires run { IsRun self.old.end self.old.line run.now }
+        requires some { 0 < size_of self.old.active }
+        requires few { length self.old.closed < 4095 }
+        requires low { last_of run.now < 2 ^ 62 }
+        ensures ok { IfOk result (λ answer. IsAppendedTo D.content self.old (rolled self.old) self.new run.now answer) }
+        ensures others { OnErr result (IsErrOf result NoMemory ⊎ IsErrOf result DiskFault) }
+
+        // A crash at any moment of the call leaves the stable log of before.
+        ensures any_moment { LeavesOnly (D.content self.old.disk) (D.content self.new.disk)
+            (OpensStable self.old) }
+
+        ensures no_memory { IsErrOf result NoMemory → Becomes D.content self.old self.new }
+        ensures broken { IsErrOf result DiskFault → Becomes D.content (record self.old { broken = true }) self.new }
+        ensures control { Lasts (D.control self.old.disk) (D.control self.new.disk) }
+        ensures cause { IsErrOf result DiskFault → Rose (D.control self.old.disk).faults (D.control self.new.disk).faults }
+    {
+        self.closed.reserve(1)?;
+        self.disk.reserve(1)?;
+        match self.disk.sync(FileName::Log(self.active.base())) {
+            Ok(()) => {}
+            Err(Failed) => {
+                self.broken = true;
+                return Err(LogRefusal::DiskFault);
+            }
+        }
+        let end = self.active.end();
+        let most = self.settings.segment_bytes;
+        let mut next = Growing::new(self.alloc, end, self.settings.index_interval);
+        let (len, line) = take_in(self.alloc, &mut next, &self.line, run, most)?;
+        let (taken, _) = run.split_at(len);
+        let outcome = self.disk.append(FileName::Log(end), taken);
+        replace_if(&mut self.line, line, outcome.is_ok());
+        match outcome {
+            Ok(()) => {
+                let full = mem::replace(&mut self.active, next);
+                self.closed.push_reserved(full);
+                Ok((end, self.active.end() - 1))
+            }
+            Err(trouble) => Err(refused(&mut self.broken, trouble)),
+        }
+    }
+
+    /// Closes the open segment, and opens a new one.
+    pub fn roll(&mut self) -> Result<u64, LogRefusal>
+        requires { self.old.broken ≡ false }
+        ensures base { IfOk result (λ base. base ≡ self.old.end) }
+        ensures ok { OnOk result (Becomes D.content (rolled self.old) self.new) }
+
+        // A crash at any moment of the call leaves the stable log of before.
+        ensures any_moment { LeavesOnly (D.content self.old.disk) (D.content self.new.disk)
+            (OpensStable self.old) }
+
+        // Each cause, where no earlier one holds.
+        ensures empty { IsErrOf result EmptySegment ↔ (size_of self.old.active ≡ 0) }
+        ensures many { IsErrOf result TooManySegments ↔ (0 < size_of self.old.active) × (4095 ≤ length self.old.closed) }
+        ensures unchanged { (IsErrOf result EmptySegment ⊎ IsErrOf result TooManySegments) → self.new ≡ self.old }
+        ensures no_memory { IsErrOf result NoMemory → Becomes D.content self.old self.new }
+        ensures broken { IsErrOf result DiskFault → Becomes D.content (record self.old { broken = true }) self.new }
+        ensures control { Lasts (D.control self.old.disk) (D.control self.new.disk) }
+        ensures cause { IsErrOf result DiskFault → Rose (D.control self.old.disk).faults (D.control self.new.disk).faults }
+    {
+        if self.active.size() == 0 {
+            return Err(LogRefusal::EmptySegment);
+        }
+        if self.closed.len() + 1 >= MOST_SEGMENTS {
+            return Err(LogRefusal::TooManySegments);
+        }
+        self.closed.reserve(1)?;
+        self.disk.reserve(1)?;
+        let end = self.active.end();
+        match self.disk.sync(FileName::Log(self.active.base())) {
+            Ok(()) => {
+                let next = Growing::new(self.alloc, end, self.settings.index_interval);
+                let full = mem::replace(&mut self.active, next);
+                self.closed.push_reserved(full);
+                Ok(end)
+            }
+            Err(Failed) => {
+                self.broken = true;
+                Err(LogRefusal::DiskFault)
+            }
+        }
+    }
+
+    /// Makes all of the log stable, and answers its end.
+    pub fn flush(&mut self) -> Result<u64, LogRefusal>
+        requires { self.old.broken ≡ false }
+        ensures end { IfOk result (λ end. end ≡ self.old.end) }
+        ensures ok { OnOk result (Becomes D.content (committed self.old self.old.line) self.new) }
+        ensures durable { OnOk result ((c : Files) → Image (D.content self.new.disk) c → Opens c (stable_log self.new)) }
+
+        // A crash at any moment of the call leaves the stable log of before, or all of the log.
+        ensures any_moment { LeavesOnly (D.content self.old.disk) (D.content self.new.disk)
+            (Committing self.old self.old.line) }
+
+        ensures no_memory { IsErrOf result NoMemory → Becomes D.content self.old self.new }
+        ensures broken { IsErrOf result DiskFault → Becomes D.content (record self.old { broken = true }) self.new }
+        ensures control { Lasts (D.control self.old.disk) (D.control self.new.disk) }
+        ensures cause { IsErrOf result DiskFault → Rose (D.control self.old.disk).faults (D.control self.new.disk).faults }
+    {
+        let line = self.line.copy(self.alloc)?;
+        self.commit(line)
+    }
+
+    /// Enters a leader epoch that begins at the log's end, makes all stable, and answers the end.
+    pub fn lead(&mut self, epoch: u32) -> Result<u64, LogRefusal>
+        requires unbroken { self.old.broken ≡ false }
+        requires fits { epoch < 2 ^ 31 }
+        requires above { ForSome (last_epoch self.old.line) (λ last. last < epoch) }
+        ensures end { IfOk result (λ end. end ≡ self.old.end) }
+        ensures ok { OnOk result (Becomes D.content (committed self.old (assign self.old.line epoch self.old.end)) self.new) }
+        ensures durable { OnOk result ((c : Files) → Image (D.content self.new.disk) c → Opens c (stable_log self.new)) }
+
+        // A crash at any moment of the call leaves the stable log of before, or all of the log with the epoch.
+        ensures any_moment { LeavesOnly (D.content self.old.disk) (D.content self.new.disk)
+            (Committing self.old (assign self.old.line epoch self.old.end)) }
+
+        ensures no_memory { IsErrOf result NoMemory → Becomes D.content self.old self.new }
+        ensures broken { IsErrOf result DiskFault → Becomes D.content (record self.old { broken = true }) self.new }
+        ensures control { Lasts (D.control self.old.disk) (D.control self.new.disk) }
+        ensures cause { IsErrOf result DiskFault → Rose (D.control self.old.disk).faults (D.control self.new.disk).faults }
+    {
+        let mut line = self.line.copy(self.alloc)?;
+        line.assign(epoch, self.active.end())?;
+        self.commit(line)
+    }
+
+    /// Makes all of the log stable, with a line that says the same below the end.
+    fn commit(&mut self, line: Line) -> Result<u64, LogRefusal>
+        requires unbroken { self.old.broken ≡ false }
+        requires line { IsLine line }
+        requires same { cut_end line self.old.end ≡ cut_end self.old.line self.old.end }
+        requires within { Each (λ (entry : ℕ × ℕ). entry.1 ≤ self.old.end) line }
+        ensures end { IfOk result (λ end. end ≡ self.old.end) }
+        ensures ok { OnOk result (Becomes D.content (committed self.old line) self.new) }
+        ensures durable { OnOk result ((c : Files) → Image (D.content self.new.disk) c → Opens c (stable_log self.new)) }
+
+        // A crash at any moment of the call leaves the stable log of before, or all of the log with this line.
+        ensures any_moment { LeavesOnly (D.content self.old.disk) (D.content self.new.disk)
+            (Committing self.old line) }
+
+        ensures no_memory { IsErrOf result NoMemory → Becomes D.content self.old self.new }
+        ensures broken { IsErrOf result DiskFault → Becomes D.content (record self.old { broken = true }) self.new }
+        ensures control { Lasts (D.control self.old.disk) (D.control self.new.disk) }
+        ensures cause { IsErrOf result DiskFault → Rose (D.control self.old.disk).faults (D.control self.new.disk).faults }
+    {
+        self.disk.reserve(1)?;
+        let bytes = listing(
+            self.alloc,
+            self.incarnation,
+            self.local_start,
+            &self.closed,
+            &self.active,
+            &line,
+        )?;
+        match publish(&mut self.disk, FileName::Log(self.active.base()), &bytes) {
+            Ok(()) => {
+                self.line = line;
+                self.stable = self.active.end();
+                Ok(self.stable)
+            }
+            Err(trouble) => Err(refused(&mut self.broken, trouble)),
+        }
+    }
+
+    /// The offset of the first batch.
+    pub fn local_start(&self) -> u64
+        ensures { result ≡ self.now.local_start }
+    {
+        self.local_start
+    }
+
+    /// The offset after the last batch.
+    pub fn end(&self) -> u64
+        ensures { result ≡ self.now.end }
+    {
+        self.active.end()
+    }
+
+    /// The offset up to which the log is stable.
+    pub fn stable(&self) -> u64
+        ensures { result ≡ self.now.stable }
+    {
+        self.stable
+    }
+
+    /// How often the log was opened.
+    pub fn incarnation(&self) -> u32
+        ensures { result ≡ self.now.incarnation }
+    {
+        self.incarnation
+    }
+
+    /// Which leader epoch starts where.
+    pub fn line(&self) -> &Line
+        ensures { result.now ≡ self.now.line }
+    {
+        &self.line
+    }
+
+    /// The bytes of the open segment.
+    pub fn open_size(&self) -> u64
+        ensures { result ≡ size_of self.now.active }
+    {
+        self.active.size()
+    }
+
+    /// How the log is cut into segments, and how dense its indexes are.
+    pub fn settings(&self) -> &Settings
+        ensures { result.now ≡ self.now.settings }
+    {
+        &self.settings
+    }
+
+    /// The disk.
+    pub fn disk(&self) -> &D
+        ensures { result.now ≡ self.now.disk }
+    {
+        &self.disk
+    }
+
+    /// Whether a write has failed. Such a log may only be closed.
+    pub fn is_broken(&self) -> bool
+        ensures { result ≡ self.now.broken }
+    {
+        self.broken
+    }
+}
+
+/// Puts a line in the place of another, where there is one and it counts.
+fn replace_if(line: &mut Line, newer: Option<Line>, counts: bool)
+    ensures counts { IsTrue counts → line.new ≡ line_or line.old newer }
+    ensures not { IsFalse counts → line.new ≡ line.old }
+{
+    if counts {
+        if let Some(newer) = newer {
+            *line = newer;
+        }
+    }
+}
+
+/// The refusal of a call that the disk refused. A fault breaks the log.
+fn refused(broken: &mut bool, trouble: Trouble) -> LogRefusal
+    ensures fault { trouble ≡ fault.Failed → (result ≡ DiskFault) × (broken.new ≡ true) }
+    ensures memory { trouble ≡ fault.NoMemory → (result ≡ NoMemory) × (broken.new ≡ broken.old) }
+{
+    match trouble {
+        Trouble::Failed => {
+            *broken = true;
+            LogRefusal::DiskFault
+        }
+        Trouble::NoMemory => LogRefusal::NoMemory,
+    }
+}

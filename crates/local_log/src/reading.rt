@@ -1,0 +1,197 @@
+//! What is read of a log: a run of its batches, and a closed segment. Each is one read of a segment's file, and the bytes
+//! that are given are a part of what the disk handed.
+//!
+//! What memory keeps says where the read begins and where the run must end, so that a batch is looked for from the index
+//! entry on and a mark that is no batch's end is found before the disk is asked.
+
+ghost use Rattle.std.specs.Prelude.{◌≡◌, ◌<◌, ◌≤◌, ◌+◌, ℕ, drop, option_map, min, false, true, ◌^◌, ◌↔◌, IfOk, IfErr, IfSome, IsOk, IsErrOf, IsTrue};
+ghost use Rattle.tier_base.specs.Counts.{Rose};
+ghost use Rattle.tier_base.specs.Device.{Lasts};
+ghost use Rattle.tier_base.specs.declared.plain.FileName.TheVariants as file;
+ghost use Rattle.disk_model.specs.Content.{LeavesOnly, bytes_in};
+ghost use Rattle.local_log.specs.declared.refusal.LogRefusal.TheVariants.{Damaged, DiskFault, NoMemory};
+ghost use Rattle.local_log.specs.Log.{Becomes, OpensStable};
+ghost use Rattle.local_log.specs.Reading.{segment_at, piece_of, is_edge, IsCut, IsRunOf, IsEdge, RunFails, CutFails, IsOfDevice, IsClosedFrom, ClosedFails, IsPartOf, IsFront, FrontFails};
+
+use crate::log::LocalLog;
+use crate::piece::{Piece, first_past, is_edge, piece_at, segment_at};
+use crate::refusal::LogRefusal;
+use bytes::Bytes;
+use disk_model::{Disk, FileName};
+use segment_file::{Closed, ClosedRefusal, take_run};
+use std::alloc::Global;
+use tier_base::{Stop, Trouble};
+
+/// A run: the base offset of its segment, its batches' bytes, the offset after it, and why it ends.
+#[derive(Drop)]
+pub struct RunOut {
+    pub base: u64,
+    pub bytes: Bytes,
+    pub next: u64,
+    pub stop: Stop,
+}
+
+impl<D: Disk> LocalLog<D> {
+    /// Reads the run at an offset: the batch that holds it, and further ones that end at or below the mark and together
+    /// fit the limit, in bytes. The log is as it was also where the read failed.
+    pub fn read_run(&mut self, offset: u64, limit: u64, mark: u64) -> Result<RunOut, LogRefusal>
+        requires unbroken { self.old.broken ≡ false }
+        requires start { self.old.local_start ≤ offset }
+        requires below { offset < mark }
+        ensures log { Becomes D.content self.old self.new }
+        ensures run { IfOk result (λ run. IsTrue (D.content self.old.disk).tells → IsRunOf self.old offset limit mark run) }
+        ensures base { IfOk result (λ run. run.base ≡ (segment_at self.old offset).base) }
+        ensures bytes { IfOk result (λ run. IsCut (D.control self.new.disk).handed offset limit mark
+            (piece_of self.old offset) run) }
+
+        // A crash at any moment of the call leaves the stable log.
+        ensures any_moment { LeavesOnly (D.content self.old.disk) (D.content self.new.disk)
+            (OpensStable self.old) }
+
+        ensures edge { IsOk result → is_edge (segment_at self.old mark) mark ≡ true }
+
+        // Each cause. A mark that is no batch's end is told first, and nothing is read then.
+        ensures err { IfErr result (λ e. RunFails self.old offset limit mark (D.control self.new.disk).handed e) }
+        ensures missed { is_edge (segment_at self.old mark) mark ≡ false → self.new ≡ self.old }
+        ensures whole { IfErr result (λ e. IsTrue (D.content self.old.disk).tells → IsEdge self.old mark → IsOfDevice e) }
+        ensures control { Lasts (D.control self.old.disk) (D.control self.new.disk) }
+        ensures cause { IsErrOf result DiskFault → Rose (D.control self.old.disk).faults (D.control self.new.disk).faults }
+    {
+        let marked = segment_at(self.closed.as_slice(), &self.active, mark);
+        let (end, at) = marked.place_of(mark);
+        if end != mark {
+            return Err(LogRefusal::Damaged {
+                file: FileName::Log(marked.base()),
+                at: at as u64,
+            });
+        }
+        let segment = segment_at(self.closed.as_slice(), &self.active, offset);
+        let piece = piece_at(segment, self.line.entries(), offset);
+        let file = self.read_file(piece.base, piece.from)?;
+        run_in(piece, file, offset, limit, mark)
+    }
+
+    /// Reads the first closed segment that ends past an offset. There is none where the offset lies in the open segment, or
+    /// past the end.
+    pub fn closed_from(&mut self, offset: u64) -> Result<Option<Closed>, LogRefusal>
+        requires { self.old.broken ≡ false }
+        ensures log { Becomes D.content self.old self.new }
+        ensures segment { IfOk result (λ segment. IsClosedFrom self.old offset (D.control self.new.disk).handed segment) }
+        ensures part { IfOk result (λ segment. IsTrue (D.content self.old.disk).tells
+            → IfSome segment (λ segment. IsPartOf self.old segment)) }
+
+        // A crash at any moment of the call leaves the stable log.
+        ensures any_moment { LeavesOnly (D.content self.old.disk) (D.content self.new.disk)
+            (OpensStable self.old) }
+
+        ensures err { IfErr result (λ e. ClosedFails self.old offset (D.control self.new.disk).handed e) }
+        ensures whole { IfErr result (λ e. IsTrue (D.content self.old.disk).tells → IsOfDevice e) }
+        ensures control { Lasts (D.control self.old.disk) (D.control self.new.disk) }
+        ensures cause { IsErrOf result DiskFault → Rose (D.control self.old.disk).faults (D.control self.new.disk).faults }
+    {
+        let Some(segment) = first_past(self.closed.as_slice(), offset) else {
+            return Ok(None);
+        };
+        let base = segment.base();
+        let size = segment.size();
+        let file = self.read_file(base, 0)?;
+        let closed = closed_in(self.alloc, base, size, file)?;
+        Ok(Some(closed))
+    }
+
+    /// Whether a batch of the log ends at an offset, or its first one begins there.
+    pub fn is_edge(&self, offset: u64) -> bool
+        ensures segment { result ≡ is_edge (segment_at self.now offset) offset }
+        ensures told { self.now.broken ≡ false → IsTrue (D.content self.now.disk).tells → self.now.local_start ≤ offset
+            → IsTrue result ↔ IsEdge self.now offset }
+    {
+        let segment = segment_at(self.closed.as_slice(), &self.active, offset);
+        is_edge(segment, offset)
+    }
+
+    /// Reads a segment's file from a position on.
+    fn read_file(&mut self, base: u64, from: u32) -> Result<Option<Bytes>, LogRefusal>
+        requires { self.old.broken ≡ false }
+        ensures log { Becomes D.content self.old self.new }
+        ensures file { IsTrue (D.content self.old.disk).tells → IfOk result (λ held. held
+            ≡ option_map (drop from) ((D.content self.old.disk).files (file.Log base))) }
+        ensures bytes { IfOk result (λ held. (D.control self.new.disk).handed ≡ bytes_in held) }
+        ensures any_moment { LeavesOnly (D.content self.old.disk) (D.content self.new.disk)
+            (OpensStable self.old) }
+        ensures err { IfErr result IsOfDevice }
+        ensures control { Lasts (D.control self.old.disk) (D.control self.new.disk) }
+        ensures cause { IsErrOf result DiskFault → Rose (D.control self.old.disk).faults (D.control self.new.disk).faults }
+    {
+        match self.disk.read(FileName::Log(base), from as u64) {
+            Ok(file) => Ok(file),
+            Err(Trouble::Failed) => Err(LogRefusal::DiskFault),
+            Err(Trouble::NoMemory) => Err(LogRefusal::NoMemory),
+        }
+    }
+}
+
+/// The closed segment in what was read of its file.
+fn closed_in(alloc: Global, base: u64, size: u64, file: Option<Bytes>) -> Result<Closed, LogRefusal>
+    requires base { base ≤ 2 ^ 62 }
+    requires some { 0 < size }
+    ensures ok { IfOk result (λ segment. IsFront base size (bytes_in file) segment) }
+    ensures err { IfErr result (λ e. FrontFails base size (bytes_in file) e) }
+{
+    let name = FileName::Log(base);
+    let Some(bytes) = file else {
+        return Err(LogRefusal::Damaged { file: name, at: 0 });
+    };
+    let len = bytes.len();
+    if (len as u64) < size {
+        return Err(LogRefusal::Damaged {
+            file: name,
+            at: len as u64,
+        });
+    }
+    match Closed::read(alloc, base, bytes.slice(..size as usize)?) {
+        Ok(closed) => {
+            let _whole = closed.bytes();
+            Ok(closed)
+        }
+        Err(ClosedRefusal::BadAt { at }) => Err(LogRefusal::Damaged {
+            file: name,
+            at: at as u64,
+        }),
+        Err(ClosedRefusal::NoMemory) => Err(LogRefusal::NoMemory),
+    }
+}
+
+/// The run in what was read of a piece. The bytes of an absent file have none at 0.
+fn run_in(
+    piece: Piece,
+    file: Option<Bytes>,
+    offset: u64,
+    limit: u64,
+    mark: u64,
+) -> Result<RunOut, LogRefusal>
+    requires mark { offset < mark }
+    requires inside { offset < piece.end }
+    ensures base { IfOk result (λ run. run.base ≡ piece.base) }
+    ensures ok { IfOk result (λ run. IsCut (bytes_in file) offset limit mark piece.end run) }
+    ensures err { IfErr result (λ e. CutFails piece.base piece.from (bytes_in file) offset limit (min mark piece.end) e) }
+{
+    let from = piece.from as u64;
+    let Some(bytes) = file else {
+        return Err(LogRefusal::Damaged {
+            file: FileName::Log(piece.base),
+            at: 0,
+        });
+    };
+    match take_run(bytes.as_slice(), offset, limit, mark, piece.end) {
+        Ok(cut) => Ok(RunOut {
+            base: piece.base,
+            bytes: bytes.slice(cut.from..cut.to)?,
+            next: cut.next,
+            stop: cut.stop,
+        }),
+        Err(bad) => Err(LogRefusal::Damaged {
+            file: FileName::Log(piece.base),
+            at: from + bad.at as u64,
+        }),
+    }
+}

@@ -1,0 +1,11 @@
+pub mod Moments
+pub mod Fates
+pub mod Lasting
+pub mod Lists
+pub mod Published
+pub mod Restored
+pub mod Removed
+pub mod Rewritten
+pub mod Standing
+pub mod Reading
+pub mod Opening

@@ -1,0 +1,32 @@
+use Rattle.std.proofs.Common.{◌<◌, List, take, get_or, length, sym, subst, arith}
+use Rattle.std.proofs.lemmas.List.{take_more}
+use Rattle.tier_base.specs.declared.plain.FileName.{FileName}
+use Rattle.tier_base.specs.declared.plain.FileName.TheVariants as file
+use Rattle.disk_model.specs.Content.{Lawful}
+use Rattle.log_steps.specs.Rewrites.{Removes}
+use Rattle.log_steps.proofs.Lasting.{lasts_then}
+use Rattle.log_steps.proofs.Removed.{then_leaves, removed_more}
+use Rattle.log_steps.proofs.rewriting.remove_others.Goals as goal
+
+pub returns-in_err-remove_other-clause-since : goal.returns-in_err-remove_other-clause-since
+returns-in_err-remove_other-clause-since g c =
+    let content = g.D.Disk.content in
+    let m = content c.loop-name.disk in
+    let laws : Lawful m = g.met.D.Disk.lawful c.loop-name.disk in
+    then_leaves c.args.extents.now (content c.args.disk.now) m (content c.remove_other.new.disk) laws c.loop-name.invariant.content.since c.remove_other.ensures.since
+
+pub loop-name-preserved : goal.loop-name-preserved
+loop-name-preserved g c =
+    let content = g.D.Disk.content in
+    let es = c.args.extents.now in
+    let names = c.args.names.now in
+    let i = c.loop-name.name-index in
+    let lt : i < length names = omega arith in
+    let m = content c.loop-name.disk in
+    let laws : Lawful m = g.met.D.Disk.lawful c.loop-name.disk in
+    record {
+      content = subst (λ (l : List FileName). Removes es l (content c.args.disk.now) (content c.remove_other.new.disk)) (sym (take_more names i file.Manifest lt))
+          (removed_more es (take i names) (get_or names i file.Manifest) (content c.args.disk.now) m (content c.remove_other.new.disk) laws c.loop-name.invariant.content c.in_ok-remove_other.ensures.ok c.remove_other.ensures.tells);
+      room = omega (arith, c.loop-name.invariant.room, c.remove_other.ensures.room);
+      control = lasts_then _ _ _ c.loop-name.invariant.control c.remove_other.ensures.control.lasts;
+    }
