@@ -1,7 +1,7 @@
 #!/usr/bin/env python3
 """Writes a script of so many bytes, for bench/sim.sh.
 
-usage: sim_script.py mixed|flush|text|raw|fetch BYTES
+usage: sim_script.py mixed|flush|text|raw|fetch|brokers BYTES
 
 mixed: groups of 64 lines and 16,384 bytes, so 256 bytes a line: 61 appends with values of 236 or 237 letters, a flush,
 an ack, and a fetch of at most 128 KiB from some offset of the log so far. BYTES is a multiple of 16,384.
@@ -11,6 +11,9 @@ raw: the check of batches: raw lines of one batch of 4,096 bytes with records of
 of the script go through it.
 fetch: the trace's writer: one append of 64 KiB, a flush, an ack, and fetches that are given it: 16 times BYTES in all, so
 the trace has 32 times BYTES. The script itself is small.
+brokers: eight brokers, of which each has an actor: groups of 64 lines of 256 bytes, and so 65,536 commands in 16 MiB. A leader
+appends, the others follow, all flush and acknowledge; in every eighth group the lead goes on to the next broker, and all
+learn and join.
 """
 import struct
 import sys
@@ -95,6 +98,41 @@ def fetches(size):
         yield "0 0 0 fetch 0 1\n"
 
 
+def steady(leader, number):
+    """Six appends, then each follower takes them, all flush and acknowledge, and the leader is read."""
+    lines = [(leader, f"append {1700000000000 + number},-,:" + value(number + i, 150)) for i in range(6)]
+    others = [broker for broker in range(8) if broker != leader]
+    for command in ["follow 1000000", "flush", "ack"]:
+        lines += [(broker, command) for broker in others]
+    lines += [(leader, "flush"), (leader, "ack"), (leader, f"fetch {number} 1000")]
+    return lines + [(leader, f"append {1700000000000 + number},-,:x")] * (64 - len(lines))
+
+
+def moved(leader, following):
+    """The lead goes on to a broker that is in sync, and all find their places."""
+    others = [broker for broker in range(8) if broker != following]
+    lines = [(following, "elect"), (following, "learn")]
+    for command in ["learn", "join", "follow 1000000", "flush", "ack"]:
+        lines += [(broker, command) for broker in others]
+    lines += [(following, "flush"), (following, "ack"), (leader, "stop"), (leader, "up"), (leader, "learn"), (leader, "join")]
+    return lines + [(following, "flush")] * (64 - len(lines))
+
+
+def brokers(size):
+    """Groups of eight brokers' commands."""
+    yield "brokers 8".ljust(255) + "\n"
+    leader = 0
+    for number in range(size // GROUP):
+        if number % 8 == 7:
+            lines, leader = moved(leader, (leader + 1) % 8), (leader + 1) % 8
+        else:
+            lines = steady(leader, number)
+        if number == size // GROUP - 1:
+            lines = lines[:-1]
+        for broker, command in lines:
+            yield f"{broker} 0 {broker} {command}".ljust(255) + "\n"
+
+
 def main(kind, size):
     if kind == "mixed":
         for number in range(size // GROUP):
@@ -109,6 +147,8 @@ def main(kind, size):
         sys.stdout.write(line * (size // len(line)))
     elif kind == "fetch":
         sys.stdout.writelines(fetches(size))
+    elif kind == "brokers":
+        sys.stdout.writelines(brokers(size))
     else:
         sys.exit(__doc__)
 
