@@ -37,6 +37,7 @@ use Rattle.local_log.specs.Taking.{grown_by}
 use Rattle.local_log.proofs.Pieces.{joined_append, placed_append, size_placed, end_placed, stored_batches, stored_end, stored_same, all_append, all_each, all_kept, all_end, pieces_placed, chain_snoc, consecutive_append, consecutive_segments, stored_segments}
 use Rattle.local_log.proofs.Lines.{cut_cut, placed_same}
 use Rattle.local_log.proofs.Listed.{chain_up, bases_below, chained_last}
+use Rattle.local_log.proofs.Listings.{listed_last, ending_more}
 use Rattle.local_log.proofs.Lined.{IsLined}
 use Rattle.local_log.proofs.Having.{OpensUpTo, held_up, reading, has_same}
 
@@ -257,5 +258,10 @@ module _ (d d' : Content) (laws : Lawful d) (laws' : Lawful d') (incarnation loc
           ∙ cut_cut line' (end_of active) stable stable_low;
       stored = λ t. each_join (IsStored d'.files line') closed (active' ∷ []) (closed_stored (told t)) (stored_now (told t), tt);
       exact = λ t. sym (size_all (told t));
-      clear = λ t b lt. other (told t) b (λ e. omega (arith, lt, e)) ∙ has.clear (told t) b lt;
+      lists = listed_last stable has.listed.segments closed active active' refl (ap (λ (l : List Placed). extent_of (record active { batches = l })) (ending_more active.base 0 stable active.batches (placed_from (size_of active) taken) laid.laid stable_low)) has.lists;
+      clear = λ t b unlisted. (
+          let last = (each_right (λ (g : Grown). b ≢ g.base) closed (active' ∷ []) unlisted).0 in
+          other (told t) b last
+          ∙ has.clear (told t) b (each_join (λ (g : Grown). b ≢ g.base) closed (active ∷ []) (each_left (λ (g : Grown). b ≢ g.base) closed (active' ∷ []) unlisted) (last, tt))
+          );
     }

@@ -1,5 +1,5 @@
 -- An append behind a roll: the open segment is synced and closed, and a new one is appended to.
-use Rattle.std.proofs.Common.{◌≡◌, ◌∙◌, ap, sym, subst, ℕ, ◌<◌, Bool, true, List, [], ◌∷◌, ◌++◌, map, IsTrue}
+use Rattle.std.proofs.Common.{◌≡◌, ◌∙◌, ap, sym, subst, ℕ, ◌<◌, ◌≤◌, Bool, true, List, [], ◌∷◌, ◌++◌, map, IsTrue}
 use Rattle.std.proofs.lemmas.List.{append-nil}
 use Rattle.tier_base.specs.declared.plain.FileName.TheVariants as file
 use Rattle.disk_model.specs.Content.{Content, Lawful, Files, Image, Keeps, LeavesOnly, Changes, Begins, appended, Grown as MayGrow}
@@ -8,7 +8,7 @@ use Rattle.log_steps.specs.Reopens.{Reopens}
 use Rattle.log_steps.proofs.Moments.{leaves_then}
 use Rattle.log_steps.proofs.Published.{undone_files}
 use Rattle.local_log.specs.Stored.{all_batches, size_of, end_of}
-use Rattle.local_log.specs.Listing.{IsLaidOut}
+use Rattle.local_log.specs.Listing.{AreSegmentsOf}
 use Rattle.local_log.specs.Inside.{HasLog}
 use Rattle.local_log.proofs.Pieces.{all_append}
 use Rattle.local_log.proofs.Having.{OpensUpTo, has_kept, has_same}
@@ -20,7 +20,7 @@ module _ (d m m2 : Content) (laws : Lawful d) (laws-m : Lawful m) (laws2 : Lawfu
   pub still : HasLog m2 incarnation local_start closed active line stable
   still = has_kept m laws-m incarnation local_start closed active line stable (has_kept d laws incarnation local_start closed active line stable has m laws-m k) m2 laws2 k2
 
-  module _ (interval : ℕ) (laid : IsLaidOut active) (some : 0 < size_of active) (synced : (c : Files) → Image m2 c → Begins (m.files (file.Log active.base)) (c (file.Log active.base))) where
+  module _ (interval : ℕ) (are : AreSegmentsOf local_start closed active) (some : 0 < size_of active) (low : stable ≤ end_of active) (synced : (c : Files) → Image m2 c → Begins (m.files (file.Log active.base)) (c (file.Log active.base))) where
     abbrev pub next : Grown
     next = record { base = end_of active; interval = interval; batches = [] }
 
@@ -28,14 +28,14 @@ module _ (d m m2 : Content) (laws : Lawful d) (laws-m : Lawful m) (laws2 : Lawfu
     all_closed = closed ++ active ∷ []
 
     pub rolled_has : HasLog m2 incarnation local_start all_closed next line stable
-    rolled_has = roll_has d m m2 laws laws-m laws2 incarnation local_start closed active line stable has k k2 interval laid some synced
+    rolled_has = roll_has d m m2 laws laws-m laws2 incarnation local_start closed active line stable has k k2 interval are some low synced
 
     module _ (d' : Content) (laws' : Lawful d') (more : List ℕ) (M : Bool → Type 0) (change : Changes (file.Log (end_of active)) (appended more) MayGrow M m2 d') where
       pub behind_since : LeavesOnly d d' (OpensUpTo incarnation local_start stable (all_batches d.files all_closed) line)
       behind_since =
           leaves_then d m2 d' _ (twice_since d m m2 laws laws-m laws2 incarnation local_start closed active line stable has k k2)
           (subst (λ (l : List (List ℕ)). LeavesOnly m2 d' (OpensUpTo incarnation local_start stable l line))
-          (roll_batches d m m2 laws laws-m laws2 incarnation local_start closed active line stable has k k2 interval laid some synced)
+          (roll_batches d m m2 laws laws-m laws2 incarnation local_start closed active line stable has k k2 interval are some low synced)
           (appended_since m2 d' laws2 laws' incarnation local_start all_closed next line stable rolled_has more M change))
 
       pub behind_reopens : Reopens d'
@@ -54,7 +54,7 @@ module _ (d m m2 : Content) (laws : Lawful d) (laws-m : Lawful m) (laws2 : Lawfu
       behind_kept t =
           sym (none_more d'.files)
           ∙ appended_kept m2 d' laws2 laws' incarnation local_start all_closed next line stable rolled_has more M change (told2 t)
-          ∙ roll_batches d m m2 laws laws-m laws2 incarnation local_start closed active line stable has k k2 interval laid some synced
+          ∙ roll_batches d m m2 laws laws-m laws2 incarnation local_start closed active line stable has k k2 interval are some low synced
 
       -- it wasn't done
       pub behind_dry : (M true → ⊥) → HasLog d' incarnation local_start closed active line stable
@@ -63,4 +63,4 @@ module _ (d m m2 : Content) (laws : Lawful d) (laws-m : Lawful m) (laws2 : Lawfu
           (λ t. undone_files (file.Log (end_of active)) (appended more) M m2.files d'.files not (change.files t))
 
       pub behind_batches : (l : List (List ℕ)) → (IsTrue m2.tells → l ≡ all_batches m2.files (all_closed ++ next ∷ [])) → IsTrue d.tells → l ≡ all_batches d.files all_closed
-      behind_batches l is t = is (told2 t) ∙ roll_batches d m m2 laws laws-m laws2 incarnation local_start closed active line stable has k k2 interval laid some synced
+      behind_batches l is t = is (told2 t) ∙ roll_batches d m m2 laws laws-m laws2 incarnation local_start closed active line stable has k k2 interval are some low synced

@@ -124,7 +124,8 @@ module _ (d d' : Content) (interval : ℕ) (M : Bool → Type 0) (change : Chang
       line_is = refl;
       stored = λ t. (record { batches = []; placed = refl; stands = record { long = omega arith; bytes = refl; placed = tt; consecutive = tt } }, tt);
       exact = λ t. ap (λ (o : Option (List ℕ)). length (bytes_in o)) (none_now t 0);
-      clear = λ t b lt. none_now t b;
+      lists = (omega arith, refl, tt);
+      clear = λ t b other. none_now t b;
     }
 
     pub create_opens : (c : Files) → Image d' c → Opens c first_log

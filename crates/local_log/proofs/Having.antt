@@ -13,7 +13,6 @@ use Rattle.log_manifest.specs.Reading.{manifest_in}
 use Rattle.log_manifest.specs.Spelling.{manifest_bytes}
 use Rattle.log_manifest.proofs.Again.{manifest_again}
 use Rattle.segment_file.specs.Growing.{Grown}
-use Rattle.segment_file.proofs.Laying.{end_up}
 use Rattle.log_steps.specs.Fronts.{Each, Agrees, log_at, front}
 use Rattle.log_steps.specs.Opens.{Opened, IsRead, Opens, Segments}
 use Rattle.log_steps.specs.Reopens.{Reopens}
@@ -26,11 +25,12 @@ use Rattle.log_steps.proofs.Standing.{stands_since, same_stands, keeps_stands, k
 use Rattle.log_steps.proofs.Reading.{held_opens, segments_like, reopens_two, stands_reopens}
 use Rattle.local_log.specs.Stored.{bytes_of, all_batches, size_of, end_of, extent_of, AreChained, IsStored}
 use Rattle.local_log.specs.Log.{IsUpTo}
-use Rattle.local_log.specs.Listing.{IsLaidOut, AreSegmentsOf, manifest_of}
+use Rattle.local_log.specs.Listing.{IsLaidOut, AreSegmentsOf, AreListed, manifest_of}
 use Rattle.local_log.specs.Inside.{HasLog}
 use Rattle.local_log.proofs.Pieces.{stored_segments, consecutive_segments, all_end, chain_snoc, up_to_all, all_append, all_same, stored_same, stored_end}
 use Rattle.local_log.proofs.Lines.{cut_cut, placed_same}
-use Rattle.local_log.proofs.Listed.{rules_of, base_below, chain_up}
+use Rattle.local_log.proofs.Listed.{rules_of, chain_up}
+use Rattle.local_log.proofs.Listings.{listed_more, listed_all, end_unlisted}
 
 -- an image opens as the log up to an end
 abbrev pub OpensUpTo : ℕ → ℕ → ℕ → List (List ℕ) → List (ℕ × ℕ) → Files → Type 0
@@ -91,7 +91,8 @@ module _ (d : Content) (laws : Lawful d) (incarnation local_start : ℕ) (closed
         line_is = has.line_is;
         stored = λ t. each_map (λ g s. stored_same d.files d'.files line g (ap bytes_in (same (told t) (file.Log g.base))) s) segments (has.stored (told t));
         exact = λ t. ap (λ (o : Option (List ℕ)). length (bytes_in o)) (same (told t) (file.Log active.base)) ∙ has.exact (told t);
-        clear = λ t b lt. same (told t) (file.Log b) ∙ has.clear (told t) b lt;
+        lists = has.lists;
+        clear = λ t b other. same (told t) (file.Log b) ∙ has.clear (told t) b other;
       }
 
     module _ (k : Keeps d d') where
@@ -107,7 +108,7 @@ module _ (d : Content) (laws : Lawful d) (incarnation local_start : ℕ) (closed
           (keeps_since d d' laws laws' bytes has.listed.segments (map extent_of closed) has.images k)
 
       -- the open segment is synced and closed
-      module _ (interval : ℕ) (laid : IsLaidOut active) (some : 0 < size_of active) (synced : (c : Files) → Image d' c → Begins (d.files (file.Log active.base)) (c (file.Log active.base))) where
+      module _ (interval : ℕ) (are : AreSegmentsOf local_start closed active) (some : 0 < size_of active) (low : stable ≤ end_of active) (synced : (c : Files) → Image d' c → Begins (d.files (file.Log active.base)) (c (file.Log active.base))) where
         abbrev pub next : Grown
         next = record { base = end_of active; interval = interval; batches = [] }
 
@@ -140,8 +141,9 @@ module _ (d : Content) (laws : Lawful d) (incarnation local_start : ℕ) (closed
             },
             tt,
           );
-          exact = λ t. ap (λ (o : Option (List ℕ)). length (bytes_in o)) (has_kept.clear t (end_of active) (base_below active.base active.batches laid.laid some));
-          clear = λ t b lt. has_kept.clear t b (let up = end_up active.base 0 active.batches laid.laid in omega (arith, up, lt));
+          exact = λ t. ap (λ (o : Option (List ℕ)). length (bytes_in o)) (has_kept.clear t (end_of active) (end_unlisted local_start closed active are some));
+          lists = listed_more stable has.listed.segments segments next low has.lists;
+          clear = λ t b other. has_kept.clear t b (each_left (λ (g : Grown). b ≢ g.base) segments (next ∷ []) other);
         }
 
     -- all of the log is published, with a line that says the same below the end
@@ -215,6 +217,13 @@ module _ (d : Content) (laws : Lawful d) (incarnation local_start : ℕ) (closed
           (λ c h. ⊎_elim (λ a. inl (held_up c (h.0, a))) (λ b. inr (after_up c (h.0, b))) h.1)
           (publish_since d d' laws laws' bytes has.listed.segments (map extent_of closed) has.images (extent_of active) long (manifest_bytes all) (map extent_of segments) lists fate change)
 
+      -- the same, where all of it stands as it is read
+      pub published_exact : LeavesOnly d d' (λ c. IsTrue d.tells × (OpensUpTo incarnation local_start stable whole line c ⊎ Opens c now_open))
+      published_exact =
+          leaves_weaker d d' _ _
+          (λ c h. (h.0, ⊎_elim (λ a. inl (held_up c (h.0, a))) (λ b. inr (held_opens c d.files (manifest_bytes all) all (map extent_of closed) now_open rules b (read_whole h.0))) h.1))
+          (publish_since d d' laws laws' bytes has.listed.segments (map extent_of closed) has.images (extent_of active) long (manifest_bytes all) (map extent_of segments) lists fate change)
+
       published_files : IsTrue d.tells → (b : ℕ) → d'.files (file.Log b) ≡ d.files (file.Log b)
       published_files t b = change.files t (file.Log b) (log_no_manifest b)
 
@@ -246,6 +255,11 @@ module _ (d : Content) (laws : Lawful d) (incarnation local_start : ℕ) (closed
       stands_after : fate ≡ Went → Stands d' (manifest_bytes all) (map extent_of segments) (map extent_of closed)
       stands_after went = publish_stands d d' laws laws' bytes has.listed.segments (map extent_of closed) has.images (extent_of active) long (manifest_bytes all) (map extent_of segments) lists fate change went
 
+      all_listed : AreListed (end_of active) (map extent_of segments) segments
+      all_listed =
+          let laid = each_join IsLaidOut closed (active ∷ []) are.laid (are.active_laid, tt) in
+          listed_all (end_of active) segments laid (subst (λ (n : ℕ). Each (λ g. end_of g ≤ n) segments) (chain_snoc local_start closed active) (chain_up local_start segments are.chained laid))
+
       pub has_published : fate ≡ Went → HasLog d' incarnation local_start closed active other (end_of active)
       has_published went = record {
         listed = all;
@@ -261,7 +275,8 @@ module _ (d : Content) (laws : Lawful d) (incarnation local_start : ℕ) (closed
         line_is = cut_cut other (end_of active + 1) (end_of active) (omega arith);
         stored = λ t. stored_after (told_p t);
         exact = λ t. ap (λ (o : Option (List ℕ)). length (bytes_in o)) (published_files (told_p t) active.base) ∙ has.exact (told_p t);
-        clear = λ t b lt. published_files (told_p t) b ∙ has.clear (told_p t) b lt;
+        lists = all_listed;
+        clear = λ t b unlisted. published_files (told_p t) b ∙ has.clear (told_p t) b unlisted;
       }
 
       -- each image has one of the manifests

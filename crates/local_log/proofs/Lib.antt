@@ -1,6 +1,9 @@
 pub mod Pieces
 pub mod Lines
 pub mod Listed
+pub mod Listings
+pub mod Parting
+pub mod Trimmed
 pub mod Having
 pub mod Rolling
 pub mod Committed
@@ -18,3 +21,7 @@ pub mod Lined
 pub mod Appended
 pub mod Taken
 pub mod Behind
+pub mod Shortened
+pub mod Lowered
+pub mod Shedding
+pub mod Composing

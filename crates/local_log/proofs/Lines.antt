@@ -94,7 +94,7 @@ cut_assign line epoch start n le =
     ∙ append-nil (cut_end (cut_end line start) n)
     ∙ cut_cut line start n le
 
-below_cut : (line : List (ℕ × ℕ)) (n : ℕ) → Each (λ (e : ℕ × ℕ). e.1 ≤ n) (cut_end line n)
+pub below_cut : (line : List (ℕ × ℕ)) (n : ℕ) → Each (λ (e : ℕ × ℕ). e.1 ≤ n) (cut_end line n)
 below_cut [] n = tt
 below_cut (e ∷ line) n = elim (cases_lt e.1 n) [
   | inl lt ↦ subst (Each (λ (e : ℕ × ℕ). e.1 ≤ n)) (sym (kept e line n lt)) (omega (arith, lt), below_cut line n)

@@ -1,11 +1,11 @@
 -- A whole roll: room is made, and the open segment is synced and closed.
-use Rattle.std.proofs.Common.{◌≡◌, ℕ, ◌<◌, List, [], ◌∷◌, ◌++◌, ◌∙◌, sym, subst}
+use Rattle.std.proofs.Common.{◌≡◌, ℕ, ◌<◌, ◌≤◌, List, [], ◌∷◌, ◌++◌, ◌∙◌, sym, subst}
 use Rattle.tier_base.specs.declared.plain.FileName.TheVariants as file
 use Rattle.disk_model.specs.Content.{Content, Lawful, Files, Image, Keeps, LeavesOnly, Begins}
 use Rattle.segment_file.specs.Growing.{Grown}
 use Rattle.log_steps.proofs.Moments.{leaves_then}
 use Rattle.local_log.specs.Stored.{all_batches, size_of, end_of}
-use Rattle.local_log.specs.Listing.{IsLaidOut}
+use Rattle.local_log.specs.Listing.{AreSegmentsOf}
 use Rattle.local_log.specs.Inside.{HasLog}
 use Rattle.local_log.proofs.Having.{OpensUpTo, has_kept, kept_batches, kept_since, rolled_batches, has_rolled}
 
@@ -25,12 +25,12 @@ module _ (d m d' : Content) (laws : Lawful d) (laws-m : Lawful m) (laws' : Lawfu
       (subst (λ (l : List (List ℕ)). LeavesOnly m d' (OpensUpTo incarnation local_start stable l line)) room_batches
       (kept_since m laws-m incarnation local_start closed active line stable room_has d' laws' k2))
 
-  module _ (interval : ℕ) (laid : IsLaidOut active) (some : 0 < size_of active) (synced : (c : Files) → Image d' c → Begins (m.files (file.Log active.base)) (c (file.Log active.base))) where
+  module _ (interval : ℕ) (are : AreSegmentsOf local_start closed active) (some : 0 < size_of active) (low : stable ≤ end_of active) (synced : (c : Files) → Image d' c → Begins (m.files (file.Log active.base)) (c (file.Log active.base))) where
     abbrev pub next : Grown
     next = record { base = end_of active; interval = interval; batches = [] }
 
     pub roll_has : HasLog d' incarnation local_start segments next line stable
-    roll_has = has_rolled m laws-m incarnation local_start closed active line stable room_has d' laws' k2 interval laid some synced
+    roll_has = has_rolled m laws-m incarnation local_start closed active line stable room_has d' laws' k2 interval are some low synced
 
     pub roll_batches : all_batches d'.files (segments ++ next ∷ []) ≡ all_batches d.files segments
-    roll_batches = rolled_batches m laws-m incarnation local_start closed active line stable room_has d' laws' k2 interval laid some synced ∙ room_batches
+    roll_batches = rolled_batches m laws-m incarnation local_start closed active line stable room_has d' laws' k2 interval are some low synced ∙ room_batches

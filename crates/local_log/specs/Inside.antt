@@ -1,5 +1,5 @@
 -- What the fields of a log mean, and what they keep.
-use Rattle.std.specs.Prelude.{◌≡◌, ℕ, ◌+◌, ◌^◌, ◌≤◌, ◌<◌, false, List, [], ◌∷◌, ◌++◌, length, map, None, IsTrue}
+use Rattle.std.specs.Prelude.{◌≡◌, ◌≢◌, ℕ, ◌+◌, ◌^◌, ◌≤◌, ◌<◌, false, List, [], ◌∷◌, ◌++◌, length, map, None, IsTrue}
 use Rattle.tier_base.specs.declared.plain.FileName.TheVariants as file
 use Rattle.disk_model.specs.Content.{Content, Files}
 use Rattle.log_terms.specs.Log.{up_to, end_from}
@@ -15,7 +15,7 @@ use Rattle.log_steps.specs.Stands.{Stands}
 use Rattle.local_log.specs.declared.log.LocalLog.TheInside.{Inside}
 use Rattle.local_log.specs.Stored.{bytes_of, all_batches, size_of, end_of, extent_of, IsStored}
 use Rattle.local_log.specs.Log.{Log, AreSettings, IsStable}
-use Rattle.local_log.specs.Listing.{AreSegmentsOf}
+use Rattle.local_log.specs.Listing.{AreSegmentsOf, AreListed}
 
 -- the disk has the log: its images the stable log, and its files all of it
 pub record HasLog (d : Content) (incarnation local_start : ℕ) (closed : List Grown) (active : Grown) (line : List (ℕ × ℕ)) (stable : ℕ) : Type 0 where
@@ -31,10 +31,13 @@ pub record HasLog (d : Content) (incarnation local_start : ℕ) (closed : List G
   pub end_is : IsTrue d.tells → end_from opened.local_start opened.batches ≡ stable
   pub batches_are : IsTrue d.tells → opened.batches ≡ up_to stable (all_batches d.files (closed ++ active ∷ []))
   pub line_is : cut_end opened.line stable ≡ cut_end line stable
+  -- the manifest lists the present segments up to the stable end
+  pub lists : AreListed stable listed.segments (closed ++ active ∷ [])
   -- what reads
   pub stored : IsTrue d.tells → Each (IsStored d.files line) (closed ++ active ∷ [])
   pub exact : IsTrue d.tells → length (bytes_of d.files active) ≡ size_of active
-  pub clear : IsTrue d.tells → (b : ℕ) → active.base < b → d.files (file.Log b) ≡ None
+  -- no other segment's file
+  pub clear : IsTrue d.tells → (b : ℕ) → Each (λ (g : Grown). b ≢ g.base) (closed ++ active ∷ []) → d.files (file.Log b) ≡ None
 
 module _ {D : Type 0} (content : D → Content) where
   abbrev pub log_in : Inside D → Log D

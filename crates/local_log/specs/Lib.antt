@@ -6,3 +6,4 @@ pub mod Parsing
 pub mod Taking
 pub mod Reading
 pub mod Inside
+pub mod Cutting

@@ -1,8 +1,9 @@
 -- The manifest of a whole log.
 use Rattle.std.specs.Prelude.{◌≡◌, ℕ, ◌+◌, ◌^◌, ◌≤◌, ◌<◌, List, [], ◌∷◌, ◌++◌, length, map}
+use Rattle.log_manifest.specs.declared.manifest.Extent.{Extent}
 use Rattle.log_manifest.specs.declared.manifest.Manifest.{Manifest}
 use Rattle.log_steps.specs.Fronts.{Each}
-use Rattle.segment_file.specs.Growing.{Grown, AreLaid}
+use Rattle.segment_file.specs.Growing.{Grown, AreLaid, ending_by}
 use Rattle.local_log.specs.Stored.{size_of, end_of, extent_of, AreChained}
 
 -- a segment whose batches follow one another, and are as far from its base as its index reaches
@@ -28,3 +29,14 @@ manifest_of incarnation local_start closed active line = record {
   segments = map extent_of (closed ++ active ∷ []);
   line = line;
 }
+
+-- a segment without the batches that end past an offset
+abbrev pub front_to : ℕ → Grown → Grown
+front_to end segment = record segment { batches = ending_by end segment.batches }
+
+-- the segments are listed up to an offset; one that begins there may be left out
+abbrev pub AreListed : ℕ → List Extent → List Grown → Type 0
+AreListed end [] segments = Each (λ g. end ≤ g.base) segments
+AreListed end (extent ∷ extents) [] = ⊥
+AreListed end (extent ∷ extents) (segment ∷ segments) =
+    (segment.base ≤ end) × (extent ≡ extent_of (front_to end segment)) × AreListed end extents segments

@@ -7,12 +7,14 @@
 //! reads the batches, and writes it under the next incarnation.
 #![tactic(auto)]
 
+mod cuts;
 mod listing;
 mod log;
 mod piece;
 mod reading;
 mod refusal;
 mod run;
+mod trimming;
 
 pub use log::LocalLog;
 pub use reading::RunOut;

@@ -14,7 +14,7 @@ use std::alloc::{AllocError, Global};
 use tier_base::Row;
 
 /// The extent of a segment.
-fn extent_of(segment: &Growing) -> Extent
+pub(crate) fn extent_of(segment: &Growing) -> Extent
     requires { IsLaidOut segment.now }
     ensures { result ≡ extent_of segment.now }
 {

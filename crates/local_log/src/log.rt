@@ -42,14 +42,14 @@ const MOST_SEGMENTS: usize = 4_096;
 pub struct LocalLog<D: Disk> {
     pub(crate) alloc: Global,
     pub(crate) disk: D,
-    settings: Settings,
-    incarnation: u32,
-    local_start: u64,
+    pub(crate) settings: Settings,
+    pub(crate) incarnation: u32,
+    pub(crate) local_start: u64,
     pub(crate) closed: Vec<Growing>,
     pub(crate) active: Growing,
     pub(crate) line: Line,
-    stable: u64,
-    broken: bool,
+    pub(crate) stable: u64,
+    pub(crate) broken: bool,
 }
 
 impl<D: Disk> Model for LocalLog<D> {
@@ -441,7 +441,7 @@ fn replace_if(line: &mut Line, newer: Option<Line>, counts: bool)
 }
 
 /// The refusal of a call that the disk refused. A fault breaks the log.
-fn refused(broken: &mut bool, trouble: Trouble) -> LogRefusal
+pub(crate) fn refused(broken: &mut bool, trouble: Trouble) -> LogRefusal
     ensures fault { trouble ≡ fault.Failed → (result ≡ DiskFault) × (broken.new ≡ true) }
     ensures memory { trouble ≡ fault.NoMemory → (result ≡ NoMemory) × (broken.new ≡ broken.old) }
 {

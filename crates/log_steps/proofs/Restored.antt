@@ -41,7 +41,7 @@ all_fit done e rest h =
     each_join (Fits e) done (e ∷ rest) (each_map (λ x lt same. absurd (omega (arith, lt, same))) done (rising_left done e rest h))
     (λ same. omega arith, each_map (λ x lt same. absurd (omega (arith, lt, same))) rest (rising_right done e rest h))
 
-cut_agrees : (e x : Extent) (d c : Files) → x.base ≡ e.base → x.len ≤ e.len → CutBack e.len (d (Log x.base)) (c (Log x.base)) → x.len ≤ length (log_at d x) → Agrees c d x
+pub cut_agrees : (e x : Extent) (d c : Files) → x.base ≡ e.base → x.len ≤ e.len → CutBack e.len (d (Log x.base)) (c (Log x.base)) → x.len ≤ length (log_at d x) → Agrees c d x
 cut_agrees e x d c base fits (inl is) long = record { long = subst (λ (o : Option (List ℕ)). x.len ≤ length (bytes_in o)) (sym is) long; same = ap (λ (o : Option (List ℕ)). take x.len (bytes_in o)) is }
 cut_agrees e x d c base fits (inr more) long =
     let kept = take e.len (log_at d x) in

@@ -89,7 +89,7 @@ invariant_of-self-in-Ok g c =
     let active_is : c.replace-full.new.dest ≡ record { base = end_of s.active; interval = s.settings.index_interval; batches = [] } =
     c.replace-full.ensures.after ∙ c.new-next.ensures ∙ ap (λ (n : ℕ). record { base = n; interval = s.settings.index_interval; batches = [] }) c.end-end.ensures in
     let synced = subst (λ (b : ℕ). (f : Files) → Image d' f → Begins (m.files (file.Log b)) (f (file.Log b))) base_is c.in-Ok.ensures.durable in
-    let has = roll_has d m d' laws laws-m laws' s.incarnation s.local_start s.closed.items s.active s.line s.stable (c.self.invariant.has unbroken) c.reserve-2.ensures.content c.sync.ensures.content s.settings.index_interval are.active_laid some synced in
+    let has = roll_has d m d' laws laws-m laws' s.incarnation s.local_start s.closed.items s.active s.line s.stable (c.self.invariant.has unbroken) c.reserve-2.ensures.content c.sync.ensures.content s.settings.index_interval are some c.self.invariant.stable_within synced in
     let next : Grown = (record { base = end_of s.active; interval = s.settings.index_interval; batches = [] }) in
     let end_is : end_of c.replace-full.new.dest ≡ end_of s.active = ap (λ (x : Grown). end_of x) active_is in
     record {
@@ -130,7 +130,7 @@ returns-in-Ok-clause-ok g c =
     ap (λ (l : List Grown). all_batches d'.files (l ++ c.replace-full.new.dest ∷ [])) items_are ∙ ap (λ (x : Grown). all_batches d'.files ((s.closed.items ++ s.active ∷ []) ++ x ∷ [])) active_is in
     rw (← c.self.view_is) (becomes_by g.D.Disk.content _ _ refl refl refl end_is refl refl items_are active_is refl
     (c.sync.ensures.content.tells ∙ c.reserve-2.ensures.content.tells)
-    (λ t. batches_are ∙ roll_batches d m d' laws laws-m laws' s.incarnation s.local_start s.closed.items s.active s.line s.stable (c.self.invariant.has unbroken) c.reserve-2.ensures.content c.sync.ensures.content s.settings.index_interval are.active_laid some synced))
+    (λ t. batches_are ∙ roll_batches d m d' laws laws-m laws' s.incarnation s.local_start s.closed.items s.active s.line s.stable (c.self.invariant.has unbroken) c.reserve-2.ensures.content c.sync.ensures.content s.settings.index_interval are some c.self.invariant.stable_within synced))
 
 pub returns-in-Ok-clause-any_moment : goal.returns-in-Ok-clause-any_moment
 returns-in-Ok-clause-any_moment g c =

@@ -1,0 +1,26 @@
+use Rattle.std.proofs.Common.{◌≡◌, ◌∙◌, ap, Bool, false}
+use Rattle.disk_model.specs.Content.{Content, Lawful}
+use Rattle.local_log.specs.Log.{Log}
+use Rattle.local_log.proofs.Having.{has_kept, has_reopens}
+use Rattle.local_log.proofs.log.LocalLog.sync_open.Goals as goal
+
+pub invariant_of-self : goal.invariant_of-self
+invariant_of-self g c =
+    let s = c.self.inside in
+    let d = g.D.Disk.content s.disk in
+    let m = g.D.Disk.content c.sync.new.self in
+    let laws : Lawful d = g.met.D.Disk.lawful s.disk in
+    let laws-m : Lawful m = g.met.D.Disk.lawful c.sync.new.self in
+    let unbroken : s.broken ≡ false = ap (λ (l : Log g.row.D.Denot). l.broken) c.self.view_is ∙ c.requires.unbroken in
+    let has = has_kept d laws s.incarnation s.local_start s.closed.items s.active s.line s.stable (c.self.invariant.has unbroken) m laws-m c.sync.ensures.content in
+    record {
+      segments = c.self.invariant.segments;
+      settings = c.self.invariant.settings;
+      opened = c.self.invariant.opened;
+      fits = c.self.invariant.fits;
+      line = c.self.invariant.line;
+      line_within = c.self.invariant.line_within;
+      stable_within = c.self.invariant.stable_within;
+      has = λ whole. has;
+      reopens = has_reopens m laws-m s.incarnation s.local_start s.closed.items s.active s.line s.stable has;
+    }

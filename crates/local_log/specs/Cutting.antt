@@ -1,0 +1,117 @@
+-- A log without what ends past an offset, and its files.
+--
+-- Where a batch holds the offset the log ends at that batch's base. A cut to the base of a segment leaves it as the empty
+-- open one, and the segment before it closed.
+use Rattle.std.specs.Prelude.{◌≡◌, ◌≢◌, ◌⊎◌, ℕ, ◌+◌, nat_le, if◌then◌else◌, List, [], ◌∷◌, ◌++◌, map, None, IsTrue, true}
+use Rattle.tier_base.specs.declared.plain.FileName.{FileName}
+use Rattle.tier_base.specs.declared.plain.FileName.TheVariants as file
+use Rattle.tier_base.specs.Device.{Fate, Went}
+use Rattle.disk_model.specs.Content.{Content, Files, Image, LeavesOnly, CutBack, In, cut_to}
+use Rattle.log_terms.specs.Log.{up_to}
+use Rattle.epoch_line.specs.Line.{cut_end}
+use Rattle.segment_file.specs.Growing.{Grown}
+use Rattle.log_steps.specs.Opens.{Opened, Opens}
+use Rattle.local_log.specs.Stored.{end_of}
+use Rattle.local_log.specs.Listing.{front_to}
+use Rattle.local_log.specs.Log.{Log, OpensStable}
+
+-- the segments that end at or below an offset: they stay closed
+abbrev pub closed_by : ℕ → List Grown → List Grown
+closed_by end [] = []
+closed_by end (segment ∷ segments) = if nat_le (end_of segment) end then segment ∷ closed_by end segments else []
+
+-- the segment after them: it is the open one then
+abbrev pub open_by : ℕ → List Grown → Grown → Grown
+open_by end [] active = active
+open_by end (segment ∷ segments) active = if nat_le (end_of segment) end then open_by end segments active else segment
+
+-- the segments behind that one: they are removed
+abbrev pub behind : ℕ → List Grown → Grown → List Grown
+behind end [] active = []
+behind end (segment ∷ segments) active = if nat_le (end_of segment) end then behind end segments active else segments ++ active ∷ []
+
+-- where the log ends that is cut to an offset
+abbrev pub cut_point : ℕ → List Grown → Grown → ℕ
+cut_point end closed active = end_of (front_to end (open_by end closed active))
+
+-- the files of segments
+abbrev pub names_of : List Grown → List FileName
+names_of segments = map (λ segment. file.Log segment.base) segments
+
+module _ {D : Type 0} where
+  -- without what ends past one of its ends
+  abbrev pub shortened : Log D → ℕ → Log D
+  shortened log end = record log {
+    batches = up_to end log.batches;
+    end = end;
+    line = cut_end log.line end;
+    closed = closed_by end log.closed;
+    active = front_to end (open_by end log.closed log.active);
+  }
+
+  -- stable up to one of its ends
+  abbrev pub lowered : Log D → ℕ → Log D
+  lowered log end = record log { stable = end }
+
+  -- without what ends past one of its ends, and all of it is stable
+  abbrev pub cut : Log D → ℕ → Log D
+  cut log end = record (shortened log end) { stable = end }
+
+  -- cut to an offset at or past the local start
+  abbrev pub cut_at : Log D → ℕ → Log D
+  cut_at log end = cut log (cut_point end log.closed log.active)
+
+  -- what an image of a log opens as that is cut to one of its ends
+  abbrev pub opened_to : Log D → ℕ → Opened
+  opened_to log end = record {
+    incarnation = log.incarnation;
+    local_start = log.local_start;
+    batches = up_to end log.batches;
+    line = cut_end log.line end;
+  }
+
+  -- all of a log, with the line's entries that start at or below its end
+  abbrev pub whole_log : Log D → Opened
+  whole_log log = record {
+    incarnation = log.incarnation;
+    local_start = log.local_start;
+    batches = log.batches;
+    line = cut_end log.line (log.end + 1);
+  }
+
+  -- the stable log of before, or the log cut to one of its ends
+  abbrev pub Cutting : Log D → ℕ → Files → Type 0
+  Cutting log end c = OpensStable log c ⊎ Opens c (opened_to log end)
+
+  -- a fault of the disk broke the log, and its files may be those of before or not
+  pub record Breaks (content : D → Content) (before new : Log D) : Type 0 where
+    pub fields : new ≡ record before { disk = new.disk; batches = new.batches; broken = true }
+    pub tells : (content new.disk).tells ≡ (content before.disk).tells
+
+-- it opens as an image of before does
+abbrev pub OpensAs : Content → Files → Type 0
+OpensAs old c = (d : Files) × Image old d × ((o : Opened) → Opens d o → Opens c o)
+
+-- files of these names may be gone
+abbrev pub Without : List FileName → Files → Files → Type 0
+Without names d c = (n : FileName) → (c n ≡ d n) ⊎ (In n names × (c n ≡ None))
+
+-- files are removed
+pub record RemovesAll (names : List FileName) (fate : Fate) (old new : Content) : Type 0 where
+  pub tells : new.tells ≡ old.tells
+  pub since : LeavesOnly old new (λ c. (d : Files) × Image old d × Without names d c)
+  pub files : IsTrue old.tells → Without names old.files new.files
+  pub gone : fate ≡ Went → IsTrue old.tells → (n : FileName) → In n names → new.files n ≡ None
+
+-- files of these names may be gone, and a segment's file is cut or whole
+pub record Trimmed (names : List FileName) (base len : ℕ) (d c : Files) : Type 0 where
+  pub last : CutBack len (d (file.Log base)) (c (file.Log base))
+  pub others : (n : FileName) → n ≢ file.Log base → (c n ≡ d n) ⊎ (In n names × (c n ≡ None))
+
+-- files are removed, and then a segment's file is cut
+pub record Trims (names : List FileName) (base len : ℕ) (fate : Fate) (old new : Content) : Type 0 where
+  pub tells : new.tells ≡ old.tells
+  pub since : LeavesOnly old new (λ c. (d : Files) × Image old d × Trimmed names base len d c)
+  pub others : IsTrue old.tells → (n : FileName) → n ≢ file.Log base → (new.files n ≡ old.files n) ⊎ (In n names × (new.files n ≡ None))
+  pub gone : fate ≡ Went → IsTrue old.tells → (n : FileName) → In n names → new.files n ≡ None
+  pub cut : fate ≡ Went → IsTrue old.tells → new.files (file.Log base) ≡ cut_to len (old.files (file.Log base))

@@ -1,0 +1,218 @@
+//! What a cut makes of a log's segments and of their files: those behind are removed, from the last to the first, and the
+//! one that is the last then is cut. Nothing is read.
+
+ghost use Rattle.std.specs.Prelude.{◌≡◌, ◌+◌, ◌≤◌, ◌<◌, ◌^◌, ◌++◌, ◌∷◌, [], length, map, OnOk, IfOk};
+ghost use Rattle.tier_base.specs.declared.plain.FileName.TheVariants as file;
+ghost use Rattle.tier_base.specs.Device.{failing};
+ghost use Rattle.disk_model.specs.Content.{In};
+ghost use Rattle.epoch_line.specs.Line.{IsLine};
+ghost use Rattle.log_manifest.specs.Spelling.{manifest_bytes};
+ghost use Rattle.log_steps.specs.Fronts.{Each};
+ghost use Rattle.log_steps.specs.Runs.{Runs};
+ghost use Rattle.local_log.specs.Stored.{extent_of, size_of, end_of};
+ghost use Rattle.local_log.specs.Listing.{AreSegmentsOf, IsLaidOut, front_to, manifest_of};
+ghost use Rattle.local_log.specs.Cutting.{closed_by, open_by, behind, cut_point, names_of, RemovesAll, Trims};
+
+use crate::listing::extent_of;
+use disk_model::{Disk, FileName};
+use epoch_line::Line;
+use log_manifest::{Extent, Manifest, SegmentList, encode};
+use segment_file::Growing;
+use std::alloc::{AllocError, Global};
+use tier_base::{Failed, Row};
+
+/// How many segments end at or below an offset, of those in front.
+fn count_closed(closed: &[Growing], end: u64) -> usize
+    ensures { result ≡ length (closed_by end closed.now) }
+{
+    let mut kept = 0;
+    for segment in closed {
+        if segment.end() > end {
+            return kept;
+        }
+        kept += 1;
+    }
+    kept
+}
+
+/// What stands of a segment up to an offset.
+fn front_of(segment: &Growing, end: u64) -> Extent
+    ensures { result ≡ extent_of (front_to end segment.now) }
+{
+    Extent {
+        base: segment.base(),
+        len: segment.place_of(end).1,
+    }
+}
+
+/// What stands then of the segment that is the open one after a cut.
+pub(crate) fn open_front(closed: &[Growing], active: &Growing, end: u64) -> Extent
+    ensures { result ≡ extent_of (front_to end (open_by end closed.now active.now)) }
+{
+    let kept = count_closed(closed, end);
+    if kept < closed.len() {
+        front_of(&closed[kept], end)
+    } else {
+        front_of(active, end)
+    }
+}
+
+/// Where the log ends that is cut to an offset.
+pub(crate) fn cut_point(closed: &[Growing], active: &Growing, end: u64) -> u64
+    ensures { result ≡ cut_point end closed.now active.now }
+{
+    let kept = count_closed(closed, end);
+    if kept < closed.len() {
+        closed[kept].place_of(end).0
+    } else {
+        active.place_of(end).0
+    }
+}
+
+/// The extents of whole segments.
+fn extents_of(alloc: Global, segments: &[Growing]) -> Result<SegmentList, AllocError>
+    requires { Each IsLaidOut segments.now }
+    ensures { IfOk result (λ list. list ≡ map extent_of segments.now) }
+{
+    let mut list = Row::new(alloc);
+    for segment in segments {
+        list.push(extent_of(segment))?;
+    }
+    Ok(list)
+}
+
+/// The extents of the log that is cut to an offset.
+fn extents_to(
+    alloc: Global,
+    closed: &[Growing],
+    active: &Growing,
+    end: u64,
+) -> Result<SegmentList, AllocError>
+    requires { Each IsLaidOut closed.now }
+    ensures { IfOk result (λ list. list
+        ≡ map extent_of (closed_by end closed.now ++ front_to end (open_by end closed.now active.now) ∷ [])) }
+{
+    let (front, _) = closed.split_at(count_closed(closed, end));
+    let mut list = extents_of(alloc, front)?;
+    list.push(open_front(closed, active, end))?;
+    Ok(list)
+}
+
+/// The bytes of the manifest that lists the log that is cut to an offset, with this line.
+pub(crate) fn listing_to(
+    alloc: Global,
+    incarnation: u32,
+    local_start: u64,
+    closed: &[Growing],
+    active: &Growing,
+    end: u64,
+    line: &Line,
+) -> Result<Vec<u8>, AllocError>
+    requires opened { 1 ≤ incarnation }
+    requires laid { Each IsLaidOut closed.now }
+    requires segments { AreSegmentsOf local_start (closed_by end closed.now) (front_to end (open_by end closed.now active.now)) }
+    requires line { IsLine line.now }
+    ensures { IfOk result (λ bytes. bytes.items
+        ≡ manifest_bytes (manifest_of incarnation local_start (closed_by end closed.now)
+        (front_to end (open_by end closed.now active.now)) line.now)) }
+{
+    let manifest = Manifest {
+        incarnation,
+        local_start,
+        segments: extents_to(alloc, closed, active, end)?,
+        line: line.copy(alloc)?,
+    };
+    encode(alloc, &manifest)
+}
+
+/// Removes the files of segments, from the last to the first.
+pub(crate) fn remove_all<D: Disk>(disk: &mut D, segments: &[Growing]) -> Result<(), Failed>
+    requires { length segments.now ≤ D.spare disk.old }
+    ensures content { RemovesAll (names_of segments.now) (failing result) (D.content disk.old) (D.content disk.new) }
+    ensures control { Runs (failing result) (D.control disk.old) (D.control disk.new) }
+    ensures room { OnOk result (D.spare disk.new + length segments.now ≡ D.spare disk.old) }
+{
+    let mut left = segments.len();
+    while left > 0 {
+        left -= 1;
+        disk.remove(FileName::Log(segments[left].base()))?;
+    }
+    Ok(())
+}
+
+/// Removes the files of a log's segments, from the open one to the first.
+pub(crate) fn remove_segments<D: Disk>(
+    disk: &mut D,
+    closed: &[Growing],
+    active: &Growing,
+) -> Result<(), Failed>
+    requires { length closed.now + 1 ≤ D.spare disk.old }
+    ensures content { RemovesAll (names_of (closed.now ++ active.now ∷ [])) (failing result) (D.content disk.old) (D.content disk.new) }
+    ensures control { Runs (failing result) (D.control disk.old) (D.control disk.new) }
+    ensures room { OnOk result (D.spare disk.new + length closed.now + 1 ≡ D.spare disk.old) }
+{
+    disk.remove(FileName::Log(active.base()))?;
+    remove_all(disk, closed)
+}
+
+/// Removes the files of the segments behind a cut.
+fn remove_behind<D: Disk>(
+    disk: &mut D,
+    closed: &[Growing],
+    active: &Growing,
+    end: u64,
+) -> Result<(), Failed>
+    requires { length closed.now ≤ D.spare disk.old }
+    ensures content { RemovesAll (names_of (behind end closed.now active.now)) (failing result) (D.content disk.old) (D.content disk.new) }
+    ensures control { Runs (failing result) (D.control disk.old) (D.control disk.new) }
+    ensures room { OnOk result (D.spare disk.old ≤ D.spare disk.new + length closed.now) }
+{
+    let kept = count_closed(closed, end);
+    if kept >= closed.len() {
+        return Ok(());
+    }
+    let (_, rest) = closed.split_at(kept + 1);
+    remove_segments(disk, rest, active)
+}
+
+/// Removes the files of the segments behind a cut, and cuts the file of the last one.
+pub(crate) fn trim<D: Disk>(
+    disk: &mut D,
+    closed: &[Growing],
+    active: &Growing,
+    end: u64,
+) -> Result<(), Failed>
+    requires room { length closed.now + 2 ≤ D.spare disk.old }
+    requires apart { In (file.Log (open_by end closed.now active.now).base) (names_of (behind end closed.now active.now)) → ⊥ }
+    ensures content { Trims (names_of (behind end closed.now active.now)) (open_by end closed.now active.now).base
+        (size_of (front_to end (open_by end closed.now active.now))) (failing result) (D.content disk.old) (D.content disk.new) }
+    ensures control { Runs (failing result) (D.control disk.old) (D.control disk.new) }
+    ensures room { OnOk result (1 ≤ D.spare disk.new) }
+{
+    let last = open_front(closed, active, end);
+    remove_behind(disk, closed, active, end)?;
+    disk.cut(FileName::Log(last.base), last.len as u64)
+}
+
+/// Opens the last segment that isn't behind a cut.
+fn reopen(closed: &mut Vec<Growing>, active: &mut Growing, end: u64)
+    ensures closed { closed.new.items ≡ closed_by end closed.old.items }
+    ensures active { active.new ≡ open_by end closed.old.items active.old }
+{
+    let kept = count_closed(closed, end);
+    if kept < closed.len() {
+        closed.truncate(kept + 1);
+        if let Some(last) = closed.pop() {
+            *active = last;
+        }
+    }
+}
+
+/// Cuts segments to an offset. It takes no memory.
+pub(crate) fn cut_segments(closed: &mut Vec<Growing>, active: &mut Growing, end: u64)
+    ensures closed { closed.new.items ≡ closed_by end closed.old.items }
+    ensures active { active.new ≡ front_to end (open_by end closed.old.items active.old) }
+{
+    reopen(closed, active, end);
+    active.cut_to(end);
+}
