@@ -5,7 +5,8 @@ use Rattle.tier_base.specs.declared.ending.Ending.{Ending}
 use Rattle.tier_base.specs.declared.ending.Ending.TheVariants.{Done}
 use Rattle.tier_base.specs.Device.{Fate, Ran, RanQuietly}
 use Rattle.tier_base.specs.Faults.{Faults, control_of, is_done}
-use Rattle.disk_model.specs.Content.{Files, Changes, Keeps, appended, Grown, cut_to, CutBack, replaced, Swapped, removed, Gone, Begins}
+use Rattle.tier_base.specs.Told.{replaced, removed}
+use Rattle.disk_model.specs.Content.{Files, Changes, Keeps, appended, Grown, cut_to, CutBack, Swapped, Gone, Begins}
 use Rattle.disk_model.specs.Steps.{Step, Append, Sync, Cut, Replace, Remove, reads, changed, After, LeftOf, LeftAfter, LeftSince, content_of}
 use Rattle.disk_model.specs.Kept.{Kept, attempts}
 use Rattle.disk_model.proofs.Steps.{attempted, sync_attempted, after_only, synced_begins, left_now}

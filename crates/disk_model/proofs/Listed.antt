@@ -13,7 +13,8 @@ use Rattle.tier_base.specs.declared.plain.FileName.{FileName}
 use Rattle.tier_base.specs.declared.plain.FileName.TheVariants.{Manifest, Log, Notes, Gate}
 use Rattle.disk_model.specs.declared.held.Held.{Held}
 use Rattle.disk_model.specs.declared.shelf.Shelf.{Shelf}
-use Rattle.disk_model.specs.Content.{Files, In, Once, Names}
+use Rattle.tier_base.specs.Told.{In, Once, Names}
+use Rattle.disk_model.specs.Content.{Files}
 use Rattle.disk_model.specs.Held.{bytes_at}
 use Rattle.disk_model.specs.Shelf.{files_on, if_there, names_on}
 

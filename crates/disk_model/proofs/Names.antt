@@ -4,7 +4,8 @@ use Rattle.std.proofs.Common.{sym, ◌∙◌, ap, subst, inl, inr, cond}
 use Rattle.std.proofs.lemmas.Bool.{cases_Bool, eqb-true, eq-eqb, false_from_ne_true}
 use Rattle.tier_base.specs.declared.plain.FileName.{FileName}
 use Rattle.tier_base.specs.declared.plain.FileName.TheVariants.{Manifest, Log, Notes, Gate}
-use Rattle.disk_model.specs.Content.{Files, OnlyAt}
+use Rattle.tier_base.specs.Told.{OnlyAt}
+use Rattle.disk_model.specs.Content.{Files}
 use Rattle.disk_model.specs.Steps.{same_name, changed}
 
 pub same_name_refl : (n : FileName) → same_name n n ≡ true

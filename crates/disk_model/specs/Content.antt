@@ -2,7 +2,6 @@
 --
 --   form                              says
 --   Image d c                         a crash now may leave the files c
---   OnlyAt name R old new             one file goes from old to new by R, and the others stay
 --   Changes name made crash may o n   a call that changes one file
 --   Keeps old new                     a call that changes none
 --   Elapses old new                   what a crash at some moment of the past might have left
@@ -17,10 +16,9 @@
 --   remove    removed                Gone: as before, or none
 --
 -- The bytes that are synced stay: each image after a call is one of before with that file changed so.
-use Rattle.std.specs.Prelude.{◌≡◌, ◌≢◌, ◌⊎◌, ◌↔◌, ℕ, ◌≤◌, Bool, true, List, [], ◌∷◌, ◌++◌, take, if◌then◌else◌, Option, Some, None, Ok, Err, option_map, unwrap_or, IsTrue, IsSome}
-use Rattle.std.specs.declared.result.Result.{Result}
-use Rattle.tier_base.specs.declared.fault.Trouble.{Trouble}
+use Rattle.std.specs.Prelude.{◌≡◌, ◌⊎◌, ℕ, ◌≤◌, Bool, true, List, ◌++◌, take, if◌then◌else◌, Option, Some, None, option_map, IsTrue, IsSome}
 use Rattle.tier_base.specs.declared.plain.FileName.{FileName}
+use Rattle.tier_base.specs.Told.{OnlyAt, bytes_in}
 
 -- the files by name
 abbrev pub Files : Type 0
@@ -44,15 +42,6 @@ pub record Lawful (d : Content) : Type 0 where
   pub reads : IsTrue d.tells → Image d d.files
   pub told : (c : Files) → Image d c → IsTrue d.tells
   pub earlier : (t u : ℕ) (c : Files) → t ≤ u → d.left u c → d.left t c
-
--- one file goes from old to new by R, and the others stay
-pub record OnlyAt (name : FileName) (R : Option (List ℕ) → Option (List ℕ) → Type 0) (old new : Files) : Type 0 where
-  pub there : R (old name) (new name)
-  pub others : (n : FileName) → n ≢ name → new n ≡ old n
-
--- the bytes of a file, none where it is absent
-abbrev pub bytes_in : Option (List ℕ) → List ℕ
-bytes_in file = unwrap_or file []
 
 -- Time goes on: a crash since t might have left what it might have left before, or what it may leave now.
 pub record Elapses (old new : Content) : Type 0 where
@@ -100,17 +89,9 @@ CutBack len before after =
     (after ≡ before)
     ⊎ (IsSome before × ((behind : List ℕ) × (after ≡ Some (take len (bytes_in before) ++ behind))))
 
--- `replace`: the new file
-abbrev pub replaced : List ℕ → Option (List ℕ) → Option (List ℕ)
-replaced bytes file = Some bytes
-
 -- the old or the new file whole
 abbrev pub Swapped : List ℕ → Option (List ℕ) → Option (List ℕ) → Type 0
 Swapped bytes before after = (after ≡ before) ⊎ (after ≡ Some bytes)
-
--- `remove`: no file
-abbrev pub removed : Option (List ℕ) → Option (List ℕ)
-removed file = None
 
 -- as before, or none
 abbrev pub Gone : Option (List ℕ) → Option (List ℕ) → Type 0
@@ -119,23 +100,3 @@ Gone before after = (after ≡ before) ⊎ (after ≡ None)
 -- after a sync a crash leaves what reads, with any bytes behind
 abbrev pub Begins : Option (List ℕ) → Option (List ℕ) → Type 0
 Begins read after = IsSome read → (behind : List ℕ) × (after ≡ Some (bytes_in read ++ behind))
-
--- the name is in the list
-abbrev pub In : FileName → List FileName → Type 0
-In n [] = ⊥
-In n (x ∷ xs) = (n ≡ x) ⊎ In n xs
-
--- no name is in the list twice
-abbrev pub Once : List FileName → Type 0
-Once [] = Unit {0}
-Once (x ∷ xs) = (In x xs → ⊥) × Once xs
-
--- the names of the files, each once and no other
-pub record Names (files : Files) (names : List FileName) : Type 0 where
-  pub are : (n : FileName) → IsSome (files n) ↔ In n names
-  pub once : Once names
-
--- what was handed last: the bytes that a read gave, and none where it gave no file
-abbrev pub handed_after : Result (Option (List ℕ)) Trouble → List ℕ → List ℕ
-handed_after (Ok file) before = bytes_in file
-handed_after (Err e) before = before

@@ -6,7 +6,8 @@ use Rattle.std.proofs.lemmas.List.{append-nil}
 use Rattle.std.proofs.lemmas.Bool.{false≢true}
 use Rattle.std.specs.Bool.{OnTrue}
 use Rattle.tier_base.specs.declared.plain.FileName.{FileName}
-use Rattle.disk_model.specs.Content.{Lawful, Files, Image, bytes_in, appended, Grown, cut_to, CutBack, Swapped, Gone, Begins}
+use Rattle.tier_base.specs.Told.{bytes_in}
+use Rattle.disk_model.specs.Content.{Lawful, Files, Image, appended, Grown, cut_to, CutBack, Swapped, Gone, Begins}
 use Rattle.disk_model.specs.Steps.{Step, Append, Sync, Cut, Replace, Remove, Crash, same_name, reads, safe, LeftOf, LeftAfter, LeftSince, content_of}
 
 -- what the last step left may be left by a crash now

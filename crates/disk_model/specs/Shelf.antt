@@ -6,7 +6,8 @@ use Rattle.tier_base.specs.declared.plain.FileName.{FileName}
 use Rattle.tier_base.specs.declared.plain.FileName.TheVariants.{Manifest, Log, Notes, Gate}
 use Rattle.disk_model.specs.declared.held.Held.{Held}
 use Rattle.disk_model.specs.declared.shelf.Shelf.{Shelf}
-use Rattle.disk_model.specs.Content.{Files, OnlyAt, bytes_in}
+use Rattle.tier_base.specs.Told.{OnlyAt, bytes_in}
+use Rattle.disk_model.specs.Content.{Files}
 use Rattle.disk_model.specs.Held.{bytes_at, safe_at}
 
 -- a file that is there, with no bytes where it was absent

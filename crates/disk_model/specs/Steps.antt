@@ -10,7 +10,8 @@ use Rattle.std.specs.Prelude.{◌≡◌, ◌⊎◌, ℕ, ◌≤◌, ◌==◌, Bo
 use Rattle.std.specs.Bool.{OnTrue}
 use Rattle.tier_base.specs.declared.plain.FileName.{FileName}
 use Rattle.tier_base.specs.declared.plain.FileName.TheVariants.{Manifest, Log, Notes, Gate}
-use Rattle.disk_model.specs.Content.{Content, Files, OnlyAt, bytes_in, appended, Grown, cut_to, CutBack, Swapped, Gone, Begins}
+use Rattle.tier_base.specs.Told.{OnlyAt, bytes_in}
+use Rattle.disk_model.specs.Content.{Content, Files, appended, Grown, cut_to, CutBack, Swapped, Gone, Begins}
 
 -- what was done; a `Replace` is sure where it answered `Ok`
 pub data Step : Type 0 where

@@ -2,7 +2,7 @@
 //! its room all the same.
 
 ghost use Rattle.std.specs.Prelude.{◌≡◌, ◌≤◌, if◌then◌else◌, IfOk, OnOk, OnErr};
-ghost use Rattle.disk_model.specs.Content.{bytes_in};
+ghost use Rattle.tier_base.specs.Told.{bytes_in};
 ghost use Rattle.disk_model.specs.Steps.{Append, Sync, Cut, Replace, Remove};
 ghost use Rattle.disk_model.specs.Kept.{attempts};
 

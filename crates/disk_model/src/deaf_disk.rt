@@ -6,7 +6,7 @@ ghost use Rattle.std.specs.Prelude.{◌≡◌, ◌<◌, [], length, drop, IfOk, 
 ghost use Rattle.tier_base.specs.Device.{IsFresh};
 ghost use Rattle.tier_base.specs.Faults.{control_of};
 ghost use Rattle.disk_model.specs.Call.{call_code};
-ghost use Rattle.disk_model.specs.Content.{bytes_in};
+ghost use Rattle.tier_base.specs.Told.{bytes_in};
 ghost use Rattle.disk_model.specs.Deaf.{nothing_told, deaf_lawful};
 
 use crate::attempt::{hand, share};

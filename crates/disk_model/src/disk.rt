@@ -8,7 +8,8 @@ ghost use Rattle.std.specs.Prelude.{◌≡◌, ◌+◌, ◌≤◌, List, ℕ, dr
 ghost use Rattle.tier_base.specs.Device.{Control, Ran, RanQuietly, MayBeDone, Rests, Arms, fate_of, failing};
 ghost use Rattle.disk_model.specs.declared.call.DiskCall.TheVariants.{Append, Sync, Read, Cut, Replace, Remove, List as Listing};
 ghost use Rattle.disk_model.specs.Call.{call_code};
-ghost use Rattle.disk_model.specs.Content.{Content, Lawful, Files, Image, Changes, Keeps, Names, appended, Grown, cut_to, CutBack, replaced, Swapped, removed, Gone, Begins, handed_after};
+ghost use Rattle.tier_base.specs.Told.{Names, replaced, removed, handed_after};
+ghost use Rattle.disk_model.specs.Content.{Content, Lawful, Files, Image, Changes, Keeps, appended, Grown, cut_to, CutBack, Swapped, Gone, Begins};
 
 use bytes::Bytes;
 use std::alloc::AllocError;

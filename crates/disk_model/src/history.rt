@@ -5,7 +5,7 @@
 //! next event notes that there was one before it.
 
 ghost use Rattle.std.specs.Prelude.{◌≡◌, ◌+◌, ◌≤◌, ◌<◌, ◌++◌, ◌∷◌, [], false, IfOk, OnOk, OnErr, drop, option_map, vec_len, vec_capacity};
-ghost use Rattle.disk_model.specs.Content.{Names};
+ghost use Rattle.tier_base.specs.Told.{Names};
 ghost use Rattle.disk_model.specs.Steps.{Append, Sync, Cut, Replace, Remove, reads};
 ghost use Rattle.disk_model.specs.Kept.{does, Drops};
 

@@ -5,7 +5,8 @@ ghost use Rattle.std.specs.Ordering.{nat_cmp};
 ghost use Rattle.std.specs.BTreeMap.{get, keys};
 ghost use Rattle.std.specs.List.Sorted.{IsStrictlySortedBy};
 ghost use Rattle.tier_base.specs.declared.plain.FileName.TheVariants.{Log};
-ghost use Rattle.disk_model.specs.Content.{appended, cut_to, replaced, removed};
+ghost use Rattle.tier_base.specs.Told.{replaced, removed};
+ghost use Rattle.disk_model.specs.Content.{appended, cut_to};
 ghost use Rattle.disk_model.specs.Held.{all_of, safe_of, bytes_at, safe_at};
 ghost use Rattle.disk_model.specs.Shelf.{made, files_on, names_on, safe_on, Becomes};
 

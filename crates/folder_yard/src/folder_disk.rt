@@ -3,7 +3,7 @@
 ghost use Rattle.std.specs.Prelude.{◌≡◌, ◌↔◌, [], false, if◌then◌else◌, Ok, IfOk, IsOk, IsErr};
 ghost use Rattle.tier_base.specs.Device.{IsFresh};
 ghost use Rattle.disk_model.specs.Call.{call_code};
-ghost use Rattle.disk_model.specs.Content.{bytes_in};
+ghost use Rattle.tier_base.specs.Told.{bytes_in};
 ghost use Rattle.disk_model.specs.Deaf.{nothing_told, deaf_lawful};
 ghost use Rattle.folder_yard.specs.Tally.{control_of};
 

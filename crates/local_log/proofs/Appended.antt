@@ -5,7 +5,8 @@ use Rattle.std.proofs.lemmas.List.{take_all, append-nil}
 use Rattle.std.proofs.lemmas.Bool.{cases_lt}
 use Rattle.tier_base.specs.declared.plain.FileName.{FileName}
 use Rattle.tier_base.specs.declared.plain.FileName.TheVariants as file
-use Rattle.disk_model.specs.Content.{Content, Lawful, Files, Image, Changes, LeavesOnly, OnlyAt, appended, Grown as MayGrow, bytes_in}
+use Rattle.tier_base.specs.Told.{OnlyAt, bytes_in}
+use Rattle.disk_model.specs.Content.{Content, Lawful, Files, Image, Changes, LeavesOnly, appended, Grown as MayGrow}
 use Rattle.log_terms.specs.Batch.{base_of, last_of, epoch_of}
 use Rattle.log_terms.specs.Log.{joined, IsConsecutive, end_from, up_to}
 use Rattle.log_terms.specs.Line.{epoch_at}

@@ -3,7 +3,8 @@ use Rattle.std.proofs.Common.{◌≡◌, ◌≢◌, ◌⊎◌, ℕ, ◌+◌, ◌
 use Rattle.tier_base.specs.declared.plain.FileName.{FileName}
 use Rattle.tier_base.specs.declared.plain.FileName.TheVariants as file
 use Rattle.disk_model.proofs.Names.{cases_name}
-use Rattle.disk_model.specs.Content.{Content, Lawful, Files, Image, Changes, LeavesOnly, replaced, Swapped, bytes_in}
+use Rattle.tier_base.specs.Told.{replaced, bytes_in}
+use Rattle.disk_model.specs.Content.{Content, Lawful, Files, Image, Changes, LeavesOnly, Swapped}
 use Rattle.log_manifest.specs.declared.manifest.Extent.{Extent}
 use Rattle.log_manifest.specs.declared.manifest.Manifest.{Manifest}
 use Rattle.log_manifest.specs.Reading.{manifest_in}

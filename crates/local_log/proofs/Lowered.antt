@@ -4,7 +4,8 @@ use Rattle.std.proofs.lemmas.List.{map-append, take-take}
 use Rattle.tier_base.specs.declared.plain.FileName.{FileName}
 use Rattle.tier_base.specs.declared.plain.FileName.TheVariants as file
 use Rattle.tier_base.specs.Device.{Fate, Went}
-use Rattle.disk_model.specs.Content.{Content, Lawful, Files, Image, Changes, LeavesOnly, bytes_in, replaced, Swapped}
+use Rattle.tier_base.specs.Told.{bytes_in, replaced}
+use Rattle.disk_model.specs.Content.{Content, Lawful, Files, Image, Changes, LeavesOnly, Swapped}
 use Rattle.log_terms.specs.Log.{up_to}
 use Rattle.epoch_line.specs.Line.{IsLine, cut_end}
 use Rattle.log_manifest.specs.declared.manifest.Extent.{Extent}

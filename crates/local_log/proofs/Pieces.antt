@@ -3,7 +3,8 @@ use Rattle.std.proofs.Common.{◌≡◌, ◌≢◌, ℕ, ◌+◌, ◌-◌, ◌�
 use Rattle.std.proofs.lemmas.List.{take_at, append-nil, take-append-drop, take-append-le}
 use Rattle.tier_base.specs.declared.plain.FileName.{FileName}
 use Rattle.tier_base.specs.declared.plain.FileName.TheVariants as file
-use Rattle.disk_model.specs.Content.{Files, bytes_in}
+use Rattle.tier_base.specs.Told.{bytes_in}
+use Rattle.disk_model.specs.Content.{Files}
 use Rattle.log_terms.specs.Batch.{base_of, last_of}
 use Rattle.log_terms.specs.Log.{joined, IsConsecutive, end_from, up_to}
 use Rattle.log_terms.proofs.Logs.{end_append, up_to_is}

@@ -6,7 +6,8 @@ use Rattle.tier_base.specs.declared.plain.FileName.{FileName}
 use Rattle.tier_base.specs.declared.plain.FileName.TheVariants as file
 use Rattle.tier_base.specs.Device.{Fate, Went}
 use Rattle.disk_model.proofs.Names.{cases_name}
-use Rattle.disk_model.specs.Content.{Content, Lawful, Files, Image, LeavesOnly, In, CutBack, bytes_in, cut_to}
+use Rattle.tier_base.specs.Told.{In, bytes_in}
+use Rattle.disk_model.specs.Content.{Content, Lawful, Files, Image, LeavesOnly, CutBack, cut_to}
 use Rattle.log_terms.specs.Log.{up_to, end_from}
 use Rattle.epoch_line.specs.Line.{IsLine, cut_end}
 use Rattle.log_manifest.specs.declared.manifest.Extent.{Extent}

@@ -6,7 +6,8 @@ use Rattle.std.specs.Prelude.{◌≡◌, ◌≢◌, ◌⊎◌, ℕ, ◌+◌, nat
 use Rattle.tier_base.specs.declared.plain.FileName.{FileName}
 use Rattle.tier_base.specs.declared.plain.FileName.TheVariants as file
 use Rattle.tier_base.specs.Device.{Fate, Went}
-use Rattle.disk_model.specs.Content.{Content, Files, Image, LeavesOnly, CutBack, In, cut_to}
+use Rattle.tier_base.specs.Told.{In}
+use Rattle.disk_model.specs.Content.{Content, Files, Image, LeavesOnly, CutBack, cut_to}
 use Rattle.log_terms.specs.Log.{up_to}
 use Rattle.epoch_line.specs.Line.{cut_end}
 use Rattle.segment_file.specs.Growing.{Grown}

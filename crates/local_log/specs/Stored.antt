@@ -3,7 +3,8 @@
 -- Memory keeps where each batch ends; its bytes stand in the segment's file.
 use Rattle.std.specs.Prelude.{◌≡◌, ℕ, ◌+◌, ◌-◌, ◌≤◌, ◌<◌, List, [], ◌∷◌, ◌++◌, length, take, drop, map}
 use Rattle.tier_base.specs.declared.plain.FileName.TheVariants as file
-use Rattle.disk_model.specs.Content.{Files, bytes_in}
+use Rattle.tier_base.specs.Told.{bytes_in}
+use Rattle.disk_model.specs.Content.{Files}
 use Rattle.log_manifest.specs.declared.manifest.Extent.{Extent}
 use Rattle.segment_file.specs.declared.placed.Placed.{Placed}
 use Rattle.segment_file.specs.Index.{placed_from}

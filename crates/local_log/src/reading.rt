@@ -8,7 +8,8 @@ ghost use Rattle.std.specs.Prelude.{◌≡◌, ◌<◌, ◌≤◌, ◌+◌, ℕ,
 ghost use Rattle.tier_base.specs.Counts.{Rose};
 ghost use Rattle.tier_base.specs.Device.{Lasts};
 ghost use Rattle.tier_base.specs.declared.plain.FileName.TheVariants as file;
-ghost use Rattle.disk_model.specs.Content.{LeavesOnly, bytes_in};
+ghost use Rattle.tier_base.specs.Told.{bytes_in};
+ghost use Rattle.disk_model.specs.Content.{LeavesOnly};
 ghost use Rattle.local_log.specs.declared.refusal.LogRefusal.TheVariants.{Damaged, DiskFault, NoMemory};
 ghost use Rattle.local_log.specs.Log.{Becomes, OpensStable};
 ghost use Rattle.local_log.specs.Reading.{segment_at, piece_of, is_edge, IsCut, IsRunOf, IsEdge, RunFails, CutFails, IsOfDevice, IsClosedFrom, ClosedFails, IsPartOf, IsFront, FrontFails};

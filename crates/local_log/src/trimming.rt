@@ -4,7 +4,7 @@
 ghost use Rattle.std.specs.Prelude.{◌≡◌, ◌+◌, ◌≤◌, ◌<◌, ◌^◌, ◌++◌, ◌∷◌, [], length, map, OnOk, IfOk};
 ghost use Rattle.tier_base.specs.declared.plain.FileName.TheVariants as file;
 ghost use Rattle.tier_base.specs.Device.{failing};
-ghost use Rattle.disk_model.specs.Content.{In};
+ghost use Rattle.tier_base.specs.Told.{In};
 ghost use Rattle.epoch_line.specs.Line.{IsLine};
 ghost use Rattle.log_manifest.specs.Spelling.{manifest_bytes};
 ghost use Rattle.log_steps.specs.Fronts.{Each};

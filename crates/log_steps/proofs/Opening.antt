@@ -5,7 +5,8 @@ use Rattle.tier_base.specs.declared.plain.FileName.{FileName}
 use Rattle.tier_base.specs.declared.plain.FileName.TheVariants.{Log}
 use Rattle.tier_base.specs.declared.plain.FileName.TheVariants as file
 use Rattle.tier_base.specs.Device.{Fate, Went}
-use Rattle.disk_model.specs.Content.{Content, Lawful, Files, Image, Keeps, Changes, LeavesOnly, bytes_in, replaced, Swapped}
+use Rattle.tier_base.specs.Told.{bytes_in, replaced}
+use Rattle.disk_model.specs.Content.{Content, Lawful, Files, Image, Keeps, Changes, LeavesOnly, Swapped}
 use Rattle.log_manifest.specs.declared.manifest.Extent.{Extent}
 use Rattle.log_manifest.specs.declared.manifest.Manifest.{Manifest}
 use Rattle.log_manifest.specs.Reading.{manifest_in}

@@ -6,7 +6,8 @@ use Rattle.tier_base.specs.declared.plain.FileName.TheVariants.{Manifest}
 use Rattle.tier_base.specs.Device.{Control, MayBeDone, Fate, Went, Fault, Dry}
 use Rattle.disk_model.specs.declared.call.DiskCall.{DiskCall}
 use Rattle.disk_model.specs.Call.{call_code}
-use Rattle.disk_model.specs.Content.{Content, Files, Image, Changes, Keeps, LeavesOnly, OnlyAt, Begins, replaced, Swapped}
+use Rattle.tier_base.specs.Told.{OnlyAt, replaced}
+use Rattle.disk_model.specs.Content.{Content, Files, Image, Changes, Keeps, LeavesOnly, Begins, Swapped}
 use Rattle.disk_model.proofs.Names.{cases_name}
 use Rattle.log_steps.specs.Publishes.{Between, Publishes}
 use Rattle.log_steps.proofs.Moments.{started, goes_on}

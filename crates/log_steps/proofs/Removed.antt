@@ -3,7 +3,8 @@ use Rattle.std.proofs.Common.{◌≡◌, ◌≢◌, ◌⊎◌, ℕ, ◌≤◌, B
 use Rattle.tier_base.specs.declared.plain.FileName.{FileName}
 use Rattle.tier_base.specs.declared.plain.FileName.TheVariants.{Manifest, Log, Notes, Gate}
 use Rattle.disk_model.proofs.Names.{cases_name}
-use Rattle.disk_model.specs.Content.{Content, Lawful, Files, Changes, LeavesOnly, OnlyAt, In, Gone, removed, bytes_in}
+use Rattle.tier_base.specs.Told.{OnlyAt, In, removed, bytes_in}
+use Rattle.disk_model.specs.Content.{Content, Lawful, Files, Changes, LeavesOnly, Gone}
 use Rattle.log_manifest.specs.declared.manifest.Extent.{Extent}
 use Rattle.log_steps.specs.Fronts.{Each, Kept}
 use Rattle.log_steps.specs.Rewrites.{KeepsFronts, AfterCuts, IsUnlisted, IsOther, RemovesOne, Removes}

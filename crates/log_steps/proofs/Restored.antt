@@ -5,7 +5,8 @@ use Rattle.tier_base.specs.declared.plain.FileName.{FileName}
 use Rattle.tier_base.specs.declared.plain.FileName.TheVariants.{Manifest, Log}
 use Rattle.disk_model.proofs.Names.{cases_name}
 use Rattle.tier_base.specs.Device.{Fate, Went}
-use Rattle.disk_model.specs.Content.{Content, Lawful, Files, LeavesOnly, OnlyAt, CutBack, bytes_in}
+use Rattle.tier_base.specs.Told.{OnlyAt, bytes_in}
+use Rattle.disk_model.specs.Content.{Content, Lawful, Files, LeavesOnly, CutBack}
 use Rattle.log_manifest.specs.declared.manifest.Extent.{Extent}
 use Rattle.log_steps.specs.Fronts.{log_at, front, Each, Agrees, Kept, Rising}
 use Rattle.log_steps.specs.Rewrites.{AfterCut, Restores, KeepsFronts, AfterCuts, IsUnlisted, RestoresAll}

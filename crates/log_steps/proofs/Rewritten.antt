@@ -4,7 +4,8 @@ use Rattle.tier_base.specs.declared.plain.FileName.{FileName}
 use Rattle.tier_base.specs.declared.plain.FileName.TheVariants.{Manifest, Log}
 use Rattle.tier_base.specs.Device.{Fate, Went}
 use Rattle.disk_model.proofs.Names.{cases_name}
-use Rattle.disk_model.specs.Content.{Content, Lawful, Files, Image, Changes, LeavesOnly, bytes_in, replaced, Swapped}
+use Rattle.tier_base.specs.Told.{bytes_in, replaced}
+use Rattle.disk_model.specs.Content.{Content, Lawful, Files, Image, Changes, LeavesOnly, Swapped}
 use Rattle.log_manifest.specs.declared.manifest.Extent.{Extent}
 use Rattle.log_steps.specs.Fronts.{Each, Kept}
 use Rattle.log_steps.specs.Rewrites.{AfterCuts, RestoresAll, Removes, Underway, Rewriting, Rewrites}

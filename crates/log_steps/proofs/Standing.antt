@@ -5,7 +5,8 @@ use Rattle.tier_base.specs.declared.plain.FileName.{FileName}
 use Rattle.tier_base.specs.declared.plain.FileName.TheVariants.{Manifest, Log}
 use Rattle.tier_base.specs.Device.{Fate, Went, Dry}
 use Rattle.disk_model.proofs.Names.{cases_name}
-use Rattle.disk_model.specs.Content.{Content, Lawful, Files, Image, Changes, Keeps, LeavesOnly, OnlyAt, bytes_in, appended, Grown, Begins}
+use Rattle.tier_base.specs.Told.{OnlyAt, bytes_in}
+use Rattle.disk_model.specs.Content.{Content, Lawful, Files, Image, Changes, Keeps, LeavesOnly, appended, Grown, Begins}
 use Rattle.log_manifest.specs.declared.manifest.Extent.{Extent}
 use Rattle.log_steps.specs.Fronts.{log_at, front, Each, Agrees, Kept}
 use Rattle.log_steps.specs.Stands.{Holds, Stands}

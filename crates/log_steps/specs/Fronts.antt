@@ -1,7 +1,8 @@
 -- The fronts of log segments' files: what a manifest lists of them.
 use Rattle.std.specs.Prelude.{◌≡◌, ℕ, ◌≤◌, ◌<◌, List, [], ◌∷◌, length, take}
 use Rattle.tier_base.specs.declared.plain.FileName.TheVariants.{Log}
-use Rattle.disk_model.specs.Content.{Files, bytes_in}
+use Rattle.tier_base.specs.Told.{bytes_in}
+use Rattle.disk_model.specs.Content.{Files}
 use Rattle.log_manifest.specs.declared.manifest.Extent.{Extent}
 
 -- the bytes of a segment's file

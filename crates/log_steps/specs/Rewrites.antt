@@ -3,7 +3,8 @@ use Rattle.std.specs.Prelude.{◌≡◌, ◌≢◌, ◌⊎◌, ℕ, List, Some, 
 use Rattle.tier_base.specs.declared.plain.FileName.{FileName}
 use Rattle.tier_base.specs.declared.plain.FileName.TheVariants as file
 use Rattle.tier_base.specs.Device.{Fate, Went}
-use Rattle.disk_model.specs.Content.{Content, Files, Image, LeavesOnly, OnlyAt, CutBack, In}
+use Rattle.tier_base.specs.Told.{OnlyAt, In}
+use Rattle.disk_model.specs.Content.{Content, Files, Image, LeavesOnly, CutBack}
 use Rattle.log_manifest.specs.declared.manifest.Extent.{Extent}
 use Rattle.log_steps.specs.Fronts.{log_at, front, Each, Kept}
 use Rattle.log_steps.specs.Publishes.{IsLike}

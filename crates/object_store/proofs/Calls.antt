@@ -4,7 +4,7 @@ use Rattle.tier_base.specs.declared.object_key.ObjectKey.{ObjectKey}
 use Rattle.tier_base.specs.Device.{Fate, Ran, RanQuietly}
 use Rattle.tier_base.specs.Faults.{Faults, control_of}
 use Rattle.object_store.specs.declared.shelf.Shelf.{Shelf}
-use Rattle.object_store.specs.Content.{OnlyAt, Changes, made_if}
+use Rattle.object_store.specs.Content.{MadeAt, Changes, made_if}
 use Rattle.object_store.specs.Shelf.{objects_on, content_of}
 
 -- a call that hands nothing
@@ -12,5 +12,5 @@ pub quiet : {K : Type 0} {code : K → ℕ} (call : K) (fate : Fate) (f g : Faul
 quiet call fate f g handed ran = record { ran = ran handed handed; handed = refl }
 
 -- a call that changes one object
-pub changes : (old new : Shelf) (done d : Bool) (key : ObjectKey) (made : Option (List ℕ) → Option (List ℕ)) (M : Bool → Type 0) → OnlyAt key (made_if done made) (objects_on old) (objects_on new) → done ≡ d → M d → Changes key made M (content_of old) (content_of new)
+pub changes : (old new : Shelf) (done d : Bool) (key : ObjectKey) (made : Option (List ℕ) → Option (List ℕ)) (M : Bool → Type 0) → MadeAt key (made_if done made) (objects_on old) (objects_on new) → done ≡ d → M d → Changes key made M (content_of old) (content_of new)
 changes old new done d key made M only same m = record { tells = refl; objects = λ told. (done, subst M (sym same) m, only) }

@@ -4,13 +4,13 @@ use Rattle.std.proofs.Common.{sym, ◌∙◌, ap, subst}
 use Rattle.std.specs.BTreeMap.{BTreeMap, Updates}
 use Rattle.tier_base.specs.declared.object_key.ObjectKey.{ObjectKey}
 use Rattle.object_store.specs.declared.slot.Slot.{Slot}
-use Rattle.object_store.specs.Content.{OnlyAt, made_if}
+use Rattle.object_store.specs.Content.{MadeAt, made_if}
 use Rattle.object_store.specs.Shelf.{slot_cmp, slot_of, objects_on}
 use Rattle.object_store.proofs.Slots.{apart}
 
 -- a slot's entry is what is made of it
 pub updated : (m n : BTreeMap Slot (List ℕ)) (slot : Slot) (key : ObjectKey) (done : Bool) (made : Option (List ℕ) → Option (List ℕ)) (w : Option (List ℕ)) → slot ≡ slot_of key → done ≡ true → ((o : Option (List ℕ)) → made o ≡ w) → Updates slot_cmp m n slot w
-    → OnlyAt key (made_if done made) (objects_on (record { objects = m })) (objects_on (record { objects = n }))
+    → MadeAt key (made_if done made) (objects_on (record { objects = m })) (objects_on (record { objects = n }))
 updated m n slot key done made w is was makes u =
     let v : Updates slot_cmp m n (slot_of key) w = subst (λ (s : Slot). Updates slot_cmp m n s w) is u in
     let o : Option (List ℕ) = objects_on (record { objects = m }) key in

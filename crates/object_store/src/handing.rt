@@ -1,7 +1,7 @@
 //! What a `get` hands.
 
 ghost use Rattle.std.specs.Prelude.{◌≡◌, if◌then◌else◌, IfOk};
-ghost use Rattle.object_store.specs.Content.{bytes_in};
+ghost use Rattle.tier_base.specs.Told.{bytes_in};
 
 use bytes::Bytes;
 use std::alloc::AllocError;

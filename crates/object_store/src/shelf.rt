@@ -3,7 +3,8 @@
 ghost use Rattle.std.specs.Prelude.{◌≡◌, drop, None, IfOk, OnOk, OnErr, option_map};
 ghost use Rattle.std.specs.BTreeMap.{keys};
 ghost use Rattle.std.specs.List.Sorted.{IsStrictlySortedBy};
-ghost use Rattle.object_store.specs.Content.{OnlyAt, Lists, stored, removed, made_if};
+ghost use Rattle.tier_base.specs.Told.{Names, replaced, removed};
+ghost use Rattle.object_store.specs.Content.{MadeAt, made_if};
 ghost use Rattle.object_store.specs.Shelf.{objects_on, keys_on, slot_cmp};
 
 use crate::slot::{Slot, key_at, slot_of};
@@ -30,7 +31,7 @@ impl Shelf {
 
     /// Puts an object in the place of an old one, where that is to be done. Its bytes are shared.
     pub fn put_if(&mut self, key: &ObjectKey, bytes: &Bytes, done: bool) -> Result<(), AllocError>
-        ensures ok { OnOk result (OnlyAt key.now (made_if done (stored bytes.now))
+        ensures ok { OnOk result (MadeAt key.now (made_if done (replaced bytes.now))
             (objects_on self.old) (objects_on self.new)) }
         ensures err { OnErr result ((k : _) → objects_on self.new k ≡ objects_on self.old k) }
     {
@@ -43,7 +44,7 @@ impl Shelf {
 
     /// Removes an object, where that is to be done.
     pub fn remove_if(&mut self, key: &ObjectKey, done: bool)
-        ensures { OnlyAt key.now (made_if done removed)
+        ensures { MadeAt key.now (made_if done removed)
             (objects_on self.old) (objects_on self.new) }
     {
         if done {
@@ -64,7 +65,7 @@ impl Shelf {
 
     /// Names the objects.
     pub fn keys(&self, alloc: Global) -> Result<Row<ObjectKey>, AllocError>
-        ensures { IfOk result (λ keys. Lists (objects_on self.now) keys) }
+        ensures { IfOk result (λ keys. Names (objects_on self.now) keys) }
     {
         self.in_order(alloc)
     }

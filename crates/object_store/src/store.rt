@@ -7,7 +7,8 @@ ghost use Rattle.std.specs.Prelude.{◌≡◌, drop, IfOk, IsTrue, option_map};
 ghost use Rattle.tier_base.specs.Device.{Control, Ran, RanQuietly, MayBeDone, Arms, fate_of, failing};
 ghost use Rattle.object_store.specs.declared.call.StoreCall.TheVariants.{Put, Get, Delete, Keys};
 ghost use Rattle.object_store.specs.Call.{call_code};
-ghost use Rattle.object_store.specs.Content.{Content, Changes, Keeps, Lists, stored, removed, handed_after};
+ghost use Rattle.tier_base.specs.Told.{Names, replaced, removed, handed_after};
+ghost use Rattle.object_store.specs.Content.{Content, Changes, Keeps};
 
 use bytes::Bytes;
 use tier_base::{Failed, ObjectKey, Row, Trouble};
@@ -23,7 +24,7 @@ pub trait Store: Drop {
     /// Puts an object in the place of an old one.
     fn put(&mut self, key: &ObjectKey, bytes: &Bytes) -> Result<(), Trouble>
         ensures control { RanQuietly Put (fate_of result) (control self.old) (control self.new) }
-        ensures content { Changes key.now (stored bytes.now)
+        ensures content { Changes key.now (replaced bytes.now)
             (MayBeDone Put (fate_of result) (control self.old))
             (content self.old) (content self.new) };
 
@@ -48,7 +49,7 @@ pub trait Store: Drop {
         ensures control { RanQuietly Keys (fate_of result) (control self.old) (control self.new) }
         ensures content { Keeps (content self.old) (content self.new) }
         ensures keys { IsTrue (content self.old).tells
-            → IfOk result (λ keys. Lists (content self.old).objects keys) };
+            → IfOk result (λ keys. Names (content self.old).objects keys) };
 
     /// From the first `arm` on planned calls fail. A further one changes nothing.
     fn arm(&mut self)

@@ -5,3 +5,4 @@ pub mod Key
 pub mod Number
 pub mod Roll
 pub mod Stream
+pub mod Told

@@ -1,5 +1,5 @@
 use Rattle.std.proofs.Common.{◌≡◌, ℕ, List, [], Option, Some, None, ap, subst, sym, refl, min}
-use Rattle.disk_model.specs.Content.{bytes_in}
+use Rattle.tier_base.specs.Told.{bytes_in}
 use Rattle.local_log.specs.Reading.{HasNoRun}
 use Rattle.local_log.proofs.CutOut.{no_run_in_nothing}
 use Rattle.local_log.proofs.reading.run_in.Goals as goal

@@ -1,7 +1,8 @@
 use Rattle.std.proofs.Common.{◌≡◌, ◌∙◌, ap, sym, subst, ℕ}
 use Rattle.tier_base.specs.declared.plain.FileName.TheVariants as file
 use Rattle.tier_base.specs.Device.{failing, Went, Fate}
-use Rattle.disk_model.specs.Content.{Lawful, In}
+use Rattle.tier_base.specs.Told.{In}
+use Rattle.disk_model.specs.Content.{Lawful}
 use Rattle.log_manifest.specs.declared.manifest.Extent.{Extent}
 use Rattle.local_log.specs.Stored.{extent_of}
 use Rattle.local_log.specs.Listing.{front_to}

@@ -1,6 +1,6 @@
 use Rattle.std.proofs.Common.{List, ◌-◌, refl, arith, ap, ◌∙◌}
 use Rattle.disk_model.specs.declared.history.Op.TheVariants as op
-use Rattle.disk_model.specs.Content.{removed}
+use Rattle.tier_base.specs.Told.{removed}
 use Rattle.disk_model.specs.Steps.{Step, Remove, reads, safe}
 use Rattle.disk_model.specs.Kept.{does}
 use Rattle.disk_model.proofs.Past.{pushed, stored}

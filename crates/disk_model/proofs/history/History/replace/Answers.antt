@@ -1,7 +1,7 @@
 use Rattle.std.proofs.Common.{◌≡◌, ℕ, List, [], ◌∷◌, ◌++◌, arith, ap, ◌∙◌, rules}
 use Rattle.disk_model.specs.declared.history.Event.{Event}
 use Rattle.disk_model.specs.declared.history.Op.TheVariants as op
-use Rattle.disk_model.specs.Content.{replaced}
+use Rattle.tier_base.specs.Told.{replaced}
 use Rattle.disk_model.specs.Steps.{Step, Replace, reads, safe, changed}
 use Rattle.disk_model.specs.History.{past_of}
 use Rattle.disk_model.specs.Kept.{does}

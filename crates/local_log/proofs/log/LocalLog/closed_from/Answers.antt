@@ -1,6 +1,7 @@
 use Rattle.std.proofs.Common.{◌≡◌, ◌∙◌, ◌≤◌, ◌<◌, ◌^◌, ℕ, Bool, true, false, List, Option, Some, sym, ap, subst, arith, IsTrue, drop, option_map}
 use Rattle.tier_base.specs.declared.plain.FileName.TheVariants as file
-use Rattle.disk_model.specs.Content.{Lawful, bytes_in}
+use Rattle.tier_base.specs.Told.{bytes_in}
+use Rattle.disk_model.specs.Content.{Lawful}
 use Rattle.segment_file.specs.Growing.{Grown}
 use Rattle.local_log.specs.Log.{Log}
 use Rattle.local_log.specs.Stored.{bytes_of, size_of}

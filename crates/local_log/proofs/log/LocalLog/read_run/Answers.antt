@@ -1,7 +1,8 @@
 use Rattle.std.proofs.Common.{◌≡◌, ◌≢◌, ◌∙◌, ◌≤◌, ◌<◌, ◌==◌, ℕ, Bool, true, false, List, sym, ap, subst, arith, eq-eqb, IsTrue, drop, min, option_map}
 use Rattle.std.specs.Prelude.{unwrap_or}
 use Rattle.tier_base.specs.declared.plain.FileName.TheVariants as file
-use Rattle.disk_model.specs.Content.{Lawful, bytes_in}
+use Rattle.tier_base.specs.Told.{bytes_in}
+use Rattle.disk_model.specs.Content.{Lawful}
 use Rattle.segment_file.specs.Growing.{Grown, BeginsSearch}
 use Rattle.local_log.specs.Log.{Log}
 use Rattle.local_log.specs.Stored.{bytes_of}

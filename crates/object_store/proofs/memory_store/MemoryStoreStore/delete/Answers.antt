@@ -1,5 +1,5 @@
 use Rattle.object_store.specs.declared.call.StoreCall.TheVariants as call
-use Rattle.object_store.specs.Content.{removed}
+use Rattle.tier_base.specs.Told.{removed}
 use Rattle.object_store.proofs.Calls.{quiet, changes}
 use Rattle.object_store.proofs.memory_store.MemoryStoreStore.delete.Goals as goal
 

@@ -1,5 +1,5 @@
 use Rattle.object_store.specs.declared.call.StoreCall.TheVariants as call
-use Rattle.object_store.specs.Content.{stored}
+use Rattle.tier_base.specs.Told.{replaced}
 use Rattle.object_store.proofs.Calls.{quiet, changes}
 use Rattle.object_store.proofs.memory_store.MemoryStoreStore.put.Goals as goal
 
@@ -11,4 +11,4 @@ returns-clause-control c =
 pub returns-clause-content : goal.returns-clause-content
 returns-clause-content c =
     let m = c.args.self.now in
-    rw c.give.ensures.fate (changes m.shelf c.put_if.new.self c.is_done.result _ c.args.key.now (stored c.args.bytes.now) _ c.in_ok-put_if.ensures.ok c.is_done.ensures (c.note.ensures.done m.handed))
+    rw c.give.ensures.fate (changes m.shelf c.put_if.new.self c.is_done.result _ c.args.key.now (replaced c.args.bytes.now) _ c.in_ok-put_if.ensures.ok c.is_done.ensures (c.note.ensures.done m.handed))

@@ -1,5 +1,5 @@
 use Rattle.std.specs.Prelude.{None, refl}
-use Rattle.object_store.specs.Content.{removed}
+use Rattle.tier_base.specs.Told.{removed}
 use Rattle.object_store.proofs.Updated.{updated}
 use Rattle.object_store.proofs.shelf.Shelf.remove_if.Goals as goal
 
