@@ -151,7 +151,7 @@ ends_within : (last : Option ℕ) (offset bound : ℕ) (xs : List (List ℕ)) �
 ends_within last offset bound [] le are = le
 ends_within last offset bound (x ∷ xs) le are = ends_within (Some (last_of x + 1)) offset bound xs (λ y e. subst (λ (k : ℕ). k ≤ bound) (same_Some (last_of x + 1) y e) are.0.below) are.1
 
-cancel : (xs ys zs : List (List ℕ)) → xs ++ ys ≡ xs ++ zs → ys ≡ zs
+pub cancel : (xs ys zs : List (List ℕ)) → xs ++ ys ≡ xs ++ zs → ys ≡ zs
 cancel [] ys zs e = e
 cancel (x ∷ xs) ys zs e = let others : xs ++ ys ≡ xs ++ zs = cc (e) in cancel xs ys zs others
 

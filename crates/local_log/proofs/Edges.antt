@@ -177,7 +177,7 @@ up_to_stop n mark (x ∷ xs) ys le lt = go (nat_lt (last_of x) mark) refl (λ h.
         rw e (ap (λ (l : List (List ℕ)). x ∷ l) (more (omega (arith, h))))
     go false e more = rw e refl
 
-up_to_past : (n mark : ℕ) (xs ys : List (List ℕ)) → IsConsecutive n xs → end_from n xs ≤ mark → up_to mark (xs ++ ys) ≡ xs ++ up_to mark ys
+pub up_to_past : (n mark : ℕ) (xs ys : List (List ℕ)) → IsConsecutive n xs → end_from n xs ≤ mark → up_to mark (xs ++ ys) ≡ xs ++ up_to mark ys
 up_to_past n mark [] ys c le = refl
 up_to_past n mark (x ∷ xs) ys c le =
     let up = end_above (last_of x + 1) xs c.1 in

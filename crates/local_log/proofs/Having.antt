@@ -218,13 +218,6 @@ module _ (d : Content) (laws : Lawful d) (incarnation local_start : ℕ) (closed
           (λ c h. ⊎_elim (λ a. inl (held_up c (h.0, a))) (λ b. inr (after_up c (h.0, b))) h.1)
           (publish_since d d' laws laws' bytes has.listed.segments (map extent_of closed) has.images (extent_of active) long (manifest_bytes all) (map extent_of segments) lists fate change)
 
-      -- the same, where all of it stands as it is read
-      pub published_exact : LeavesOnly d d' (λ c. IsTrue d.tells × (OpensUpTo incarnation local_start stable whole line c ⊎ Opens c now_open))
-      published_exact =
-          leaves_weaker d d' _ _
-          (λ c h. (h.0, ⊎_elim (λ a. inl (held_up c (h.0, a))) (λ b. inr (held_opens c d.files (manifest_bytes all) all (map extent_of closed) now_open rules b (read_whole h.0))) h.1))
-          (publish_since d d' laws laws' bytes has.listed.segments (map extent_of closed) has.images (extent_of active) long (manifest_bytes all) (map extent_of segments) lists fate change)
-
       published_files : IsTrue d.tells → (b : ℕ) → d'.files (file.Log b) ≡ d.files (file.Log b)
       published_files t b = change.files t (file.Log b) (log_no_manifest b)
 

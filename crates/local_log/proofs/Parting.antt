@@ -18,10 +18,10 @@ use Rattle.local_log.specs.Cutting.{closed_by, open_by, behind, cut_point}
 use Rattle.local_log.proofs.Listed.{base_below, bases_below, chained_last}
 use Rattle.local_log.proofs.Listings.{ending_none, ending_all}
 
-le_of : (a b : ℕ) → nat_le a b ≡ true → a ≤ b
+pub le_of : (a b : ℕ) → nat_le a b ≡ true → a ≤ b
 le_of a b h = grind (arith, nat_tests, h)
 
-lt_of : (a b : ℕ) → nat_le a b ≡ false → b < a
+pub lt_of : (a b : ℕ) → nat_le a b ≡ false → b < a
 lt_of a b h = grind (arith, nat_tests, h)
 
 -- all segments, parted by the cut

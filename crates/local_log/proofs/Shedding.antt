@@ -31,7 +31,7 @@ use Rattle.local_log.proofs.Lines.{cut_cut}
 use Rattle.local_log.proofs.Parting.{parts, closed_front, front_less, ending_ending, front_below, last_low, last_laid, later_high}
 use Rattle.local_log.proofs.Having.{reading}
 use Rattle.local_log.proofs.Shortened.{short_stored, short_batches, up_to_up_to}
-use Rattle.local_log.proofs.Lowered.{agrees_none}
+use Rattle.local_log.proofs.Settled.{agrees_none}
 
 -- a front that the removals and the cut leave
 abbrev pub IsSafe : ℕ → ℕ → Extent → Type 0
@@ -60,7 +60,7 @@ in_names name n [] high named = absurd named
 in_names name n (g ∷ gs) high (inl is) = (g.base, is, high.0)
 in_names name n (g ∷ gs) high (inr rest) = in_names name n gs high.1 rest
 
-in_or_out : (b : ℕ) (gs : List Grown) → In (file.Log b) (names_of gs) ⊎ Each (λ (g : Grown). b ≢ g.base) gs
+pub in_or_out : (b : ℕ) (gs : List Grown) → In (file.Log b) (names_of gs) ⊎ Each (λ (g : Grown). b ≢ g.base) gs
 in_or_out b [] = inr tt
 in_or_out b (g ∷ gs) = elim (cases_name (file.Log b) (file.Log g.base)) [
   | inl is ↦ inl (inl is)

@@ -1,14 +1,14 @@
 -- A log without what ends past an offset, and its files.
 --
 -- Where a batch holds the offset the log ends at that batch's base. A cut to the base of a segment leaves it as the empty
--- open one, and the segment before it closed.
-use Rattle.std.specs.Prelude.{◌≡◌, ◌≢◌, ◌⊎◌, ℕ, ◌+◌, nat_le, if◌then◌else◌, List, [], ◌∷◌, ◌++◌, map, None, IsTrue, true}
+-- open one, and the segment before it closed. A cut below the local start leaves an empty log at the offset itself.
+use Rattle.std.specs.Prelude.{◌≡◌, ◌≢◌, ◌⊎◌, ℕ, ◌+◌, nat_le, nat_lt, if◌then◌else◌, List, [], ◌∷◌, ◌++◌, map, None, IsTrue, true}
 use Rattle.tier_base.specs.declared.plain.FileName.{FileName}
 use Rattle.tier_base.specs.declared.plain.FileName.TheVariants as file
 use Rattle.tier_base.specs.Device.{Fate, Went}
 use Rattle.tier_base.specs.Told.{In}
 use Rattle.disk_model.specs.Content.{Content, Files, Image, LeavesOnly, CutBack, cut_to}
-use Rattle.log_terms.specs.Log.{up_to}
+use Rattle.log_terms.specs.Log.{up_to, end_from}
 use Rattle.epoch_line.specs.Line.{cut_end}
 use Rattle.segment_file.specs.Growing.{Grown}
 use Rattle.log_steps.specs.Opens.{Opened, Opens}
@@ -51,16 +51,48 @@ module _ {D : Type 0} where
   }
 
   -- stable up to one of its ends
-  abbrev pub lowered : Log D → ℕ → Log D
-  lowered log end = record log { stable = end }
+  abbrev pub settled : Log D → ℕ → Log D
+  settled log end = record log { stable = end }
 
   -- without what ends past one of its ends, and all of it is stable
   abbrev pub cut : Log D → ℕ → Log D
   cut log end = record (shortened log end) { stable = end }
 
-  -- cut to an offset at or past the local start
+  -- empty at an offset, and all of it is stable, with this line
+  abbrev pub restarted : Log D → ℕ → List (ℕ × ℕ) → Log D
+  restarted log start line = record log {
+    local_start = start;
+    batches = [];
+    end = start;
+    stable = start;
+    line = line;
+    closed = [];
+    active = record { base = start; interval = log.settings.index_interval; batches = [] };
+  }
+
+  -- cut to an offset: below the local start nothing is left
   abbrev pub cut_at : Log D → ℕ → Log D
-  cut_at log end = cut log (cut_point end log.closed log.active)
+  cut_at log end =
+      if nat_lt end log.local_start then restarted log end (cut_end log.line end)
+      else cut log (cut_point end log.closed log.active)
+
+  -- what an image opens as that has all of a log
+  abbrev pub all_of : Log D → Opened
+  all_of log = record {
+    incarnation = log.incarnation;
+    local_start = log.local_start;
+    batches = log.batches;
+    line = log.line;
+  }
+
+  -- the stable log of before, or all of the one after
+  abbrev pub OpensEither : Log D → Log D → Files → Type 0
+  OpensEither old new c = OpensStable old c ⊎ Opens c (all_of new)
+
+  -- the batches that end at or below an offset are left, and the log ends with them
+  pub record IsLeftUpTo (old : Log D) (end : ℕ) (new : Log D) : Type 0 where
+    pub batches_are : new.batches ≡ up_to end old.batches
+    pub end_is : new.end ≡ end_from old.local_start (up_to end old.batches)
 
   -- what an image of a log opens as that is cut to one of its ends
   abbrev pub opened_to : Log D → ℕ → Opened

@@ -1,9 +1,16 @@
 pub mod Stored
 pub mod Log
 pub mod Run
+pub mod Renewing
+pub mod Dropping
 pub mod Listing
 pub mod Parsing
+pub mod Refusing
 pub mod Taking
 pub mod Reading
 pub mod Inside
+pub mod Opening
+pub mod Planning
 pub mod Cutting
+pub mod Coheres
+pub mod Admitting

@@ -1,10 +1,11 @@
 //! Cuts of a log, which are durable when they answer.
 //!
-//! Below the stable end the manifest is replaced first, so that no crash leaves one that lists more than stands; then the
-//! files behind the end are removed, from the last to the first, and the last one is cut and synced. At or past the stable
-//! end no manifest lists what is cut, so the files come first, and the manifest is replaced when the last one is synced.
+//! The manifest comes first, so that want of memory for it changes nothing, and no crash leaves one that lists more than
+//! stands: the segment that will be the last one is synced, and the manifest that lists the log up to its new end is made
+//! the present one. Then the files behind the end are removed, from the last to the first, and the last one is cut.
+//! What a crash brings back of them no manifest lists.
 
-ghost use Rattle.std.specs.Prelude.{◌≡◌, ◌⊎◌, ◌+◌, ◌≤◌, ◌<◌, ℕ, length, false, true, OnOk, OnErr, IsErrOf, IsTrue};
+ghost use Rattle.std.specs.Prelude.{◌≡◌, ◌⊎◌, ◌+◌, ◌≤◌, ◌<◌, ℕ, length, false, true, OnOk, OnErr, IfOk, IsErrOf, IsTrue};
 ghost use Rattle.disk_model.specs.Content.{LeavesOnly, Image, Files, Keeps};
 ghost use Rattle.tier_base.specs.Counts.{Rose};
 ghost use Rattle.tier_base.specs.Device.{Lasts};
@@ -13,22 +14,95 @@ ghost use Rattle.log_manifest.specs.Spelling.{manifest_bytes};
 ghost use Rattle.log_steps.specs.Opens.{Opens};
 ghost use Rattle.local_log.specs.declared.refusal.LogRefusal.TheVariants.{DiskFault, NoMemory};
 ghost use Rattle.local_log.specs.Listing.{front_to, manifest_of};
-ghost use Rattle.local_log.specs.Log.{committed, Committing, Becomes, OpensStable, stable_log};
-ghost use Rattle.local_log.specs.Cutting.{closed_by, open_by, cut_point, shortened, lowered, cut, opened_to, whole_log, Cutting, Breaks, OpensAs};
+ghost use Rattle.local_log.specs.Log.{Becomes};
+ghost use Rattle.local_log.specs.Cutting.{closed_by, open_by, cut_point, shortened, settled, cut, restarted, cut_at, IsLeftUpTo, all_of, opened_to, Cutting, OpensEither, Breaks, OpensAs};
 
 use crate::log::{LocalLog, refused};
 use crate::refusal::LogRefusal;
-use crate::trimming::{cut_point, cut_segments, listing_to, trim};
+use crate::trimming::{cut_point, cut_segments, listing_to, open_front, trim};
 use disk_model::{Disk, FileName};
 use log_steps::publish;
 use std::alloc::AllocError;
 use tier_base::Failed;
 
 impl<D: Disk> LocalLog<D> {
+    /// Cuts the log to an offset, durably; where a batch holds the offset, to that batch's base. Below the local start
+    /// nothing is left of it.
+    pub fn cut_to(&mut self, end: u64) -> Result<(), LogRefusal>
+        requires unbroken { self.old.broken ≡ false }
+        requires within { end ≤ self.old.end }
+        ensures ok { OnOk result (Becomes D.content (cut_at self.old end) self.new) }
+        ensures told { IsTrue (D.content self.old.disk).tells → self.old.local_start ≤ end
+            → OnOk result (IsLeftUpTo self.old end self.new) }
+        ensures durable { OnOk result ((c : Files) → Image (D.content self.new.disk) c → Opens c (all_of (cut_at self.old end))) }
+
+        // A crash at any moment of the call leaves the stable log of before, or the cut one.
+        ensures any_moment { LeavesOnly (D.content self.old.disk) (D.content self.new.disk)
+            (OpensEither self.old (cut_at self.old end)) }
+
+        ensures others { OnErr result (IsErrOf result NoMemory ⊎ IsErrOf result DiskFault) }
+        ensures no_memory { IsErrOf result NoMemory → Becomes D.content self.old self.new }
+        ensures no_image { IsErrOf result NoMemory → (c : Files) → Image (D.content self.new.disk) c → Image (D.content self.old.disk) c }
+        ensures broken { IsErrOf result DiskFault → self.new.broken ≡ true }
+        ensures control { Lasts (D.control self.old.disk) (D.control self.new.disk) }
+        ensures cause { IsErrOf result DiskFault → Rose (D.control self.old.disk).faults (D.control self.new.disk).faults }
+    {
+        if end < self.local_start {
+            self.cut_before(end)
+        } else {
+            self.cut_behind(end)
+        }
+    }
+
+    /// Cuts the log below its local start.
+    fn cut_before(&mut self, end: u64) -> Result<(), LogRefusal>
+        requires unbroken { self.old.broken ≡ false }
+        requires below { end < self.old.local_start }
+        ensures ok { OnOk result (Becomes D.content (restarted self.old end (cut_end self.old.line end)) self.new) }
+        ensures durable { OnOk result ((c : Files) → Image (D.content self.new.disk) c
+            → Opens c (all_of (restarted self.old end (cut_end self.old.line end)))) }
+        ensures any_moment { LeavesOnly (D.content self.old.disk) (D.content self.new.disk)
+            (OpensEither self.old (restarted self.old end (cut_end self.old.line end))) }
+        ensures others { OnErr result (IsErrOf result NoMemory ⊎ IsErrOf result DiskFault) }
+        ensures no_memory { IsErrOf result NoMemory → Becomes D.content self.old self.new }
+        ensures no_image { IsErrOf result NoMemory → (c : Files) → Image (D.content self.new.disk) c → Image (D.content self.old.disk) c }
+        ensures broken { IsErrOf result DiskFault → self.new.broken ≡ true }
+        ensures control { Lasts (D.control self.old.disk) (D.control self.new.disk) }
+        ensures cause { IsErrOf result DiskFault → Rose (D.control self.old.disk).faults (D.control self.new.disk).faults }
+    {
+        self.stands();
+        let mut line = self.line.copy(self.alloc)?;
+        line.cut_end(end);
+        self.restart_at(end, line)
+    }
+
+    /// Cuts the log at or past its local start.
+    fn cut_behind(&mut self, end: u64) -> Result<(), LogRefusal>
+        requires unbroken { self.old.broken ≡ false }
+        requires from { self.old.local_start ≤ end }
+        requires within { end ≤ self.old.end }
+        ensures ok { OnOk result (Becomes D.content (cut self.old (cut_point end self.old.closed self.old.active)) self.new) }
+        ensures told { IsTrue (D.content self.old.disk).tells → OnOk result (IsLeftUpTo self.old end self.new) }
+        ensures durable { OnOk result ((c : Files) → Image (D.content self.new.disk) c
+            → Opens c (all_of (cut self.old (cut_point end self.old.closed self.old.active)))) }
+        ensures any_moment { LeavesOnly (D.content self.old.disk) (D.content self.new.disk)
+            (OpensEither self.old (cut self.old (cut_point end self.old.closed self.old.active))) }
+        ensures others { OnErr result (IsErrOf result NoMemory ⊎ IsErrOf result DiskFault) }
+        ensures no_memory { IsErrOf result NoMemory → Becomes D.content self.old self.new }
+        ensures no_image { IsErrOf result NoMemory → (c : Files) → Image (D.content self.new.disk) c → Image (D.content self.old.disk) c }
+        ensures broken { IsErrOf result DiskFault → self.new.broken ≡ true }
+        ensures control { Lasts (D.control self.old.disk) (D.control self.new.disk) }
+        ensures cause { IsErrOf result DiskFault → Rose (D.control self.old.disk).faults (D.control self.new.disk).faults }
+    {
+        let point = cut_point(&self.closed, &self.active, end);
+        self.cut_within(point)
+    }
+
     /// Makes room for so many calls of the disk.
-    fn make_room(&mut self, calls: u32) -> Result<(), AllocError>
+    pub(crate) fn make_room(&mut self, calls: u32) -> Result<(), AllocError>
         requires { self.old.broken ≡ false }
         ensures log { Becomes D.content self.old self.new }
+        ensures same { self.new ≡ record self.old { disk = self.new.disk } }
         ensures keeps { Keeps (D.content self.old.disk) (D.content self.new.disk) }
         ensures room { OnOk result (calls ≤ D.spare self.new.disk) }
         ensures control { Lasts (D.control self.old.disk) (D.control self.new.disk) }
@@ -36,24 +110,29 @@ impl<D: Disk> LocalLog<D> {
         self.disk.reserve(calls)
     }
 
-    /// Makes the manifest that lists the log up to one of its ends the present one. The end is at or below the stable one.
-    fn lower(&mut self, bytes: &[u8], end: u64) -> Result<(), LogRefusal>
+    /// Makes the manifest that lists the log up to one of its ends the present one, once the segment that it lists last is
+    /// synced. The others were when they closed.
+    fn settle(&mut self, bytes: &[u8], end: u64) -> Result<(), LogRefusal>
         requires unbroken { self.old.broken ≡ false }
         requires from { self.old.local_start ≤ end }
-        requires low { end ≤ self.old.stable }
+        requires within { end ≤ self.old.end }
         requires exact { cut_point end self.old.closed self.old.active ≡ end }
+        requires room { 1 ≤ D.spare self.old.disk }
         requires bytes { bytes.now ≡ manifest_bytes (manifest_of self.old.incarnation self.old.local_start
             (closed_by end self.old.closed) (front_to end (open_by end self.old.closed self.old.active)) (cut_end self.old.line end)) }
-        ensures ok { OnOk result (Becomes D.content (lowered self.old end) self.new) }
+        ensures ok { OnOk result (Becomes D.content (settled self.old end) self.new) }
         ensures durable { OnOk result ((c : Files) → Image (D.content self.new.disk) c → Opens c (opened_to self.old end)) }
         ensures any_moment { LeavesOnly (D.content self.old.disk) (D.content self.new.disk) (Cutting self.old end) }
+        ensures others { OnErr result (IsErrOf result NoMemory ⊎ IsErrOf result DiskFault) }
         ensures no_memory { IsErrOf result NoMemory → Becomes D.content self.old self.new }
+        ensures no_image { IsErrOf result NoMemory → (c : Files) → Image (D.content self.new.disk) c → Image (D.content self.old.disk) c }
         ensures broken { IsErrOf result DiskFault → Breaks D.content self.old self.new }
-        ensures room { D.spare self.new.disk ≡ D.spare self.old.disk }
+        ensures room { OnOk result (D.spare self.new.disk + 1 ≡ D.spare self.old.disk) }
         ensures control { Lasts (D.control self.old.disk) (D.control self.new.disk) }
         ensures cause { IsErrOf result DiskFault → Rose (D.control self.old.disk).faults (D.control self.new.disk).faults }
     {
-        match self.disk.replace(FileName::Manifest, bytes) {
+        let last = open_front(&self.closed, &self.active, end);
+        match publish(&mut self.disk, FileName::Log(last.base), bytes) {
             Ok(()) => {
                 self.stable = end;
                 Ok(())
@@ -69,12 +148,11 @@ impl<D: Disk> LocalLog<D> {
         requires above { self.old.stable ≤ end }
         requires within { end ≤ self.old.end }
         requires exact { cut_point end self.old.closed self.old.active ≡ end }
-        requires room { length self.old.closed + 2 ≤ D.spare self.old.disk }
+        requires room { length self.old.closed + 1 ≤ D.spare self.old.disk }
         ensures ok { OnOk result (Becomes D.content (shortened self.old end) self.new) }
         ensures any_moment { LeavesOnly (D.content self.old.disk) (D.content self.new.disk) (OpensAs (D.content self.old.disk)) }
         ensures broken { OnErr result (Breaks D.content self.old self.new) }
         ensures why { OnErr result (IsErrOf result DiskFault) }
-        ensures room { OnOk result (1 ≤ D.spare self.new.disk) }
         ensures control { Lasts (D.control self.old.disk) (D.control self.new.disk) }
         ensures cause { OnErr result (Rose (D.control self.old.disk).faults (D.control self.new.disk).faults) }
     {
@@ -91,56 +169,10 @@ impl<D: Disk> LocalLog<D> {
         }
     }
 
-    /// Syncs the open segment.
-    fn sync_open(&mut self) -> Result<(), LogRefusal>
-        requires unbroken { self.old.broken ≡ false }
-        requires room { 1 ≤ D.spare self.old.disk }
-        ensures ok { OnOk result (Becomes D.content self.old self.new) }
-        ensures keeps { Keeps (D.content self.old.disk) (D.content self.new.disk) }
-        ensures broken { OnErr result (Breaks D.content self.old self.new) }
-        ensures why { OnErr result (IsErrOf result DiskFault) }
-        ensures control { Lasts (D.control self.old.disk) (D.control self.new.disk) }
-        ensures cause { OnErr result (Rose (D.control self.old.disk).faults (D.control self.new.disk).faults) }
-    {
-        match self.disk.sync(FileName::Log(self.active.base())) {
-            Ok(()) => Ok(()),
-            Err(Failed) => {
-                self.broken = true;
-                Err(LogRefusal::DiskFault)
-            }
-        }
-    }
-
-    /// Syncs the open segment, and makes the manifest that lists all of the log the present one.
-    fn settle(&mut self, bytes: &[u8]) -> Result<(), LogRefusal>
-        requires unbroken { self.old.broken ≡ false }
-        requires room { 1 ≤ D.spare self.old.disk }
-        requires bytes { bytes.now ≡ manifest_bytes (manifest_of self.old.incarnation self.old.local_start
-            self.old.closed self.old.active self.old.line) }
-        ensures ok { OnOk result (Becomes D.content (committed self.old self.old.line) self.new) }
-        ensures durable { OnOk result ((c : Files) → Image (D.content self.new.disk) c → Opens c (stable_log self.new)) }
-        ensures any_moment { LeavesOnly (D.content self.old.disk) (D.content self.new.disk) (Committing self.old self.old.line) }
-        ensures exact { LeavesOnly (D.content self.old.disk) (D.content self.new.disk)
-            (λ c. IsTrue (D.content self.old.disk).tells × (OpensStable self.old c ⊎ Opens c (whole_log self.old))) }
-        ensures no_memory { IsErrOf result NoMemory → Becomes D.content self.old self.new }
-        ensures broken { IsErrOf result DiskFault → Breaks D.content self.old self.new }
-        ensures control { Lasts (D.control self.old.disk) (D.control self.new.disk) }
-        ensures cause { IsErrOf result DiskFault → Rose (D.control self.old.disk).faults (D.control self.new.disk).faults }
-    {
-        match publish(&mut self.disk, FileName::Log(self.active.base()), bytes) {
-            Ok(()) => {
-                self.stable = self.active.end();
-                Ok(())
-            }
-            Err(trouble) => Err(refused(&mut self.broken, trouble)),
-        }
-    }
-
-    /// Cuts the log to one of its ends at or below the stable one.
-    fn cut_below(&mut self, bytes: &[u8], end: u64) -> Result<(), LogRefusal>
+    /// Cuts the log to one of its ends, with the manifest that lists it.
+    fn cut_listed(&mut self, bytes: &[u8], end: u64) -> Result<(), LogRefusal>
         requires unbroken { self.old.broken ≡ false }
         requires from { self.old.local_start ≤ end }
-        requires low { end ≤ self.old.stable }
         requires within { end ≤ self.old.end }
         requires exact { cut_point end self.old.closed self.old.active ≡ end }
         requires room { length self.old.closed + 2 ≤ D.spare self.old.disk }
@@ -149,37 +181,60 @@ impl<D: Disk> LocalLog<D> {
         ensures ok { OnOk result (Becomes D.content (cut self.old end) self.new) }
         ensures durable { OnOk result ((c : Files) → Image (D.content self.new.disk) c → Opens c (opened_to self.old end)) }
         ensures any_moment { LeavesOnly (D.content self.old.disk) (D.content self.new.disk) (Cutting self.old end) }
+        ensures others { OnErr result (IsErrOf result NoMemory ⊎ IsErrOf result DiskFault) }
         ensures no_memory { IsErrOf result NoMemory → Becomes D.content self.old self.new }
+        ensures no_image { IsErrOf result NoMemory → (c : Files) → Image (D.content self.new.disk) c → Image (D.content self.old.disk) c }
         ensures broken { IsErrOf result DiskFault → self.new.broken ≡ true }
         ensures control { Lasts (D.control self.old.disk) (D.control self.new.disk) }
         ensures cause { IsErrOf result DiskFault → Rose (D.control self.old.disk).faults (D.control self.new.disk).faults }
     {
-        self.lower(bytes, end)?;
-        self.shed(end)?;
-        self.sync_open()
+        self.settle(bytes, end)?;
+        self.shed(end)
     }
 
-    /// Cuts the log to one of its ends at or past the stable one. The files come first, so that where memory is wanting for
-    /// the manifest the log is cut, and stable up to where it was.
-    fn cut_above(&mut self, bytes: &[u8], end: u64) -> Result<(), LogRefusal>
+    /// Cuts the log to one of its ends.
+    fn cut_within(&mut self, end: u64) -> Result<(), LogRefusal>
         requires unbroken { self.old.broken ≡ false }
         requires from { self.old.local_start ≤ end }
-        requires above { self.old.stable ≤ end }
         requires within { end ≤ self.old.end }
         requires exact { cut_point end self.old.closed self.old.active ≡ end }
-        requires room { length self.old.closed + 2 ≤ D.spare self.old.disk }
-        requires bytes { bytes.now ≡ manifest_bytes (manifest_of self.old.incarnation self.old.local_start
-            (closed_by end self.old.closed) (front_to end (open_by end self.old.closed self.old.active)) (cut_end self.old.line end)) }
         ensures ok { OnOk result (Becomes D.content (cut self.old end) self.new) }
         ensures durable { OnOk result ((c : Files) → Image (D.content self.new.disk) c → Opens c (opened_to self.old end)) }
         ensures any_moment { LeavesOnly (D.content self.old.disk) (D.content self.new.disk) (Cutting self.old end) }
-        ensures no_memory { IsErrOf result NoMemory → Becomes D.content (shortened self.old end) self.new }
+        ensures others { OnErr result (IsErrOf result NoMemory ⊎ IsErrOf result DiskFault) }
+        ensures no_memory { IsErrOf result NoMemory → Becomes D.content self.old self.new }
+        ensures no_image { IsErrOf result NoMemory → (c : Files) → Image (D.content self.new.disk) c → Image (D.content self.old.disk) c }
         ensures broken { IsErrOf result DiskFault → self.new.broken ≡ true }
         ensures control { Lasts (D.control self.old.disk) (D.control self.new.disk) }
         ensures cause { IsErrOf result DiskFault → Rose (D.control self.old.disk).faults (D.control self.new.disk).faults }
     {
         self.stands();
-        self.shed(end)?;
-        self.settle(bytes)
+        let bytes = self.listing_cut(end)?;
+        let calls = self.closed.len() as u32 + 2;
+        self.make_room(calls)?;
+        self.cut_listed(&bytes, end)
+    }
+
+    /// The bytes of the manifest that lists the log cut to one of its ends.
+    fn listing_cut(&self, end: u64) -> Result<Vec<u8>, AllocError>
+        requires unbroken { self.now.broken ≡ false }
+        requires from { self.now.local_start ≤ end }
+        requires within { end ≤ self.now.end }
+        requires exact { cut_point end self.now.closed self.now.active ≡ end }
+        ensures { IfOk result (λ bytes. bytes.items
+            ≡ manifest_bytes (manifest_of self.now.incarnation self.now.local_start (closed_by end self.now.closed)
+            (front_to end (open_by end self.now.closed self.now.active)) (cut_end self.now.line end))) }
+    {
+        let mut line = self.line.copy(self.alloc)?;
+        line.cut_end(end);
+        listing_to(
+            self.alloc,
+            self.incarnation,
+            self.local_start,
+            &self.closed,
+            &self.active,
+            end,
+            &line,
+        )
     }
 }

@@ -7,15 +7,23 @@
 //! reads the batches, and writes it under the next incarnation.
 #![tactic(auto)]
 
+mod admitting;
 mod cuts;
+mod dropping;
+mod laws;
 mod listing;
 mod log;
+mod opening;
+mod parsing;
 mod piece;
 mod reading;
 mod refusal;
+mod restarting;
 mod run;
+mod seeking;
 mod trimming;
 
+pub use laws::an_image_opens_in_one_way;
 pub use log::LocalLog;
 pub use reading::RunOut;
-pub use refusal::{CreateRefusal, LogRefusal};
+pub use refusal::{CreateRefusal, LogRefusal, OpenRefusal};

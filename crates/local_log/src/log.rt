@@ -4,26 +4,33 @@
 //! opening it again finds what is stable. Want of memory is found before the first change, or changes no image.
 
 ghost use Rattle.std.specs.Prelude.{◌≡◌, ◌⊎◌, ◌↔◌, ◌+◌, ◌≤◌, ◌<◌, ◌^◌, List, [], ℕ, length, false, true, None, IfOk, IfErr, OnOk, OnErr, IsTrue, IsFalse, IsErrOf};
-ghost use Rattle.disk_model.specs.Content.{LeavesOnly, Image, Files};
+ghost use Rattle.disk_model.specs.Content.{LeavesOnly, Image, Files, Keeps};
 ghost use Rattle.tier_base.specs.Counts.{Rose};
-ghost use Rattle.tier_base.specs.Device.{Lasts};
+ghost use Rattle.tier_base.specs.Device.{Lasts, Arms};
 ghost use Rattle.log_terms.specs.Batch.{last_of};
 ghost use Rattle.epoch_line.specs.Line.{IsLine, last_epoch, assign, cut_end};
-ghost use Rattle.log_steps.specs.Opens.{Opens};
-ghost use Rattle.log_steps.specs.Reopens.{Reopens};
+ghost use Rattle.log_steps.specs.Opens.{Opened, Opens};
+ghost use Rattle.log_steps.specs.Reopens.{Reopens, Opening};
 ghost use Rattle.tier_base.specs.declared.plain.FileName.{FileName};
 ghost use Rattle.tier_base.specs.declared.fault.Trouble.TheVariants as fault;
 ghost use Rattle.local_log.specs.declared.refusal.CreateRefusal.TheVariants as create;
+ghost use Rattle.local_log.specs.declared.refusal.OpenRefusal.TheVariants as opening;
 ghost use Rattle.local_log.specs.declared.refusal.LogRefusal.TheVariants.{LastOffset, TooManySegments, EmptySegment, DiskFault, NoMemory};
 ghost use Rattle.std.specs.Option.{ForSome};
 ghost use Rattle.log_steps.specs.Fronts.{Each};
 ghost use Rattle.local_log.specs.Stored.{size_of};
 ghost use Rattle.local_log.specs.Run.{IsRun, is_due, rolled, IsAppended, IsAppendedTo};
 ghost use Rattle.local_log.specs.Taking.{line_or};
+ghost use Rattle.local_log.specs.Coheres.{Coheres};
+ghost use Rattle.local_log.specs.Cutting.{OpensAs};
+ghost use Rattle.local_log.specs.Refusing.{IsSoundCause, IsOfManifest};
+ghost use Rattle.local_log.specs.Opening.{IsOpenLog, IsOf, HoldsLast, OpenFails};
+ghost use Rattle.local_log.specs.Cutting.{whole_log};
 ghost use Rattle.local_log.specs.Log.{IsFirst, committed, Committing, AreSettings, Becomes, OpensStable, stable_log, Creating, first_log};
 
 use crate::listing::listing;
-use crate::refusal::{CreateRefusal, LogRefusal};
+use crate::opening::open_log;
+use crate::refusal::{CreateRefusal, LogRefusal, OpenRefusal};
 use crate::run::{LAST_OFFSET, first_asked, rolls_before, take_in};
 use disk_model::{Disk, FileName};
 use epoch_line::Line;
@@ -75,6 +82,7 @@ impl<D: Disk> LocalLog<D> {
         requires empty { IsTrue (D.content disk).tells → (n : FileName) → (D.content disk).files n ≡ None }
         ensures log { IfOk result (λ log. IsFirst settings log) }
         ensures batches { IfOk result (λ log. IsTrue (D.content disk).tells → log.batches ≡ []) }
+        ensures tells { IfOk result (λ log. (D.content log.disk).tells ≡ (D.content disk).tells) }
         ensures durable { IfOk result (λ log. (c : Files) → Image (D.content log.disk) c → Opens c first_log) }
 
         // A crash at any moment of the call leaves what it might have left before, or the new log.
@@ -111,9 +119,69 @@ impl<D: Disk> LocalLog<D> {
         }
     }
 
+    /// Opens the log that the disk's manifest gives, under the next incarnation. A disk without a manifest gives the empty
+    /// log at 0. The disk is read before the first change, and a manifest without a reading is never written again.
+    pub fn open_at(
+        alloc: Global,
+        disk: D,
+        settings: Settings,
+    ) -> Result<LocalLog<D>, (D, OpenRefusal)>
+        requires settings { AreSettings settings }
+        requires reopens { Reopens (D.content disk) }
+        ensures log { IfOk result (λ log. IsOpenLog settings log) }
+        ensures tells { IfOk result (λ log. (D.content log.disk).tells ≡ (D.content disk).tells) }
+        ensures tells_err { IfErr result (λ e. (D.content e.0).tells ≡ (D.content disk).tells) }
+        ensures opened { IfOk result (λ log. IsTrue (D.content disk).tells
+            → (o : Opened) × Opens (D.content disk).files o × IsOf o log) }
+        ensures durable { IfOk result (λ log. (c : Files) → Image (D.content log.disk) c → Opens c (whole_log log)) }
+
+        // A crash at any moment of the call leaves what it might have left before, or what was read, perhaps under the
+        // next incarnation.
+        ensures any_moment { IfOk result (λ log. LeavesOnly (D.content disk) (D.content log.disk) (Opening (D.content disk))) }
+        ensures any_moment_err { IfErr result (λ e. LeavesOnly (D.content disk) (D.content e.0) (Opening (D.content disk))) }
+        ensures again { IfErr result (λ e. Reopens (D.content e.0)) }
+
+        // Each cause, by what the disk handed last. A fault of the manifest is told before the first change.
+        ensures err { IfErr result (λ e. OpenFails (D.control e.0).handed e.1) }
+        ensures sound { IfErr result (λ e. IsTrue (D.content disk).tells → IsSoundCause e.1) }
+        ensures last { IfErr result (λ e. e.1 ≡ opening.LastIncarnation → IsTrue (D.content disk).tells
+            → HoldsLast (D.content disk).files) }
+        ensures unchanged { IfErr result (λ e. IsOfManifest e.1 → Keeps (D.content disk) (D.content e.0)) }
+        ensures control { IfOk result (λ log. Lasts (D.control disk) (D.control log.disk)) }
+        ensures control_err { IfErr result (λ e. Lasts (D.control disk) (D.control e.0)) }
+        ensures cause { IfErr result (λ e. e.1 ≡ opening.DiskFault → Rose (D.control disk).faults (D.control e.0).faults) }
+    {
+        let mut disk = disk;
+        match open_log(alloc, &mut disk, settings.index_interval) {
+            Ok(parts) => {
+                let stable = parts.active.end();
+                Ok(LocalLog {
+                    alloc,
+                    disk,
+                    settings,
+                    incarnation: parts.incarnation,
+                    local_start: parts.local_start,
+                    closed: parts.closed,
+                    active: parts.active,
+                    line: parts.line,
+                    stable,
+                    broken: false,
+                })
+            }
+            Err(refusal) => Err((disk, refusal)),
+        }
+    }
+
     /// Every image opens as the stable log.
     pub fn stands(&self)
         ensures { self.now.broken ≡ false → (c : Files) → Image (D.content self.now.disk) c → OpensStable self.now c }
+    {
+        let _ = &self.active;
+    }
+
+    /// The batches are checked and follow one another up to the end, and a cut and a piece end where one of them does.
+    pub fn coheres(&self)
+        ensures { self.now.broken ≡ false → IsTrue (D.content self.now.disk).tells → Coheres self.now }
     {
         let _ = &self.active;
     }
@@ -132,15 +200,20 @@ impl<D: Disk> LocalLog<D> {
         requires unbroken { self.old.broken ≡ false }
         requires run { IsRun self.old.end self.old.line run.now }
         ensures ok { IfOk result (λ answer. IsAppended D.content self.old self.new run.now answer) }
+        ensures some { IfOk result (λ answer. answer.0 ≤ answer.1) }
 
         // A crash at any moment of the call leaves the stable log of before.
         ensures any_moment { LeavesOnly (D.content self.old.disk) (D.content self.new.disk)
             (OpensStable self.old) }
+        // Each of these images opens as an image of before does.
+        ensures opens { LeavesOnly (D.content self.old.disk) (D.content self.new.disk) (OpensAs (D.content self.old.disk)) }
 
         // Each cause, where no earlier one holds.
         ensures last_offset { IsErrOf result LastOffset ↔ (2 ^ 62 ≤ last_of run.now) }
         ensures many { IsErrOf result TooManySegments
             ↔ (last_of run.now < 2 ^ 62) × IsTrue (is_due self.old run.now) × (4095 ≤ length self.old.closed) }
+        ensures others { OnErr result ((IsErrOf result LastOffset ⊎ IsErrOf result TooManySegments)
+            ⊎ (IsErrOf result NoMemory ⊎ IsErrOf result DiskFault)) }
         ensures unchanged { (IsErrOf result LastOffset ⊎ IsErrOf result TooManySegments) → self.new ≡ self.old }
         ensures no_memory { IsErrOf result NoMemory → Becomes D.content self.old self.new }
         ensures broken { IsErrOf result DiskFault → Becomes D.content (record self.old { broken = true }) self.new }
@@ -170,11 +243,14 @@ impl<D: Disk> LocalLog<D> {
         requires fits { is_due self.old run.now ≡ false }
         requires low { last_of run.now < 2 ^ 62 }
         ensures ok { IfOk result (λ answer. IsAppendedTo D.content self.old self.old self.new run.now answer) }
+        ensures some { IfOk result (λ answer. answer.0 ≤ answer.1) }
         ensures others { OnErr result (IsErrOf result NoMemory ⊎ IsErrOf result DiskFault) }
 
         // A crash at any moment of the call leaves the stable log of before.
         ensures any_moment { LeavesOnly (D.content self.old.disk) (D.content self.new.disk)
             (OpensStable self.old) }
+        // Each of these images opens as an image of before does.
+        ensures opens { LeavesOnly (D.content self.old.disk) (D.content self.new.disk) (OpensAs (D.content self.old.disk)) }
 
         ensures no_memory { IsErrOf result NoMemory → Becomes D.content self.old self.new }
         ensures broken { IsErrOf result DiskFault → Becomes D.content (record self.old { broken = true }) self.new }
@@ -204,11 +280,14 @@ impl<D: Disk> LocalLog<D> {
         requires few { length self.old.closed < 4095 }
         requires low { last_of run.now < 2 ^ 62 }
         ensures ok { IfOk result (λ answer. IsAppendedTo D.content self.old (rolled self.old) self.new run.now answer) }
+        ensures some { IfOk result (λ answer. answer.0 ≤ answer.1) }
         ensures others { OnErr result (IsErrOf result NoMemory ⊎ IsErrOf result DiskFault) }
 
         // A crash at any moment of the call leaves the stable log of before.
         ensures any_moment { LeavesOnly (D.content self.old.disk) (D.content self.new.disk)
             (OpensStable self.old) }
+        // Each of these images opens as an image of before does.
+        ensures opens { LeavesOnly (D.content self.old.disk) (D.content self.new.disk) (OpensAs (D.content self.old.disk)) }
 
         ensures no_memory { IsErrOf result NoMemory → Becomes D.content self.old self.new }
         ensures broken { IsErrOf result DiskFault → Becomes D.content (record self.old { broken = true }) self.new }
@@ -250,10 +329,14 @@ impl<D: Disk> LocalLog<D> {
         // A crash at any moment of the call leaves the stable log of before.
         ensures any_moment { LeavesOnly (D.content self.old.disk) (D.content self.new.disk)
             (OpensStable self.old) }
+        // Each of these images opens as an image of before does.
+        ensures opens { LeavesOnly (D.content self.old.disk) (D.content self.new.disk) (OpensAs (D.content self.old.disk)) }
 
         // Each cause, where no earlier one holds.
         ensures empty { IsErrOf result EmptySegment ↔ (size_of self.old.active ≡ 0) }
         ensures many { IsErrOf result TooManySegments ↔ (0 < size_of self.old.active) × (4095 ≤ length self.old.closed) }
+        ensures others { OnErr result ((IsErrOf result EmptySegment ⊎ IsErrOf result TooManySegments)
+            ⊎ (IsErrOf result NoMemory ⊎ IsErrOf result DiskFault)) }
         ensures unchanged { (IsErrOf result EmptySegment ⊎ IsErrOf result TooManySegments) → self.new ≡ self.old }
         ensures no_memory { IsErrOf result NoMemory → Becomes D.content self.old self.new }
         ensures broken { IsErrOf result DiskFault → Becomes D.content (record self.old { broken = true }) self.new }
@@ -288,6 +371,7 @@ impl<D: Disk> LocalLog<D> {
         requires { self.old.broken ≡ false }
         ensures end { IfOk result (λ end. end ≡ self.old.end) }
         ensures ok { OnOk result (Becomes D.content (committed self.old self.old.line) self.new) }
+        ensures others { OnErr result (IsErrOf result NoMemory ⊎ IsErrOf result DiskFault) }
         ensures durable { OnOk result ((c : Files) → Image (D.content self.new.disk) c → Opens c (stable_log self.new)) }
 
         // A crash at any moment of the call leaves the stable log of before, or all of the log.
@@ -295,6 +379,7 @@ impl<D: Disk> LocalLog<D> {
             (Committing self.old self.old.line) }
 
         ensures no_memory { IsErrOf result NoMemory → Becomes D.content self.old self.new }
+        ensures no_image { IsErrOf result NoMemory → (c : Files) → Image (D.content self.new.disk) c → Image (D.content self.old.disk) c }
         ensures broken { IsErrOf result DiskFault → Becomes D.content (record self.old { broken = true }) self.new }
         ensures control { Lasts (D.control self.old.disk) (D.control self.new.disk) }
         ensures cause { IsErrOf result DiskFault → Rose (D.control self.old.disk).faults (D.control self.new.disk).faults }
@@ -310,6 +395,7 @@ impl<D: Disk> LocalLog<D> {
         requires above { ForSome (last_epoch self.old.line) (λ last. last < epoch) }
         ensures end { IfOk result (λ end. end ≡ self.old.end) }
         ensures ok { OnOk result (Becomes D.content (committed self.old (assign self.old.line epoch self.old.end)) self.new) }
+        ensures others { OnErr result (IsErrOf result NoMemory ⊎ IsErrOf result DiskFault) }
         ensures durable { OnOk result ((c : Files) → Image (D.content self.new.disk) c → Opens c (stable_log self.new)) }
 
         // A crash at any moment of the call leaves the stable log of before, or all of the log with the epoch.
@@ -317,6 +403,7 @@ impl<D: Disk> LocalLog<D> {
             (Committing self.old (assign self.old.line epoch self.old.end)) }
 
         ensures no_memory { IsErrOf result NoMemory → Becomes D.content self.old self.new }
+        ensures no_image { IsErrOf result NoMemory → (c : Files) → Image (D.content self.new.disk) c → Image (D.content self.old.disk) c }
         ensures broken { IsErrOf result DiskFault → Becomes D.content (record self.old { broken = true }) self.new }
         ensures control { Lasts (D.control self.old.disk) (D.control self.new.disk) }
         ensures cause { IsErrOf result DiskFault → Rose (D.control self.old.disk).faults (D.control self.new.disk).faults }
@@ -334,6 +421,7 @@ impl<D: Disk> LocalLog<D> {
         requires within { Each (λ (entry : ℕ × ℕ). entry.1 ≤ self.old.end) line }
         ensures end { IfOk result (λ end. end ≡ self.old.end) }
         ensures ok { OnOk result (Becomes D.content (committed self.old line) self.new) }
+        ensures others { OnErr result (IsErrOf result NoMemory ⊎ IsErrOf result DiskFault) }
         ensures durable { OnOk result ((c : Files) → Image (D.content self.new.disk) c → Opens c (stable_log self.new)) }
 
         // A crash at any moment of the call leaves the stable log of before, or all of the log with this line.
@@ -341,6 +429,7 @@ impl<D: Disk> LocalLog<D> {
             (Committing self.old line) }
 
         ensures no_memory { IsErrOf result NoMemory → Becomes D.content self.old self.new }
+        ensures no_image { IsErrOf result NoMemory → (c : Files) → Image (D.content self.new.disk) c → Image (D.content self.old.disk) c }
         ensures broken { IsErrOf result DiskFault → Becomes D.content (record self.old { broken = true }) self.new }
         ensures control { Lasts (D.control self.old.disk) (D.control self.new.disk) }
         ensures cause { IsErrOf result DiskFault → Rose (D.control self.old.disk).faults (D.control self.new.disk).faults }
@@ -406,6 +495,13 @@ impl<D: Disk> LocalLog<D> {
         self.active.size()
     }
 
+    /// The closed segments, each with its base, its end and its size.
+    pub fn closed(&self) -> &[Growing]
+        ensures { result.now ≡ self.now.closed }
+    {
+        &self.closed
+    }
+
     /// How the log is cut into segments, and how dense its indexes are.
     pub fn settings(&self) -> &Settings
         ensures { result.now ≡ self.now.settings }
@@ -418,6 +514,17 @@ impl<D: Disk> LocalLog<D> {
         ensures { result.now ≡ self.now.disk }
     {
         &self.disk
+    }
+
+    /// Arms the disk: planned calls fail from now on.
+    pub fn arm(&mut self)
+        ensures log { self.new ≡ record self.old { disk = self.new.disk } }
+        ensures content { Keeps (D.content self.old.disk) (D.content self.new.disk) }
+        ensures any_moment { self.old.broken ≡ false → LeavesOnly (D.content self.old.disk) (D.content self.new.disk)
+            (OpensStable self.old) }
+        ensures control { Arms (D.control self.old.disk) (D.control self.new.disk) }
+    {
+        self.disk.arm()
     }
 
     /// Whether a write has failed. Such a log may only be closed.

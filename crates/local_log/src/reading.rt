@@ -9,7 +9,7 @@ ghost use Rattle.tier_base.specs.Counts.{Rose};
 ghost use Rattle.tier_base.specs.Device.{Lasts};
 ghost use Rattle.tier_base.specs.declared.plain.FileName.TheVariants as file;
 ghost use Rattle.tier_base.specs.Told.{bytes_in};
-ghost use Rattle.disk_model.specs.Content.{LeavesOnly};
+ghost use Rattle.disk_model.specs.Content.{LeavesOnly, Keeps};
 ghost use Rattle.local_log.specs.declared.refusal.LogRefusal.TheVariants.{Damaged, DiskFault, NoMemory};
 ghost use Rattle.local_log.specs.Log.{Becomes, OpensStable};
 ghost use Rattle.local_log.specs.Reading.{segment_at, piece_of, is_edge, IsCut, IsRunOf, IsEdge, RunFails, CutFails, IsOfDevice, IsClosedFrom, ClosedFails, IsPartOf, IsFront, FrontFails};
@@ -40,6 +40,7 @@ impl<D: Disk> LocalLog<D> {
         requires start { self.old.local_start ≤ offset }
         requires below { offset < mark }
         ensures log { Becomes D.content self.old self.new }
+        ensures keeps { Keeps (D.content self.old.disk) (D.content self.new.disk) }
         ensures run { IfOk result (λ run. IsTrue (D.content self.old.disk).tells → IsRunOf self.old offset limit mark run) }
         ensures base { IfOk result (λ run. run.base ≡ (segment_at self.old offset).base) }
         ensures bytes { IfOk result (λ run. IsCut (D.control self.new.disk).handed offset limit mark
@@ -77,6 +78,7 @@ impl<D: Disk> LocalLog<D> {
     pub fn closed_from(&mut self, offset: u64) -> Result<Option<Closed>, LogRefusal>
         requires { self.old.broken ≡ false }
         ensures log { Becomes D.content self.old self.new }
+        ensures keeps { Keeps (D.content self.old.disk) (D.content self.new.disk) }
         ensures segment { IfOk result (λ segment. IsClosedFrom self.old offset (D.control self.new.disk).handed segment) }
         ensures part { IfOk result (λ segment. IsTrue (D.content self.old.disk).tells
             → IfSome segment (λ segment. IsPartOf self.old segment)) }
@@ -114,6 +116,7 @@ impl<D: Disk> LocalLog<D> {
     fn read_file(&mut self, base: u64, from: u32) -> Result<Option<Bytes>, LogRefusal>
         requires { self.old.broken ≡ false }
         ensures log { Becomes D.content self.old self.new }
+        ensures keeps { Keeps (D.content self.old.disk) (D.content self.new.disk) }
         ensures file { IsTrue (D.content self.old.disk).tells → IfOk result (λ held. held
             ≡ option_map (drop from) ((D.content self.old.disk).files (file.Log base))) }
         ensures bytes { IfOk result (λ held. (D.control self.new.disk).handed ≡ bytes_in held) }

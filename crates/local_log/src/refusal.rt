@@ -4,7 +4,7 @@ ghost use Rattle.std.specs.Prelude.{◌≡◌};
 
 use std::alloc::AllocError;
 use thiserror::Error;
-use tier_base::FileName;
+use tier_base::{FileName, Trouble};
 
 /// Why a log wasn't made. The disk's images are those of before, or the new log.
 #[derive(Clone, Copy, Debug, PartialEq, Eq, Drop, Error)]
@@ -76,6 +76,19 @@ impl From<AllocError> for OpenRefusal {
 
     fn from(_error: AllocError) -> OpenRefusal {
         OpenRefusal::NoMemory
+    }
+}
+
+impl From<Trouble> for OpenRefusal {
+    ghost use Rattle.local_log.specs.Refusing.{refusal_of};
+
+    ghost from_gives = { λ trouble why. why ≡ refusal_of trouble };
+
+    fn from(trouble: Trouble) -> OpenRefusal {
+        match trouble {
+            Trouble::Failed => OpenRefusal::DiskFault,
+            Trouble::NoMemory => OpenRefusal::NoMemory,
+        }
     }
 }
 

@@ -182,12 +182,11 @@ pub(crate) fn trim<D: Disk>(
     active: &Growing,
     end: u64,
 ) -> Result<(), Failed>
-    requires room { length closed.now + 2 ≤ D.spare disk.old }
+    requires room { length closed.now + 1 ≤ D.spare disk.old }
     requires apart { In (file.Log (open_by end closed.now active.now).base) (names_of (behind end closed.now active.now)) → ⊥ }
     ensures content { Trims (names_of (behind end closed.now active.now)) (open_by end closed.now active.now).base
         (size_of (front_to end (open_by end closed.now active.now))) (failing result) (D.content disk.old) (D.content disk.new) }
     ensures control { Runs (failing result) (D.control disk.old) (D.control disk.new) }
-    ensures room { OnOk result (1 ≤ D.spare disk.new) }
 {
     let last = open_front(closed, active, end);
     remove_behind(disk, closed, active, end)?;

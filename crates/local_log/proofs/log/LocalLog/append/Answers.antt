@@ -5,6 +5,7 @@ use Rattle.local_log.specs.Log.{Log}
 use Rattle.local_log.specs.Stored.{end_of, size_of}
 use Rattle.local_log.proofs.Having.{start_since}
 use Rattle.local_log.proofs.Heads.{first_of, first_last, first_len, short_batch}
+use Rattle.local_log.proofs.Retold.{start_opens}
 use Rattle.local_log.proofs.log.LocalLog.append.Goals as goal
 
 pub first_asked-first-requires : goal.first_asked-first-requires
@@ -39,6 +40,14 @@ returns-then-first-ge-LAST_OFFSET-clause-any_moment g c =
     let unbroken : s.broken ≡ false = ap (λ (l : Log g.row.D.Denot). l.broken) c.self.view_is ∙ c.requires.unbroken in
     rw (← c.self.view_is) (start_since d laws s.incarnation s.local_start s.closed.items s.active s.line s.stable (c.self.invariant.has unbroken))
 
+pub returns-then-first-ge-LAST_OFFSET-clause-opens : goal.returns-then-first-ge-LAST_OFFSET-clause-opens
+returns-then-first-ge-LAST_OFFSET-clause-opens g c =
+    let s = c.self.inside in
+    let d = g.D.Disk.content s.disk in
+    let laws : Lawful d = g.met.D.Disk.lawful s.disk in
+    let unbroken : s.broken ≡ false = ap (λ (l : Log g.row.D.Denot). l.broken) c.self.view_is ∙ c.requires.unbroken in
+    rw (← c.self.view_is) (start_opens d)
+
 pub returns-then-len-ge-MOST_SEGMENTS-clause-any_moment : goal.returns-then-len-ge-MOST_SEGMENTS-clause-any_moment
 returns-then-len-ge-MOST_SEGMENTS-clause-any_moment g c =
     let s = c.self.inside in
@@ -46,3 +55,11 @@ returns-then-len-ge-MOST_SEGMENTS-clause-any_moment g c =
     let laws : Lawful d = g.met.D.Disk.lawful s.disk in
     let unbroken : s.broken ≡ false = ap (λ (l : Log g.row.D.Denot). l.broken) c.self.view_is ∙ c.requires.unbroken in
     rw (← c.self.view_is) (start_since d laws s.incarnation s.local_start s.closed.items s.active s.line s.stable (c.self.invariant.has unbroken))
+
+pub returns-then-len-ge-MOST_SEGMENTS-clause-opens : goal.returns-then-len-ge-MOST_SEGMENTS-clause-opens
+returns-then-len-ge-MOST_SEGMENTS-clause-opens g c =
+    let s = c.self.inside in
+    let d = g.D.Disk.content s.disk in
+    let laws : Lawful d = g.met.D.Disk.lawful s.disk in
+    let unbroken : s.broken ≡ false = ap (λ (l : Log g.row.D.Denot). l.broken) c.self.view_is ∙ c.requires.unbroken in
+    rw (← c.self.view_is) (start_opens d)

@@ -23,6 +23,7 @@ use Rattle.local_log.proofs.Rolling.{twice_since, roll_batches}
 use Rattle.local_log.proofs.Behind.{still, rolled_has, behind_since, behind_reopens, behind_tells, behind_kept, behind_dry}
 use Rattle.local_log.proofs.Appended.{appended_has, appended_batches, appended_are}
 use Rattle.local_log.proofs.Taken.{taken, taken_fits, taken_bytes, taken_oks, taken_follow, taken_end, taken_lined, taken_grows, taken_up}
+use Rattle.local_log.proofs.Retold.{start_opens, kept_opens, twice_opens, behind_opens}
 use Rattle.local_log.proofs.log.LocalLog.append_behind.Goals as goal
 
 pub returns-in_err-reserve-clause-any_moment : goal.returns-in_err-reserve-clause-any_moment
@@ -33,6 +34,15 @@ returns-in_err-reserve-clause-any_moment g c =
     let unbroken : s.broken ≡ false = ap (λ (l : Log g.row.D.Denot). l.broken) c.self.view_is ∙ c.requires.unbroken in
     let has = c.self.invariant.has unbroken in
     rw (← c.self.view_is) (start_since d laws s.incarnation s.local_start s.closed.items s.active s.line s.stable has)
+
+pub returns-in_err-reserve-clause-opens : goal.returns-in_err-reserve-clause-opens
+returns-in_err-reserve-clause-opens g c =
+    let s = c.self.inside in
+    let d = g.D.Disk.content s.disk in
+    let laws : Lawful d = g.met.D.Disk.lawful s.disk in
+    let unbroken : s.broken ≡ false = ap (λ (l : Log g.row.D.Denot). l.broken) c.self.view_is ∙ c.requires.unbroken in
+    let has = c.self.invariant.has unbroken in
+    rw (← c.self.view_is) (start_opens d)
 
 pub invariant_of-self-in_err-reserve-2 : goal.invariant_of-self-in_err-reserve-2
 invariant_of-self-in_err-reserve-2 g c =
@@ -69,6 +79,18 @@ returns-in_err-reserve-2-clause-any_moment g c =
     let k = c.reserve-2.ensures.content in
     rw (← c.self.view_is) (kept_since d laws s.incarnation s.local_start s.closed.items s.active s.line s.stable has m laws-m k)
 
+pub returns-in_err-reserve-2-clause-opens : goal.returns-in_err-reserve-2-clause-opens
+returns-in_err-reserve-2-clause-opens g c =
+    let s = c.self.inside in
+    let d = g.D.Disk.content s.disk in
+    let laws : Lawful d = g.met.D.Disk.lawful s.disk in
+    let unbroken : s.broken ≡ false = ap (λ (l : Log g.row.D.Denot). l.broken) c.self.view_is ∙ c.requires.unbroken in
+    let has = c.self.invariant.has unbroken in
+    let m = g.D.Disk.content c.reserve-2.new.self in
+    let laws-m : Lawful m = g.met.D.Disk.lawful c.reserve-2.new.self in
+    let k = c.reserve-2.ensures.content in
+    rw (← c.self.view_is) (kept_opens d m k)
+
 pub returns-in-Err-clause-any_moment : goal.returns-in-Err-clause-any_moment
 returns-in-Err-clause-any_moment g c =
     let s = c.self.inside in
@@ -83,6 +105,21 @@ returns-in-Err-clause-any_moment g c =
     let laws2 : Lawful m2 = g.met.D.Disk.lawful c.sync.new.self in
     let k2 = c.sync.ensures.content in
     rw (← c.self.view_is) (twice_since d m m2 laws laws-m laws2 s.incarnation s.local_start s.closed.items s.active s.line s.stable has k k2)
+
+pub returns-in-Err-clause-opens : goal.returns-in-Err-clause-opens
+returns-in-Err-clause-opens g c =
+    let s = c.self.inside in
+    let d = g.D.Disk.content s.disk in
+    let laws : Lawful d = g.met.D.Disk.lawful s.disk in
+    let unbroken : s.broken ≡ false = ap (λ (l : Log g.row.D.Denot). l.broken) c.self.view_is ∙ c.requires.unbroken in
+    let has = c.self.invariant.has unbroken in
+    let m = g.D.Disk.content c.reserve-2.new.self in
+    let laws-m : Lawful m = g.met.D.Disk.lawful c.reserve-2.new.self in
+    let k = c.reserve-2.ensures.content in
+    let m2 = g.D.Disk.content c.sync.new.self in
+    let laws2 : Lawful m2 = g.met.D.Disk.lawful c.sync.new.self in
+    let k2 = c.sync.ensures.content in
+    rw (← c.self.view_is) (twice_opens d m m2 laws-m k k2)
 
 pub invariant_of-self-in_err-len : goal.invariant_of-self-in_err-len
 invariant_of-self-in_err-len g c =
@@ -124,6 +161,21 @@ returns-in_err-len-clause-any_moment g c =
     let laws2 : Lawful m2 = g.met.D.Disk.lawful c.sync.new.self in
     let k2 = c.sync.ensures.content in
     rw (← c.self.view_is) (twice_since d m m2 laws laws-m laws2 s.incarnation s.local_start s.closed.items s.active s.line s.stable has k k2)
+
+pub returns-in_err-len-clause-opens : goal.returns-in_err-len-clause-opens
+returns-in_err-len-clause-opens g c =
+    let s = c.self.inside in
+    let d = g.D.Disk.content s.disk in
+    let laws : Lawful d = g.met.D.Disk.lawful s.disk in
+    let unbroken : s.broken ≡ false = ap (λ (l : Log g.row.D.Denot). l.broken) c.self.view_is ∙ c.requires.unbroken in
+    let has = c.self.invariant.has unbroken in
+    let m = g.D.Disk.content c.reserve-2.new.self in
+    let laws-m : Lawful m = g.met.D.Disk.lawful c.reserve-2.new.self in
+    let k = c.reserve-2.ensures.content in
+    let m2 = g.D.Disk.content c.sync.new.self in
+    let laws2 : Lawful m2 = g.met.D.Disk.lawful c.sync.new.self in
+    let k2 = c.sync.ensures.content in
+    rw (← c.self.view_is) (twice_opens d m m2 laws-m k k2)
 
 pub split_at-requires : goal.split_at-requires
 split_at-requires g c =
@@ -355,6 +407,34 @@ returns-in-Ok-outcome-clause-any_moment g c =
     let change = subst (λ (b : ℕ). Changes (file.Log b) (appended c.split_at.result.0.now) MayGrow M m2 d') c.end-end.ensures c.append-outcome.ensures.content in
     rw (← c.self.view_is) (behind_since d m m2 laws laws-m laws2 s.incarnation s.local_start s.closed.items s.active s.line s.stable has k k2 s.settings.index_interval are some c.self.invariant.stable_within synced d' laws' c.split_at.result.0.now M change)
 
+pub returns-in-Ok-outcome-clause-opens : goal.returns-in-Ok-outcome-clause-opens
+returns-in-Ok-outcome-clause-opens g c =
+    let s = c.self.inside in
+    let d = g.D.Disk.content s.disk in
+    let laws : Lawful d = g.met.D.Disk.lawful s.disk in
+    let unbroken : s.broken ≡ false = ap (λ (l : Log g.row.D.Denot). l.broken) c.self.view_is ∙ c.requires.unbroken in
+    let has = c.self.invariant.has unbroken in
+    let m = g.D.Disk.content c.reserve-2.new.self in
+    let laws-m : Lawful m = g.met.D.Disk.lawful c.reserve-2.new.self in
+    let k = c.reserve-2.ensures.content in
+    let m2 = g.D.Disk.content c.sync.new.self in
+    let laws2 : Lawful m2 = g.met.D.Disk.lawful c.sync.new.self in
+    let k2 = c.sync.ensures.content in
+    let are = c.self.invariant.segments in
+    let some : 0 < size_of s.active = subst (λ (l : Log g.row.D.Denot). 0 < size_of l.active) (sym c.self.view_is) c.requires.some in
+    let few : length s.closed.items + 1 < 4096 = (let h = subst (λ (l : Log g.row.D.Denot). length l.closed < 4095) (sym c.self.view_is) c.requires.few in omega (arith, h)) in
+    let synced = subst (λ (b : ℕ). (f : Files) → Image m2 f → Begins (m.files (file.Log b)) (f (file.Log b))) c.base.ensures c.in-Ok.ensures.durable in
+    let nx : Grown = record { base = end_of s.active; interval = s.settings.index_interval; batches = [] } in
+    let next_is : c.new-next.result ≡ nx = c.new-next.ensures ∙ ap (λ (n : ℕ). record { base = n; interval = s.settings.index_interval; batches = [] }) c.end-end.ensures in
+    let t : IsTakenIn nx c.take_in.new.segment s.line c.args.run.now s.settings.segment_bytes (c.in_ok-len.len, c.in_ok-len.line) =
+    subst (λ (x : Grown). IsTakenIn x c.take_in.new.segment s.line c.args.run.now s.settings.segment_bytes (c.in_ok-len.len, c.in_ok-len.line)) next_is c.in_ok-len.ensures.ok in
+    let d' = g.D.Disk.content c.append-outcome.new.self in
+    let laws' : Lawful d' = g.met.D.Disk.lawful c.append-outcome.new.self in
+    let bytes_is : c.split_at.result.0.now ≡ joined (taken nx c.take_in.new.segment s.line c.args.run.now s.settings.segment_bytes (c.in_ok-len.len, c.in_ok-len.line) t c.self.invariant.line c.self.invariant.line_within) = c.split_at.ensures.front ∙ taken_bytes nx c.take_in.new.segment s.line c.args.run.now s.settings.segment_bytes (c.in_ok-len.len, c.in_ok-len.line) t c.self.invariant.line c.self.invariant.line_within in
+    let M = MayBeDone call.Append (fate_of c.append-outcome.result) (g.D.Disk.control c.sync.new.self) in
+    let change = subst (λ (b : ℕ). Changes (file.Log b) (appended c.split_at.result.0.now) MayGrow M m2 d') c.end-end.ensures c.append-outcome.ensures.content in
+    rw (← c.self.view_is) (behind_opens d m m2 laws laws-m laws2 s.incarnation s.local_start s.closed.items s.active s.line s.stable has k k2 s.settings.index_interval are some c.self.invariant.stable_within synced d' laws' c.split_at.result.0.now M change)
+
 pub returns-in-Err-outcome-clause-any_moment : goal.returns-in-Err-outcome-clause-any_moment
 returns-in-Err-outcome-clause-any_moment g c =
     let s = c.self.inside in
@@ -382,6 +462,34 @@ returns-in-Err-outcome-clause-any_moment g c =
     let M = MayBeDone call.Append (fate_of c.append-outcome.result) (g.D.Disk.control c.sync.new.self) in
     let change = subst (λ (b : ℕ). Changes (file.Log b) (appended c.split_at.result.0.now) MayGrow M m2 d') c.end-end.ensures c.append-outcome.ensures.content in
     rw (← c.self.view_is) (behind_since d m m2 laws laws-m laws2 s.incarnation s.local_start s.closed.items s.active s.line s.stable has k k2 s.settings.index_interval are some c.self.invariant.stable_within synced d' laws' c.split_at.result.0.now M change)
+
+pub returns-in-Err-outcome-clause-opens : goal.returns-in-Err-outcome-clause-opens
+returns-in-Err-outcome-clause-opens g c =
+    let s = c.self.inside in
+    let d = g.D.Disk.content s.disk in
+    let laws : Lawful d = g.met.D.Disk.lawful s.disk in
+    let unbroken : s.broken ≡ false = ap (λ (l : Log g.row.D.Denot). l.broken) c.self.view_is ∙ c.requires.unbroken in
+    let has = c.self.invariant.has unbroken in
+    let m = g.D.Disk.content c.reserve-2.new.self in
+    let laws-m : Lawful m = g.met.D.Disk.lawful c.reserve-2.new.self in
+    let k = c.reserve-2.ensures.content in
+    let m2 = g.D.Disk.content c.sync.new.self in
+    let laws2 : Lawful m2 = g.met.D.Disk.lawful c.sync.new.self in
+    let k2 = c.sync.ensures.content in
+    let are = c.self.invariant.segments in
+    let some : 0 < size_of s.active = subst (λ (l : Log g.row.D.Denot). 0 < size_of l.active) (sym c.self.view_is) c.requires.some in
+    let few : length s.closed.items + 1 < 4096 = (let h = subst (λ (l : Log g.row.D.Denot). length l.closed < 4095) (sym c.self.view_is) c.requires.few in omega (arith, h)) in
+    let synced = subst (λ (b : ℕ). (f : Files) → Image m2 f → Begins (m.files (file.Log b)) (f (file.Log b))) c.base.ensures c.in-Ok.ensures.durable in
+    let nx : Grown = record { base = end_of s.active; interval = s.settings.index_interval; batches = [] } in
+    let next_is : c.new-next.result ≡ nx = c.new-next.ensures ∙ ap (λ (n : ℕ). record { base = n; interval = s.settings.index_interval; batches = [] }) c.end-end.ensures in
+    let t : IsTakenIn nx c.take_in.new.segment s.line c.args.run.now s.settings.segment_bytes (c.in_ok-len.len, c.in_ok-len.line) =
+    subst (λ (x : Grown). IsTakenIn x c.take_in.new.segment s.line c.args.run.now s.settings.segment_bytes (c.in_ok-len.len, c.in_ok-len.line)) next_is c.in_ok-len.ensures.ok in
+    let d' = g.D.Disk.content c.append-outcome.new.self in
+    let laws' : Lawful d' = g.met.D.Disk.lawful c.append-outcome.new.self in
+    let bytes_is : c.split_at.result.0.now ≡ joined (taken nx c.take_in.new.segment s.line c.args.run.now s.settings.segment_bytes (c.in_ok-len.len, c.in_ok-len.line) t c.self.invariant.line c.self.invariant.line_within) = c.split_at.ensures.front ∙ taken_bytes nx c.take_in.new.segment s.line c.args.run.now s.settings.segment_bytes (c.in_ok-len.len, c.in_ok-len.line) t c.self.invariant.line c.self.invariant.line_within in
+    let M = MayBeDone call.Append (fate_of c.append-outcome.result) (g.D.Disk.control c.sync.new.self) in
+    let change = subst (λ (b : ℕ). Changes (file.Log b) (appended c.split_at.result.0.now) MayGrow M m2 d') c.end-end.ensures c.append-outcome.ensures.content in
+    rw (← c.self.view_is) (behind_opens d m m2 laws laws-m laws2 s.incarnation s.local_start s.closed.items s.active s.line s.stable has k k2 s.settings.index_interval are some c.self.invariant.stable_within synced d' laws' c.split_at.result.0.now M change)
 
 pub returns-in-Err-outcome-clause-no_memory : goal.returns-in-Err-outcome-clause-no_memory
 returns-in-Err-outcome-clause-no_memory g c =
@@ -450,3 +558,28 @@ returns-in-Err-outcome-clause-broken g c =
     λ is.
     let broken_is : c.refused.new.broken ≡ true = breaks c.in-Err-outcome.trouble c.refused.result c.refused.new.broken s.broken c.refused.ensures.fault c.refused.ensures.memory (cc is) in
     rw (← c.self.view_is) (becomes_by g.D.Disk.content _ _ refl refl refl refl refl line_is items_are refl broken_is (behind_tells d m m2 laws laws-m laws2 s.incarnation s.local_start s.closed.items s.active s.line s.stable has k k2 s.settings.index_interval are some c.self.invariant.stable_within synced d' laws' c.split_at.result.0.now M change) (λ told. batches_are ∙ behind_kept d m m2 laws laws-m laws2 s.incarnation s.local_start s.closed.items s.active s.line s.stable has k k2 s.settings.index_interval are some c.self.invariant.stable_within synced d' laws' c.split_at.result.0.now M change told))
+
+pub returns-in-Ok-outcome-clause-some : goal.returns-in-Ok-outcome-clause-some
+returns-in-Ok-outcome-clause-some g c =
+    let s = c.self.inside in
+    let d = g.D.Disk.content s.disk in
+    let laws : Lawful d = g.met.D.Disk.lawful s.disk in
+    let unbroken : s.broken ≡ false = ap (λ (l : Log g.row.D.Denot). l.broken) c.self.view_is ∙ c.requires.unbroken in
+    let has = c.self.invariant.has unbroken in
+    let m = g.D.Disk.content c.reserve-2.new.self in
+    let laws-m : Lawful m = g.met.D.Disk.lawful c.reserve-2.new.self in
+    let k = c.reserve-2.ensures.content in
+    let m2 = g.D.Disk.content c.sync.new.self in
+    let laws2 : Lawful m2 = g.met.D.Disk.lawful c.sync.new.self in
+    let k2 = c.sync.ensures.content in
+    let are = c.self.invariant.segments in
+    let some : 0 < size_of s.active = subst (λ (l : Log g.row.D.Denot). 0 < size_of l.active) (sym c.self.view_is) c.requires.some in
+    let few : length s.closed.items + 1 < 4096 = (let h = subst (λ (l : Log g.row.D.Denot). length l.closed < 4095) (sym c.self.view_is) c.requires.few in omega (arith, h)) in
+    let synced = subst (λ (b : ℕ). (f : Files) → Image m2 f → Begins (m.files (file.Log b)) (f (file.Log b))) c.base.ensures c.in-Ok.ensures.durable in
+    let nx : Grown = record { base = end_of s.active; interval = s.settings.index_interval; batches = [] } in
+    let next_is : c.new-next.result ≡ nx = c.new-next.ensures ∙ ap (λ (n : ℕ). record { base = n; interval = s.settings.index_interval; batches = [] }) c.end-end.ensures in
+    let t : IsTakenIn nx c.take_in.new.segment s.line c.args.run.now s.settings.segment_bytes (c.in_ok-len.len, c.in_ok-len.line) =
+    subst (λ (x : Grown). IsTakenIn x c.take_in.new.segment s.line c.args.run.now s.settings.segment_bytes (c.in_ok-len.len, c.in_ok-len.line)) next_is c.in_ok-len.ensures.ok in
+    let more = taken_grows nx c.take_in.new.segment s.line c.args.run.now s.settings.segment_bytes (c.in_ok-len.len, c.in_ok-len.line) t c.self.invariant.line c.self.invariant.line_within refl c.requires.low in
+    let end_is = ap end_of c.replace-full.ensures.after in
+    omega (arith, c.end.ensures, c.end-end.ensures, end_is, more)

@@ -22,6 +22,7 @@ use Rattle.local_log.proofs.Refused.{not_broken, breaks, stays}
 use Rattle.local_log.proofs.Having.{start_since, has_reopens}
 use Rattle.local_log.proofs.Appended.{appended_since, appended_reopens, appended_dry, appended_kept, appended_has, appended_batches, appended_are}
 use Rattle.local_log.proofs.Taken.{taken, taken_fits, taken_bytes, taken_oks, taken_follow, taken_end, taken_lined, taken_grows, taken_up, taken_front}
+use Rattle.local_log.proofs.Retold.{start_opens, appended_opens}
 use Rattle.local_log.proofs.log.LocalLog.append_here.Goals as goal
 
 pub returns-in_err-len-clause-any_moment : goal.returns-in_err-len-clause-any_moment
@@ -32,6 +33,15 @@ returns-in_err-len-clause-any_moment g c =
     let unbroken : s.broken ≡ false = ap (λ (l : Log g.row.D.Denot). l.broken) c.self.view_is ∙ c.requires.unbroken in
     let has = c.self.invariant.has unbroken in
     rw (← c.self.view_is) (start_since d laws s.incarnation s.local_start s.closed.items s.active s.line s.stable has)
+
+pub returns-in_err-len-clause-opens : goal.returns-in_err-len-clause-opens
+returns-in_err-len-clause-opens g c =
+    let s = c.self.inside in
+    let d = g.D.Disk.content s.disk in
+    let laws : Lawful d = g.met.D.Disk.lawful s.disk in
+    let unbroken : s.broken ≡ false = ap (λ (l : Log g.row.D.Denot). l.broken) c.self.view_is ∙ c.requires.unbroken in
+    let has = c.self.invariant.has unbroken in
+    rw (← c.self.view_is) (start_opens d)
 
 pub split_at-requires : goal.split_at-requires
 split_at-requires g c =
@@ -135,6 +145,22 @@ returns-in-Ok-clause-any_moment g c =
     let change = subst (λ (b : ℕ). Changes (file.Log b) (appended c.split_at.result.0.now) MayGrow M d d') base_is c.append-outcome.ensures.content in
     rw (← c.self.view_is) (appended_since d d' laws laws' s.incarnation s.local_start s.closed.items s.active s.line s.stable has c.split_at.result.0.now M change)
 
+pub returns-in-Ok-clause-opens : goal.returns-in-Ok-clause-opens
+returns-in-Ok-clause-opens g c =
+    let s = c.self.inside in
+    let d = g.D.Disk.content s.disk in
+    let laws : Lawful d = g.met.D.Disk.lawful s.disk in
+    let unbroken : s.broken ≡ false = ap (λ (l : Log g.row.D.Denot). l.broken) c.self.view_is ∙ c.requires.unbroken in
+    let has = c.self.invariant.has unbroken in
+    let t : IsTakenIn s.active c.take_in.new.segment s.line c.args.run.now s.settings.segment_bytes (c.in_ok-len.len, c.in_ok-len.line) = c.in_ok-len.ensures.ok in
+    let d' = g.D.Disk.content c.append-outcome.new.self in
+    let laws' : Lawful d' = g.met.D.Disk.lawful c.append-outcome.new.self in
+    let base_is : c.base.result ≡ s.active.base = c.base.ensures ∙ ap (λ (x : Grown). x.base) t.segment_is in
+    let bytes_is : c.split_at.result.0.now ≡ joined (taken s.active c.take_in.new.segment s.line c.args.run.now s.settings.segment_bytes (c.in_ok-len.len, c.in_ok-len.line) t c.self.invariant.line c.self.invariant.line_within) = c.split_at.ensures.front ∙ taken_bytes s.active c.take_in.new.segment s.line c.args.run.now s.settings.segment_bytes (c.in_ok-len.len, c.in_ok-len.line) t c.self.invariant.line c.self.invariant.line_within in
+    let M = MayBeDone call.Append (fate_of c.append-outcome.result) (g.D.Disk.control s.disk) in
+    let change = subst (λ (b : ℕ). Changes (file.Log b) (appended c.split_at.result.0.now) MayGrow M d d') base_is c.append-outcome.ensures.content in
+    rw (← c.self.view_is) (appended_opens d laws s.incarnation s.local_start s.closed.items s.active s.line s.stable has d' laws' c.split_at.result.0.now M change)
+
 pub invariant_of-self-in-Err : goal.invariant_of-self-in-Err
 invariant_of-self-in-Err g c =
     let s = c.self.inside in
@@ -186,6 +212,22 @@ returns-in-Err-clause-any_moment g c =
     let change = subst (λ (b : ℕ). Changes (file.Log b) (appended c.split_at.result.0.now) MayGrow M d d') base_is c.append-outcome.ensures.content in
     rw (← c.self.view_is) (appended_since d d' laws laws' s.incarnation s.local_start s.closed.items s.active s.line s.stable has c.split_at.result.0.now M change)
 
+pub returns-in-Err-clause-opens : goal.returns-in-Err-clause-opens
+returns-in-Err-clause-opens g c =
+    let s = c.self.inside in
+    let d = g.D.Disk.content s.disk in
+    let laws : Lawful d = g.met.D.Disk.lawful s.disk in
+    let unbroken : s.broken ≡ false = ap (λ (l : Log g.row.D.Denot). l.broken) c.self.view_is ∙ c.requires.unbroken in
+    let has = c.self.invariant.has unbroken in
+    let t : IsTakenIn s.active c.take_in.new.segment s.line c.args.run.now s.settings.segment_bytes (c.in_ok-len.len, c.in_ok-len.line) = c.in_ok-len.ensures.ok in
+    let d' = g.D.Disk.content c.append-outcome.new.self in
+    let laws' : Lawful d' = g.met.D.Disk.lawful c.append-outcome.new.self in
+    let base_is : c.base.result ≡ s.active.base = c.base.ensures ∙ ap (λ (x : Grown). x.base) t.segment_is in
+    let bytes_is : c.split_at.result.0.now ≡ joined (taken s.active c.take_in.new.segment s.line c.args.run.now s.settings.segment_bytes (c.in_ok-len.len, c.in_ok-len.line) t c.self.invariant.line c.self.invariant.line_within) = c.split_at.ensures.front ∙ taken_bytes s.active c.take_in.new.segment s.line c.args.run.now s.settings.segment_bytes (c.in_ok-len.len, c.in_ok-len.line) t c.self.invariant.line c.self.invariant.line_within in
+    let M = MayBeDone call.Append (fate_of c.append-outcome.result) (g.D.Disk.control s.disk) in
+    let change = subst (λ (b : ℕ). Changes (file.Log b) (appended c.split_at.result.0.now) MayGrow M d d') base_is c.append-outcome.ensures.content in
+    rw (← c.self.view_is) (appended_opens d laws s.incarnation s.local_start s.closed.items s.active s.line s.stable has d' laws' c.split_at.result.0.now M change)
+
 pub returns-in-Err-clause-no_memory : goal.returns-in-Err-clause-no_memory
 returns-in-Err-clause-no_memory g c =
     let s = c.self.inside in
@@ -231,3 +273,15 @@ returns-in-Err-clause-broken g c =
     λ is.
     let broken_is : c.refused.new.broken ≡ true = breaks c.in-Err.trouble c.refused.result c.refused.new.broken s.broken c.refused.ensures.fault c.refused.ensures.memory (cc is) in
     rw (← c.self.view_is) (becomes_by g.D.Disk.content _ _ refl refl refl end_is refl line_is refl cut_is broken_is change.tells (λ told. batches_are ∙ appended_kept d d' laws laws' s.incarnation s.local_start s.closed.items s.active s.line s.stable has c.split_at.result.0.now M change told))
+
+pub returns-in-Ok-clause-some : goal.returns-in-Ok-clause-some
+returns-in-Ok-clause-some g c =
+    let s = c.self.inside in
+    let d = g.D.Disk.content s.disk in
+    let laws : Lawful d = g.met.D.Disk.lawful s.disk in
+    let unbroken : s.broken ≡ false = ap (λ (l : Log g.row.D.Denot). l.broken) c.self.view_is ∙ c.requires.unbroken in
+    let has = c.self.invariant.has unbroken in
+    let t : IsTakenIn s.active c.take_in.new.segment s.line c.args.run.now s.settings.segment_bytes (c.in_ok-len.len, c.in_ok-len.line) = c.in_ok-len.ensures.ok in
+    let fits = subst (λ (l : Log g.row.D.Denot). is_due l c.args.run.now ≡ false) (sym c.self.view_is) c.requires.fits in
+    let more = taken_grows s.active c.take_in.new.segment s.line c.args.run.now s.settings.segment_bytes (c.in_ok-len.len, c.in_ok-len.line) t c.self.invariant.line c.self.invariant.line_within fits c.requires.low in
+    omega (arith, c.end.ensures, c.end-end.ensures, more)

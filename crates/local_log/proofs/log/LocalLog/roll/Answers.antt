@@ -11,6 +11,7 @@ use Rattle.local_log.proofs.Having.{start_since, kept_since, has_kept, has_reope
 use Rattle.local_log.proofs.Listed.{are_rolled}
 use Rattle.local_log.proofs.Becoming.{becomes_by}
 use Rattle.local_log.proofs.Rolling.{twice_since, roll_has, roll_batches}
+use Rattle.local_log.proofs.Retold.{start_opens, kept_opens, twice_opens}
 use Rattle.local_log.proofs.log.LocalLog.roll.Goals as goal
 
 pub returns-then-size-eq0-clause-any_moment : goal.returns-then-size-eq0-clause-any_moment
@@ -21,6 +22,14 @@ returns-then-size-eq0-clause-any_moment g c =
     let unbroken : s.broken ≡ false = ap (λ (l : Log g.row.D.Denot). l.broken) c.self.view_is ∙ c.requires in
     rw (← c.self.view_is) (start_since d laws s.incarnation s.local_start s.closed.items s.active s.line s.stable (c.self.invariant.has unbroken))
 
+pub returns-then-size-eq0-clause-opens : goal.returns-then-size-eq0-clause-opens
+returns-then-size-eq0-clause-opens g c =
+    let s = c.self.inside in
+    let d = g.D.Disk.content s.disk in
+    let laws : Lawful d = g.met.D.Disk.lawful s.disk in
+    let unbroken : s.broken ≡ false = ap (λ (l : Log g.row.D.Denot). l.broken) c.self.view_is ∙ c.requires in
+    rw (← c.self.view_is) (start_opens d)
+
 pub returns-then-len-ge-MOST_SEGMENTS-clause-any_moment : goal.returns-then-len-ge-MOST_SEGMENTS-clause-any_moment
 returns-then-len-ge-MOST_SEGMENTS-clause-any_moment g c =
     let s = c.self.inside in
@@ -29,6 +38,14 @@ returns-then-len-ge-MOST_SEGMENTS-clause-any_moment g c =
     let unbroken : s.broken ≡ false = ap (λ (l : Log g.row.D.Denot). l.broken) c.self.view_is ∙ c.requires in
     rw (← c.self.view_is) (start_since d laws s.incarnation s.local_start s.closed.items s.active s.line s.stable (c.self.invariant.has unbroken))
 
+pub returns-then-len-ge-MOST_SEGMENTS-clause-opens : goal.returns-then-len-ge-MOST_SEGMENTS-clause-opens
+returns-then-len-ge-MOST_SEGMENTS-clause-opens g c =
+    let s = c.self.inside in
+    let d = g.D.Disk.content s.disk in
+    let laws : Lawful d = g.met.D.Disk.lawful s.disk in
+    let unbroken : s.broken ≡ false = ap (λ (l : Log g.row.D.Denot). l.broken) c.self.view_is ∙ c.requires in
+    rw (← c.self.view_is) (start_opens d)
+
 pub returns-in_err-reserve-clause-any_moment : goal.returns-in_err-reserve-clause-any_moment
 returns-in_err-reserve-clause-any_moment g c =
     let s = c.self.inside in
@@ -36,6 +53,14 @@ returns-in_err-reserve-clause-any_moment g c =
     let laws : Lawful d = g.met.D.Disk.lawful s.disk in
     let unbroken : s.broken ≡ false = ap (λ (l : Log g.row.D.Denot). l.broken) c.self.view_is ∙ c.requires in
     rw (← c.self.view_is) (start_since d laws s.incarnation s.local_start s.closed.items s.active s.line s.stable (c.self.invariant.has unbroken))
+
+pub returns-in_err-reserve-clause-opens : goal.returns-in_err-reserve-clause-opens
+returns-in_err-reserve-clause-opens g c =
+    let s = c.self.inside in
+    let d = g.D.Disk.content s.disk in
+    let laws : Lawful d = g.met.D.Disk.lawful s.disk in
+    let unbroken : s.broken ≡ false = ap (λ (l : Log g.row.D.Denot). l.broken) c.self.view_is ∙ c.requires in
+    rw (← c.self.view_is) (start_opens d)
 
 pub invariant_of-self-in_err-reserve-2 : goal.invariant_of-self-in_err-reserve-2
 invariant_of-self-in_err-reserve-2 g c =
@@ -67,6 +92,16 @@ returns-in_err-reserve-2-clause-any_moment g c =
     let laws-m : Lawful m = g.met.D.Disk.lawful c.reserve-2.new.self in
     let unbroken : s.broken ≡ false = ap (λ (l : Log g.row.D.Denot). l.broken) c.self.view_is ∙ c.requires in
     rw (← c.self.view_is) (kept_since d laws s.incarnation s.local_start s.closed.items s.active s.line s.stable (c.self.invariant.has unbroken) m laws-m c.reserve-2.ensures.content)
+
+pub returns-in_err-reserve-2-clause-opens : goal.returns-in_err-reserve-2-clause-opens
+returns-in_err-reserve-2-clause-opens g c =
+    let s = c.self.inside in
+    let d = g.D.Disk.content s.disk in
+    let m = g.D.Disk.content c.reserve-2.new.self in
+    let laws : Lawful d = g.met.D.Disk.lawful s.disk in
+    let laws-m : Lawful m = g.met.D.Disk.lawful c.reserve-2.new.self in
+    let unbroken : s.broken ≡ false = ap (λ (l : Log g.row.D.Denot). l.broken) c.self.view_is ∙ c.requires in
+    rw (← c.self.view_is) (kept_opens d m c.reserve-2.ensures.content)
 
 pub invariant_of-self-in-Ok : goal.invariant_of-self-in-Ok
 invariant_of-self-in-Ok g c =
@@ -144,6 +179,18 @@ returns-in-Ok-clause-any_moment g c =
     let unbroken : s.broken ≡ false = ap (λ (l : Log g.row.D.Denot). l.broken) c.self.view_is ∙ c.requires in
     rw (← c.self.view_is) (twice_since d m d' laws laws-m laws' s.incarnation s.local_start s.closed.items s.active s.line s.stable (c.self.invariant.has unbroken) c.reserve-2.ensures.content c.sync.ensures.content)
 
+pub returns-in-Ok-clause-opens : goal.returns-in-Ok-clause-opens
+returns-in-Ok-clause-opens g c =
+    let s = c.self.inside in
+    let d = g.D.Disk.content s.disk in
+    let m = g.D.Disk.content c.reserve-2.new.self in
+    let d' = g.D.Disk.content c.sync.new.self in
+    let laws : Lawful d = g.met.D.Disk.lawful s.disk in
+    let laws-m : Lawful m = g.met.D.Disk.lawful c.reserve-2.new.self in
+    let laws' : Lawful d' = g.met.D.Disk.lawful c.sync.new.self in
+    let unbroken : s.broken ≡ false = ap (λ (l : Log g.row.D.Denot). l.broken) c.self.view_is ∙ c.requires in
+    rw (← c.self.view_is) (twice_opens d m d' laws-m c.reserve-2.ensures.content c.sync.ensures.content)
+
 pub returns-in-Err-clause-any_moment : goal.returns-in-Err-clause-any_moment
 returns-in-Err-clause-any_moment g c =
     let s = c.self.inside in
@@ -155,3 +202,15 @@ returns-in-Err-clause-any_moment g c =
     let laws' : Lawful d' = g.met.D.Disk.lawful c.sync.new.self in
     let unbroken : s.broken ≡ false = ap (λ (l : Log g.row.D.Denot). l.broken) c.self.view_is ∙ c.requires in
     rw (← c.self.view_is) (twice_since d m d' laws laws-m laws' s.incarnation s.local_start s.closed.items s.active s.line s.stable (c.self.invariant.has unbroken) c.reserve-2.ensures.content c.sync.ensures.content)
+
+pub returns-in-Err-clause-opens : goal.returns-in-Err-clause-opens
+returns-in-Err-clause-opens g c =
+    let s = c.self.inside in
+    let d = g.D.Disk.content s.disk in
+    let m = g.D.Disk.content c.reserve-2.new.self in
+    let d' = g.D.Disk.content c.sync.new.self in
+    let laws : Lawful d = g.met.D.Disk.lawful s.disk in
+    let laws-m : Lawful m = g.met.D.Disk.lawful c.reserve-2.new.self in
+    let laws' : Lawful d' = g.met.D.Disk.lawful c.sync.new.self in
+    let unbroken : s.broken ≡ false = ap (λ (l : Log g.row.D.Denot). l.broken) c.self.view_is ∙ c.requires in
+    rw (← c.self.view_is) (twice_opens d m d' laws-m c.reserve-2.ensures.content c.sync.ensures.content)

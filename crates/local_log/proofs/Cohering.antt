@@ -1,0 +1,49 @@
+-- An open log's batches follow one another up to its end, and a cut ends with one of them.
+use Rattle.std.proofs.Common.{◌≡◌, ◌∙◌, ap, sym, subst, refl, ℕ, ◌+◌, ◌≤◌, ◌<◌, Bool, true, false, List, [], ◌∷◌, ◌++◌, map, inl, inr, IsTrue, lt-ltb, le-ltb, le-leb}
+use Rattle.std.specs.Prelude.{nat_lt, nat_le}
+use Rattle.std.proofs.lemmas.Bool.{cases_lt, lt-leb}
+use Rattle.disk_model.specs.Content.{Content, Files}
+use Rattle.log_terms.specs.Log.{IsConsecutive, end_from, up_to}
+use Rattle.segment_file.specs.Growing.{Grown}
+use Rattle.log_steps.specs.Fronts.{Each}
+use Rattle.local_log.specs.declared.log.LocalLog.TheInside.{Inside}
+use Rattle.local_log.specs.Stored.{all_batches, end_of, extent_of, IsStored}
+use Rattle.local_log.specs.Log.{Log}
+use Rattle.local_log.specs.Inside.{log_in, IsSound}
+use Rattle.local_log.specs.Reading.{begin_of}
+use Rattle.local_log.specs.Cutting.{open_by, cut_point}
+use Rattle.local_log.specs.Coheres.{Coheres}
+use Rattle.local_log.proofs.Pieces.{all_end, chain_snoc, consecutive_segments, stored_segments}
+use Rattle.local_log.proofs.Lines.{cut_within}
+use Rattle.local_log.proofs.Edges.{holder}
+use Rattle.local_log.proofs.RunsTold.{edge_told}
+use Rattle.local_log.proofs.PieceStarts.{stored_checked, piece_before}
+
+-- the segment that is open after a cut is the one that holds the offset
+pub open_holds : (n : ℕ) (closed : List Grown) (active : Grown) → open_by n closed active ≡ holder n closed active
+open_holds n [] active = refl
+open_holds n (g ∷ closed) active = elim (cases_lt n (end_of g)) [
+  | inl lt ↦ rw (lt-ltb n (end_of g) lt, lt-leb (end_of g) n lt) refl
+  | inr ge ↦ rw (le-ltb n (end_of g) ge, le-leb (end_of g) n ge) (open_holds n closed active)
+]
+
+module _ {D : Type 0} (content : D → Content) (s : Inside D) (sound : IsSound content s) (unbroken : s.broken ≡ false) (t : IsTrue (content s.disk).tells) where
+  abbrev pub segments : List Grown
+  segments = s.closed.items ++ s.active ∷ []
+
+  each : Each (IsStored (content s.disk).files s.line) segments
+  each = (sound.has unbroken).stored t
+
+  pub log_coheres : Coheres (log_in content s)
+  log_coheres =
+      let f = (content s.disk).files in
+      let are = sound.segments in
+      record {
+        consecutive = consecutive_segments f s.line s.local_start (map extent_of segments) (all_batches f segments) (stored_segments f s.line s.local_start segments are.chained each);
+        ends = all_end f s.line s.local_start segments are.chained each ∙ chain_snoc s.local_start s.closed.items s.active;
+        stable_within = sound.stable_within;
+        line_within = cut_within s.line (end_of s.active) sound.line_within;
+        cuts = λ n le. ap (λ (g : Grown). begin_of g n) (open_holds n s.closed.items s.active) ∙ sym (edge_told content s sound unbroken t n le);
+        are = stored_checked f s.line segments each;
+        pieces = piece_before content s sound unbroken t;
+      }

@@ -1,0 +1,46 @@
+-- Whether bytes are batches that a log may take, told from the front on.
+--
+-- A spot is a place in the bytes with what is asked of the batch there: where it must begin, a base and so many offsets
+-- further on, and the epoch that its own must not be below.
+use Rattle.std.specs.Prelude.{◌≡◌, ◌↔◌, ℕ, ◌+◌, ◌^◌, ◌≤◌, ◌<◌, List, length, drop, IsOk}
+use Rattle.std.specs.Int.{w32, w64, cast_unsigned}
+use Rattle.log_terms.specs.Log.{joined, IsConsecutive}
+use Rattle.record_batch.specs.declared.head.Head.{Head}
+use Rattle.record_batch.specs.Check.{checked}
+use Rattle.segment_file.specs.Walk.{size_in}
+use Rattle.segment_file.specs.Segment.{EpochsRise}
+use Rattle.log_steps.specs.Fronts.{Each}
+use Rattle.local_log.specs.declared.admitting.Spot.{Spot}
+
+-- bytes are batches, one after another from an offset on, whose epochs don't fall and aren't below this one; or none
+pub record AreTaken (end epoch : ℕ) (bytes : List ℕ) : Type 0 where
+  pub batches : List (List ℕ)
+  pub bytes_are : bytes ≡ joined batches
+  pub are : Each (λ (batch : List ℕ). IsOk (checked batch)) batches
+  pub consecutive : IsConsecutive end batches
+  pub epochs : EpochsRise epoch batches
+
+-- so are those from a spot on
+abbrev pub AreFrom : List ℕ → Spot → Type 0
+AreFrom run spot = AreTaken (spot.base + spot.more) spot.epoch (drop spot.at run)
+
+-- a batch of this head meets what a spot asks
+pub record Meets (spot : Spot) (head : Head) : Type 0 where
+  pub begins : cast_unsigned w64 head.base_offset ≡ spot.base + spot.more
+  pub rises : spot.epoch ≤ cast_unsigned w32 head.leader_epoch
+  pub fits : cast_unsigned w32 head.leader_epoch < 2 ^ 31
+
+-- the spot behind a batch of this head, which stands at a place
+abbrev pub spot_after : ℕ → Head → Spot
+spot_after at head = record {
+  at = at + size_in head;
+  base = cast_unsigned w64 head.base_offset;
+  more = cast_unsigned w32 head.last_offset_delta + 1;
+  epoch = cast_unsigned w32 head.leader_epoch;
+}
+
+-- a batch stands at a spot, the next spot is behind it, and nothing else is asked
+pub record GoesOn (run : List ℕ) (spot next : Spot) : Type 0 where
+  pub further : spot.at < next.at
+  pub inside : next.at ≤ length run
+  pub same : AreFrom run spot ↔ AreFrom run next

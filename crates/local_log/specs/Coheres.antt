@@ -1,0 +1,22 @@
+-- What the batches, the ends and the line of an open log have to do with one another, over a disk that tells.
+use Rattle.std.specs.Prelude.{◌≡◌, ℕ, ◌+◌, ◌≤◌, ◌<◌, List, IsOk}
+use Rattle.log_terms.specs.Log.{IsConsecutive, end_from, up_to}
+use Rattle.record_batch.specs.Check.{checked}
+use Rattle.epoch_line.specs.Line.{cut_end}
+use Rattle.log_steps.specs.Fronts.{Each}
+use Rattle.local_log.specs.Log.{Log}
+use Rattle.local_log.specs.Reading.{IsEdge, piece_of}
+use Rattle.local_log.specs.Cutting.{cut_point}
+
+pub record Coheres {D : Type 0} (log : Log D) : Type 0 where
+  pub consecutive : IsConsecutive log.local_start log.batches
+  pub ends : end_from log.local_start log.batches ≡ log.end
+  pub stable_within : log.stable ≤ log.end
+  -- no entry of the line starts past the end
+  pub line_within : cut_end log.line (log.end + 1) ≡ log.line
+  -- a cut to an offset ends with the last batch that ends at or below it
+  pub cuts : (n : ℕ) → log.local_start ≤ n → cut_point n log.closed log.active ≡ end_from log.local_start (up_to n log.batches)
+  pub are : Each (λ (batch : List ℕ). IsOk (checked batch)) log.batches
+  -- no epoch that starts at a batch's end starts within a piece
+  pub pieces : (offset : ℕ) → log.local_start ≤ offset → offset < log.end
+      → Each (λ (entry : ℕ × ℕ). offset < entry.1 → IsEdge log entry.1 → piece_of log offset ≤ entry.1) log.line

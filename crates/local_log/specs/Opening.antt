@@ -1,0 +1,103 @@
+-- Why a log isn't opened, and what is told of one that is.
+--
+-- A log is opened under the incarnation after that of the manifest. A disk without a manifest opens as the empty log at 0
+-- under incarnation 0.
+use Rattle.std.specs.Prelude.{◌≡◌, ◌≢◌, ◌⊎◌, ℕ, ◌+◌, false, ◌≤◌, List, [], ◌∷◌, ◌++◌, length, take, Ok, Err}
+use Rattle.tier_base.specs.declared.plain.FileName.{FileName}
+use Rattle.tier_base.specs.declared.plain.FileName.TheVariants as file
+use Rattle.tier_base.specs.declared.plain.Settings.{Settings}
+use Rattle.disk_model.specs.Content.{Files}
+use Rattle.log_terms.specs.Log.{end_from}
+use Rattle.log_manifest.specs.declared.manifest.Extent.{Extent}
+use Rattle.log_manifest.specs.declared.manifest.Manifest.{Manifest}
+use Rattle.log_manifest.specs.declared.refusal.ManifestRefusal.TheVariants.{Bad}
+use Rattle.log_manifest.specs.Rules.{IsManifest}
+use Rattle.log_manifest.specs.Reading.{manifest_in}
+use Rattle.segment_file.specs.Growing.{Grown}
+use Rattle.log_steps.specs.Fronts.{Each}
+use Rattle.log_steps.specs.Opens.{Opened}
+use Rattle.log_steps.specs.Reopens.{Says}
+use Rattle.local_log.specs.declared.refusal.OpenRefusal.{OpenRefusal}
+use Rattle.local_log.specs.declared.refusal.OpenRefusal.TheVariants.{DiskFault, Damaged, LastIncarnation, NoMemory}
+use Rattle.local_log.specs.Log.{Log}
+use Rattle.local_log.specs.Parsing.{Fronts, HasNoBatchAt}
+
+-- bytes say a manifest of the last incarnation
+abbrev pub IsLastOf : List ℕ → Type 0
+IsLastOf bytes = (m : Manifest) × (manifest_in bytes ≡ Ok m) × (m.incarnation ≡ 4294967295)
+
+-- the manifest of these files has the last incarnation
+abbrev pub HoldsLast : Files → Type 0
+HoldsLast f = (m : Manifest) × Says f m × (m.incarnation ≡ 4294967295)
+
+-- why a segment isn't read: it doesn't begin where those before it end, or its file has no batch at a place
+abbrev pub SegmentFails : List (ℕ × ℕ) → ℕ → Extent → List ℕ → OpenRefusal → Type 0
+SegmentFails line end e handed DiskFault = Unit {0}
+SegmentFails line end e handed (Damaged name at) =
+    (name ≡ file.Log e.base) × (((e.base ≢ end) × (at ≡ 0)) ⊎ HasNoBatchAt line e handed at)
+SegmentFails line end e handed LastIncarnation = ⊥
+SegmentFails line end e handed NoMemory = Unit {0}
+
+-- what was handed is a segment's file, and its batches end there
+pub record ReadsTo (line : List (ℕ × ℕ)) (e : Extent) (handed : List ℕ) (end : ℕ) : Type 0 where
+  pub batches : List (List ℕ)
+  pub fronts : Fronts line e.base (take e.len handed) batches []
+  pub long : e.len ≤ length handed
+  pub end_is : end ≡ end_from e.base batches
+
+-- the file of a segment of the manifest was handed, and has no batch at a place
+pub record HasUnread (m : Manifest) (handed : List ℕ) (name : FileName) (at : ℕ) : Type 0 where
+  pub before : List Extent
+  pub extent : Extent
+  pub after : List Extent
+  pub parts : m.segments ≡ before ++ extent ∷ after
+  pub named : name ≡ file.Log extent.base
+  pub misses : HasNoBatchAt m.line extent handed at
+
+-- the file of a segment of the manifest was handed, and the next one doesn't begin where its batches end
+pub record HasGap (m : Manifest) (handed : List ℕ) (name : FileName) (at : ℕ) : Type 0 where
+  pub before : List Extent
+  pub extent : Extent
+  pub next : Extent
+  pub after : List Extent
+  pub parts : m.segments ≡ before ++ extent ∷ next ∷ after
+  pub named : name ≡ file.Log next.base
+  pub end : ℕ
+  pub reads : ReadsTo m.line extent handed end
+  pub apart : next.base ≢ end
+  pub place : at ≡ 0
+
+-- a segment of a manifest has no reading at a place of its file
+abbrev pub MissesSegment : Manifest → List ℕ → FileName → ℕ → Type 0
+MissesSegment m handed name at = HasUnread m handed name at ⊎ HasGap m handed name at
+
+-- why the segments of a manifest aren't read
+abbrev pub ReadFails : Manifest → List ℕ → OpenRefusal → Type 0
+ReadFails m handed DiskFault = Unit {0}
+ReadFails m handed (Damaged name at) = MissesSegment m handed name at
+ReadFails m handed LastIncarnation = ⊥
+ReadFails m handed NoMemory = Unit {0}
+
+-- why a log wasn't opened, by what was handed last: the manifest has no reading at a place, or a segment that it lists
+abbrev pub OpenFails : List ℕ → OpenRefusal → Type 0
+OpenFails handed DiskFault = Unit {0}
+OpenFails handed (Damaged name at) =
+    ((name ≡ file.Manifest) × (manifest_in handed ≡ Err (Bad at)))
+    ⊎ ((m : Manifest) × IsManifest m × MissesSegment m handed name at)
+OpenFails handed LastIncarnation = IsLastOf handed
+OpenFails handed NoMemory = Unit {0}
+
+module _ {D : Type 0} where
+  -- a log that was just opened
+  pub record IsOpenLog (settings : Settings) (log : Log D) : Type 0 where
+    pub settings_are : log.settings ≡ settings
+    pub intervals : Each (λ (segment : Grown). segment.interval ≡ settings.index_interval) (log.closed ++ log.active ∷ [])
+    pub stable : log.stable ≡ log.end
+    pub broken : log.broken ≡ false
+
+  -- the log of what was read, under the next incarnation
+  pub record IsOf (o : Opened) (log : Log D) : Type 0 where
+    pub incarnation : log.incarnation ≡ o.incarnation + 1
+    pub local_start : log.local_start ≡ o.local_start
+    pub batches : log.batches ≡ o.batches
+    pub line : log.line ≡ o.line

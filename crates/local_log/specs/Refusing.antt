@@ -1,0 +1,33 @@
+-- How an opening refuses.
+use Rattle.std.specs.Prelude.{◌≡◌}
+use Rattle.tier_base.specs.declared.plain.FileName.TheVariants as file
+use Rattle.tier_base.specs.declared.fault.Trouble.{Trouble}
+use Rattle.tier_base.specs.declared.fault.Trouble.TheVariants as trouble
+use Rattle.local_log.specs.declared.refusal.OpenRefusal.{OpenRefusal}
+use Rattle.local_log.specs.declared.refusal.OpenRefusal.TheVariants.{DiskFault, Damaged, LastIncarnation, NoMemory}
+
+-- the bytes that were handed aren't the cause
+abbrev pub IsSoundCause : OpenRefusal → Type 0
+IsSoundCause DiskFault = Unit {0}
+IsSoundCause (Damaged name at) = ⊥
+IsSoundCause LastIncarnation = Unit {0}
+IsSoundCause NoMemory = Unit {0}
+
+-- there was no memory
+abbrev pub IsDry : OpenRefusal → Type 0
+IsDry DiskFault = ⊥
+IsDry (Damaged name at) = ⊥
+IsDry LastIncarnation = ⊥
+IsDry NoMemory = Unit {0}
+
+-- what was read of the manifest is the cause
+abbrev pub IsOfManifest : OpenRefusal → Type 0
+IsOfManifest DiskFault = ⊥
+IsOfManifest (Damaged name at) = name ≡ file.Manifest
+IsOfManifest LastIncarnation = Unit {0}
+IsOfManifest NoMemory = ⊥
+
+-- how a call of the disk refuses an opening
+abbrev pub refusal_of : Trouble → OpenRefusal
+refusal_of trouble.Failed = DiskFault
+refusal_of trouble.NoMemory = NoMemory

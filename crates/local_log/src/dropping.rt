@@ -1,0 +1,107 @@
+//! Dropping the first closed segment of a log.
+//!
+//! The manifest without it comes first, and then its file goes. The new manifest lists no more than the old one: what isn't
+//! stable stays so.
+
+ghost use Rattle.std.specs.Prelude.{◌≡◌, ◌⊎◌, ◌+◌, ◌≤◌, ◌<◌, ◌∷◌, ℕ, [], length, false, true, OnOk, OnErr, IfOk, IsErrOf};
+ghost use Rattle.disk_model.specs.Content.{LeavesOnly, Image, Files};
+ghost use Rattle.tier_base.specs.Counts.{Rose};
+ghost use Rattle.tier_base.specs.Device.{Lasts};
+ghost use Rattle.epoch_line.specs.Line.{cut_end};
+ghost use Rattle.log_manifest.specs.Spelling.{manifest_bytes};
+ghost use Rattle.log_steps.specs.Opens.{Opens};
+ghost use Rattle.local_log.specs.declared.refusal.LogRefusal.TheVariants.{DiskFault, NoMemory};
+ghost use Rattle.local_log.specs.Listing.{front_to, manifest_of};
+ghost use Rattle.local_log.specs.Log.{Becomes, stable_log};
+ghost use Rattle.local_log.specs.Cutting.{closed_by, open_by};
+ghost use Rattle.local_log.specs.Dropping.{rest_of, start_behind, IsFirstStable, SpansFirst, dropped, OpensDropped};
+
+use crate::log::{LocalLog, refused};
+use crate::refusal::LogRefusal;
+use crate::restarting::renew;
+use crate::trimming::listing_to;
+use disk_model::Disk;
+use std::alloc::AllocError;
+
+impl<D: Disk> LocalLog<D> {
+    /// Drops the first closed segment, durably, and answers its base and its last offset. The stable end stays.
+    pub fn drop_first(&mut self) -> Result<(u64, u64), LogRefusal>
+        requires unbroken { self.old.broken ≡ false }
+        requires first { IsFirstStable self.old.stable self.old.closed }
+        ensures answer { IfOk result (λ answer. SpansFirst self.old.closed answer) }
+        ensures ok { OnOk result (Becomes D.content (dropped self.old) self.new) }
+        ensures durable { OnOk result ((c : Files) → Image (D.content self.new.disk) c → Opens c (stable_log (dropped self.old))) }
+
+        // A crash at any moment of the call leaves the stable log of before, or the one without the segment.
+        ensures any_moment { LeavesOnly (D.content self.old.disk) (D.content self.new.disk) (OpensDropped self.old) }
+
+        ensures others { OnErr result (IsErrOf result NoMemory ⊎ IsErrOf result DiskFault) }
+        ensures no_memory { IsErrOf result NoMemory → Becomes D.content self.old self.new }
+        ensures broken { IsErrOf result DiskFault → self.new.broken ≡ true }
+        ensures control { Lasts (D.control self.old.disk) (D.control self.new.disk) }
+        ensures cause { IsErrOf result DiskFault → Rose (D.control self.old.disk).faults (D.control self.new.disk).faults }
+    {
+        self.stands();
+        let bytes = self.listing_behind()?;
+        self.make_room(1)?;
+        self.drop_listed(&bytes)
+    }
+
+    /// The bytes of the manifest that lists the stable log without its first segment.
+    fn listing_behind(&self) -> Result<Vec<u8>, AllocError>
+        requires unbroken { self.now.broken ≡ false }
+        requires first { IsFirstStable self.now.stable self.now.closed }
+        ensures { IfOk result (λ bytes. bytes.items
+            ≡ manifest_bytes (manifest_of self.now.incarnation (start_behind self.now.local_start self.now.closed)
+            (closed_by self.now.stable (rest_of self.now.closed))
+            (front_to self.now.stable (open_by self.now.stable (rest_of self.now.closed) self.now.active))
+            (cut_end self.now.line (self.now.stable + 1)))) }
+    {
+        let mut line = self.line.copy(self.alloc)?;
+        line.cut_end(self.stable + 1);
+        let start = self.closed[0].end();
+        let (_, rest) = self.closed.split_at(1);
+        listing_to(
+            self.alloc,
+            self.incarnation,
+            start,
+            rest,
+            &self.active,
+            self.stable,
+            &line,
+        )
+    }
+
+    /// Makes the manifest without the first segment the present one, and removes that segment's file.
+    fn drop_listed(&mut self, bytes: &[u8]) -> Result<(u64, u64), LogRefusal>
+        requires unbroken { self.old.broken ≡ false }
+        requires first { IsFirstStable self.old.stable self.old.closed }
+        requires room { 1 ≤ D.spare self.old.disk }
+        requires bytes { bytes.now
+            ≡ manifest_bytes (manifest_of self.old.incarnation (start_behind self.old.local_start self.old.closed)
+            (closed_by self.old.stable (rest_of self.old.closed))
+            (front_to self.old.stable (open_by self.old.stable (rest_of self.old.closed) self.old.active))
+            (cut_end self.old.line (self.old.stable + 1))) }
+        ensures answer { IfOk result (λ answer. SpansFirst self.old.closed answer) }
+        ensures ok { OnOk result (Becomes D.content (dropped self.old) self.new) }
+        ensures durable { OnOk result ((c : Files) → Image (D.content self.new.disk) c → Opens c (stable_log (dropped self.old))) }
+        ensures any_moment { LeavesOnly (D.content self.old.disk) (D.content self.new.disk) (OpensDropped self.old) }
+        ensures others { OnErr result (IsErrOf result NoMemory ⊎ IsErrOf result DiskFault) }
+        ensures no_memory { IsErrOf result NoMemory → Becomes D.content self.old self.new }
+        ensures broken { IsErrOf result DiskFault → self.new.broken ≡ true }
+        ensures control { Lasts (D.control self.old.disk) (D.control self.new.disk) }
+        ensures cause { IsErrOf result DiskFault → Rose (D.control self.old.disk).faults (D.control self.new.disk).faults }
+    {
+        let first = &self.closed[0];
+        let base = first.base();
+        let end = first.end();
+        match renew(&mut self.disk, bytes, &[], first) {
+            Ok(()) => {
+                let _ = self.closed.remove(0);
+                self.local_start = end;
+                Ok((base, end - 1))
+            }
+            Err(trouble) => Err(refused(&mut self.broken, trouble)),
+        }
+    }
+}

@@ -1,0 +1,110 @@
+//! A log that is begun anew at an offset, empty and durable.
+//!
+//! The manifest with the one empty segment comes first: from then on no image opens as the old log. Only then do the old
+//! segments' files go, the open one's too, so that nothing reads where the new open segment begins.
+
+ghost use Rattle.std.specs.Prelude.{◌≡◌, ◌⊎◌, ◌+◌, ◌≤◌, ◌<◌, ◌^◌, ◌++◌, ◌∷◌, ℕ, [], length, false, true, OnOk, OnErr, IsErrOf};
+ghost use Rattle.disk_model.specs.Content.{LeavesOnly, Image, Files};
+ghost use Rattle.tier_base.specs.Counts.{Rose};
+ghost use Rattle.tier_base.specs.Device.{Lasts, fate_of};
+ghost use Rattle.epoch_line.specs.Line.{IsLine};
+ghost use Rattle.log_manifest.specs.Spelling.{manifest_bytes};
+ghost use Rattle.log_steps.specs.Fronts.{Each};
+ghost use Rattle.log_steps.specs.Opens.{Opens};
+ghost use Rattle.log_steps.specs.Runs.{Runs};
+ghost use Rattle.local_log.specs.declared.refusal.LogRefusal.TheVariants.{DiskFault, NoMemory};
+ghost use Rattle.local_log.specs.Listing.{manifest_of};
+ghost use Rattle.local_log.specs.Log.{Becomes};
+ghost use Rattle.local_log.specs.Cutting.{names_of, restarted, all_of, OpensEither};
+ghost use Rattle.local_log.specs.Renewing.{Renews};
+
+use crate::listing::listing;
+use crate::log::{LocalLog, refused};
+use crate::refusal::LogRefusal;
+use crate::trimming::remove_segments;
+use disk_model::{Disk, FileName};
+use epoch_line::Line;
+use segment_file::Growing;
+use tier_base::Trouble;
+
+/// Puts a manifest in the place of the old one, and then removes the files of segments that it doesn't list.
+pub(crate) fn renew<D: Disk>(
+    disk: &mut D,
+    bytes: &[u8],
+    closed: &[Growing],
+    active: &Growing,
+) -> Result<(), Trouble>
+    requires { length closed.now + 1 ≤ D.spare disk.old }
+    ensures content { Renews bytes.now (names_of (closed.now ++ active.now ∷ [])) (fate_of result)
+        (D.content disk.old) (D.content disk.new) }
+    ensures control { Runs (fate_of result) (D.control disk.old) (D.control disk.new) }
+{
+    disk.replace(FileName::Manifest, bytes)?;
+    remove_segments(disk, closed, active)?;
+    Ok(())
+}
+
+impl<D: Disk> LocalLog<D> {
+    /// Begins the log anew at an offset, empty and durable, with this line.
+    pub fn restart_at(&mut self, start: u64, line: Line) -> Result<(), LogRefusal>
+        requires unbroken { self.old.broken ≡ false }
+        requires low { start ≤ 2 ^ 62 }
+        requires within { Each (λ (entry : ℕ × ℕ). entry.1 ≤ start) line }
+        ensures ok { OnOk result (Becomes D.content (restarted self.old start line) self.new) }
+        ensures durable { OnOk result ((c : Files) → Image (D.content self.new.disk) c
+            → Opens c (all_of (restarted self.old start line))) }
+
+        // A crash at any moment of the call leaves the stable log of before, or the empty one.
+        ensures any_moment { LeavesOnly (D.content self.old.disk) (D.content self.new.disk)
+            (OpensEither self.old (restarted self.old start line)) }
+
+        ensures others { OnErr result (IsErrOf result NoMemory ⊎ IsErrOf result DiskFault) }
+        ensures no_memory { IsErrOf result NoMemory → Becomes D.content self.old self.new }
+        ensures no_image { IsErrOf result NoMemory → (c : Files) → Image (D.content self.new.disk) c → Image (D.content self.old.disk) c }
+        ensures broken { IsErrOf result DiskFault → self.new.broken ≡ true }
+        ensures control { Lasts (D.control self.old.disk) (D.control self.new.disk) }
+        ensures cause { IsErrOf result DiskFault → Rose (D.control self.old.disk).faults (D.control self.new.disk).faults }
+    {
+        self.stands();
+        let active = Growing::new(self.alloc, start, self.settings.index_interval);
+        let bytes = listing(self.alloc, self.incarnation, start, &[], &active, &line)?;
+        let calls = self.closed.len() as u32 + 1;
+        self.make_room(calls)?;
+        self.begin_at(&bytes, active, line)
+    }
+
+    /// Makes the manifest of an empty log the present one, and drops all segments.
+    fn begin_at(&mut self, bytes: &[u8], active: Growing, line: Line) -> Result<(), LogRefusal>
+        requires unbroken { self.old.broken ≡ false }
+        requires low { active.base ≤ 2 ^ 62 }
+        requires fresh { active ≡ record { base = active.base; interval = self.old.settings.index_interval; batches = [] } }
+        requires line { IsLine line }
+        requires within { Each (λ (entry : ℕ × ℕ). entry.1 ≤ active.base) line }
+        requires room { length self.old.closed + 1 ≤ D.spare self.old.disk }
+        requires bytes { bytes.now ≡ manifest_bytes (manifest_of self.old.incarnation active.base [] active line) }
+        ensures ok { OnOk result (Becomes D.content (restarted self.old active.base line) self.new) }
+        ensures durable { OnOk result ((c : Files) → Image (D.content self.new.disk) c
+            → Opens c (all_of (restarted self.old active.base line))) }
+        ensures any_moment { LeavesOnly (D.content self.old.disk) (D.content self.new.disk)
+            (OpensEither self.old (restarted self.old active.base line)) }
+        ensures others { OnErr result (IsErrOf result NoMemory ⊎ IsErrOf result DiskFault) }
+        ensures no_memory { IsErrOf result NoMemory → Becomes D.content self.old self.new }
+        ensures no_image { IsErrOf result NoMemory → (c : Files) → Image (D.content self.new.disk) c → Image (D.content self.old.disk) c }
+        ensures broken { IsErrOf result DiskFault → self.new.broken ≡ true }
+        ensures control { Lasts (D.control self.old.disk) (D.control self.new.disk) }
+        ensures cause { IsErrOf result DiskFault → Rose (D.control self.old.disk).faults (D.control self.new.disk).faults }
+    {
+        match renew(&mut self.disk, bytes, &self.closed, &self.active) {
+            Ok(()) => {
+                let start = active.base();
+                self.local_start = start;
+                self.stable = start;
+                self.closed.clear();
+                self.active = active;
+                self.line = line;
+                Ok(())
+            }
+            Err(trouble) => Err(refused(&mut self.broken, trouble)),
+        }
+    }
+}

@@ -1,0 +1,45 @@
+//! Where a log's batches end, found by halving its segments and then the batches of one of them.
+
+ghost use Rattle.std.specs.Prelude.{◌≡◌, ◌<◌, ◌≤◌, ◌^◌, ◌+◌, length};
+ghost use Rattle.local_log.specs.Listing.{AreSegmentsOf};
+ghost use Rattle.local_log.specs.Cutting.{closed_by, cut_point};
+
+use crate::log::LocalLog;
+use disk_model::Disk;
+use segment_file::Growing;
+
+impl<D: Disk> LocalLog<D> {
+    /// Where the last batch ends that ends at or below an offset: where the log would end that is cut to it.
+    pub fn end_up_to(&self, offset: u64) -> u64
+        ensures { result ≡ cut_point offset self.now.closed self.now.active }
+    {
+        end_by(
+            self.local_start,
+            self.closed.as_slice(),
+            &self.active,
+            offset,
+        )
+    }
+}
+
+/// How many closed segments end at or below an offset: those in front.
+fn count_ended(local_start: u64, closed: &[Growing], active: &Growing, end: u64) -> usize
+    requires { AreSegmentsOf local_start closed.now active.now }
+    ensures { result ≡ length (closed_by end closed.now) }
+{
+    let (_first, _last) = (local_start, active.base());
+    closed.partition_point(|segment| segment.end() <= end)
+}
+
+/// Where the last batch of segments ends that ends at or below an offset.
+fn end_by(local_start: u64, closed: &[Growing], active: &Growing, offset: u64) -> u64
+    requires { AreSegmentsOf local_start closed.now active.now }
+    ensures { result ≡ cut_point offset closed.now active.now }
+{
+    let kept = count_ended(local_start, closed, active, offset);
+    if kept < closed.len() {
+        closed[kept].place_of(offset).0
+    } else {
+        active.place_of(offset).0
+    }
+}
