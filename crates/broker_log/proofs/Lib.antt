@@ -1,0 +1,5 @@
+pub mod Showing
+pub mod Placing
+pub mod Cuts
+pub mod Runs
+pub mod Returning

@@ -1,0 +1,79 @@
+-- Where a log is after a call, by how the call ended.
+use Rattle.std.proofs.Common.{◌≡◌, ◌⊎◌, ◌↔◌, sym, subst, refl, inl, inr, Bool, true, false, Result, Ok, Err, IfOk, IfErr, OnOk, OnErr, IsErrOf, IsOk, IsTrue, ⊎_elim, ℕ}
+use Rattle.disk_model.specs.Content.{Content}
+use Rattle.log_steps.specs.Reopens.{Reopens}
+use Rattle.local_log.specs.Log.{Log}
+use Rattle.local_log.specs.declared.refusal.LogRefusal.{LogRefusal}
+use Rattle.local_log.specs.declared.refusal.LogRefusal.TheVariants.{DiskFault, NoMemory}
+use Rattle.broker_log.specs.declared.place.Place.{Place}
+use Rattle.broker_log.specs.declared.place.Place.TheVariants as place
+use Rattle.broker_log.specs.Seen.{Up}
+use Rattle.broker_log.specs.Inside.{kept_of, IsWellPlaced}
+
+-- it ended otherwise than by a fault
+pub ok_open : {T : Type 0} (P : T → Type 0) (r : Result T LogRefusal) (b : Bool) → (IsTrue b ↔ IsErrOf r DiskFault) → (b ≡ false → IfOk r P) → IfOk r P
+ok_open P (Ok x) true is f = absurd (cc (is.0 refl))
+ok_open P (Ok x) false is f = f refl
+ok_open P (Err e) b is f = tt
+
+pub dry_open : {T : Type 0} (r : Result T LogRefusal) (b : Bool) → (IsTrue b ↔ IsErrOf r DiskFault) → IsErrOf r NoMemory → b ≡ false
+dry_open (Ok x) true is dry = absurd (cc dry)
+dry_open (Ok x) false is dry = refl
+dry_open (Err e) true is dry = absurd (cc (dry, is.0 refl))
+dry_open (Err e) false is dry = refl
+
+pub ok_both : {T : Type 0} (P Q R : T → Type 0) (r : Result T LogRefusal) → ((x : T) → P x → Q x → R x) → IfOk r P → IfOk r Q → IfOk r R
+ok_both P Q R (Ok x) f p q = f x p q
+ok_both P Q R (Err e) f p q = tt
+
+pub on_open : {T : Type 0} (P : Type 0) (r : Result T LogRefusal) (b : Bool) → (IsTrue b ↔ IsErrOf r DiskFault) → (b ≡ false → OnOk r P) → OnOk r P
+on_open P (Ok x) true is f = absurd (cc (is.0 refl))
+on_open P (Ok x) false is f = f refl
+on_open P (Err e) b is f = tt
+
+pub on_told : {T : Type 0} (P Q : Type 0) (r : Result T LogRefusal) → (P → Q) → OnOk r P → OnOk r Q
+on_told P Q (Ok x) f p = f p
+on_told P Q (Err e) f p = tt
+
+-- an answer, and what else holds where there is one
+pub ok_told : {T : Type 0} (P Q : T → Type 0) {A B : Type 0} (r : Result T LogRefusal) → ((x : T) → P x → A → B → Q x) → IfOk r P → OnOk r A → OnOk r B → IfOk r Q
+ok_told P Q (Ok x) f p a b = f x p a b
+ok_told P Q (Err e) f p a b = tt
+
+-- what a call leaves that didn't end by a fault
+pub whole_by : {T : Type 0} (P : T → Type 0) (Q : Type 0) (A B : Type 0) (r : Result T LogRefusal) → IfOk r P → OnErr r (A ⊎ (B ⊎ IsErrOf r DiskFault)) → ((x : T) → P x → Q) → (A → Q) → (B → Q) → (IsErrOf r DiskFault → ⊥) → Q
+whole_by P Q A B (Ok x) ok others f a b not = f x ok
+whole_by P Q A B (Err e) ok (inl h) f a b not = a h
+whole_by P Q A B (Err e) ok (inr (inl h)) f a b not = b h
+whole_by P Q A B (Err e) ok (inr (inr h)) f a b not = absurd (not h)
+
+module _ {D : Type 0} (content : D → Content) where
+  -- an open log was taken out
+  pub well_up : (p : Place D) (log : Log D) → kept_of p ≡ Up log → IsWellPlaced content p → (log.broken ≡ false) × (log.local_start ≡ 0)
+  well_up (place.Up l) log is well = let same : l ≡ log = cc is in subst (λ (x : Log D). (x.broken ≡ false) × (x.local_start ≡ 0)) same well
+  well_up (place.Down disk) log is well = absurd (cc is)
+  well_up place.Away log is well = absurd well
+
+  pub place_well : (p : Place D) (n : Log D) (b : Bool) → (b ≡ false → p ≡ place.Up n) → (b ≡ true → p ≡ place.Down n.disk) → (b ≡ true → Reopens (content n.disk)) → (b ≡ false → (n.broken ≡ false) × (n.local_start ≡ 0)) → IsWellPlaced content p
+  place_well p n true up down again whole = subst (IsWellPlaced content) (sym (down refl)) (again refl)
+  place_well p n false up down again whole = subst (IsWellPlaced content) (sym (up refl)) (whole refl)
+
+-- what a call of no answer leaves that didn't end by a fault
+pub whole_on : {T : Type 0} (P P2 : Type 0) (Q : Type 0) (B : Type 0) (r : Result T LogRefusal) → OnOk r P → OnOk r P2 → OnErr r (B ⊎ IsErrOf r DiskFault) → (P → P2 → Q) → (B → Q) → (IsErrOf r DiskFault → ⊥) → Q
+whole_on P P2 Q B (Ok x) ok ok2 others f b not = f ok ok2
+whole_on P P2 Q B (Err e) ok ok2 (inl h) f b not = b h
+whole_on P P2 Q B (Err e) ok ok2 (inr h) f b not = absurd (not h)
+
+-- the answer that has the end in place of nothing
+pub ended_ok : {T A B : Type 0} (P : ℕ → Type 0) (r : Result T LogRefusal) (r' : Result ℕ LogRefusal) (end : ℕ) (b : Bool) → (IsTrue b ↔ IsErrOf r DiskFault) → (IsOk r → r' ≡ Ok end) → IfErr r (λ e. r' ≡ Err e) → OnOk r A → OnOk r B → (b ≡ false → A → B → P end) → IfOk r' P
+ended_ok P (Ok x) r' end true is ok err a b f = absurd (cc (is.0 refl))
+ended_ok P (Ok x) r' end false is ok err a b f = subst (λ (q : Result ℕ LogRefusal). IfOk q P) (sym (ok refl)) (f refl a b)
+ended_ok P (Err e) r' end b is ok err a b2 f = subst (λ (q : Result ℕ LogRefusal). IfOk q P) (sym err) tt
+
+pub ended_err : {T : Type 0} (r : Result T LogRefusal) (r' : Result ℕ LogRefusal) (end : ℕ) → (IsOk r → r' ≡ Ok end) → IfErr r (λ e. r' ≡ Err e) → OnErr r (IsErrOf r NoMemory ⊎ IsErrOf r DiskFault) → OnErr r' (IsErrOf r' NoMemory ⊎ IsErrOf r' DiskFault)
+ended_err (Ok x) r' end ok err others = subst (λ (q : Result ℕ LogRefusal). OnErr q (IsErrOf q NoMemory ⊎ IsErrOf q DiskFault)) (sym (ok refl)) tt
+ended_err (Err e) r' end ok err others = subst (λ (q : Result ℕ LogRefusal). OnErr q (IsErrOf q NoMemory ⊎ IsErrOf q DiskFault)) (sym err) (⊎_elim (λ h. inl (cc h)) (λ h. inr (cc h)) others)
+
+pub ended_dry : {T : Type 0} (r : Result T LogRefusal) (r' : Result ℕ LogRefusal) (end : ℕ) → (IsOk r → r' ≡ Ok end) → IfErr r (λ e. r' ≡ Err e) → IsErrOf r' NoMemory → IsErrOf r NoMemory
+ended_dry (Ok x) r' end ok err dry = absurd (cc (ok refl, dry))
+ended_dry (Err e) r' end ok err dry = cc (err, dry)

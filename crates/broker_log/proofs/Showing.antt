@@ -1,0 +1,231 @@
+-- How a log is seen after a call.
+use Rattle.std.proofs.Common.{◌∷◌, ◌≡◌, ◌∙◌, ap, sym, subst, refl, ℕ, ◌+◌, ◌≤◌, Bool, true, false, List, [], ◌++◌, Some, IsTrue, arith}
+use Rattle.std.specs.List.{AllByRecursion}
+use Rattle.disk_model.specs.Content.{Content, Files, Image, Lawful, LeavesOnly}
+use Rattle.std.proofs.Common.{◌≢◌, cond, IsOk}
+use Rattle.log_terms.specs.Log.{up_to, end_from, end_of, joined, IsConsecutive}
+use Rattle.log_terms.proofs.Logs.{end_append}
+use Rattle.record_batch.specs.Check.{checked}
+use Rattle.segment_file.proofs.Joining.{consecutive_parts, joined_same}
+use Rattle.log_steps.specs.Fronts.{Each}
+use Rattle.local_log.specs.Stored.{size_of}
+use Rattle.local_log.specs.Run.{taking, lined, rolled, is_due, open_for, IsAppendedTo, IsAppended}
+use Rattle.local_log.proofs.Taken.{taking_front}
+use Rattle.local_log.proofs.Appended.{up_to_more}
+use Rattle.local_log.proofs.Pieces.{consecutive_append}
+use Rattle.epoch_line.specs.Line.{cut_end, assign}
+use Rattle.local_log.proofs.Lines.{cut_within, within_assign}
+use Rattle.log_steps.specs.Opens.{Opens}
+use Rattle.local_log.specs.Log.{Log, Becomes, committed, stable_log}
+use Rattle.local_log.specs.Coheres.{Coheres}
+use Rattle.local_log.specs.Cutting.{OpensAs}
+use Rattle.broker_log.specs.Seen.{Seen, Up, Stays, returns, ShowsOpen}
+use Rattle.broker_log.specs.Turns.{Appends, Settles, settled, with_batches}
+
+-- an epoch that starts at the end is within it
+pub assigned_within : (line : List (ℕ × ℕ)) (epoch end : ℕ) → cut_end (assign line epoch end) (end + 1) ≡ assign line epoch end
+assigned_within line epoch end = cut_within (assign line epoch end) end (within_assign line epoch end)
+
+by_recursion : (bs : List (List ℕ)) → Each (λ (b : List ℕ). IsOk (checked b)) bs → AllByRecursion (λ (b : List ℕ). IsOk (checked b)) bs
+by_recursion [] h = tt
+by_recursion (b ∷ bs) h = (h.0, by_recursion bs h.1)
+
+-- bytes are checked batches in one way
+same_batches : (xs ys : List (List ℕ)) → Each (λ (b : List ℕ). IsOk (checked b)) xs → Each (λ (b : List ℕ). IsOk (checked b)) ys → joined xs ≡ joined ys → xs ≡ ys
+same_batches xs ys okx oky e = joined_same xs ys (by_recursion xs okx) (by_recursion ys oky) e
+
+-- an image by now opens as one of before
+pub image_as : (old new : Content) → Lawful new → LeavesOnly old new (OpensAs old) → (c : Files) → Image new c → OpensAs old c
+image_as old new laws opens c now = opens.each c (laws.earlier old.moment new.moment c opens.later now)
+
+module _ {D : Type 0} (content : D → Content) (old new : Log D) where
+  -- the log is the same, and so is what each image opens as
+  pub stays_by : Becomes content old new → ((c : Files) → Image (content new.disk) c → OpensAs (content old.disk) c) → Stays content (Up old) (Up new)
+  stays_by b opens = record {
+    up = refl;
+    end = ap (λ (l : Log D). Some l.end) b.fields;
+    stable = ap (λ (l : Log D). Some l.stable) b.fields;
+    line = ap (λ (l : Log D). Some l.line) b.fields;
+    seen = λ s h. (
+      s,
+      record {
+        told = b.tells ∙ h.told;
+        start = ap (λ (l : Log D). l.local_start) b.fields ∙ h.start;
+        unbroken = ap (λ (l : Log D). l.broken) b.fields ∙ h.unbroken;
+        batches_are = h.batches_are ∙ sym (b.batches h.told);
+        line_is = h.line_is ∙ sym (ap (λ (l : Log D). l.line) b.fields);
+        stable_is = h.stable_is ∙ sym (ap (λ (l : Log D). l.stable) b.fields);
+        ends = h.ends ∙ sym (ap (λ (l : Log D). l.end) b.fields);
+        images = λ c now. (let was = opens c now in
+            subst (λ (i : ℕ). Opens c (returns i s)) (sym (ap (λ (l : Log D). l.incarnation) b.fields)) (was.2 (returns old.incarnation s) (h.images was.0 was.1)));
+      },
+      refl,
+    );
+  }
+
+  -- a new segment is begun
+  pub rolled_stays : Becomes content (rolled old) new → ((c : Files) → Image (content new.disk) c → OpensAs (content old.disk) c) → Stays content (Up old) (Up new)
+  rolled_stays b opens = record {
+    up = refl;
+    end = ap (λ (l : Log D). Some l.end) b.fields;
+    stable = ap (λ (l : Log D). Some l.stable) b.fields;
+    line = ap (λ (l : Log D). Some l.line) b.fields;
+    seen = λ s h. (
+      s,
+      record {
+        told = b.tells ∙ h.told;
+        start = ap (λ (l : Log D). l.local_start) b.fields ∙ h.start;
+        unbroken = ap (λ (l : Log D). l.broken) b.fields ∙ h.unbroken;
+        batches_are = h.batches_are ∙ sym (b.batches h.told);
+        line_is = h.line_is ∙ sym (ap (λ (l : Log D). l.line) b.fields);
+        stable_is = h.stable_is ∙ sym (ap (λ (l : Log D). l.stable) b.fields);
+        ends = h.ends ∙ sym (ap (λ (l : Log D). l.end) b.fields);
+        images = λ c now. (let was = opens c now in
+            subst (λ (i : ℕ). Opens c (returns i s)) (sym (ap (λ (l : Log D). l.incarnation) b.fields)) (was.2 (returns old.incarnation s) (h.images was.0 was.1)));
+      },
+      refl,
+    );
+  }
+
+  -- all of the log is stable
+  pub settles_by : (f : List (ℕ × ℕ) → ℕ → List (ℕ × ℕ)) → (old.local_start ≡ 0) → (old.broken ≡ false) → (IsTrue (content old.disk).tells → cut_end (f old.line old.end) (old.end + 1) ≡ f old.line old.end)
+      → Becomes content (committed old (f old.line old.end)) new → ((c : Files) → Image (content new.disk) c → Opens c (stable_log new)) → Settles content (Up old) (Up new) f old.end
+  settles_by f start unbroken within b durable =
+      let end = ap (λ (l : Log D). l.end) b.fields in
+      let stable = ap (λ (l : Log D). l.stable) b.fields in
+      let line = ap (λ (l : Log D). l.line) b.fields in
+      let local_start = ap (λ (l : Log D). l.local_start) b.fields in
+      record {
+        base_is = refl;
+        end_is = ap Some end;
+        stable_is = ap Some stable;
+        line_is = ap Some line;
+        seen = λ s h. (
+          settled s (f s.line (end_of s.batches)),
+          record {
+            told = b.tells ∙ h.told;
+            start = local_start ∙ start;
+            unbroken = ap (λ (l : Log D). l.broken) b.fields ∙ unbroken;
+            batches_are = h.batches_are ∙ sym (b.batches h.told);
+            line_is = ap (λ (l : List (ℕ × ℕ)). f l (end_of s.batches)) h.line_is ∙ ap (f old.line) h.ends ∙ sym line;
+            stable_is = h.ends ∙ sym stable;
+            ends = h.ends ∙ sym end;
+            images = λ c now. subst (Opens c) (opened s h) (durable c now);
+          },
+          refl,
+        );
+      }
+    where
+      opened : (s : Seen) → ShowsOpen content old s → stable_log new ≡ returns new.incarnation (settled s (f s.line (end_of s.batches)))
+      opened s h =
+          let stable = ap (λ (l : Log D). l.stable) b.fields in
+          let line = ap (λ (l : Log D). l.line) b.fields in
+          let local_start = ap (λ (l : Log D). l.local_start) b.fields ∙ start in
+          rw (stable, line, local_start, b.batches h.told, within h.told, h.ends, h.line_is, h.batches_are) refl
+
+-- what was taken of a run stands at the end
+module _ {D : Type 0} (content : D → Content) where
+  -- what is seen of a log in which a new segment was perhaps begun
+  pub record SameSeen (old base : Log D) : Type 0 where
+    pub disk : base.disk ≡ old.disk
+    pub incarnation : base.incarnation ≡ old.incarnation
+    pub local_start : base.local_start ≡ old.local_start
+    pub batches : base.batches ≡ old.batches
+    pub end : base.end ≡ old.end
+    pub stable : base.stable ≡ old.stable
+    pub line : base.line ≡ old.line
+    pub broken : base.broken ≡ old.broken
+
+  perhaps_rolled : (b : Bool) (old : Log D) → SameSeen old (cond b (rolled old) old)
+  perhaps_rolled true old = record { disk = refl; incarnation = refl; local_start = refl; batches = refl; end = refl; stable = refl; line = refl; broken = refl }
+  perhaps_rolled false old = record { disk = refl; incarnation = refl; local_start = refl; batches = refl; end = refl; stable = refl; line = refl; broken = refl }
+
+  module _ (old base new : Log D) (same : SameSeen old base) (laws : Lawful (content new.disk)) (start : old.local_start ≡ 0) (coheres : IsTrue (content old.disk).tells → Coheres old)
+      (run : List ℕ) (answer : ℕ × ℕ) (a : IsAppendedTo content old base new run answer) (up : answer.0 ≤ answer.1) (opens : LeavesOnly (content old.disk) (content new.disk) (OpensAs (content old.disk))) where
+    abbrev pub front : List (List ℕ)
+    front = taking base.settings.segment_bytes base.active.base (size_of base.active) a.is.batches
+
+    abbrev pub rest : List (List ℕ)
+    rest = (taking_front base.settings.segment_bytes base.active.base (size_of base.active) a.is.batches).0
+
+    parts : a.is.batches ≡ front ++ rest
+    parts = (taking_front base.settings.segment_bytes base.active.base (size_of base.active) a.is.batches).1
+
+    follow : IsConsecutive old.end front
+    follow = (consecutive_parts old.end front rest (subst (IsConsecutive old.end) parts a.is.consecutive)).0
+
+    new_end : new.end ≡ end_from old.end front
+    new_end = ap (λ (l : Log D). l.end) a.becomes.fields ∙ ap (λ (n : ℕ). end_from n front) same.end
+
+    new_line : new.line ≡ lined old.line front
+    new_line = ap (λ (l : Log D). l.line) a.becomes.fields ∙ ap (λ (l : List (ℕ × ℕ)). lined l front) same.line
+
+    new_stable : new.stable ≡ old.stable
+    new_stable = ap (λ (l : Log D). l.stable) a.becomes.fields ∙ same.stable
+
+    tells : (content new.disk).tells ≡ (content old.disk).tells
+    tells = a.becomes.tells ∙ ap (λ (d : D). (content d).tells) same.disk
+
+    new_batches : IsTrue (content old.disk).tells → new.batches ≡ old.batches ++ front
+    new_batches t = a.becomes.batches (subst (λ (d : D). IsTrue (content d).tells) (sym same.disk) t) ∙ ap (λ (l : List (List ℕ)). l ++ front) same.batches
+
+    some : front ≢ []
+    some none =
+        let same_end = new_end ∙ ap (end_from old.end) none in
+        omega (arith, same_end, a.base_is, a.last_is, up)
+
+    shows : (s : Seen) → ShowsOpen content old s → ShowsOpen content new (with_batches s front)
+    shows s h =
+        let c = coheres h.told in
+        let ends : end_from 0 s.batches ≡ old.end = h.ends in
+        let all : IsConsecutive 0 (s.batches ++ front) =
+        consecutive_append 0 s.batches front
+        (subst (λ (n : ℕ). IsConsecutive n s.batches) start (subst (IsConsecutive old.local_start) (sym h.batches_are) c.consecutive))
+        (subst (λ (n : ℕ). IsConsecutive n front) (sym ends) follow) in
+        let low : s.stable ≤ end_from 0 s.batches = omega (arith, h.stable_is, ends, c.stable_within) in
+        let kept : up_to s.stable (s.batches ++ front) ≡ up_to s.stable s.batches = up_to_more 0 s.stable s.batches front all low in
+        let inc : new.incarnation ≡ old.incarnation = ap (λ (l : Log D). l.incarnation) a.becomes.fields ∙ same.incarnation in
+        record {
+          told = tells ∙ h.told;
+          start = ap (λ (l : Log D). l.local_start) a.becomes.fields ∙ same.local_start ∙ h.start;
+          unbroken = ap (λ (l : Log D). l.broken) a.becomes.fields ∙ same.broken ∙ h.unbroken;
+          batches_are = ap (λ (l : List (List ℕ)). l ++ front) h.batches_are ∙ sym (new_batches h.told);
+          line_is = ap (λ (l : List (ℕ × ℕ)). lined l front) h.line_is ∙ sym new_line;
+          stable_is = h.stable_is ∙ sym new_stable;
+          ends = end_append 0 s.batches front ∙ ap (λ (n : ℕ). end_from n front) ends ∙ sym new_end;
+          images = λ f now. (
+              let was = image_as (content old.disk) (content new.disk) laws opens f now in
+              let o = was.2 (returns old.incarnation s) (h.images was.0 was.1) in
+              subst (Opens f) (ap (λ (i : ℕ). returns i s) (sym inc) ∙ ap (λ (l : List (List ℕ)). record { incarnation = new.incarnation; local_start = 0; batches = l; line = s.saved }) (sym kept)) o
+              );
+        }
+
+    pub appends_to : Appends content (Up old) (Up new) run answer
+    appends_to = record {
+      front = front;
+      rest = rest;
+      some = some;
+      bytes = a.is.bytes ∙ ap joined parts;
+      are = subst (Each (λ (b : List ℕ). IsOk (checked b))) parts a.is.are;
+      those = λ bs ok is. same_batches bs (front ++ rest) ok (subst (Each (λ (b : List ℕ). IsOk (checked b))) parts a.is.are) (sym is ∙ (a.is.bytes ∙ ap joined parts));
+      consecutive = subst (λ (n : ℕ). IsConsecutive n (front ++ rest)) (sym a.base_is) (subst (IsConsecutive old.end) parts a.is.consecutive);
+      base_is = ap Some (sym a.base_is);
+      end_is = ap Some (sym a.last_is);
+      last_is = a.last_is ∙ new_end ∙ ap (λ (n : ℕ). end_from n front) (sym a.base_is);
+      stable_is = ap Some new_stable;
+      line_is = ap Some new_line;
+      seen = λ s h. (with_batches s front, shows s h, refl);
+    }
+
+  pub appends_by : (old new : Log D) → Lawful (content new.disk) → (old.local_start ≡ 0) → (IsTrue (content old.disk).tells → Coheres old) → (run : List ℕ) (answer : ℕ × ℕ) → IsAppended content old new run answer → answer.0 ≤ answer.1
+      → LeavesOnly (content old.disk) (content new.disk) (OpensAs (content old.disk)) → Appends content (Up old) (Up new) run answer
+  appends_by old new laws start coheres run answer a up opens =
+      appends_to old (open_for old run) new (perhaps_rolled (is_due old run) old) laws start coheres run answer a up opens
+
+  -- it can be appended to as before
+  pub appended_whole : (old new : Log D) (run : List ℕ) (answer : ℕ × ℕ) → IsAppended content old new run answer → (new.broken ≡ old.broken) × (new.local_start ≡ old.local_start)
+  appended_whole old new run answer a =
+      let same = perhaps_rolled (is_due old run) old in (
+        ap (λ (l : Log D). l.broken) a.becomes.fields ∙ same.broken,
+        ap (λ (l : Log D). l.local_start) a.becomes.fields ∙ same.local_start,
+      )

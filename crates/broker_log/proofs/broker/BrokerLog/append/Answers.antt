@@ -1,0 +1,47 @@
+use Rattle.std.proofs.Common.{◌≡◌, ◌∙◌, ap, sym}
+use Rattle.local_log.specs.Log.{Log}
+use Rattle.broker_log.specs.Seen.{Up}
+use Rattle.broker_log.proofs.Placing.{ok_open, dry_open, ok_both, whole_by, well_up, place_well}
+use Rattle.broker_log.proofs.Showing.{appends_by, appended_whole, stays_by, image_as}
+use Rattle.broker_log.proofs.broker.BrokerLog.append.Goals as goal
+
+pub invariant_of-self : goal.invariant_of-self
+invariant_of-self g c =
+    let content = g.D.Disk.content in
+    let o = c.taken-log.result in
+    let n = c.append-outcome.new.self in
+    let r = c.append-outcome.result in
+    let well = well_up content c.self.inside.place o c.taken-log.ensures c.self.invariant.placed in
+    record {
+      settings = c.self.invariant.settings;
+      placed = place_well content c.placed.result n c.is_fault.result c.placed.ensures.up c.placed.ensures.down c.placed.ensures.again
+          (λ clear. whole_by _ _ _ _ r c.append-outcome.ensures.ok c.append-outcome.ensures.others
+          (λ answer a. (let w = appended_whole content o n c.args.run.now answer a in (w.0 ∙ well.0, w.1 ∙ well.1)))
+          (λ kept. (let same = c.append-outcome.ensures.unchanged kept in (ap (λ (l : Log g.row.D.Denot). l.broken) same ∙ well.0, ap (λ (l : Log g.row.D.Denot). l.local_start) same ∙ well.1)))
+          (λ dry. (let b = c.append-outcome.ensures.no_memory dry in (ap (λ (l : Log g.row.D.Denot). l.broken) b.fields ∙ well.0, ap (λ (l : Log g.row.D.Denot). l.local_start) b.fields ∙ well.1)))
+          (λ fault. (let t = c.is_fault.ensures.1 fault in cc (t, clear))));
+    }
+
+pub returns-clause-ok : goal.returns-clause-ok
+returns-clause-ok g c =
+    let content = g.D.Disk.content in
+    let o = c.taken-log.result in
+    let n = c.append-outcome.new.self in
+    let r = c.append-outcome.result in
+    let well = well_up content c.self.inside.place o c.taken-log.ensures c.self.invariant.placed in
+    let now_is : c.args.self.now ≡ Up o = sym c.self.view_is ∙ c.taken-log.ensures in
+    ok_open _ r c.is_fault.result c.is_fault.ensures (λ clear.
+    rw (now_is, c.placed.ensures.up clear) (ok_both _ _ _ r
+    (λ answer a up. appends_by content o n (g.met.D.Disk.lawful n.disk) well.1 (c.coheres.ensures well.0) c.args.run.now answer a up c.append-outcome.ensures.opens)
+    c.append-outcome.ensures.ok c.append-outcome.ensures.some))
+
+pub returns-clause-no_memory : goal.returns-clause-no_memory
+returns-clause-no_memory g c =
+    let content = g.D.Disk.content in
+    let o = c.taken-log.result in
+    let n = c.append-outcome.new.self in
+    let r = c.append-outcome.result in
+    let now_is : c.args.self.now ≡ Up o = sym c.self.view_is ∙ c.taken-log.ensures in
+    λ dry.
+    let clear = dry_open r c.is_fault.result c.is_fault.ensures dry in
+    rw (now_is, c.placed.ensures.up clear) (stays_by content o n (c.append-outcome.ensures.no_memory dry) (image_as (content o.disk) (content n.disk) (g.met.D.Disk.lawful n.disk) c.append-outcome.ensures.opens))

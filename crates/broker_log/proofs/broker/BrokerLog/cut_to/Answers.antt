@@ -1,0 +1,50 @@
+use Rattle.std.proofs.Common.{◌≡◌, ◌∙◌, ap, sym}
+use Rattle.local_log.specs.Log.{Log}
+use Rattle.broker_log.specs.Seen.{Up}
+use Rattle.broker_log.proofs.Placing.{dry_open, ended_ok, ended_err, ended_dry, well_up, place_well, whole_on}
+use Rattle.broker_log.proofs.Cuts.{cuts_by, cut_whole}
+use Rattle.broker_log.proofs.Showing.{stays_by}
+use Rattle.broker_log.proofs.broker.BrokerLog.cut_to.Goals as goal
+
+pub invariant_of-self : goal.invariant_of-self
+invariant_of-self g c =
+    let content = g.D.Disk.content in
+    let o = c.taken-log.result in
+    let n = c.cut_to-outcome.new.self in
+    let r = c.cut_to-outcome.result in
+    let well = well_up content c.self.inside.place o c.taken-log.ensures c.self.invariant.placed in
+    record {
+      settings = c.self.invariant.settings;
+      placed = place_well content c.placed.result n c.is_fault.result c.placed.ensures.up c.placed.ensures.down c.placed.ensures.again
+          (λ clear. whole_on _ _ _ _ r c.cut_to-outcome.ensures.ok c.cut_to-outcome.ensures.durable c.cut_to-outcome.ensures.others
+          (λ b durable. cut_whole content o n well.1 c.args.end (c.coheres.ensures well.0) well.0 b durable)
+          (λ dry. (let b = c.cut_to-outcome.ensures.no_memory dry in (ap (λ (l : Log g.row.D.Denot). l.broken) b.fields ∙ well.0, ap (λ (l : Log g.row.D.Denot). l.local_start) b.fields ∙ well.1)))
+          (λ fault. (let t = c.is_fault.ensures.1 fault in cc (t, clear))));
+    }
+
+pub returns-clause-ok : goal.returns-clause-ok
+returns-clause-ok g c =
+    let content = g.D.Disk.content in
+    let o = c.taken-log.result in
+    let n = c.cut_to-outcome.new.self in
+    let r = c.cut_to-outcome.result in
+    let well = well_up content c.self.inside.place o c.taken-log.ensures c.self.invariant.placed in
+    let now_is : c.args.self.now ≡ Up o = sym c.self.view_is ∙ c.taken-log.ensures in
+    ended_ok _ r c.ended.result c.end-now.result c.is_fault.result c.is_fault.ensures c.ended.ensures.ok c.ended.ensures.err c.cut_to-outcome.ensures.ok c.cut_to-outcome.ensures.durable (λ clear b durable.
+    rw (now_is, c.placed.ensures.up clear, c.end-now.ensures) (cuts_by content o n well.1 c.args.end (c.coheres.ensures well.0) well.0 b durable))
+
+pub returns-clause-refused : goal.returns-clause-refused
+returns-clause-refused g c = ended_err c.cut_to-outcome.result c.ended.result c.end-now.result c.ended.ensures.ok c.ended.ensures.err c.cut_to-outcome.ensures.others
+
+pub returns-clause-no_memory : goal.returns-clause-no_memory
+returns-clause-no_memory g c =
+    let content = g.D.Disk.content in
+    let o = c.taken-log.result in
+    let n = c.cut_to-outcome.new.self in
+    let r = c.cut_to-outcome.result in
+    let well = well_up content c.self.inside.place o c.taken-log.ensures c.self.invariant.placed in
+    let now_is : c.args.self.now ≡ Up o = sym c.self.view_is ∙ c.taken-log.ensures in
+    λ dried.
+    let dry = ended_dry r c.ended.result c.end-now.result c.ended.ensures.ok c.ended.ensures.err dried in
+    let clear = dry_open r c.is_fault.result c.is_fault.ensures dry in
+    rw (now_is, c.placed.ensures.up clear) (stays_by content o n (c.cut_to-outcome.ensures.no_memory dry) (λ f now. (f, c.cut_to-outcome.ensures.no_image dry f now, λ p opens. opens)))

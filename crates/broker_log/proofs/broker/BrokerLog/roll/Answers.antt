@@ -1,0 +1,28 @@
+use Rattle.std.proofs.Common.{◌≡◌, ◌∙◌, sym}
+use Rattle.broker_log.specs.Seen.{Up}
+use Rattle.broker_log.proofs.Placing.{on_open, dry_open, on_told}
+use Rattle.broker_log.proofs.Showing.{stays_by, rolled_stays, image_as}
+use Rattle.broker_log.proofs.broker.BrokerLog.roll.Goals as goal
+
+pub returns-clause-ok : goal.returns-clause-ok
+returns-clause-ok g c =
+    let content = g.D.Disk.content in
+    let o = c.taken-log.result in
+    let n = c.roll-outcome.new.self in
+    let r = c.roll-outcome.result in
+    let now_is : c.args.self.now ≡ Up o = sym c.self.view_is ∙ c.taken-log.ensures in
+    on_open _ r c.is_fault.result c.is_fault.ensures (λ clear.
+    rw (now_is, c.placed.ensures.up clear) (on_told _ _ r
+    (λ b. rolled_stays content o n b (image_as (content o.disk) (content n.disk) (g.met.D.Disk.lawful n.disk) c.roll-outcome.ensures.opens))
+    c.roll-outcome.ensures.ok))
+
+pub returns-clause-no_memory : goal.returns-clause-no_memory
+returns-clause-no_memory g c =
+    let content = g.D.Disk.content in
+    let o = c.taken-log.result in
+    let n = c.roll-outcome.new.self in
+    let r = c.roll-outcome.result in
+    let now_is : c.args.self.now ≡ Up o = sym c.self.view_is ∙ c.taken-log.ensures in
+    λ dry.
+    let clear = dry_open r c.is_fault.result c.is_fault.ensures dry in
+    rw (now_is, c.placed.ensures.up clear) (stays_by content o n (c.roll-outcome.ensures.no_memory dry) (image_as (content o.disk) (content n.disk) (g.met.D.Disk.lawful n.disk) c.roll-outcome.ensures.opens))

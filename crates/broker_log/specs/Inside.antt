@@ -1,0 +1,28 @@
+-- What the fields of a broker's log mean, and what they keep.
+use Rattle.std.specs.Prelude.{◌≡◌, false}
+use Rattle.disk_model.specs.Content.{Content}
+use Rattle.log_steps.specs.Reopens.{Reopens}
+use Rattle.local_log.specs.Log.{AreSettings}
+use Rattle.broker_log.specs.Seen.{Kept, Up, Down, Away}
+use Rattle.broker_log.specs.declared.place.Place.{Place}
+use Rattle.broker_log.specs.declared.place.Place.TheVariants as place
+use Rattle.broker_log.specs.declared.broker.BrokerLog.TheInside.{Inside}
+
+module _ {D : Type 0} where
+  abbrev pub kept_of : Place D → Kept D
+  kept_of (place.Up log) = Up log
+  kept_of (place.Down disk) = Down disk
+  kept_of place.Away = Away
+
+  abbrev pub kept_in : Inside D → Kept D
+  kept_in broker = kept_of broker.place
+
+  -- an open log isn't broken and begins at 0, and one that is closed can be opened again
+  abbrev pub IsWellPlaced : (D → Content) → Place D → Type 0
+  IsWellPlaced content (place.Up log) = (log.broken ≡ false) × (log.local_start ≡ 0)
+  IsWellPlaced content (place.Down disk) = Reopens (content disk)
+  IsWellPlaced content place.Away = ⊥
+
+  pub record IsWell (content : D → Content) (broker : Inside D) : Type 0 where
+    pub settings : AreSettings broker.settings
+    pub placed : IsWellPlaced content broker.place

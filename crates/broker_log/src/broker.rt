@@ -1,0 +1,355 @@
+//! A broker's log and its calls.
+
+ghost use Rattle.std.specs.Prelude.{◌≡◌, ◌⊎◌, ◌↔◌, ◌≤◌, ◌<◌, ◌^◌, ◌+◌, ℕ, List, true, false, IfOk, OnOk, OnErr, IsTrue, IsErrOf};
+ghost use Rattle.std.specs.Prelude.{length, Some, None, Ok, Err, IsOk, IfErr, option_map};
+ghost use Rattle.tier_base.specs.declared.plain.FileName.{FileName};
+ghost use Rattle.tier_base.specs.Counts.{Rose};
+ghost use Rattle.tier_base.specs.Device.{Lasts, Arms};
+ghost use Rattle.log_steps.specs.Reopens.{Reopens};
+ghost use Rattle.log_terms.specs.Log.{up_to, end_of, EndsAt};
+ghost use Rattle.local_log.specs.Log.{AreSettings};
+ghost use Rattle.local_log.specs.Cutting.{cut_point};
+ghost use Rattle.local_log.specs.Reading.{piece_of, IsCut, RunFails, IsOfDevice};
+ghost use Rattle.local_log.specs.declared.refusal.CreateRefusal.TheVariants as create;
+ghost use Rattle.std.specs.Option.{ForSome};
+ghost use Rattle.log_terms.specs.Batch.{last_of};
+ghost use Rattle.epoch_line.specs.Line.{last_epoch, assign};
+ghost use Rattle.local_log.specs.Stored.{size_of};
+ghost use Rattle.local_log.specs.Run.{IsRun, is_due};
+ghost use Rattle.local_log.specs.declared.refusal.LogRefusal.TheVariants.{LastOffset, TooManySegments, EmptySegment, DiskFault, NoMemory};
+ghost use Rattle.local_log.specs.Refusing.{IsSoundCause};
+ghost use Rattle.local_log.specs.Opening.{OpenFails, HoldsLast};
+ghost use Rattle.local_log.specs.declared.refusal.OpenRefusal.TheVariants as opening;
+ghost use Rattle.broker_log.specs.declared.refusal.UpRefusal.TheVariants.{Open};
+ghost use Rattle.broker_log.specs.Seen.{Seen, Shows, Goes, Stays, WhileUp, OnDisk, Lasting, Faulted, is_up, end_in, stable_in, line_in};
+ghost use Rattle.broker_log.specs.Turns.{IsFirst, OfOpening, IsNotLate, IsUnread, Appends, Settles, Cuts, IsEndUpTo, IsRunAt, IsRunIn, Stops, ComesUp};
+
+use crate::opening::open_whole;
+use crate::place::{Place, is_fault, placed, taken, taken_disk};
+use crate::refusal::UpRefusal;
+use disk_model::Disk;
+use epoch_line::Line;
+use local_log::{CreateRefusal, LocalLog, LogRefusal, RunOut};
+use std::alloc::Global;
+use std::marker::Model;
+use tier_base::Settings;
+
+/// The log of a broker that is up or down.
+#[derive(Drop)]
+pub struct BrokerLog<D: Disk> {
+    alloc: Global,
+    settings: Settings,
+    place: Place<D>,
+}
+
+impl<D: Disk> Model for BrokerLog<D> {
+    ghost use Rattle.broker_log.specs.Seen.{Kept};
+
+    ghost Value = { Kept D };
+
+    ghost use Rattle.broker_log.specs.Inside.{kept_in, IsWell};
+
+    ghost view = { kept_in };
+
+    ghost invariant = { IsWell D.content };
+}
+
+impl<D: Disk> BrokerLog<D> {
+    /// Makes the empty log at 0 over a disk with no files. The broker is up.
+    pub fn create(
+        alloc: Global,
+        disk: D,
+        settings: Settings,
+    ) -> Result<BrokerLog<D>, (D, CreateRefusal)>
+        requires settings { AreSettings settings }
+        requires empty { IsTrue (D.content disk).tells → (n : FileName) → (D.content disk).files n ≡ None }
+        ensures ok { IfOk result (λ broker. IsFirst D.content disk broker) }
+        ensures control { IfOk result (λ broker. OnDisk broker (λ d. Lasts (D.control disk) (D.control d))) }
+        ensures control_err { IfErr result (λ e. Lasts (D.control disk) (D.control e.0)) }
+        ensures cause { IfErr result (λ e. e.1 ≡ create.DiskFault → Rose (D.control disk).faults (D.control e.0).faults) }
+    {
+        match LocalLog::create(alloc, disk, settings) {
+            Ok(log) => Ok(BrokerLog {
+                alloc,
+                settings,
+                place: Place::Up(log),
+            }),
+            Err(refused) => Err(refused),
+        }
+    }
+
+    /// Whether the broker is up.
+    pub fn is_up(&self) -> bool
+        ensures { result ≡ is_up self.now }
+    {
+        matches!(self.place, Place::Up(_))
+    }
+
+    /// The log end offset, while the broker is up.
+    pub fn end(&self) -> Option<u64>
+        ensures { result ≡ end_in self.now }
+    {
+        match &self.place {
+            Place::Up(log) => Some(log.end()),
+            Place::Down(_) | Place::Away => None,
+        }
+    }
+
+    /// The offset up to which the log is stable, while the broker is up.
+    pub fn stable(&self) -> Option<u64>
+        ensures { result ≡ stable_in self.now }
+    {
+        match &self.place {
+            Place::Up(log) => Some(log.stable()),
+            Place::Down(_) | Place::Away => None,
+        }
+    }
+
+    /// Which leader epoch starts where, while the broker is up.
+    pub fn line(&self) -> Option<&Line>
+        ensures { option_map (λ line. line.now) result ≡ line_in self.now }
+    {
+        match &self.place {
+            Place::Up(log) => Some(log.line()),
+            Place::Down(_) | Place::Away => None,
+        }
+    }
+
+    /// Whether the log may take bytes as a run: each batch passes every test, and goes on where the one before it ends.
+    pub fn takes(&self, run: &[u8]) -> bool
+        requires { IsTrue (is_up self.now) }
+        ensures { WhileUp self.now (λ log. IsTrue result ↔ IsRun log.end log.line run.now) }
+    {
+        let Place::Up(log) = &self.place else {
+            unreachable!()
+        };
+        log.takes(run)
+    }
+
+    /// The disk.
+    pub fn disk(&self) -> &D
+        ensures { OnDisk self.now (λ d. result.now ≡ d) }
+    {
+        match &self.place {
+            Place::Up(log) => log.disk(),
+            Place::Down(disk) => disk,
+            Place::Away => unreachable!(),
+        }
+    }
+
+    /// Where the last batch ends that ends at or below an offset, or 0.
+    pub fn end_up_to(&self, offset: u64) -> u64
+        requires { IsTrue (is_up self.now) }
+        ensures { IsEndUpTo D.content self.now offset result }
+    {
+        let Place::Up(log) = &self.place else {
+            unreachable!()
+        };
+        log.coheres();
+        log.end_up_to(offset)
+    }
+
+    /// Makes all of the log stable, and answers its end.
+    pub fn flush(&mut self) -> Result<u64, LogRefusal>
+        requires { IsTrue (is_up self.old) }
+        ensures ok { IfOk result (λ end. Settles D.content self.old self.new (λ line _. line) end) }
+        ensures refused { OnErr result (IsErrOf result NoMemory ⊎ IsErrOf result DiskFault) }
+        ensures no_memory { IsErrOf result NoMemory → Stays D.content self.old self.new }
+        ensures fault { IsErrOf result DiskFault → is_up self.new ≡ false }
+        ensures control { Lasting D.control self.old self.new }
+        ensures cause { IsErrOf result DiskFault → Faulted D.control self.old self.new }
+    {
+        let mut log = taken(&mut self.place);
+        log.coheres();
+        let outcome = log.flush();
+        self.place = placed(log, is_fault(&outcome));
+        outcome
+    }
+
+    /// Appends the first batches of a run that stand in one segment, and answers their first and their last offset. They
+    /// come back after a stop once they are flushed.
+    pub fn append(&mut self, run: &[u8]) -> Result<(u64, u64), LogRefusal>
+        requires { WhileUp self.old (λ log. IsRun log.end log.line run.now) }
+        ensures ok { IfOk result (λ answer. Appends D.content self.old self.new run.now answer) }
+
+        // Each cause, where no earlier one holds.
+        ensures last_offset { IsErrOf result LastOffset ↔ (2 ^ 62 ≤ last_of run.now) }
+        ensures many { IsErrOf result TooManySegments ↔ (last_of run.now < 2 ^ 62)
+            × WhileUp self.old (λ log. IsTrue (is_due log run.now) × (4095 ≤ length log.closed)) }
+        ensures unchanged { (IsErrOf result LastOffset ⊎ IsErrOf result TooManySegments) → self.new ≡ self.old }
+        ensures refused { OnErr result ((IsErrOf result LastOffset ⊎ IsErrOf result TooManySegments)
+            ⊎ (IsErrOf result NoMemory ⊎ IsErrOf result DiskFault)) }
+        ensures no_memory { IsErrOf result NoMemory → Stays D.content self.old self.new }
+        ensures fault { IsErrOf result DiskFault → is_up self.new ≡ false }
+        ensures control { Lasting D.control self.old self.new }
+        ensures cause { IsErrOf result DiskFault → Faulted D.control self.old self.new }
+    {
+        let mut log = taken(&mut self.place);
+        log.coheres();
+        let outcome = log.append(run);
+        self.place = placed(log, is_fault(&outcome));
+        outcome
+    }
+
+    /// Enters a leader epoch that begins at the log's end, makes all stable, and answers the end.
+    pub fn lead(&mut self, epoch: u32) -> Result<u64, LogRefusal>
+        requires fits { epoch < 2 ^ 31 }
+        requires above { WhileUp self.old (λ log. ForSome (last_epoch log.line) (λ last. last < epoch)) }
+        ensures ok { IfOk result (λ end. Settles D.content self.old self.new (λ line end. assign line epoch end) end) }
+        ensures refused { OnErr result (IsErrOf result NoMemory ⊎ IsErrOf result DiskFault) }
+        ensures no_memory { IsErrOf result NoMemory → Stays D.content self.old self.new }
+        ensures fault { IsErrOf result DiskFault → is_up self.new ≡ false }
+        ensures control { Lasting D.control self.old self.new }
+        ensures cause { IsErrOf result DiskFault → Faulted D.control self.old self.new }
+    {
+        let mut log = taken(&mut self.place);
+        log.coheres();
+        let outcome = log.lead(epoch);
+        self.place = placed(log, is_fault(&outcome));
+        outcome
+    }
+
+    /// Closes the open segment, and opens a new one at the log's end.
+    pub fn roll(&mut self) -> Result<u64, LogRefusal>
+        requires { IsTrue (is_up self.old) }
+        ensures base { IfOk result (λ base. end_in self.old ≡ Some base) }
+        ensures ok { OnOk result (Stays D.content self.old self.new) }
+
+        // Each cause, where no earlier one holds.
+        ensures empty { IsErrOf result EmptySegment ↔ WhileUp self.old (λ log. size_of log.active ≡ 0) }
+        ensures many { IsErrOf result TooManySegments ↔ WhileUp self.old (λ log. (0 < size_of log.active)
+            × (4095 ≤ length log.closed)) }
+        ensures unchanged { (IsErrOf result EmptySegment ⊎ IsErrOf result TooManySegments) → self.new ≡ self.old }
+        ensures refused { OnErr result ((IsErrOf result EmptySegment ⊎ IsErrOf result TooManySegments)
+            ⊎ (IsErrOf result NoMemory ⊎ IsErrOf result DiskFault)) }
+        ensures no_memory { IsErrOf result NoMemory → Stays D.content self.old self.new }
+        ensures fault { IsErrOf result DiskFault → is_up self.new ≡ false }
+        ensures control { Lasting D.control self.old self.new }
+        ensures cause { IsErrOf result DiskFault → Faulted D.control self.old self.new }
+    {
+        let mut log = taken(&mut self.place);
+        let outcome = log.roll();
+        self.place = placed(log, is_fault(&outcome));
+        outcome
+    }
+
+    /// Cuts the log to an offset, durably, and answers its new end; where a batch holds the offset, that batch's base.
+    pub fn cut_to(&mut self, end: u64) -> Result<u64, LogRefusal>
+        requires { WhileUp self.old (λ log. end ≤ log.end) }
+        ensures ok { IfOk result (λ now. Cuts D.content self.old self.new end now) }
+        ensures refused { OnErr result (IsErrOf result NoMemory ⊎ IsErrOf result DiskFault) }
+        ensures no_memory { IsErrOf result NoMemory → Stays D.content self.old self.new }
+        ensures fault { IsErrOf result DiskFault → is_up self.new ≡ false }
+        ensures control { Lasting D.control self.old self.new }
+        ensures cause { IsErrOf result DiskFault → Faulted D.control self.old self.new }
+    {
+        let mut log = taken(&mut self.place);
+        log.coheres();
+        let outcome = log.cut_to(end);
+        let now = log.end();
+        self.place = placed(log, is_fault(&outcome));
+        ended(outcome, now)
+    }
+
+    /// Reads the run at an offset: the batch that holds it, and further ones that end at or below the mark and together
+    /// fit the limit, in bytes. The log is as it was also where the read failed.
+    pub fn read_run(&mut self, offset: u64, limit: u64, mark: u64) -> Result<RunOut, LogRefusal>
+        requires up { IsTrue (is_up self.old) }
+        requires below { offset < mark }
+        ensures stays { Stays D.content self.old self.new }
+        ensures run { IfOk result (λ run. (s : Seen) → Shows D.content self.old s → IsRunAt self.old s offset limit mark run) }
+        ensures reads { IfOk result (λ run. (s : Seen) → Shows D.content self.old s → EndsAt mark s.batches
+            → IsRunIn s offset limit mark run) }
+        ensures bytes { IfOk result (λ run. WhileUp self.old (λ log. OnDisk self.new (λ d.
+            IsCut (D.control d).handed offset limit mark (piece_of log offset) run))) }
+
+        // Each cause. Where the disk tells and a batch ends at the mark, nothing is damaged.
+        ensures err { IfErr result (λ e. WhileUp self.old (λ log. OnDisk self.new (λ d.
+            RunFails log offset limit mark (D.control d).handed e))) }
+        ensures whole { IfErr result (λ e. (s : Seen) → Shows D.content self.old s → EndsAt mark s.batches → IsOfDevice e) }
+        ensures control { Lasting D.control self.old self.new }
+        ensures cause { IsErrOf result DiskFault → Faulted D.control self.old self.new }
+    {
+        let mut log = taken(&mut self.place);
+        log.coheres();
+        let outcome = log.read_run(offset, limit, mark);
+        self.place = Place::Up(log);
+        outcome
+    }
+
+    /// Arms the disk: planned calls fail from now on.
+    pub fn arm(&mut self)
+        ensures stays { Stays D.content self.old self.new }
+        ensures control { OnDisk self.old (λ d. OnDisk self.new (λ d'. Arms (D.control d) (D.control d'))) }
+    {
+        match &mut self.place {
+            Place::Up(log) => log.arm(),
+            Place::Down(disk) => disk.arm(),
+            Place::Away => unreachable!(),
+        }
+    }
+
+    /// Gives the disk back. A log can be opened from it again.
+    pub fn close(self) -> D
+        ensures disk { OnDisk self (λ d. result ≡ d) }
+        ensures again { Reopens (D.content result) }
+    {
+        match self.place {
+            Place::Up(log) => log.close(),
+            Place::Down(disk) => disk,
+            Place::Away => unreachable!(),
+        }
+    }
+
+    /// Closes the log: the broker is down.
+    pub fn stop(&mut self)
+        requires { IsTrue (is_up self.old) }
+        ensures stops { Stops D.content self.old self.new }
+        ensures control { OnDisk self.old (λ d. OnDisk self.new (λ d'. d' ≡ d)) }
+    {
+        let log = taken(&mut self.place);
+        self.place = placed(log, true);
+    }
+
+    /// Opens the log of a broker that is down, and answers its end.
+    pub fn up(&mut self) -> Result<u64, UpRefusal>
+        requires { is_up self.old ≡ false }
+        ensures ok { IfOk result (λ end. ComesUp D.content self.old self.new end) }
+        ensures refused { OnErr result (is_up self.new ≡ false) }
+        ensures stays { OnErr result (Stays D.content self.old self.new) }
+
+        // Each cause, by what the disk handed last. Of a disk that tells nothing is damaged, and a broker's log isn't late.
+        ensures err { IfErr result (λ e. OnDisk self.new (λ d. OfOpening (OpenFails (D.control d).handed) e)) }
+        ensures sound { IfErr result (λ e. OnDisk self.old (λ d. IsTrue (D.content d).tells → OfOpening IsSoundCause e)) }
+        ensures whole { IfErr result (λ e. (s : Seen) → Shows D.content self.old s → IsNotLate e) }
+        ensures unseen { IfErr result (λ e. IsUnread e → (s : Seen) → Shows D.content self.old s → ⊥) }
+        ensures last { IsErrOf result (Open opening.LastIncarnation)
+            → OnDisk self.old (λ d. IsTrue (D.content d).tells → HoldsLast (D.content d).files) }
+        ensures control { Lasting D.control self.old self.new }
+        ensures cause { IsErrOf result (Open opening.DiskFault) → Faulted D.control self.old self.new }
+    {
+        let disk = taken_disk(&mut self.place);
+        match open_whole(self.alloc, disk, self.settings) {
+            Ok(log) => {
+                let end = log.end();
+                self.place = Place::Up(log);
+                Ok(end)
+            }
+            Err((disk, refusal)) => {
+                self.place = Place::Down(disk);
+                Err(refusal)
+            }
+        }
+    }
+}
+
+/// The end of a log where a call went well.
+fn ended(outcome: Result<(), LogRefusal>, end: u64) -> Result<u64, LogRefusal>
+    ensures ok { IsOk outcome → result ≡ Ok end }
+    ensures err { IfErr outcome (λ e. result ≡ Err e) }
+{
+    match outcome {
+        Ok(()) => Ok(end),
+        Err(refusal) => Err(refusal),
+    }
+}

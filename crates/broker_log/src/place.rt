@@ -1,0 +1,67 @@
+//! Where a broker's log is: open, or only its disk.
+//!
+//! A call takes the open log out, works on it, and puts it back, as its disk alone where the disk failed.
+
+ghost use Rattle.std.specs.Prelude.{◌≡◌, ◌↔◌, true, false, IsTrue, IsFalse, IsErrOf};
+ghost use Rattle.log_steps.specs.Reopens.{Reopens};
+ghost use Rattle.local_log.specs.declared.refusal.LogRefusal.TheVariants.{DiskFault};
+ghost use Rattle.broker_log.specs.declared.place.Place.TheVariants as place;
+ghost use Rattle.broker_log.specs.Seen.{is_up, is_down, Up, Down};
+ghost use Rattle.broker_log.specs.Inside.{kept_of};
+
+use disk_model::Disk;
+use local_log::{LocalLog, LogRefusal};
+use std::mem;
+
+/// Where a log is.
+#[derive(Drop)]
+pub(crate) enum Place<D: Disk> {
+    /// It is open.
+    Up(LocalLog<D>),
+    /// The broker is down.
+    Down(D),
+    /// A call works on it.
+    Away,
+}
+
+/// Takes an open log out.
+pub(crate) fn taken<D: Disk>(place: &mut Place<D>) -> LocalLog<D>
+    requires { IsTrue (is_up (kept_of place.old)) }
+    ensures { kept_of place.old ≡ Up result }
+{
+    match mem::replace(place, Place::Away) {
+        Place::Up(log) => log,
+        Place::Down(_) | Place::Away => unreachable!(),
+    }
+}
+
+/// Takes the disk of a broker that is down out.
+pub(crate) fn taken_disk<D: Disk>(place: &mut Place<D>) -> D
+    requires { IsTrue (is_down (kept_of place.old)) }
+    ensures { kept_of place.old ≡ Down result }
+{
+    match mem::replace(place, Place::Away) {
+        Place::Down(disk) => disk,
+        Place::Up(_) | Place::Away => unreachable!(),
+    }
+}
+
+/// Puts a log where it was, or its disk alone where that failed.
+pub(crate) fn placed<D: Disk>(log: LocalLog<D>, failed: bool) -> Place<D>
+    ensures up { failed ≡ false → result ≡ place.Up log }
+    ensures down { failed ≡ true → result ≡ place.Down log.disk }
+    ensures again { failed ≡ true → Reopens (D.content log.disk) }
+{
+    if failed {
+        Place::Down(log.close())
+    } else {
+        Place::Up(log)
+    }
+}
+
+/// Whether a call ended by a fault of the disk.
+pub(crate) fn is_fault<T>(outcome: &Result<T, LogRefusal>) -> bool
+    ensures { IsTrue result ↔ IsErrOf outcome.now DiskFault }
+{
+    matches!(outcome, Err(LogRefusal::DiskFault))
+}
