@@ -2,7 +2,7 @@
 use Rattle.std.specs.Prelude.{◌≤◌, ◌<◌, ◌^◌, ◌≤ℤ◌, ◌<ℤ◌, pos, List, [], ◌∷◌, length, All}
 use Rattle.record_batch.specs.Build.{IsBuildable}
 use Rattle.plain_log.specs.declared.command.Command.{Command}
-use Rattle.plain_log.specs.declared.command.Command.TheVariants.{Append, Raw, Flush, Elect, Unclean, Learn, Join, Follow, Ack, Shrink, Expand, Raise, Clock, Stop, Up, Fetch}
+use Rattle.plain_log.specs.declared.command.Command.TheVariants.{Append, Raw, Flush, Roll, Elect, Unclean, Learn, Join, Follow, Ack, Shrink, Expand, Raise, Clock, Stop, Up, Fetch}
 use Rattle.plain_log.specs.declared.command.Order.{Order}
 use Rattle.plain_log.specs.declared.command.ActorList.{ActorList}
 use Rattle.plain_log.specs.declared.command.Config.{Config}
@@ -13,6 +13,7 @@ abbrev pub IsInRange : Command → Type 0
 IsInRange (Append recs) = IsBuildable recs
 IsInRange (Raw bytes) = length bytes ≤ 1048576
 IsInRange Flush = Unit {0}
+IsInRange Roll = Unit {0}
 IsInRange Elect = Unit {0}
 IsInRange Unclean = Unit {0}
 IsInRange Learn = Unit {0}
@@ -50,7 +51,10 @@ pub record AreListsFor (config : Config) (lists : List ActorList) : Type 0 where
   pub rising : AreRising lists
   pub each : All (IsListFor config) lists
 
--- there are 1 to 8 brokers
+-- there are 1 to 8 brokers, a segment has 100 bytes to 16 MiB, and index entries at most those between them
 pub record IsConfig (config : Config) : Type 0 where
   pub some : 1 ≤ config.brokers
   pub few : config.brokers ≤ 8
+  pub segment_low : 100 ≤ config.settings.segment_bytes
+  pub segment_high : config.settings.segment_bytes ≤ 16777216
+  pub interval_high : config.settings.index_interval ≤ 16777216

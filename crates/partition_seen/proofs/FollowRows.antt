@@ -1,0 +1,296 @@
+-- The rows of a follower, which joins a leader's log and copies from it, are the plain log's.
+use Rattle.std.proofs.Common.{◌≡◌, ◌≢◌, inl, inr, ◌∙◌, sym, ap, subst, refl, ℕ, zero, suc, ◌≤◌, ◌==◌, nat_lt, List, [], ◌∷◌, ◌++◌, slice_get, slice_set, Some, None, Option, Bool, true, false, ◌&&◌, min, arith, append_assoc}
+use Rattle.std.specs.Prelude.{is_some, map, option_map}
+use Rattle.std.specs.Option.{option_and_then}
+use Rattle.std.proofs.lemmas.Bool.{cases_lt}
+use mathlib.Core.List.{IsPrefix}
+use Rattle.log_terms.specs.Batch.{last_of}
+use Rattle.log_terms.specs.Log.{end_from, end_of, up_to, from_offset, EndsAt}
+use Rattle.log_terms.proofs.Logs.{end_append, up_to_end, prefix_end}
+use Rattle.registry.specs.declared.registry.Replica.{Replica}
+use Rattle.registry.specs.declared.registry.Registry.{Registry}
+use Rattle.registry.specs.Calls.{when}
+use Rattle.plain_log.specs.declared.answer.Answer.{Answer}
+use Rattle.plain_log.specs.declared.answer.Answer.TheVariants.{Down, NotFollower, StaleEpoch, NoLeader, Cut, NotJoined, Level}
+use Rattle.plain_log.specs.declared.command.Command.TheVariants.{Join, Follow}
+use Rattle.plain_log.specs.declared.state.State.{State}
+use Rattle.plain_log.specs.declared.state.Broker.{Broker}
+use Rattle.plain_log.specs.declared.state.Role.{Role}
+use Rattle.plain_log.specs.declared.state.Role.TheVariants.{Idle, Leads, Follows, Joined}
+use Rattle.plain_log.specs.State.{path_of, put_broker, followed, joined, leads_in, is_stale, the_leader as leader_of, leader_leads}
+use Rattle.plain_log.specs.Ends.{common}
+use Rattle.plain_log.specs.RowsOfFollowers.{is_current, may_join, cut_to, leader_end, may_follow}
+use Rattle.plain_log.specs.Step.{begins}
+use Rattle.plain_log.specs.Safe.{RoleSafe}
+use Rattle.plain_log.proofs.AppendRow.{leads_in_is}
+use Rattle.partition_seen.specs.declared.begun.Begun.{Begun}
+use Rattle.partition_seen.specs.declared.begun.Turned.TheVariants.{Answers, Begins}
+use Rattle.partition_seen.specs.Seen.{Node, Held}
+use Rattle.partition_seen.specs.Held.{broker_of, put_node, the_leader}
+use Rattle.partition_seen.specs.Central.{HeldStands, RunStands}
+use Rattle.partition_seen.specs.RowsOfFollowers.{IsStale, IsFresh, IsMeet, cut_node, JoinRow, FollowRow}
+use Rattle.partition_seen.proofs.Meets.{meet_common}
+use Rattle.partition_seen.proofs.BoolTests.{some_of, and_true, not_false, when_true, eq_same, lt_true, lt_false}
+use Rattle.partition_seen.proofs.NodeLaw.{joined_is, node_cut}
+use Rattle.partition_seen.proofs.Standing.{Standing, Allowed, silent, put, broker_at, wider_self, followed_below}
+use Rattle.partition_seen.proofs.OwnRows.{filter_paths}
+
+-- the registry's leader
+
+get_map : {A B : Type 0} (f : A → B) (xs : List A) (i : ℕ) → slice_get (map f xs) i ≡ option_map f (slice_get xs i)
+get_map f [] i = refl
+get_map f (x ∷ xs) zero = refl
+get_map f (x ∷ xs) (suc i) = get_map f xs i
+
+-- the nodes' leader is the plain log's
+leader_as : (h : Held) (p : State) → HeldStands h p → leader_of p ≡ option_map broker_of (the_leader h)
+leader_as h p st =
+    ap (λ (r : Registry). option_and_then (λ (y : Broker). when (y.up && leads_in r.epoch y.role) y) (slice_get p.brokers r.leader.0)) st.registry
+    ∙ (ap (λ (bs : List Broker). option_and_then (λ (y : Broker). when (y.up && leads_in h.registry.epoch y.role) y) (slice_get bs h.registry.leader.0)) st.brokers
+    ∙ (ap (λ (o : Option Broker). option_and_then (λ (y : Broker). when (y.up && leads_in h.registry.epoch y.role) y) o) (get_map broker_of h.nodes h.registry.leader.0)
+    ∙ go (slice_get h.nodes h.registry.leader.0)))
+  where
+    by : (t : Bool) (y : Node) → when t (broker_of y) ≡ option_map broker_of (when t y)
+    by true y = refl
+    by false y = refl
+
+    go : (o : Option Node) → option_and_then (λ (y : Broker). when (y.up && leads_in h.registry.epoch y.role) y) (option_map broker_of o)
+        ≡ option_map broker_of (option_and_then (λ (y : Node). when (y.up && leads_in h.registry.epoch y.role) y) o)
+    go None = refl
+    go (Some y) = by (y.up && leads_in h.registry.epoch y.role) y
+
+-- what there is to the leader
+record IsLeading (h : Held) (p : State) (y : Node) : Type 0 where
+  at : slice_get h.nodes h.registry.leader.0 ≡ Some y
+  leads : y.role ≡ Leads h.registry.epoch
+  path : path_of p.paths p.registry.epoch ≡ Some y.log.batches
+  is : leader_of p ≡ Some (broker_of y)
+
+leading : (h : Held) (p : State) (b : ℕ) (x : Node) (s : Replica) (y : Node) → Standing h p b x s → the_leader h ≡ Some y → IsLeading h p y
+leading h p b x s y st e = go (slice_get h.nodes h.registry.leader.0) refl
+  where
+    both_of : (a c : Bool) (z : Node) → when (a && c) z ≡ Some y → (c ≡ true) × (z ≡ y)
+    both_of true true z w = (refl, cc)
+    both_of true false z w = absurd cc
+    both_of false c z w = absurd cc
+
+    role_of : (z : Node) → slice_get h.nodes h.registry.leader.0 ≡ Some z → z.role ≡ Leads h.registry.epoch → path_of p.paths p.registry.epoch ≡ Some z.log.batches
+    role_of z at leads =
+        let epoch : h.registry.epoch ≡ p.registry.epoch = ap (λ (r : Registry). r.epoch) (sym st.held.registry) in
+        let safe = (st.safe.brokers h.registry.leader.0 (broker_of z) (broker_at h p h.registry.leader.0 z st.held at)).role in
+        (subst (λ (r : Role). RoleSafe p.paths p.registry.epoch r z.log.batches) (leads ∙ ap Leads epoch) safe).1
+
+    go : (o : Option Node) → slice_get h.nodes h.registry.leader.0 ≡ o → IsLeading h p y
+    go None is = absurd (let no : ◌≡◌ {A = Option Node} None (Some y) = ap (λ (o : Option Node). option_and_then (λ (y : Node). when (y.up && leads_in h.registry.epoch y.role) y) o) (sym is) ∙ e in cc)
+    go (Some z) is =
+        let w : when (z.up && leads_in h.registry.epoch z.role) z ≡ Some y = ap (λ (o : Option Node). option_and_then (λ (y : Node). when (y.up && leads_in h.registry.epoch y.role) y) o) (sym is) ∙ e in
+        let k = both_of z.up (leads_in h.registry.epoch z.role) z w in
+        let at : slice_get h.nodes h.registry.leader.0 ≡ Some y = is ∙ ap (λ (n : Node). Some n) k.1 in
+        let role : y.role ≡ Leads h.registry.epoch = ap (λ (n : Node). n.role) (sym k.1) ∙ leads_in_is h.registry.epoch z.role k.0 in
+        record { at = at; leads = role; path = role_of y at role; is = leader_as h p st.held ∙ ap (option_map broker_of) e }
+
+leader_none : (h : Held) (p : State) → HeldStands h p → the_leader h ≡ None → leader_leads p ≡ false
+leader_none h p st none = ap is_some (leader_as h p st ∙ ap (option_map broker_of) none)
+
+leader_some : (h : Held) (p : State) (y : Node) → IsLeading h p y → leader_leads p ≡ true
+leader_some h p y l = ap is_some l.is
+
+-- stale and fresh epochs
+
+pub stale_true : (h : Held) (p : State) (o : Option ℕ) → HeldStands h p → IsStale h o → is_stale p o ≡ true
+stale_true h p o st w =
+    let e = some_of _ o w in
+    rw e.1 (lt_true e.0 p.registry.epoch (omega (arith, e.2, ap (λ (r : Registry). r.epoch) st.registry)))
+
+pub stale_false : (h : Held) (p : State) (o : Option ℕ) → HeldStands h p → (IsStale h o → ⊥) → is_stale p o ≡ false
+stale_false h p None st new = refl
+stale_false h p (Some e) st new = elim (cases_lt e h.registry.epoch) [
+  | inl less ↦ absurd (new less)
+  | inr more ↦ lt_false e p.registry.epoch (omega (arith, more, ap (λ (r : Registry). r.epoch) st.registry))
+]
+
+current_true : (h : Held) (p : State) (x : Node) (o : Option ℕ) → HeldStands h p → x.up ≡ true → IsFresh h o → is_current p (broker_of x) o ≡ true
+current_true h p x o st up w =
+    let e = some_of _ o w in
+    and_true _ _ (and_true _ _ up (rw e.1 refl)) (rw e.1 (rw (lt_false e.0 p.registry.epoch (omega (arith, e.2, ap (λ (r : Registry). r.epoch) st.registry))) refl))
+
+pub epoch_same : (h : Held) (p : State) (n : ℕ) → HeldStands h p → n ≡ h.registry.epoch → n ≡ p.registry.epoch
+epoch_same h p n st is = is ∙ ap (λ (r : Registry). r.epoch) (sym st.registry)
+
+-- an epoch that a follower has and that isn't stale is the registry's
+pub record IsNow (h : Held) (p : State) (b e : ℕ) : Type 0 where
+  pub plain : e ≡ p.registry.epoch
+  pub held : e ≡ h.registry.epoch
+  pub other : h.registry.leader.0 ≢ b
+
+pub now : (h : Held) (p : State) (b : ℕ) (x : Node) (s : Replica) (e : ℕ) → Standing h p b x s → followed x.role ≡ Some e → h.registry.epoch ≤ e → IsNow h p b e
+now h p b x s e st is le =
+    let reg = ap (λ (r : Registry). r.epoch) st.held.registry in
+    let low = followed_below p.paths p.registry.epoch x.role x.log.batches e (st.safe.brokers b (broker_of x) (broker_at h p b x st.held st.at)).role is in
+    let same : e ≡ h.registry.epoch = omega (arith, low, le, reg) in
+    record {
+      plain = same ∙ sym reg;
+      held = same;
+      other = st.lines.followers b x st.at (is ∙ ap (λ (n : ℕ). Some n) same);
+    }
+
+fresh_of : (h : Held) (o : Option ℕ) → IsFresh h o → (e : ℕ) × (o ≡ Some e) × (h.registry.epoch ≤ e)
+fresh_of h o w = some_of _ o w
+
+-- join
+
+-- where a follower's log meets its leader's, the plain log's do
+cut_is : (h : Held) (p : State) (b : ℕ) (x : Node) (s : Replica) (y : Node) (m : ℕ) → Standing h p b x s → IsLeading h p y → IsMeet x y m
+    → up_to m x.log.batches ≡ common x.log.batches y.log.batches
+cut_is h p b x s y m st l w =
+    let mine = (st.lines.each b x st.at).sound.log in
+    let theirs = (st.lines.each h.registry.leader.0 y l.at).sound.log in
+    (meet_common p.paths x.log.line y.log.line x.log.batches y.log.batches m (λ e log is. (st.safe.paths e log is).log_safe.consecutive)
+    (st.safe.brokers b (broker_of x) (broker_at h p b x st.held st.at)).log (st.safe.brokers h.registry.leader.0 (broker_of y) (broker_at h p h.registry.leader.0 y st.held l.at)).log
+    (record { mine_for = mine.line_is; mine_rises = mine.rises; theirs_for = theirs.line_is; theirs_rises = theirs.rises }) w).1
+
+join_cut : (h : Held) (p : State) (b : ℕ) (x : Node) (s : Replica) (y : Node) (e m n : ℕ) (h' : Held) → Standing h p b x s → IsLeading h p y → x.up ≡ true
+    → followed x.role ≡ Some e → h.registry.epoch ≤ e → IsMeet x y m → n ≡ end_of (up_to m x.log.batches) → h' ≡ put_node h b (cut_node x e m)
+    → Allowed p b x s None Join (Cut n) h'
+join_cut h p b x s y e m n h' st l up is le w n_is same =
+    let k = now h p b x s e st is le in
+    let cut = cut_is h p b x s y m st l w in
+    let bx = broker_of x in
+    let path : path_of p.paths e ≡ Some y.log.batches = ap (path_of p.paths) k.plain ∙ l.path in
+    let z : Broker = record bx { role = Joined e; log = common x.log.batches y.log.batches; stable = n; known = min x.known n } in
+    let fresh : is_stale p (Some e) ≡ false = lt_false e p.registry.epoch (omega (arith, k.plain)) in
+    let joins : may_join p bx e ≡ true = and_true _ _ (and_true _ _ up (rw fresh refl)) (leader_some h p y l) in
+    let test : (may_join p bx e && (n == end_of (common x.log.batches y.log.batches))) ≡ true = and_true _ _ joins (eq_same _ _ (n_is ∙ ap end_of cut)) in
+    let to : cut_to p bx n ≡ Some z = rw (is, path) (when_true _ z test) in
+    let line = (st.lines.each b x st.at) in
+    let node = node_cut x e m line.sound up in
+    put h p (put_broker p b z) b x (cut_node x e m) s None Join (Cut n) h' st (ap (option_map (put_broker p b)) to) (record {
+      registry = refl;
+      brokers = ap (λ (log : List (List ℕ)). slice_set p.brokers b (record bx { role = Joined e; log = log; stable = n; known = min x.known n })) (sym cut)
+          ∙ ap (λ (k : ℕ). slice_set p.brokers b (record bx { role = Joined e; log = up_to m x.log.batches; stable = k; known = min x.known k })) n_is;
+      actors = refl;
+      paths = wider_self p.paths;
+      keys = λ other has. has;
+      sound = node.0;
+      paths_are = λ safe. filter_paths p.paths x.log.line (end_of (up_to m x.log.batches)) line.paths_are;
+      saved_are = λ safe. filter_paths p.paths x.log.line (end_of (up_to m x.log.batches)) line.paths_are;
+      joined = λ f j. node.1;
+      leader = λ it. absurd (k.other it);
+      followers = λ f. k.other;
+    }) same
+
+pub join_allowed : (h : Held) (p : State) (b : ℕ) (x : Node) (s : Replica) (answer : Answer) (h' : Held) → Standing h p b x s → JoinRow h b x answer h' → Allowed p b x s None Join answer h'
+join_allowed h p b x s Down h' st w = silent h p b x s None Join Down h' st (rw w.0 refl) w.1
+join_allowed h p b x s NotFollower h' st w = silent h p b x s None Join NotFollower h' st (rw (w.0, w.1) refl) w.2
+join_allowed h p b x s (StaleEpoch n) h' st w =
+    silent h p b x s None Join (StaleEpoch n) h' st (when_true _ p (and_true _ _ (and_true _ _ w.0 (stale_true h p (followed x.role) st.held w.1)) (eq_same _ _ (epoch_same h p n st.held w.2)))) w.3
+join_allowed h p b x s NoLeader h' st w =
+    silent h p b x s None Join NoLeader h' st (when_true _ p (and_true _ _ (current_true h p x (followed x.role) st.held w.0 w.1) (not_false _ (leader_none h p st.held w.2)))) w.3
+join_allowed h p b x s (Cut n) h' st w =
+    let y = some_of _ (the_leader h) w.2 in
+    let o = fresh_of h (followed x.role) w.1 in
+    let k = y.2 in
+    let one : o.0 ≡ k.0 = cc (o.1, k.2) in
+    join_cut h p b x s y.0 k.0 k.1 n h' st (leading h p b x s y.0 st y.1) w.0 k.2 (omega (arith, o.2, one)) k.3 k.4 k.5
+join_allowed h p b x s other h' st w = elim w [ ]
+
+-- follow, first turn
+
+pub joined_followed : (r : Role) (e : ℕ) → joined r ≡ Some e → followed r ≡ Some e
+joined_followed Idle e is = absurd cc
+joined_followed (Leads f) e is = absurd cc
+joined_followed (Follows f) e is = absurd cc
+joined_followed (Joined f) e is = is
+
+-- a follower's log begins its leader's
+begins_leader : (h : Held) (p : State) (b : ℕ) (x : Node) (s : Replica) (y : Node) (e : ℕ) → Standing h p b x s → IsLeading h p y → joined x.role ≡ Some e → h.registry.epoch ≤ e
+    → IsPrefix x.log.batches y.log.batches
+begins_leader h p b x s y e st l is le =
+    let k = now h p b x s e st (joined_followed x.role e is) le in
+    let safe = (st.safe.brokers b (broker_of x) (broker_at h p b x st.held st.at)).role in
+    let has = (subst (λ (r : Role). RoleSafe p.paths p.registry.epoch r x.log.batches) (joined_is x.role e is) safe).1 in
+    let same : has.0 ≡ y.log.batches = cc (has.1, ap (path_of p.paths) k.plain, l.path) in
+    subst (λ (w : List (List ℕ)). IsPrefix x.log.batches w) same has.2
+
+leader_ends : (h : Held) (p : State) (y : Node) → IsLeading h p y → leader_end p ≡ end_of y.log.batches
+leader_ends h p y l = rw l.is refl
+
+follow_true : (h : Held) (p : State) (x y : Node) → HeldStands h p → IsLeading h p y → x.up ≡ true → IsFresh h (joined x.role) → may_follow p (broker_of x) ≡ true
+follow_true h p x y st l up w = and_true _ _ (current_true h p x (joined x.role) st up w) (leader_some h p y l)
+
+pub follow_allowed : (h : Held) (p : State) (b : ℕ) (x : Node) (s : Replica) (limit : ℕ) (answer : Answer) (h' : Held) → Standing h p b x s → FollowRow h b x limit (Answers answer) h'
+    → Allowed p b x s None (Follow limit) answer h'
+follow_allowed h p b x s limit Down h' st w = silent h p b x s None (Follow limit) Down h' st (rw w.0 refl) w.1
+follow_allowed h p b x s limit NotJoined h' st w = silent h p b x s None (Follow limit) NotJoined h' st (rw (w.0, w.1) refl) w.2
+follow_allowed h p b x s limit (StaleEpoch n) h' st w =
+    silent h p b x s None (Follow limit) (StaleEpoch n) h' st
+    (when_true _ p (and_true _ _ (and_true _ _ w.0 (stale_true h p (joined x.role) st.held w.1)) (eq_same _ _ (epoch_same h p n st.held w.2)))) w.3
+follow_allowed h p b x s limit NoLeader h' st w =
+    silent h p b x s None (Follow limit) NoLeader h' st
+    (when_true _ p (and_true _ _ (current_true h p x (joined x.role) st.held w.0 w.1) (not_false _ (leader_none h p st.held w.2)))) w.3
+follow_allowed h p b x s limit Level h' st w =
+    let y = some_of _ (the_leader h) w.2 in
+    let l = leading h p b x s y.0 st y.1 in
+    let o = fresh_of h (joined x.role) w.1 in
+    let front = begins_leader h p b x s y.0 o.0 st l o.1 o.2 in
+    let low = prefix_end x.log.batches y.0.log.batches (st.lines.each h.registry.leader.0 y.0 l.at).sound.log.consecutive front in
+    let ends : end_of x.log.batches ≡ leader_end p = omega (arith, low, y.2, leader_ends h p y.0 l) in
+    silent h p b x s None (Follow limit) Level h' st (when_true _ p (and_true _ _ (follow_true h p x y.0 st.held l w.0 w.1) (eq_same _ _ ends))) w.3
+follow_allowed h p b x s limit other h' st w = elim w [ ]
+
+-- what a follow begins with
+pub record Starts (h : Held) (p : State) (x : Node) (limit : ℕ) (g : Begun) (h' : Held) : Type 0 where
+  pub same : h' ≡ h
+  pub is : begins p (broker_of x) (Follow limit) None ≡ Some (broker_of x)
+  pub stops : g.stops ≡ x.stops
+  pub role : g.role ≡ x.role
+  pub end : g.end ≡ end_of x.log.batches
+  pub start : g.start ≡ p.registry.start
+  pub run : RunStands p.paths limit g
+
+-- a log is what it has up to an offset, and from there on
+parts_at : (n : ℕ) (log : List (List ℕ)) → up_to n log ++ from_offset n log ≡ log
+parts_at n [] = refl
+parts_at n (x ∷ xs) = go (nat_lt (last_of x) n) refl (parts_at n xs)
+  where
+    go : (t : Bool) → nat_lt (last_of x) n ≡ t → up_to n xs ++ from_offset n xs ≡ xs → up_to n (x ∷ xs) ++ from_offset n (x ∷ xs) ≡ x ∷ xs
+    go true t r = rw t (ap (λ (l : List (List ℕ)). x ∷ l) r)
+    go false t r = rw t refl
+
+pub follow_starts : (h : Held) (p : State) (b : ℕ) (x : Node) (s : Replica) (limit : ℕ) (g : Begun) (h' : Held) → Standing h p b x s → FollowRow h b x limit (Begins g) h' → Starts h p x limit g h'
+follow_starts h p b x s limit g h' st w =
+    let y = some_of _ (the_leader h) w.2 in
+    let l = leading h p b x s y.0 st y.1 in
+    let o = fresh_of h (joined x.role) w.1 in
+    let k = now h p b x s o.0 st (joined_followed x.role o.0 o.1) o.2 in
+    let front = begins_leader h p b x s y.0 o.0 st l o.1 o.2 in
+    let log = (st.lines.each h.registry.leader.0 y.0 l.at).sound.log in
+    let takes = y.2.1 in
+    let run = takes.run in
+    let ends : EndsAt g.end y.0.log.batches = (x.log.batches, front, sym takes.end) in
+    let at = up_to_end g.end y.0.log.batches log.consecutive ends in
+    let more : IsPrefix (up_to g.end y.0.log.batches ++ g.batches) y.0.log.batches =
+    (run.rest, append_assoc (up_to g.end y.0.log.batches) g.batches run.rest ∙ (ap (λ (w : List (List ℕ)). up_to g.end y.0.log.batches ++ w) (sym run.parts) ∙ parts_at g.end y.0.log.batches)) in
+    let low = prefix_end (up_to g.end y.0.log.batches ++ g.batches) y.0.log.batches log.consecutive more in
+    let last : end_of (up_to g.end y.0.log.batches ++ g.batches) ≡ end_from g.end g.batches = end_append 0 (up_to g.end y.0.log.batches) g.batches ∙ ap (λ (n : ℕ). end_from n g.batches) at in
+    record {
+      same = w.3;
+      is = when_true _ (broker_of x) (and_true _ _ (follow_true h p x y.0 st.held l w.0 w.1) (lt_true (end_of x.log.batches) (leader_end p) (omega (arith, y.2.0, leader_ends h p y.0 l))));
+      stops = takes.stops;
+      role = takes.role;
+      end = takes.end;
+      start = takes.start ∙ ap (λ (r : Registry). r.start) (sym st.held.registry);
+      run = record {
+        epoch = o.0;
+        role = takes.role ∙ joined_is x.role o.0 o.1;
+        path = y.0.log.batches;
+        path_is = ap (path_of p.paths) k.plain ∙ l.path;
+        front = up_to g.end y.0.log.batches;
+        ends = at;
+        begins = more;
+        are = takes.are;
+        within = run.within;
+        epochs = run.epochs;
+        small = omega (arith, low, last, log.small);
+      };
+    }

@@ -1,0 +1,331 @@
+-- The rows of a broker that acknowledges, or learns of an election, are the plain log's.
+use Rattle.std.proofs.Common.{◌≡◌, inl, inr, ◌∙◌, sym, ap, subst, refl, ℕ, ◌+◌, ◌^◌, ◌<◌, ◌≤◌, ◌==◌, List, [], ◌∷◌, ◌++◌, slice_get, slice_set, Some, None, Option, Ok as Done, Err, Bool, true, false, not, ◌&&◌, min, arith}
+use Rattle.std.specs.Prelude.{is_some, map, option_map}
+use Rattle.std.specs.List.{AllByRecursion}
+use Rattle.std.proofs.lemmas.Bool.{cases_lt}
+use Rattle.std.proofs.lemmas.Bool.Decides.{nat_tests}
+use Rattle.std.proofs.lemmas.List.Elements.{All-from_recursion, recursion_from_All}
+use mathlib.Core.List.{IsPrefix}
+use Rattle.log_terms.specs.Line.{line_of}
+use Rattle.log_terms.specs.Batch.{last_of}
+use Rattle.log_terms.specs.Log.{IsConsecutive, end_from, end_of, up_to, EndsAt}
+use Rattle.log_terms.proofs.Lists.{prefix_self}
+use Rattle.log_terms.proofs.Logs.{end_above, consecutive_prefix, up_to_prefix, up_to_end, nested}
+use Rattle.epoch_line.specs.Line.{last_entry, last_epoch}
+use Rattle.registry.specs.declared.registry.Replica.{Replica}
+use Rattle.registry.specs.declared.registry.Registry.{Registry}
+use Rattle.registry.specs.declared.refusal.RegRefusal.TheVariants as Reg
+use Rattle.registry.specs.Registry.{epoch_limit, with_ack}
+use Rattle.registry.specs.Calls.{is_stale as is_behind, after_ack}
+use Rattle.plain_log.specs.declared.answer.Answer.{Answer}
+use Rattle.plain_log.specs.declared.answer.Answer.TheVariants.{OkAt, Down, Known, Follows, NeedsElection, Leads, NotJoined, StaleEpoch}
+use Rattle.plain_log.specs.declared.command.Command.TheVariants.{Learn, Ack}
+use Rattle.plain_log.specs.declared.state.State.{State}
+use Rattle.plain_log.specs.declared.state.Path.{Path}
+use Rattle.plain_log.specs.declared.state.Broker.{Broker}
+use Rattle.plain_log.specs.declared.state.Role.{Role}
+use Rattle.plain_log.specs.declared.state.Role.TheVariants.{Idle, Leads as LeadsIn, Follows as FollowsIn, Joined}
+use Rattle.plain_log.specs.State.{path_of, has_path, put_broker, acking, epoch_in, is_stale}
+use Rattle.plain_log.specs.RowsOfElections.{knows, led as led_plain, learns}
+use Rattle.plain_log.specs.RowsOfReplicas.{acknowledged, may_ack}
+use Rattle.plain_log.specs.Rows.{row}
+use Rattle.plain_log.specs.Safe.{Has, RoleSafe, PlainSafe}
+use Rattle.plain_log.proofs.Options.{when_some, both, eq_of, not_true}
+use Rattle.plain_log.proofs.Wider.{Wider}
+use Rattle.plain_log.proofs.StepLaw.{row_keeps}
+use Rattle.partition_seen.specs.Seen.{Node, Held}
+use Rattle.partition_seen.specs.Held.{broker_of, put_node}
+use Rattle.partition_seen.specs.Central.{HeldStands, LinesStand}
+use Rattle.partition_seen.specs.RowsOfElections.{IsKnown, IsNew, led, LearnRow, acked, AckRow}
+use Rattle.partition_seen.proofs.Lines.{by_last, assign_line}
+use Rattle.partition_seen.proofs.BoolTests.{some_of, and_true, not_false, when_true, eq_same, eq_differs, lt_true}
+use Rattle.partition_seen.proofs.NodeLaw.{node_told, node_follows, node_led}
+use Rattle.partition_seen.proofs.RegistryLaw.{Moves, ack_moves}
+use Rattle.partition_seen.proofs.Standing.{Standing, Allowed, HavePaths, LogsSafe, silent, put, leaves, get_put, broker_at, map_set, wider_self, log_paths, lines_put, lines_same}
+use Rattle.partition_seen.proofs.ElectionRows.{replica_is}
+
+-- ack
+
+-- a log that ends at or below an offset is all up to it
+up_to_all : (n m : ℕ) (log : List (List ℕ)) → IsConsecutive n log → end_from n log ≤ m → up_to m log ≡ log
+up_to_all n m [] c le = refl
+up_to_all n m (x ∷ xs) c le =
+    let above = end_above (last_of x + 1) xs c.1 in
+    rw (lt_true (last_of x) m (omega (arith, above, le))) (ap (λ (l : List (List ℕ)). x ∷ l) (up_to_all (last_of x + 1) m xs c.1 le))
+
+-- how far a beginning of a log goes up to an end of the log
+told_is : (m : ℕ) (log path : List (List ℕ)) → IsConsecutive 0 path → IsPrefix log path → EndsAt m path → end_of (up_to m log) ≡ min m (end_of log)
+told_is m log path c p h = elim (cases_lt (end_of log) m) [
+  | inl less ↦ ap end_of (up_to_all 0 m log (consecutive_prefix 0 log path p c) (omega (arith, less))) ∙ omega (arith, less)
+  | inr more ↦
+      let q = nested 0 h.0 log path c h.1 p (omega (arith, h.2, more)) in
+      up_to_end m log (consecutive_prefix 0 log path p c) (h.0, q, h.2) ∙ omega (arith, more)
+]
+
+-- a broker that may acknowledge has a path of the registry's epoch, which its log begins
+on_path : (paths : List Path) (epoch e : ℕ) (r : Role) (log : List (List ℕ)) → acking r ≡ Some e → epoch ≤ e → RoleSafe paths epoch r log → Has paths epoch log
+on_path paths epoch e Idle log a le s = absurd cc
+on_path paths epoch e (FollowsIn f) log a le s = absurd cc
+on_path paths epoch e (LeadsIn f) log a le s =
+    let one : f ≡ e = cc in
+    let now : epoch ≡ f = omega (arith, one, le, s.0) in
+    (log, ap (path_of paths) now ∙ s.1, prefix_self log)
+on_path paths epoch e (Joined f) log a le s =
+    let one : f ≡ e = cc in
+    let now : epoch ≡ f = omega (arith, one, le, s.0) in
+    (s.1.0, ap (path_of paths) now ∙ s.1.1, s.1.2)
+
+-- what the registry says of an acknowledgement
+stale_ack : (r after : Registry) (b : ℕ) (t : Replica) (e stable n : ℕ) → after_ack r b t e stable (Err (Reg.StaleEpoch n)) ≡ Some after → (is_behind r e ≡ true) × (n ≡ r.epoch) × (r ≡ after)
+stale_ack r after b t e stable n is =
+    let w = when_some (is_behind r e && (n == r.epoch)) r after is in
+    let k = both (is_behind r e) (n == r.epoch) w.0 in
+    (k.0, eq_of n r.epoch k.1, w.1)
+
+fresh_ack : (r after : Registry) (b : ℕ) (t : Replica) (e stable mark : ℕ) → after_ack r b t e stable (Done mark) ≡ Some after
+    → (not (is_behind r e) ≡ true) × (mark ≡ (with_ack r b t stable).mark) × (with_ack r b t stable ≡ after)
+fresh_ack r after b t e stable mark is =
+    let w = when_some (not (is_behind r e) && (mark == (with_ack r b t stable).mark)) (with_ack r b t stable) after is in
+    let k = both (not (is_behind r e)) (mark == (with_ack r b t stable).mark) w.0 in
+    (k.0, eq_of mark (with_ack r b t stable).mark k.1, w.1)
+
+not_behind : (r : Registry) (e : ℕ) → not (is_behind r e) ≡ true → r.epoch ≤ e
+not_behind r e is = let no = not_true (is_behind r e) is in grind (arith, nat_tests, no)
+
+-- what an acknowledgement comes to
+record Acks (h : Held) (p : State) (b : ℕ) (x : Node) (s : Replica) (e mark : ℕ) (h' : Held) : Type 0 where
+  is : acking x.role ≡ Some e
+  up : x.up ≡ true
+  fresh : not (is_behind p.registry e) ≡ true
+  mark_is : mark ≡ (with_ack p.registry b s x.stable).mark
+  after : h' ≡ acked h b x (with_ack p.registry b s x.stable)
+  moves : Moves h.registry (with_ack p.registry b s x.stable)
+
+acks_of : (h : Held) (p : State) (b : ℕ) (x : Node) (s : Replica) (mark : ℕ) (h' : Held) → Standing h p b x s → AckRow h b x (OkAt mark) h' → (e : ℕ) × Acks h p b x s e mark h'
+acks_of h p b x s mark h' st w =
+    let o = some_of _ (acking x.role) w.1 in
+    let t = some_of _ (slice_get h.registry.replicas b) o.2 in
+    let same = replica_is h p b x s t.0 st t.1 in
+    let r = some_of _ (after_ack h.registry b t.0 o.0 x.stable (Done mark)) t.2 in
+    let k = fresh_ack h.registry r.0 b t.0 o.0 x.stable mark r.1 in
+    let reg = st.held.registry in
+    let ack : with_ack p.registry b s x.stable ≡ with_ack h.registry b t.0 x.stable =
+    ap (λ (q : Registry). with_ack q b s x.stable) reg ∙ ap (λ (q : Replica). with_ack h.registry b q x.stable) (sym same) in (
+      o.0,
+      record {
+        is = o.1;
+        up = w.0;
+        fresh = subst (λ (q : Registry). not (is_behind q o.0) ≡ true) (sym reg) k.0;
+        mark_is = k.1 ∙ ap (λ (q : Registry). q.mark) (sym ack);
+        after = r.2 ∙ ap (λ (q : Registry). acked h b x q) (sym (ack ∙ k.2));
+        moves = subst (λ (q : Registry). Moves h.registry q) (sym (ack ∙ k.2)) (ack_moves h.registry b t.0 o.0 x.stable (Done mark) r.0 r.1);
+      },
+    )
+
+ack_given : (h : Held) (p : State) (b : ℕ) (x : Node) (s : Replica) (e mark : ℕ) (h' : Held) → Standing h p b x s → Acks h p b x s e mark h' → Allowed p b x s None Ack (OkAt mark) h'
+ack_given h p b x s e mark h' st w =
+    let bx = broker_at h p b x st.held st.at in
+    let safe = st.safe.brokers b (broker_of x) bx in
+    let path = on_path p.paths p.registry.epoch e x.role x.log.batches w.is (not_behind p.registry e w.fresh) safe.role in
+    let r = with_ack p.registry b s x.stable in
+    let q = acknowledged p b (broker_of x) s path.0 in
+    let test : may_ack p b (broker_of x) s mark ≡ true = and_true _ _ (and_true _ _ (and_true _ _ w.up (rw w.is refl)) (rw w.is w.fresh)) (eq_same _ _ w.mark_is) in
+    let is : row p b (broker_of x) s None Ack (OkAt mark) ≡ Some q = rw path.1 (when_true _ q test) in
+    let after = (row_keeps p b (broker_of x) s None Ack (OkAt mark) q bx st.replica tt is st.safe).safe in
+    let ends : EndsAt r.mark path.0 = (up_to r.mark path.0, up_to_prefix r.mark path.0, after.marks.ends) in
+    let told = told_is r.mark x.log.batches path.0 (st.safe.paths p.registry.epoch path.0 path.1).log_safe.consecutive path.2 ends in
+    let y : Node = record x { known = end_of (up_to r.mark x.log.batches) } in
+    let l = st.lines.each b x st.at in
+    let put : LinesStand (put_node h b y) p.paths = lines_put h p.paths p.paths b y st.lines (wider_self p.paths) (λ other has. has)
+    (record { sound = node_told x r.mark l.sound w.up; paths_are = l.paths_are; saved_are = l.saved_are; joined = l.joined })
+    (λ it has. st.lines.leader x (ap (λ (c : ℕ). slice_get h.nodes c) it ∙ st.at) has) (λ f. st.lines.followers b x st.at f) in
+    record {
+      state = q;
+      is = is;
+      registry = ap (λ (k : Held). k.registry) (sym w.after);
+      brokers = ap (λ (k : List Broker). slice_set k b (record (broker_of x) { known = min r.mark (end_of x.log.batches) })) st.held.brokers
+          ∙ (ap (λ (m : ℕ). slice_set (map broker_of h.nodes) b (record (broker_of x) { known = m })) (sym told)
+          ∙ (sym (map_set broker_of h.nodes b y) ∙ ap (λ (k : Held). map broker_of k.nodes) (sym w.after)));
+      actors = refl;
+      paths = wider_self p.paths;
+      lines = λ _. subst (λ (k : Held). LinesStand k p.paths) (sym w.after) (same put);
+    }
+  where
+    same : LinesStand (put_node h b (record x { known = end_of (up_to (with_ack p.registry b s x.stable).mark x.log.batches) })) p.paths
+        → LinesStand (acked h b x (with_ack p.registry b s x.stable)) p.paths
+    same l = elim w.moves.epoch [
+      | inl k ↦ lines_same (put_node h b (record x { known = end_of (up_to (with_ack p.registry b s x.stable).mark x.log.batches) })) p.paths (with_ack p.registry b s x.stable) l k
+      | inr k ↦ absurd (omega (arith, k.epoch, ap (λ (q : Registry). q.epoch) st.held.registry))
+    ]
+
+pub ack_allowed : (h : Held) (p : State) (b : ℕ) (x : Node) (s : Replica) (answer : Answer) (h' : Held) → Standing h p b x s → AckRow h b x answer h' → Allowed p b x s None Ack answer h'
+ack_allowed h p b x s Down h' st w = silent h p b x s None Ack Down h' st (rw w.0 refl) w.1
+ack_allowed h p b x s NotJoined h' st w = silent h p b x s None Ack NotJoined h' st (rw (w.0, w.1) refl) w.2
+ack_allowed h p b x s (StaleEpoch n) h' st w =
+    let o = some_of _ (acking x.role) w.1 in
+    let t = some_of _ (slice_get h.registry.replicas b) o.2 in
+    let r = some_of _ (after_ack h.registry b t.0 o.0 x.stable (Err (Reg.StaleEpoch n))) t.2 in
+    let k = stale_ack h.registry r.0 b t.0 o.0 x.stable n r.1 in
+    let stale : is_stale p (acking x.role) ≡ true = rw o.1 (subst (λ (q : Registry). is_behind q o.0 ≡ true) (sym st.held.registry) k.0) in
+    let epoch : n ≡ p.registry.epoch = k.1 ∙ ap (λ (q : Registry). q.epoch) (sym st.held.registry) in
+    leaves h p p b x s r.0 None Ack (StaleEpoch n) h' st (when_true _ p (and_true _ _ (and_true _ _ w.0 stale) (eq_same _ _ epoch)))
+    (st.held.registry ∙ k.2) refl refl refl (ack_moves h.registry b t.0 o.0 x.stable (Err (Reg.StaleEpoch n)) r.0 r.1) r.2
+ack_allowed h p b x s (OkAt mark) h' st w = let k = acks_of h p b x s mark h' st w in ack_given h p b x s k.0 mark h' st k.1
+ack_allowed h p b x s other h' st w = elim w [ ]
+
+-- learn
+
+known_true : (h : Held) (p : State) (x : Node) → HeldStands h p → IsKnown h x → knows p (broker_of x) ≡ true
+known_true h p x st is = rw is (eq_same _ _ (ap (λ (q : Registry). q.epoch) (sym st.registry)))
+
+known_false : (h : Held) (p : State) (x : Node) → HeldStands h p → (IsKnown h x → ⊥) → knows p (broker_of x) ≡ false
+known_false h p x st new = go (epoch_in x.role) refl
+  where
+    go : (o : Option ℕ) → epoch_in x.role ≡ o → knows p (broker_of x) ≡ false
+    go None is = rw is refl
+    go (Some e) is = rw is (eq_differs e p.registry.epoch (λ same. new (is ∙ ap (λ (n : ℕ). Some n) (same ∙ ap (λ (q : Registry). q.epoch) st.registry))))
+
+learns_true : (h : Held) (p : State) (x : Node) (n : ℕ) → HeldStands h p → x.up ≡ true → (IsKnown h x → ⊥) → n ≡ h.registry.epoch → learns p (broker_of x) n ≡ true
+learns_true h p x n st up new is =
+    and_true _ _ (and_true _ _ up (not_false _ (known_false h p x st new))) (eq_same _ _ (is ∙ ap (λ (q : Registry). q.epoch) (sym st.registry)))
+
+-- the last entry's epoch has a path
+last_path : (paths : List Path) (line : List (ℕ × ℕ)) (e : ℕ) → AllByRecursion (λ entry. is_some (path_of paths entry.0) ≡ true) line → last_epoch line ≡ Some e
+    → is_some (path_of paths e) ≡ true
+last_path paths [] e all is = absurd cc
+last_path paths (one ∷ []) e all is = let same : one.0 ≡ e = cc in subst (λ (n : ℕ). is_some (path_of paths n) ≡ true) same all.0
+last_path paths (one ∷ two ∷ line) e all is = last_path paths (two ∷ line) e all.1 is
+
+path_there : (p : State) (e : ℕ) → PlainSafe p → is_some (path_of p.paths e) ≡ true → e ≤ p.registry.epoch
+path_there p e s h = go (path_of p.paths e) refl h
+  where
+    go : (o : Option (List (List ℕ))) → path_of p.paths e ≡ o → is_some o ≡ true → e ≤ p.registry.epoch
+    go None is t = absurd cc
+    go (Some log) is t = (s.paths e log is).below
+
+-- a broker that is to lead an epoch that its line has was its leader
+was_led : (h : Held) (p : State) (b : ℕ) (x : Node) (s : Replica) (n : ℕ) → Standing h p b x s → n ≡ h.registry.epoch → (IsNew x n → ⊥) → has_path p n ≡ true
+was_led h p b x s n st is old = elim (by_last x.log.line) [
+  | inl none ↦ absurd (old (λ last e. absurd (cc (e, none))))
+  | inr some ↦
+      let l = st.lines.each b x st.at in
+      let has = last_path p.paths x.log.line some.0 (recursion_from_All _ x.log.line l.paths_are) some.1 in
+      let low = path_there p some.0 st.safe has in
+      elim (cases_lt some.0 n) [
+        | inl less ↦ absurd (old (λ last e. (let same : last ≡ some.0 = cc (e, some.1) in omega (arith, same, less))))
+        | inr more ↦
+            let same : some.0 ≡ n = omega (arith, more, low, is, ap (λ (q : Registry). q.epoch) st.held.registry) in
+            subst (λ (k : ℕ). is_some (path_of p.paths k) ≡ true) same has
+      ]
+]
+
+-- the lead of an epoch that the broker's line doesn't have wasn't taken
+not_led : (h : Held) (p : State) (b : ℕ) (x : Node) (s : Replica) (n : ℕ) → Standing h p b x s → h.registry.leader.0 ≡ b → n ≡ h.registry.epoch → IsNew x n → has_path p n ≡ false
+not_led h p b x s n st it is new = go (is_some (path_of p.paths n)) refl
+  where
+    last_is : (line : List (ℕ × ℕ)) (entry : ℕ × ℕ) → last_entry line ≡ Some entry → last_epoch line ≡ Some entry.0
+    last_is line entry e = ap (option_map (λ (k : ℕ × ℕ). k.0)) e
+
+    go : (t : Bool) → is_some (path_of p.paths n) ≡ t → has_path p n ≡ false
+    go false e = e
+    go true e =
+        let k = st.lines.leader x (ap (λ (c : ℕ). slice_get h.nodes c) it ∙ st.at) (subst (λ (m : ℕ). is_some (path_of p.paths m) ≡ true) is e) in
+        let low = new h.registry.epoch (last_is x.log.line (h.registry.epoch, k.0) k.1) in
+        absurd (omega (arith, low, is))
+
+-- the paths with a new one
+path_new : (p : State) (n : ℕ) (log : List (List ℕ)) → has_path p n ≡ false → Wider p.paths (record { epoch = n; log = log } ∷ p.paths)
+path_new p n log none e l is = go (n == e) refl
+  where
+    go : (t : Bool) → (n == e) ≡ t → Has (record { epoch = n; log = log } ∷ p.paths) e l
+    go true t =
+        let same : n ≡ e = grind (arith, nat_tests, t) in
+        let has : has_path p n ≡ true = rw (ap (path_of p.paths) same ∙ is) refl in
+        absurd (let no : true ≡ false = sym has ∙ none in cc)
+    go false t = (l, rw t is, prefix_self l)
+
+new_path : (ps : List Path) (n : ℕ) (log : List (List ℕ)) → path_of (record { epoch = n; log = log } ∷ ps) n ≡ Some log
+new_path ps n log = rw (eq_same n n refl) refl
+
+-- the line of a broker that leads
+led_paths : (paths : List Path) (line : List (ℕ × ℕ)) (log : List (List ℕ)) (n end : ℕ) → line ≡ line_of log ++ (n, end) ∷ [] → HavePaths paths (line_of log)
+    → is_some (path_of paths n) ≡ true → HavePaths paths line
+led_paths paths line log n end is all one = subst (HavePaths paths) (sym is) (All-from_recursion _ (line_of log ++ (n, end) ∷ []) (more (line_of log) (recursion_from_All _ (line_of log) all)))
+  where
+    more : (xs : List (ℕ × ℕ)) → AllByRecursion (λ entry. is_some (path_of paths entry.0) ≡ true) xs → AllByRecursion (λ entry. is_some (path_of paths entry.0) ≡ true) (xs ++ (n, end) ∷ [])
+    more [] a = (one, tt)
+    more (x ∷ xs) a = (a.0, more xs a.1)
+
+last_pushed : (line : List (ℕ × ℕ)) (entry : ℕ × ℕ) → last_entry (line ++ entry ∷ []) ≡ Some entry
+last_pushed [] entry = refl
+last_pushed (one ∷ []) entry = refl
+last_pushed (one ∷ two ∷ line) entry = last_pushed (two ∷ line) entry
+
+learn_leads : (h : Held) (p : State) (b : ℕ) (x : Node) (s : Replica) (n : ℕ) (h' : Held) → Standing h p b x s → LearnRow h b x (Leads n) h' → Allowed p b x s None Learn (Leads n) h'
+learn_leads h p b x s n h' st w =
+    let l = st.lines.each b x st.at in
+    let bx = broker_at h p b x st.held st.at in
+    let reg = st.held.registry in
+    let free = not_led h p b x s n st w.2 w.3 w.4 in
+    let q = led_plain p b (broker_of x) n in
+    let leader : (p.registry.leader.0 == b) ≡ true = eq_same _ _ (ap (λ (k : Registry). k.leader.0) reg ∙ w.2) in
+    let is : row p b (broker_of x) s None Learn (Leads n) ≡ Some q =
+    when_true _ q (and_true _ _ (and_true _ _ (learns_true h p x n st.held w.0 w.1 w.3) leader) (not_false _ free)) in
+    let after = (row_keeps p b (broker_of x) s None Learn (Leads n) q bx st.replica tt is st.safe).safe in
+    let z = after.brokers b (record (broker_of x) { role = LeadsIn n; stable = end_of x.log.batches; known = p.registry.mark }) (get_put p.brokers b (broker_of x) _ bx) in
+    let mark : end_of (up_to h.registry.mark x.log.batches) ≡ p.registry.mark =
+    ap (λ (k : Registry). end_of (up_to k.mark x.log.batches)) (sym reg) ∙ up_to_end p.registry.mark x.log.batches l.sound.log.consecutive z.known in
+    let epoch : h.registry.epoch < 2 ^ 31 = small p.registry.epoch h.registry.epoch epoch_limit st.safe.marks.epoch (ap (λ (k : Registry). k.epoch) reg) refl in
+    let line = assign_line x.log.line x.log.batches n l.sound.log.consecutive l.sound.log.line_is in
+    let paths : LogsSafe q → HavePaths q.paths (led h x n).log.line = λ safe.
+    led_paths q.paths (led h x n).log.line x.log.batches n (end_of x.log.batches) line
+    (log_paths q.paths x.log.batches (safe b _ (get_put p.brokers b (broker_of x) (record (broker_of x) { role = LeadsIn n; stable = end_of x.log.batches; known = p.registry.mark }) bx)))
+    (rw (new_path p.paths n x.log.batches) refl) in
+    let last : last_entry (led h x n).log.line ≡ Some (h.registry.epoch, end_of x.log.batches) =
+    ap last_entry line ∙ (last_pushed (line_of x.log.batches) (n, end_of x.log.batches) ∙ ap (λ (k : ℕ). Some (k, end_of x.log.batches)) w.3) in
+    put h p q b x (led h x n) s None Learn (Leads n) h' st is (record {
+      registry = refl;
+      brokers = ap (λ (m : ℕ). slice_set p.brokers b (record (broker_of x) { role = LeadsIn n; stable = end_of x.log.batches; known = m })) (sym mark);
+      actors = refl;
+      paths = path_new p n x.log.batches free;
+      keys = λ other. absurd (other w.2);
+      sound = node_led h x n l.sound w.0 w.4 (subst (λ (k : ℕ). k < 2 ^ 31) (sym w.3) epoch);
+      paths_are = paths;
+      saved_are = paths;
+      joined = λ e j. absurd cc;
+      leader = λ it has. (end_of x.log.batches, last, last, omega arith);
+      followers = λ f. absurd cc;
+    }) w.5
+  where
+    small : (e old limit : ℕ) → e ≤ limit → e ≡ old → limit ≡ 2147483647 → old < 2 ^ 31
+    small e old limit le is l = omega (arith, is, le, l)
+
+learn_follows : (h : Held) (p : State) (b : ℕ) (x : Node) (s : Replica) (n : ℕ) (h' : Held) → Standing h p b x s → LearnRow h b x (Follows n) h' → Allowed p b x s None Learn (Follows n) h'
+learn_follows h p b x s n h' st w =
+    let l = st.lines.each b x st.at in
+    let other : (p.registry.leader.0 == b) ≡ false = eq_differs _ _ (λ e. w.2 (ap (λ (k : Registry). k.leader.0) (sym st.held.registry) ∙ e)) in
+    put h p (put_broker p b (record (broker_of x) { role = FollowsIn n })) b x (record x { role = FollowsIn n }) s None Learn (Follows n) h' st
+    (when_true _ (put_broker p b (record (broker_of x) { role = FollowsIn n })) (and_true _ _ (learns_true h p x n st.held w.0 w.1 w.3) (not_false _ other))) (record {
+      registry = refl;
+      brokers = refl;
+      actors = refl;
+      paths = wider_self p.paths;
+      keys = λ other has. has;
+      sound = node_follows x n l.sound w.0;
+      paths_are = λ safe. l.paths_are;
+      saved_are = λ safe. l.saved_are;
+      joined = λ e j. absurd cc;
+      leader = λ it. absurd (w.2 it);
+      followers = λ f. w.2;
+    }) w.4
+
+pub learn_allowed : (h : Held) (p : State) (b : ℕ) (x : Node) (s : Replica) (answer : Answer) (h' : Held) → Standing h p b x s → LearnRow h b x answer h' → Allowed p b x s None Learn answer h'
+learn_allowed h p b x s Down h' st w = silent h p b x s None Learn Down h' st (rw w.0 refl) w.1
+learn_allowed h p b x s Known h' st w = silent h p b x s None Learn Known h' st (rw (w.0, known_true h p x st.held w.1) refl) w.2
+learn_allowed h p b x s (Follows n) h' st w = learn_follows h p b x s n h' st w
+learn_allowed h p b x s (NeedsElection n) h' st w =
+    let leader : (p.registry.leader.0 == b) ≡ true = eq_same _ _ (ap (λ (k : Registry). k.leader.0) st.held.registry ∙ w.2) in
+    let had = was_led h p b x s n st w.3 w.4 in
+    silent h p b x s None Learn (NeedsElection n) h' st (when_true _ p (and_true _ _ (and_true _ _ (learns_true h p x n st.held w.0 w.1 w.3) leader) (rw had refl))) w.5
+learn_allowed h p b x s (Leads n) h' st w = learn_leads h p b x s n h' st w
+learn_allowed h p b x s other h' st w = elim w [ ]

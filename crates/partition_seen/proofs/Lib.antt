@@ -1,0 +1,27 @@
+pub mod Parts
+pub mod Writes
+pub mod BoolTests
+pub mod Lines
+mod Meets
+pub mod Counted
+pub mod Leading
+pub mod Dispatch
+pub mod RegistryLaw
+pub mod NodeLaw
+pub mod SoundLaw
+pub mod Lists
+pub mod FreshSound
+pub mod WorldSound
+pub mod LaterLaw
+pub mod Chains
+pub mod Standing
+mod OwnRows
+mod ElectionRows
+mod LearnRows
+mod FollowRows
+mod FollowOnRows
+mod TurnRows
+pub mod SeatLaw
+pub mod CentralLaw
+mod ReachesLaw
+pub mod CompleteLaw

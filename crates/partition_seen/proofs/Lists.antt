@@ -1,0 +1,162 @@
+-- Lists of orders whose actors rise, and the desk beside them.
+use Rattle.std.proofs.Common.{◌≡◌, ◌≢◌, ◌⊎◌, inl, inr, ◌∙◌, sym, ap, subst, refl, ℕ, zero, suc, ◌+◌, ◌<◌, ◌≤◌, ◌==◌, List, [], ◌∷◌, length, get_or, slice_get, slice_set, Some, Option, IsSomeAnd, Bool, true, false, arith}
+use Rattle.std.proofs.lemmas.Bool.Decides.{nat_tests}
+use Rattle.std.proofs.lemmas.Option.{slice_get-get_or}
+use Rattle.std.specs.Prelude.{is_some, ◌*◌, ◌-◌, if◌then◌else◌, replicate, None}
+use Rattle.plain_log.specs.declared.command.ActorList.{ActorList}
+use Rattle.plain_log.specs.declared.command.Command.{Command}
+use Rattle.plain_log.specs.declared.command.Command.TheVariants.{Follow}
+use Rattle.plain_log.specs.declared.command.Order.{Order}
+use Rattle.plain_log.specs.Orders.{AreRising}
+use Rattle.plain_log.specs.Runs.{orders_of}
+use Rattle.partition_seen.specs.declared.seat.Seat.{Seat}
+use Rattle.partition_seen.specs.declared.begun.Begun.{Begun}
+use Rattle.partition_seen.specs.declared.begun.Turned.{Turned}
+use Rattle.partition_seen.specs.declared.begun.Turned.TheVariants.{Answers, Begins}
+use Rattle.partition_seen.specs.Seen.{Node, Held}
+use Rattle.partition_seen.specs.Held.{AtNode}
+use Rattle.partition_seen.specs.Rows.{Row, LaterRow}
+use Rattle.partition_seen.specs.Fresh.{fresh_seat}
+use Rattle.partition_seen.specs.Sound.{turns_of, turns_left}
+use Rattle.partition_seen.specs.Whole.{Whole}
+use Rattle.partition_seen.specs.Turn.{IsSeat, IsAtEnd, seat_after}
+
+rising_rest : (l : ActorList) (lists : List ActorList) → AreRising (l ∷ lists) → AreRising lists
+rising_rest l [] r = tt
+rising_rest l (m ∷ lists) r = r.1
+
+-- a later list is of a later actor
+rising_above : (l : ActorList) (lists : List ActorList) (i : ℕ) (m : ActorList) → AreRising (l ∷ lists) → slice_get lists i ≡ Some m → l.actor.0 < m.actor.0
+rising_above l [] i m r at = absurd cc
+rising_above l (k ∷ lists) zero m r at = let same : k ≡ m = cc in omega (arith, r.0, ap (λ (t : ActorList). t.actor.0) same)
+rising_above l (k ∷ lists) (suc i) m r at = let h = rising_above k lists i m r.1 at in omega (arith, r.0, h)
+
+-- one actor has one list
+pub one_list : (lists : List ActorList) (i j : ℕ) (l m : ActorList) → AreRising lists → slice_get lists i ≡ Some l → slice_get lists j ≡ Some m → l.actor.0 ≡ m.actor.0 → i ≡ j
+one_list [] i j l m r at to same = absurd cc
+one_list (k ∷ lists) zero zero l m r at to same = refl
+one_list (k ∷ lists) zero (suc j) l m r at to same =
+    let first : k ≡ l = cc in
+    let h = rising_above k lists j m r to in
+    absurd (omega (arith, h, same, ap (λ (t : ActorList). t.actor.0) first))
+one_list (k ∷ lists) (suc i) zero l m r at to same =
+    let first : k ≡ m = cc in
+    let h = rising_above k lists i l r at in
+    absurd (omega (arith, h, same, ap (λ (t : ActorList). t.actor.0) first))
+one_list (k ∷ lists) (suc i) (suc j) l m r at to same = ap suc (one_list lists i j l m (rising_rest k lists r) at to same)
+
+-- the orders of an actor are those of its list
+pub orders_at : (lists : List ActorList) (i : ℕ) (l : ActorList) → AreRising lists → slice_get lists i ≡ Some l → orders_of lists l.actor.0 ≡ l.orders
+orders_at [] i l r at = absurd cc
+orders_at (k ∷ lists) zero l r at = let first : k ≡ l = cc in go (k.actor.0 == l.actor.0) refl first
+  where
+    go : (t : Bool) → (k.actor.0 == l.actor.0) ≡ t → k ≡ l → orders_of (k ∷ lists) l.actor.0 ≡ l.orders
+    go true t first = rw t (ap (λ (m : ActorList). m.orders) first)
+    go false t first = absurd (let ne : k.actor.0 ≢ l.actor.0 = grind (arith, nat_tests, t) in ne (ap (λ (m : ActorList). m.actor.0) first))
+orders_at (k ∷ lists) (suc i) l r at = go (k.actor.0 == l.actor.0) refl (orders_at lists i l (rising_rest k lists r) at) (rising_above k lists i l r at)
+  where
+    go : (t : Bool) → (k.actor.0 == l.actor.0) ≡ t → orders_of lists l.actor.0 ≡ l.orders → k.actor.0 < l.actor.0 → orders_of (k ∷ lists) l.actor.0 ≡ l.orders
+    go true t h lt = absurd (let is : k.actor.0 ≡ l.actor.0 = grind (arith, nat_tests, t) in omega (arith, is, lt))
+    go false t h lt = rw t h
+
+-- an actor has a list or no orders
+pub list_or_none : (lists : List ActorList) (a : ℕ) → ((i : ℕ) × (l : ActorList) × (slice_get lists i ≡ Some l) × (l.actor.0 ≡ a)) ⊎ (orders_of lists a ≡ [])
+list_or_none [] a = inr refl
+list_or_none (k ∷ lists) a = go (k.actor.0 == a) refl (list_or_none lists a)
+  where
+    go : (t : Bool) → (k.actor.0 == a) ≡ t → ((i : ℕ) × (l : ActorList) × (slice_get lists i ≡ Some l) × (l.actor.0 ≡ a)) ⊎ (orders_of lists a ≡ [])
+        → ((i : ℕ) × (l : ActorList) × (slice_get (k ∷ lists) i ≡ Some l) × (l.actor.0 ≡ a)) ⊎ (orders_of (k ∷ lists) a ≡ [])
+    go true t h = inl (0, k, refl, grind (arith, nat_tests, t))
+    go false t (inl h) = inl (suc h.0, h.1, h.2, h.3)
+    go false t (inr h) = inr (rw t h)
+
+-- only a first turn begins
+
+later_answers : (h : Held) (b : ℕ) (x : Node) (command : Command) (k g : Begun) (h' : Held) → LaterRow h b x command k (Begins g) h' → ⊥
+later_answers h b x (Follow limit) k g h' r = r
+later_answers h b x other k g h' r = r
+
+begun_none : (h : Held) (b : ℕ) (x : Node) (o : Option Begun) (command : Command) (g : Begun) (h' : Held) → Row h b x o command (Begins g) h' → o ≡ None
+begun_none h b x None command g h' r = refl
+begun_none h b x (Some k) command g h' r = absurd (later_answers h b x command k g h' r)
+
+-- the seat may take such a turn: none begins that has begun
+abbrev pub MayTurn : Seat → Turned → Type 0
+MayTurn seat (Answers answer) = Unit {0}
+MayTurn seat (Begins g) = seat.begun ≡ None
+
+pub may_turn : (h : Held) (b : ℕ) (seat : Seat) (command : Command) (turned : Turned) (h' : Held) → AtNode h b (λ x. Row h b x seat.begun command turned h') → MayTurn seat turned
+may_turn h b seat command (Answers answer) h' r = tt
+may_turn h b seat command (Begins g) h' r = go (slice_get h.nodes b) r
+  where
+    go : (o : Option Node) → IsSomeAnd o (λ x. Row h b x seat.begun command (Begins g) h') → seat.begun ≡ None
+    go None w = absurd w
+    go (Some x) w = begun_none h b x seat.begun command g h' w
+
+-- the turns that are left
+
+of_some : (orders : List Order) (seat : Seat) → seat.number < length orders → 0 < turns_of orders seat
+of_some orders seat lt = go (is_some seat.begun)
+  where
+    go : (t : Bool) → 0 < 2 * (length orders - seat.number) - (if t then 1 else 0)
+    go true = omega (arith, lt)
+    go false = omega (arith, lt)
+
+of_begun : (orders : List Order) (number : ℕ) (o : Option Begun) (g : Begun) → number < length orders → o ≡ None
+    → turns_of orders (record { number = number; begun = Some g }) + 1 ≤ turns_of orders (record { number = number; begun = o })
+of_begun orders number None g lt none = omega (arith, lt)
+of_begun orders number (Some k) g lt none = absurd cc
+
+of_less : (orders : List Order) (seat : Seat) (turned : Turned) → seat.number < length orders → MayTurn seat turned → turns_of orders (seat_after seat turned) + 1 ≤ turns_of orders seat
+of_less orders seat (Answers answer) lt may = go (is_some seat.begun)
+  where
+    go : (t : Bool) → (2 * (length orders - (seat.number + 1)) - 0) + 1 ≤ 2 * (length orders - seat.number) - (if t then 1 else 0)
+    go true = omega (arith, lt)
+    go false = omega (arith, lt)
+of_less orders seat (Begins g) lt may = of_begun orders seat.number seat.begun g lt may
+
+-- a turn that is left is counted
+pub turns_some : (lists : List ActorList) (desk : List Seat) (i : ℕ) (l : ActorList) (seat : Seat) → slice_get lists i ≡ Some l → slice_get desk i ≡ Some seat
+    → seat.number < length l.orders → 0 < turns_left lists desk
+turns_some [] desk i l seat at to lt = absurd cc
+turns_some (k ∷ lists) [] i l seat at to lt = absurd cc
+turns_some (k ∷ lists) (s ∷ desk) zero l seat at to lt =
+    let one : k ≡ l = cc in
+    let two : s ≡ seat = cc in
+    let h = of_some k.orders s (omega (arith, lt, ap (λ (t : ActorList). length t.orders) one, ap (λ (t : Seat). t.number) two)) in
+    omega (arith, h)
+turns_some (k ∷ lists) (s ∷ desk) (suc i) l seat at to lt = let h = turns_some lists desk i l seat at to lt in omega (arith, h)
+
+-- a seat after a turn leaves a turn less
+pub turns_less : (lists : List ActorList) (desk : List Seat) (i : ℕ) (l : ActorList) (seat : Seat) (turned : Turned) → slice_get lists i ≡ Some l → slice_get desk i ≡ Some seat
+    → seat.number < length l.orders → MayTurn seat turned → turns_left lists (slice_set desk i (seat_after seat turned)) + 1 ≤ turns_left lists desk
+turns_less [] desk i l seat turned at to lt may = absurd cc
+turns_less (k ∷ lists) [] i l seat turned at to lt may = absurd cc
+turns_less (k ∷ lists) (s ∷ desk) zero l seat turned at to lt may =
+    let one : l ≡ k = cc in
+    let two : s ≡ seat = cc in
+    let less = of_less k.orders seat turned (omega (arith, lt, ap (λ (t : ActorList). length t.orders) one)) may in
+    omega (arith, less, ap (λ (t : Seat). turns_of k.orders t) two)
+turns_less (k ∷ lists) (s ∷ desk) (suc i) l seat turned at to lt may = let h = turns_less lists desk i l seat turned at to lt may in omega (arith, h)
+
+-- where no list has begun, all turns are left
+pub turns_all : (lists : List ActorList) (n : ℕ) → turns_left lists (replicate n fresh_seat) ≡ turns_left lists []
+turns_all [] n = refl
+turns_all (k ∷ lists) zero = refl
+turns_all (k ∷ lists) (suc n) = let rest = turns_all lists n in omega (arith, rest)
+
+-- what holds of what stands at a place holds of what is read there
+pub some_at : {A : Type 0} (P : A → Type 0) (xs : List A) (i : ℕ) (x : A) → IsSomeAnd (slice_get xs i) P → slice_get xs i ≡ Some x → P x
+some_at {A} P xs i x w at = subst (λ (o : Option A). IsSomeAnd o P) at w
+
+-- an actor whose list is at its end is at its end
+pub at_end : (w : Whole) (a place : ℕ) (l : ActorList) (seat : Seat) → AreRising w.lists → IsSeat w a place l seat → length l.orders ≤ seat.number → IsAtEnd w a
+at_end w a place l seat r s le = λ place2 l2 seat2 s2.
+    let same : place2 ≡ place = one_list w.lists place2 place l2 l r s2.list s.list (s2.actor ∙ sym s.actor) in
+    let one : l2 ≡ l = cc (s2.list, s.list, ap (λ (k : ℕ). slice_get w.lists k) same) in
+    let two : seat2 ≡ seat = cc (s2.seat_is, s.seat_is, ap (λ (k : ℕ). slice_get w.desk k) same) in
+    omega (arith, le, ap (λ (k : ActorList). length k.orders) one, ap (λ (k : Seat). k.number) two)
+
+-- what an index gives stands at its place
+pub got : {A : Type 0} (xs : List A) (i : ℕ) (x : A) → i < length xs → x ≡ get_or xs i x → slice_get xs i ≡ Some x
+got xs i x lt is = slice_get-get_or xs i x lt ∙ ap Some (sym is)

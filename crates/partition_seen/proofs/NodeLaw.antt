@@ -1,0 +1,265 @@
+-- What a node keeps, after each change of it.
+use Rattle.std.proofs.Common.{◌≡◌, ◌∙◌, inl, inr, sym, ap, subst, refl, ℕ, ◌+◌, ◌^◌, ◌<◌, ◌≤◌, List, [], ◌∷◌, ◌++◌, length, Some, Bool, true, false, min, arith}
+use Rattle.std.specs.Prelude.{IsSome}
+use Rattle.std.specs.List.{All, AllByRecursion}
+use Rattle.std.proofs.lemmas.Bool.{cases_lt}
+use Rattle.std.proofs.lemmas.List.Elements.{All-from_recursion, recursion_from_All}
+use Rattle.log_terms.specs.Batch.{base_of, epoch_of, last_of}
+use Rattle.log_terms.specs.Line.{line_of}
+use Rattle.log_terms.specs.Log.{IsConsecutive, end_from, end_of, up_to, EndsAt}
+use Rattle.log_terms.proofs.Lists.{prefix_self, prefix_trans}
+use Rattle.log_terms.proofs.Logs.{end_above, end_append, consecutive_prefix, consecutive_snoc, nested, prefix_end, up_to_is, up_to_prefix, ends_more, ends_at_zero, ends_at_end}
+use Rattle.epoch_line.specs.Line.{IsLine, last_epoch, cut_end}
+use Rattle.plain_log.specs.declared.state.Role.{Role}
+use Rattle.plain_log.specs.declared.state.Role.TheVariants.{Idle, Leads, Follows, Joined}
+use Rattle.plain_log.specs.State.{joined}
+use Rattle.partition_seen.specs.declared.begun.Begun.{Begun}
+use Rattle.partition_seen.specs.Seen.{Node, Held}
+use Rattle.partition_seen.specs.Log.{IsLineFor, MayTake, with_batch, epoch_in}
+use Rattle.partition_seen.specs.RowsOfElections.{IsNew, led}
+use Rattle.partition_seen.specs.RowsOfFollowers.{cut_node, CanExtend, extended}
+use Rattle.partition_seen.specs.Rows.{stopped, opened}
+use Rattle.partition_seen.specs.Sound.{NodeSound}
+use Rattle.partition_seen.proofs.Lines.{consecutive_back, cut_at_line, lead_line, with_batch_line, with_batches_line, last_of_push, entered_same}
+
+-- what a role says of itself
+pub joined_is : (r : Role) (e : ℕ) → joined r ≡ Some e → r ≡ Joined e
+joined_is Idle e h = absurd cc
+joined_is (Leads f) e h = absurd cc
+joined_is (Follows f) e h = absurd cc
+joined_is (Joined f) e h = cc
+
+-- one that has joined doesn't lead
+joined_only : (r : Role) (f : ℕ) → IsSome (joined r) → r ≡ Leads f → ⊥
+joined_only Idle f j is = absurd cc
+joined_only (Leads m) f j is = absurd cc
+joined_only (Follows m) f j is = absurd cc
+joined_only (Joined m) f j is = absurd cc
+
+-- a node that is up isn't down
+up_down : {A : Type 0} (b : Bool) → b ≡ true → b ≡ false → A
+up_down true u d = absurd cc
+up_down false u d = absurd cc
+
+-- the last epoch of a line fits
+pub last_fits : (line : List (ℕ × ℕ)) (e : ℕ) → IsLine line → last_epoch line ≡ Some e → e < 2 ^ 31
+last_fits [] e h is = absurd cc
+last_fits (one ∷ []) e h is = let same : one.0 ≡ e = cc in omega (arith, same, h.0)
+last_fits (one ∷ two ∷ line) e h is = last_fits (two ∷ line) e h.3 is
+
+-- what goes on from a list's end
+consecutive_append : (n : ℕ) (xs ys : List (List ℕ)) → IsConsecutive n xs → IsConsecutive (end_from n xs) ys → IsConsecutive n (xs ++ ys)
+consecutive_append n [] ys c d = d
+consecutive_append n (x ∷ xs) ys c d = (c.0, consecutive_append (last_of x + 1) xs ys c.1 d)
+
+-- an end of a log, or the end of a beginning where that is smaller, is an end of the beginning
+ends_cut : (k n : ℕ) (log : List (List ℕ)) → IsConsecutive 0 log → EndsAt k log → EndsAt (min k (end_of (up_to n log))) (up_to n log)
+ends_cut k n log c h = elim (cases_lt k (end_of (up_to n log))) [
+  | inl less ↦ (h.0, nested 0 h.0 (up_to n log) log c h.1 (up_to_prefix n log) (omega (arith, h.2, less)), omega (arith, h.2, less))
+  | inr more ↦ subst (λ (m : ℕ). EndsAt m (up_to n log)) (omega (arith, more)) (ends_at_end (up_to n log))
+]
+
+-- all of a log is up to its end
+up_to_all : (log : List (List ℕ)) → IsConsecutive 0 log → up_to (end_of log) log ≡ log
+up_to_all log c = up_to_is 0 (end_of log) log log c (prefix_self log) refl
+
+-- the batches up to an end of the log are the same in a longer one
+up_to_more : (n : ℕ) (log more : List (List ℕ)) → IsConsecutive 0 (log ++ more) → EndsAt n log → up_to n (log ++ more) ≡ up_to n log
+up_to_more n log more c h =
+    up_to_is 0 n h.0 (log ++ more) c (prefix_trans h.0 log (log ++ more) h.1 (more, refl)) h.2
+    ∙ sym (up_to_is 0 n h.0 log (consecutive_prefix 0 log (log ++ more) (more, refl) c) h.1 h.2)
+
+-- the saved line of a log that gains batches
+saved_more : (x : Node) (more : List (List ℕ)) → NodeSound x → IsConsecutive 0 (x.log.batches ++ more) → IsLineFor x.saved (up_to x.stable (x.log.batches ++ more))
+saved_more x more s c = subst (λ (log : List (List ℕ)). IsLineFor x.saved log) (sym (up_to_more x.stable x.log.batches more c s.stable)) s.saved
+
+-- and of one that is all stable
+saved_all : (line : List (ℕ × ℕ)) (log : List (List ℕ)) → IsConsecutive 0 log → IsLineFor line log → IsLineFor line (up_to (end_of log) log)
+saved_all line log c h = subst (λ (kept : List (List ℕ)). IsLineFor line kept) (sym (up_to_all log c)) h
+
+-- an append
+pub node_appended : (x : Node) (placed : List ℕ) (e : ℕ) → NodeSound x → x.role ≡ Leads e → base_of placed ≡ end_of x.log.batches → epoch_of placed ≡ e
+    → last_of placed + 1 ≤ 4611686018427387904
+    → NodeSound (record x { log = with_batch x.log placed }) × ((with_batch x.log placed).line ≡ line_of (with_batch x.log placed).batches)
+node_appended x placed e s leads base epoch small =
+    let last : last_epoch x.log.line ≡ Some e = s.leads e leads in
+    let may : MayTake x.log.line (epoch_of placed) = λ l is. (let same : l ≡ e = cc (is, last) in omega (arith, same, epoch)) in
+    let low : end_of x.log.batches ≤ 2 ^ 62 = omega (arith, s.log.small) in
+    let h = with_batch_line x.log.line x.log.batches placed s.log.consecutive s.log.line_is s.log.rises may base (subst (λ (k : ℕ). k < 2 ^ 31) (sym epoch) (last_fits x.log.line e s.log.rises last)) low in
+    let follow = consecutive_snoc 0 x.log.batches placed s.log.consecutive base in
+    let end : end_of (x.log.batches ++ placed ∷ []) ≡ last_of placed + 1 = end_append 0 x.log.batches (placed ∷ []) in (
+      record {
+        log = record {
+          consecutive = follow;
+          line_is = inl h.0;
+          rises = h.1;
+          ends = refl;
+          small = omega (arith, end, small);
+        };
+        stable = ends_more x.stable x.log.batches (x.log.batches ++ placed ∷ []) s.stable (placed ∷ [], refl);
+        known = ends_more x.known x.log.batches (x.log.batches ++ placed ∷ []) s.known (placed ∷ [], refl);
+        saved = saved_more x (placed ∷ []) s follow;
+        saved_rises = s.saved_rises;
+        leads = λ f is.
+            let one : e ≡ f = cc (leads, is) in
+            ap last_epoch (entered_same x.log.line (epoch_of placed) (end_of x.log.batches) e last (sym epoch)) ∙ (last ∙ ap (λ (k : ℕ). Some k) one);
+        down = s.down;
+      },
+      h.0,
+    )
+
+-- a flush
+pub node_flushed : (x : Node) (n : ℕ) → NodeSound x → n ≡ end_of x.log.batches → NodeSound (record x { stable = n; saved = x.log.line })
+node_flushed x n s is = record {
+  log = s.log;
+  stable = subst (λ (m : ℕ). EndsAt m x.log.batches) (sym is) (ends_at_end x.log.batches);
+  known = s.known;
+  saved = subst (λ (m : ℕ). IsLineFor x.log.line (up_to m x.log.batches)) (sym is) (saved_all x.log.line x.log.batches s.log.consecutive s.log.line_is);
+  saved_rises = s.log.rises;
+  leads = s.leads;
+  down = s.down;
+}
+
+-- the high watermark, as far as the log goes
+pub node_told : (x : Node) (mark : ℕ) → NodeSound x → x.up ≡ true → NodeSound (record x { known = end_of (up_to mark x.log.batches) })
+node_told x mark s up = record {
+  log = s.log;
+  stable = s.stable;
+  known = (up_to mark x.log.batches, up_to_prefix mark x.log.batches, refl);
+  saved = s.saved;
+  saved_rises = s.saved_rises;
+  leads = s.leads;
+  down = λ d. up_down x.up up d;
+}
+
+-- a new epoch to follow
+pub node_follows : (x : Node) (n : ℕ) → NodeSound x → x.up ≡ true → NodeSound (record x { role = Follows n })
+node_follows x n s up = record {
+  log = s.log;
+  stable = s.stable;
+  known = s.known;
+  saved = s.saved;
+  saved_rises = s.saved_rises;
+  leads = λ e is. absurd cc;
+  down = λ d. up_down x.up up d;
+}
+
+-- a new epoch to lead
+pub node_led : (h : Held) (x : Node) (n : ℕ) → NodeSound x → x.up ≡ true → IsNew x n → n < 2 ^ 31 → NodeSound (led h x n)
+node_led h x n s up new fits =
+    let k = lead_line x.log.line x.log.batches n s.log.consecutive s.log.line_is s.log.rises fits (omega (arith, s.log.small)) new in
+    record {
+      log = record { consecutive = s.log.consecutive; line_is = k.0; rises = k.1; ends = refl; small = s.log.small };
+      stable = ends_at_end x.log.batches;
+      known = (up_to h.registry.mark x.log.batches, up_to_prefix h.registry.mark x.log.batches, refl);
+      saved = saved_all (led h x n).saved x.log.batches s.log.consecutive k.0;
+      saved_rises = k.1;
+      leads = λ e is. last_of_push (cut_end x.log.line (end_of x.log.batches)) (n, end_of x.log.batches) ∙ ap (λ (m : ℕ). Some m) (cc (is));
+      down = λ d. up_down x.up up d;
+    }
+
+-- a cut
+pub node_cut : (x : Node) (e n : ℕ) → NodeSound x → x.up ≡ true → NodeSound (cut_node x e n) × ((cut_node x e n).log.line ≡ line_of (cut_node x e n).log.batches)
+node_cut x e n s up =
+    let k = cut_at_line x.log.line x.log.batches n s.log.consecutive s.log.line_is s.log.rises in
+    let low = prefix_end (up_to n x.log.batches) x.log.batches s.log.consecutive (up_to_prefix n x.log.batches) in
+    let follow = consecutive_prefix 0 (up_to n x.log.batches) x.log.batches (up_to_prefix n x.log.batches) s.log.consecutive in (
+      record {
+        log = record {
+          consecutive = follow;
+          line_is = inl k.0;
+          rises = k.1;
+          ends = refl;
+          small = omega (arith, low, s.log.small);
+        };
+        stable = ends_at_end (up_to n x.log.batches);
+        known = ends_cut x.known n x.log.batches s.log.consecutive s.known;
+        saved = saved_all (cut_node x e n).saved (up_to n x.log.batches) follow (inl k.0);
+        saved_rises = k.1;
+        leads = λ f is. absurd cc;
+        down = λ d. up_down x.up up d;
+      },
+      k.0,
+    )
+
+-- the first of what can extend a log: batches of an epoch that the line takes
+record Fronts (x : Node) (front : List (List ℕ)) (e : ℕ) : Type 0 where
+  follow : IsConsecutive (end_of x.log.batches) front
+  each : All (λ batch. epoch_of batch ≡ e) front
+  small : end_from (end_of x.log.batches) front ≤ 4611686018427387904
+  may : MayTake x.log.line e
+  fits : e < 2 ^ 31
+
+all_front : (P : List ℕ → Type 0) (front rest : List (List ℕ)) → AllByRecursion P (front ++ rest) → AllByRecursion P front
+all_front P [] rest all = tt
+all_front P (batch ∷ front) rest all = (all.0, all_front P front rest all.1)
+
+fronts : (x : Node) (g : Begun) (front rest : List (List ℕ)) (e : ℕ) → CanExtend x g → epoch_in g.batches ≡ Some e → g.batches ≡ front ++ rest → Fronts x front e
+fronts x g front rest e w first parts =
+    let one : w.epoch ≡ e = cc (w.first, first) in
+    let each : All (λ batch. epoch_of batch ≡ e) g.batches = λ k d lt. (let same = w.same k d lt in cc (same, first)) in
+    let follow : IsConsecutive (end_of x.log.batches) (front ++ rest) = subst (λ (n : ℕ). IsConsecutive n (front ++ rest)) w.end (subst (λ (run : List (List ℕ)). IsConsecutive g.end run) parts w.follow) in
+    let above = end_above (end_from (end_of x.log.batches) front) rest (consecutive_back (end_of x.log.batches) front rest follow) in
+    let end : end_from g.end g.batches ≡ end_from (end_of x.log.batches) (front ++ rest) = ap (λ (n : ℕ). end_from n g.batches) w.end ∙ ap (λ (run : List (List ℕ)). end_from (end_of x.log.batches) run) parts in
+    record {
+      follow = consecutive_prefix (end_of x.log.batches) front (front ++ rest) (rest, refl) follow;
+      each = All-from_recursion _ front (all_front (λ (batch : List ℕ). epoch_of batch ≡ e) front rest (subst (λ (run : List (List ℕ)). AllByRecursion (λ batch. epoch_of batch ≡ e) run) parts (recursion_from_All (λ (batch : List ℕ). epoch_of batch ≡ e) g.batches each)));
+      small = omega (arith, above, end, end_append (end_of x.log.batches) front rest, w.small);
+      may = subst (λ (n : ℕ). MayTake x.log.line n) one w.may;
+      fits = omega (arith, one, w.fits);
+    }
+
+-- more batches at the end
+pub node_extended : (x : Node) (g : Begun) (front rest : List (List ℕ)) (e : ℕ) → NodeSound x → CanExtend x g → epoch_in g.batches ≡ Some e → g.batches ≡ front ++ rest → 0 < length front
+    → NodeSound (extended x front e) × ((extended x front e).log.line ≡ line_of (extended x front e).log.batches)
+node_extended x g [] rest e s w first parts some = absurd (omega (arith, some))
+node_extended x g (b ∷ more) rest e s w first parts some =
+    let f = fronts x g (b ∷ more) rest e w first parts in
+    let k = with_batches_line x.log.line x.log.batches e b more s.log.consecutive s.log.line_is s.log.rises f.may f.follow.0 f.each f.fits (omega (arith, s.log.small)) in
+    let follow = consecutive_append 0 x.log.batches (b ∷ more) s.log.consecutive f.follow in
+    let end : end_of (x.log.batches ++ b ∷ more) ≡ end_from (end_of x.log.batches) (b ∷ more) = end_append 0 x.log.batches (b ∷ more) in (
+      record {
+        log = record {
+          consecutive = follow;
+          line_is = inl k.0;
+          rises = k.1;
+          ends = refl;
+          small = omega (arith, end, f.small);
+        };
+        stable = ends_more x.stable x.log.batches (x.log.batches ++ b ∷ more) s.stable (b ∷ more, refl);
+        known = ends_more x.known x.log.batches (x.log.batches ++ b ∷ more) s.known (b ∷ more, refl);
+        saved = saved_more x (b ∷ more) s follow;
+        saved_rises = s.saved_rises;
+        leads = λ n is. absurd (joined_only x.role n w.joined is);
+        down = s.down;
+      },
+      k.0,
+    )
+
+-- a stop
+pub node_stopped : (x : Node) → NodeSound x → NodeSound (stopped x)
+node_stopped x s = record {
+  log = s.log;
+  stable = s.stable;
+  known = ends_at_zero x.log.batches;
+  saved = s.saved;
+  saved_rises = s.saved_rises;
+  leads = λ e is. absurd cc;
+  down = λ d. (refl, refl);
+}
+
+-- a node that comes up
+pub node_opened : (x : Node) → NodeSound x → x.up ≡ false → NodeSound (opened x)
+node_opened x s off =
+    let low = prefix_end (up_to x.stable x.log.batches) x.log.batches s.log.consecutive (up_to_prefix x.stable x.log.batches) in
+    let follow = consecutive_prefix 0 (up_to x.stable x.log.batches) x.log.batches (up_to_prefix x.stable x.log.batches) s.log.consecutive in
+    let none = s.down off in
+    record {
+      log = record { consecutive = follow; line_is = s.saved; rises = s.saved_rises; ends = refl; small = omega (arith, low, s.log.small) };
+      stable = ends_at_end (up_to x.stable x.log.batches);
+      known = subst (λ (n : ℕ). EndsAt n (up_to x.stable x.log.batches)) (sym none.1) (ends_at_zero (up_to x.stable x.log.batches));
+      saved = saved_all x.saved (up_to x.stable x.log.batches) follow s.saved;
+      saved_rises = s.saved_rises;
+      leads = λ e is. (let idle : Idle ≡ Leads e = sym none.0 ∙ is in absurd cc);
+      down = λ d. absurd cc;
+    }

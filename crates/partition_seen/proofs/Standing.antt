@@ -1,0 +1,237 @@
+-- A turn against the plain log: what it starts from, what is to be shown, and how the lines of the nodes stand after it.
+use Rattle.std.proofs.Common.{◌≡◌, ◌≢◌, inl, inr, ◌∙◌, sym, ap, subst, refl, ℕ, zero, suc, ◌<◌, ◌≤◌, ◌==◌, List, [], ◌∷◌, ◌++◌, slice_get, slice_set, Some, None, Option, Bool, true, false, arith, append_assoc}
+use Rattle.std.specs.Prelude.{map, is_some}
+use Rattle.std.specs.List.{All, AllByRecursion}
+use Rattle.std.proofs.lemmas.List.Elements.{All-from_recursion}
+use Rattle.log_terms.specs.Batch.{epoch_of}
+use Rattle.log_terms.specs.Line.{line_of, line_after}
+use Rattle.log_terms.proofs.Lists.{get-set, prefix_self}
+use Rattle.registry.specs.declared.registry.Replica.{Replica}
+use Rattle.registry.specs.declared.registry.Registry.{Registry}
+use Rattle.plain_log.specs.declared.answer.Answer.{Answer}
+use Rattle.plain_log.specs.declared.command.Command.{Command}
+use Rattle.plain_log.specs.declared.state.Broker.{Broker}
+use Rattle.plain_log.specs.declared.state.Noted.{Noted}
+use Rattle.plain_log.specs.declared.state.Path.{Path}
+use Rattle.plain_log.specs.declared.state.Role.{Role}
+use Rattle.plain_log.specs.declared.state.Role.TheVariants.{Idle, Leads, Follows, Joined}
+use Rattle.plain_log.specs.declared.state.State.{State}
+use Rattle.plain_log.specs.State.{path_of, followed}
+use Rattle.plain_log.specs.Rows.{row}
+use Rattle.plain_log.specs.Safe.{LogSafe, RoleSafe, PlainSafe}
+use Rattle.plain_log.proofs.Wider.{Wider}
+use Rattle.partition_seen.specs.Seen.{Node, Held}
+use Rattle.partition_seen.specs.Held.{broker_of, put_node}
+use Rattle.partition_seen.specs.Central.{HeldStands, LineStands, LeaderStands, LinesStand}
+use Rattle.partition_seen.specs.Sound.{NodeSound}
+use Rattle.partition_seen.proofs.RegistryLaw.{IsNext, IsSameEpoch, Moves}
+
+-- a turn of broker b starts here
+pub record Standing (h : Held) (p : State) (b : ℕ) (x : Node) (s : Replica) : Type 0 where
+  pub safe : PlainSafe p
+  pub held : HeldStands h p
+  pub lines : LinesStand h p.paths
+  pub at : slice_get h.nodes b ≡ Some x
+  pub replica : slice_get p.registry.replicas b ≡ Some s
+
+-- the brokers' logs match
+abbrev pub LogsSafe : State → Type 0
+LogsSafe q = (b : ℕ) (x : Broker) → slice_get q.brokers b ≡ Some x → LogSafe q.paths x.log
+
+-- the plain log allows the answer, and stands to the partition afterwards
+pub record Allowed (p : State) (b : ℕ) (x : Node) (s : Replica) (noted : Option Noted) (command : Command) (answer : Answer) (h' : Held) : Type 0 where
+  pub state : State
+  pub is : row p b (broker_of x) s noted command answer ≡ Some state
+  pub registry : state.registry ≡ h'.registry
+  pub brokers : state.brokers ≡ map broker_of h'.nodes
+  pub actors : state.actors ≡ p.actors
+  pub paths : Wider p.paths state.paths
+  pub lines : LogsSafe state → LinesStand h' state.paths
+
+-- the nodes as brokers
+
+pub map_get : {A B : Type 0} (f : A → B) (xs : List A) (i : ℕ) (x : A) → slice_get xs i ≡ Some x → slice_get (map f xs) i ≡ Some (f x)
+map_get f [] i x e = absurd cc
+map_get f (y ∷ xs) zero x e = let same : y ≡ x = cc in ap (λ t. Some (f t)) same
+map_get f (y ∷ xs) (suc i) x e = map_get f xs i x e
+
+pub map_set : {A B : Type 0} (f : A → B) (xs : List A) (i : ℕ) (x : A) → map f (slice_set xs i x) ≡ slice_set (map f xs) i (f x)
+map_set f [] i x = refl
+map_set f (y ∷ xs) zero x = refl
+map_set f (y ∷ xs) (suc i) x = ap (λ t. f y ∷ t) (map_set f xs i x)
+
+pub broker_at : (h : Held) (p : State) (b : ℕ) (x : Node) → HeldStands h p → slice_get h.nodes b ≡ Some x → slice_get p.brokers b ≡ Some (broker_of x)
+broker_at h p b x st at = ap (λ (k : List Broker). slice_get k b) st.brokers ∙ map_get broker_of h.nodes b x at
+
+-- what stands at a place after a write of it
+pub get_put : {A : Type 0} (xs : List A) (i : ℕ) (x y : A) → slice_get xs i ≡ Some x → slice_get (slice_set xs i y) i ≡ Some y
+get_put [] i x y e = absurd cc
+get_put (z ∷ xs) zero x y e = refl
+get_put (z ∷ xs) (suc i) x y e = get_put xs i x y e
+
+-- paths
+
+pub wider_self : (ps : List Path) → Wider ps ps
+wider_self ps = λ e log is. (log, is, prefix_self log)
+
+pub has_wide : (ps qs : List Path) (e : ℕ) → Wider ps qs → is_some (path_of ps e) ≡ true → is_some (path_of qs e) ≡ true
+has_wide ps qs e w h = go (path_of ps e) refl h
+  where
+    go : (o : Option (List (List ℕ))) → path_of ps e ≡ o → is_some o ≡ true → is_some (path_of qs e) ≡ true
+    go None is t = absurd cc
+    go (Some log) is t = let k = w e log is in rw k.1 refl
+
+-- each epoch of a line has a path
+abbrev pub HavePaths : List Path → List (ℕ × ℕ) → Type 0
+HavePaths paths line = All (λ entry. is_some (path_of paths entry.0) ≡ true) line
+
+pub paths_wide : (ps qs : List Path) (line : List (ℕ × ℕ)) → Wider ps qs → HavePaths ps line → HavePaths qs line
+paths_wide ps qs line w h = λ k d lt. has_wide ps qs _ w (h k d lt)
+
+after_paths : (paths : List Path) (front : List (List ℕ)) (e : ℕ) (log whole : List (List ℕ)) → front ++ log ≡ whole → LogSafe paths whole
+    → AllByRecursion (λ entry. is_some (path_of paths entry.0) ≡ true) (line_after e log)
+after_paths paths front e [] whole is s = tt
+after_paths paths front e (batch ∷ log) whole is s =
+    let is2 : (front ++ batch ∷ []) ++ log ≡ whole = append_assoc front (batch ∷ []) log ∙ is in
+    let has = s.matching front batch (log, is2) in
+    let one : is_some (path_of paths (epoch_of batch)) ≡ true = rw has.1 refl in
+    go (epoch_of batch == e) refl one (after_paths paths (front ++ batch ∷ []) e log whole is2 s) (after_paths paths (front ++ batch ∷ []) (epoch_of batch) log whole is2 s)
+  where
+    go : (t : Bool) → (epoch_of batch == e) ≡ t → is_some (path_of paths (epoch_of batch)) ≡ true
+        → AllByRecursion (λ entry. is_some (path_of paths entry.0) ≡ true) (line_after e log)
+        → AllByRecursion (λ entry. is_some (path_of paths entry.0) ≡ true) (line_after (epoch_of batch) log)
+        → AllByRecursion (λ entry. is_some (path_of paths entry.0) ≡ true) (line_after e (batch ∷ log))
+    go true t one same other = rw t same
+    go false t one same other = rw t (one, other)
+
+-- each epoch of a log has a path
+own_paths : (paths : List Path) (log : List (List ℕ)) → LogSafe paths log → AllByRecursion (λ entry. is_some (path_of paths entry.0) ≡ true) (line_of log)
+own_paths paths [] s = tt
+own_paths paths (batch ∷ log) s =
+    let has = s.matching [] batch (log, refl) in
+    (rw has.1 refl, after_paths paths (batch ∷ []) (epoch_of batch) log (batch ∷ log) refl s)
+
+pub log_paths : (paths : List Path) (log : List (List ℕ)) → LogSafe paths log → HavePaths paths (line_of log)
+log_paths paths log s = All-from_recursion _ (line_of log) (own_paths paths log s)
+
+pub line_paths : (paths : List Path) (line : List (ℕ × ℕ)) (log : List (List ℕ)) → line ≡ line_of log → LogSafe paths log → HavePaths paths line
+line_paths paths line log is s = subst (HavePaths paths) (sym is) (log_paths paths log s)
+
+-- the lines of the nodes, after a node has changed
+pub record Puts (h : Held) (p q : State) (b : ℕ) (y : Node) : Type 0 where
+  pub registry : q.registry ≡ p.registry
+  pub brokers : q.brokers ≡ slice_set p.brokers b (broker_of y)
+  pub actors : q.actors ≡ p.actors
+  pub paths : Wider p.paths q.paths
+  pub keys : h.registry.leader.0 ≢ b → is_some (path_of q.paths h.registry.epoch) ≡ true → is_some (path_of p.paths h.registry.epoch) ≡ true
+  pub sound : NodeSound y
+  pub paths_are : LogsSafe q → HavePaths q.paths y.log.line
+  pub saved_are : LogsSafe q → HavePaths q.paths y.saved
+  pub joined : (e : ℕ) → y.role ≡ Joined e → y.log.line ≡ line_of y.log.batches
+  pub leader : h.registry.leader.0 ≡ b → LeaderStands q.paths h.registry.epoch y
+  pub followers : followed y.role ≡ Some h.registry.epoch → h.registry.leader.0 ≢ b
+
+pub lines_put : (h : Held) (ps qs : List Path) (b : ℕ) (y : Node) → LinesStand h ps → Wider ps qs
+    → (h.registry.leader.0 ≢ b → is_some (path_of qs h.registry.epoch) ≡ true → is_some (path_of ps h.registry.epoch) ≡ true) → LineStands qs y
+    → (h.registry.leader.0 ≡ b → LeaderStands qs h.registry.epoch y) → (followed y.role ≡ Some h.registry.epoch → h.registry.leader.0 ≢ b) → LinesStand (put_node h b y) qs
+lines_put h ps qs b y s wide keys line leader followers = record {
+  each = λ c z at. elim (get-set h.nodes b y c z at) [
+    | inl one ↦ subst (LineStands qs) (sym one.1) line
+    | inr other ↦
+        let k = s.each c z other.1 in
+        record { sound = k.sound; paths_are = paths_wide ps qs z.log.line wide k.paths_are; saved_are = paths_wide ps qs z.saved wide k.saved_are; joined = k.joined }
+  ];
+  leader = λ z at. elim (get-set h.nodes b y h.registry.leader.0 z at) [
+    | inl one ↦ subst (LeaderStands qs h.registry.epoch) (sym one.1) (leader one.0)
+    | inr other ↦ λ has. s.leader z other.1 (keys other.0 has)
+  ];
+  followers = λ c z at f. elim (get-set h.nodes b y c z at) [
+    | inl one ↦ λ e. followers (ap (λ (k : Node). followed k.role) (sym one.1) ∙ f) (e ∙ one.0)
+    | inr other ↦ s.followers c z other.1 f
+  ];
+}
+
+pub put_lines : (h : Held) (p q : State) (b : ℕ) (y : Node) → LinesStand h p.paths → Puts h p q b y → LogsSafe q → LinesStand (put_node h b y) q.paths
+put_lines h p q b y s w safe =
+    lines_put h p.paths q.paths b y s w.paths w.keys (record { sound = w.sound; paths_are = w.paths_are safe; saved_are = w.saved_are safe; joined = w.joined }) w.leader w.followers
+
+-- after the registry has changed
+pub lines_same : (h : Held) (ps : List Path) (r : Registry) → LinesStand h ps → IsSameEpoch h.registry r → LinesStand (record h { registry = r }) ps
+lines_same h ps r s e = record {
+  each = s.each;
+  leader = λ z at. subst (λ (n : ℕ). LeaderStands ps n z) (sym e.epoch) (s.leader z (ap (λ (k : ℕ). slice_get h.nodes k) (ap (λ l. l.0) (sym e.leader)) ∙ at));
+  followers = λ c z at f same. s.followers c z at (f ∙ ap (λ (n : ℕ). Some n) e.epoch) (ap (λ l. l.0) (sym e.leader) ∙ same);
+}
+
+-- a role's epoch isn't above the registry's
+pub followed_below : (paths : List Path) (epoch : ℕ) (r : Role) (log : List (List ℕ)) (e : ℕ) → RoleSafe paths epoch r log → followed r ≡ Some e → e ≤ epoch
+followed_below paths epoch Idle log e s is = absurd cc
+followed_below paths epoch (Leads f) log e s is = absurd cc
+followed_below paths epoch (Follows f) log e s is = let one : f ≡ e = cc in omega (arith, one, s)
+followed_below paths epoch (Joined f) log e s is = let one : f ≡ e = cc in omega (arith, one, s.0)
+
+pub no_path : (p : State) (e : ℕ) → PlainSafe p → p.registry.epoch < e → is_some (path_of p.paths e) ≡ true → ⊥
+no_path p e s lt h = go (path_of p.paths e) refl h
+  where
+    go : (o : Option (List (List ℕ))) → path_of p.paths e ≡ o → is_some o ≡ true → ⊥
+    go None is t = absurd cc
+    go (Some log) is t = let k = s.paths e log is in omega (arith, k.below, lt)
+
+lines_next : (h : Held) (p : State) (r : Registry) → PlainSafe p → HeldStands h p → LinesStand h p.paths → IsNext h.registry r → LinesStand (record h { registry = r }) p.paths
+lines_next h p r safe st s n =
+    let above : p.registry.epoch < r.epoch = omega (arith, n.epoch, ap (λ (k : Registry). k.epoch) st.registry) in
+    record {
+      each = s.each;
+      leader = λ z at has. absurd (no_path p r.epoch safe above has);
+      followers = λ c z at f same.
+          let k = safe.brokers c (broker_of z) (broker_at h p c z st at) in
+          let low = followed_below p.paths p.registry.epoch z.role z.log.batches r.epoch k.role f in
+          omega (arith, low, above);
+    }
+
+pub lines_moved : (h : Held) (p : State) (r : Registry) → PlainSafe p → HeldStands h p → LinesStand h p.paths → Moves h.registry r → LinesStand (record h { registry = r }) p.paths
+lines_moved h p r safe st s m = elim m.epoch [
+  | inl k ↦ lines_same h p.paths r s k
+  | inr k ↦ lines_next h p r safe st s k
+]
+
+-- a row that changes nothing
+pub silent : (h : Held) (p : State) (b : ℕ) (x : Node) (s : Replica) (noted : Option Noted) (command : Command) (answer : Answer) (h' : Held) → Standing h p b x s
+    → row p b (broker_of x) s noted command answer ≡ Some p → h' ≡ h → Allowed p b x s noted command answer h'
+silent h p b x s noted command answer h' st is same = record {
+  state = p;
+  is = is;
+  registry = st.held.registry ∙ ap (λ (k : Held). k.registry) (sym same);
+  brokers = st.held.brokers ∙ ap (λ (k : Held). map broker_of k.nodes) (sym same);
+  actors = refl;
+  paths = wider_self p.paths;
+  lines = λ safe. subst (λ (k : Held). LinesStand k p.paths) (sym same) st.lines;
+}
+
+-- a row that changes the broker
+pub put : (h : Held) (p q : State) (b : ℕ) (x y : Node) (s : Replica) (noted : Option Noted) (command : Command) (answer : Answer) (h' : Held) → Standing h p b x s
+    → row p b (broker_of x) s noted command answer ≡ Some q → Puts h p q b y → h' ≡ put_node h b y → Allowed p b x s noted command answer h'
+put h p q b x y s noted command answer h' st is w same = record {
+  state = q;
+  is = is;
+  registry = w.registry ∙ (st.held.registry ∙ ap (λ (k : Held). k.registry) (sym same));
+  brokers = w.brokers ∙ (ap (λ (k : List Broker). slice_set k b (broker_of y)) st.held.brokers
+      ∙ (sym (map_set broker_of h.nodes b y) ∙ ap (λ (k : Held). map broker_of k.nodes) (sym same)));
+  actors = w.actors;
+  paths = w.paths;
+  lines = λ safe. subst (λ (k : Held). LinesStand k q.paths) (sym same) (put_lines h p q b y st.lines w safe);
+}
+
+-- a row that changes the registry
+pub leaves : (h : Held) (p q : State) (b : ℕ) (x : Node) (s : Replica) (r : Registry) (noted : Option Noted) (command : Command) (answer : Answer) (h' : Held) → Standing h p b x s
+    → row p b (broker_of x) s noted command answer ≡ Some q → q.registry ≡ r → q.brokers ≡ p.brokers → q.actors ≡ p.actors → q.paths ≡ p.paths → Moves h.registry r
+    → h' ≡ record h { registry = r } → Allowed p b x s noted command answer h'
+leaves h p q b x s r noted command answer h' st is registry brokers actors paths moves same = record {
+  state = q;
+  is = is;
+  registry = registry ∙ ap (λ (k : Held). k.registry) (sym same);
+  brokers = brokers ∙ (st.held.brokers ∙ ap (λ (k : Held). map broker_of k.nodes) (sym same));
+  actors = actors;
+  paths = subst (λ (k : List Path). Wider p.paths k) (sym paths) (wider_self p.paths);
+  lines = λ safe. subst (λ (k : Held). LinesStand k q.paths) (sym same) (subst (λ (k : List Path). LinesStand (record h { registry = r }) k) (sym paths) (lines_moved h p r st.safe st.held st.lines moves));
+}

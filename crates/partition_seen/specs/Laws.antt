@@ -1,0 +1,45 @@
+-- The laws of a world.
+use Rattle.std.specs.Prelude.{◌≡◌, ℕ, List, IsOk, All}
+use Rattle.tier_base.specs.declared.names.PartitionId.{PartitionId}
+use Rattle.log_terms.specs.Log.{joined}
+use Rattle.record_batch.specs.Check.{checked}
+use Rattle.plain_log.specs.declared.command.ActorList.{ActorList}
+use Rattle.plain_log.specs.declared.command.Config.{Config}
+use Rattle.plain_log.specs.declared.command.Pace.{Pace}
+use Rattle.plain_log.specs.Fresh.{fresh}
+use Rattle.plain_log.specs.Orders.{AreListsFor, IsConfig}
+use Rattle.plain_log.specs.Runs.{IsPlainRun, IsComplete}
+use Rattle.partition_seen.specs.declared.seat.Stepped.{Stepped}
+use Rattle.partition_seen.specs.Whole.{Whole}
+use Rattle.partition_seen.specs.Turn.{Steps, IsAtEnd}
+use Rattle.partition_seen.specs.Central.{IsCentral, KeepsCentral}
+use Rattle.partition_seen.specs.Fresh.{IsFresh}
+use Rattle.partition_seen.specs.Later.{IsLater}
+use Rattle.partition_seen.specs.Reaches.{Reaches}
+use Rattle.partition_seen.specs.Taken.{parts}
+
+-- each step keeps the central fact
+abbrev pub StepsKeepCentral : Type 0
+StepsKeepCentral = (w : Whole) (a : ℕ) (stepped : Stepped) (w' : Whole) → Steps w a stepped w' → KeepsCentral w w'
+
+-- it holds of a fresh world
+abbrev pub FreshIsCentral : Type 0
+FreshIsCentral = (partition : PartitionId) (config : Config) (lists : List ActorList) (w : Whole) → IsConfig config
+    → AreListsFor config lists → IsFresh partition config lists w → IsCentral (fresh config) w
+
+-- a world that a schedule reaches is a later one
+abbrev pub ReachesLater : Type 0
+ReachesLater = (w : Whole) (schedule : List Pace) (w' : Whole) → Reaches w schedule w' → IsLater w w'
+
+-- where it holds and each actor is at its end, the journal is a complete run of the plain log
+pub record IsCompleteRun (w : Whole) : Type 0 where
+  pub run : IsPlainRun w.config w.lists w.journal.items
+  pub complete : IsComplete w.lists w.journal.items
+
+abbrev pub EndsAreComplete : Type 0
+EndsAreComplete = (w : Whole) → IsCentral (fresh w.config) w → ((a : ℕ) → IsAtEnd w a) → IsCompleteRun w
+
+-- batches that were joined come apart again
+abbrev pub JoinedComeApart : Type 0
+JoinedComeApart = (batches : List (List ℕ)) → All (λ batch. IsOk (checked batch)) batches
+    → parts (joined batches) ≡ batches

@@ -1,0 +1,16 @@
+pub mod Taken
+pub mod Log
+pub mod Seen
+pub mod Held
+pub mod RowsOfLog
+pub mod RowsOfElections
+pub mod RowsOfFollowers
+pub mod Rows
+pub mod Sound
+pub mod Whole
+pub mod Turn
+pub mod Central
+pub mod Later
+pub mod Reaches
+pub mod Fresh
+pub mod Laws

@@ -1,0 +1,86 @@
+-- What a turn of each command comes to: its answer's cause, or what its seat keeps, and what it does to the partition.
+--
+-- A row says for each answer exactly when it is given, the tests in their order, and the partition afterwards. Follow
+-- is the one command of two turns.
+use Rattle.std.specs.Prelude.{◌≡◌, ◌+◌, ℕ, ℤ, true, false, Option, None, Some}
+use Rattle.log_terms.specs.Log.{end_of, up_to}
+use Rattle.record_batch.specs.Build.{built}
+use Rattle.plain_log.specs.declared.answer.Answer.{Answer}
+use Rattle.plain_log.specs.declared.answer.Answer.TheVariants.{Ok, Down, IsUp, LastIncarnation, Up}
+use Rattle.plain_log.specs.declared.command.Command.{Command}
+use Rattle.plain_log.specs.declared.command.Command.TheVariants.{Append, Raw, Flush, Roll, Elect, Unclean, Learn, Join, Follow, Ack, Shrink, Expand, Raise, Clock, Stop as StopCommand, Up as UpCommand, Fetch}
+use Rattle.plain_log.specs.declared.state.Role.TheVariants.{Idle}
+use Rattle.partition_seen.specs.declared.begun.Begun.{Begun}
+use Rattle.partition_seen.specs.declared.begun.Turned.{Turned}
+use Rattle.partition_seen.specs.declared.begun.Turned.TheVariants.{Answers, Begins}
+use Rattle.partition_seen.specs.Seen.{Node, Held}
+use Rattle.partition_seen.specs.Held.{put_node}
+use Rattle.partition_seen.specs.RowsOfLog.{AppendRow, RawRow, FlushRow, RollRow, FetchRow}
+use Rattle.partition_seen.specs.RowsOfElections.{ElectRow, UncleanRow, LearnRow, AckRow, ShrinkRow, ExpandRow, RaiseRow}
+use Rattle.partition_seen.specs.RowsOfFollowers.{JoinRow, FollowRow, FollowOnRow}
+
+-- a node after a stop
+abbrev pub stopped : Node → Node
+stopped x = record x { up = false; stops = x.stops + 1; role = Idle; known = 0 }
+
+-- stop
+abbrev pub StopRow : Held → ℕ → Node → Answer → Held → Type 0
+StopRow h b x Down h' = (x.up ≡ false) × (h' ≡ h)
+StopRow h b x Ok h' = (x.up ≡ true) × (h' ≡ put_node h b (stopped x))
+StopRow h b x other h' = ⊥
+
+-- a node that comes up: what wasn't stable is gone, and the line is the one that was saved
+abbrev pub opened : Node → Node
+opened x = record x {
+  up = true;
+  log = record { batches = up_to x.stable x.log.batches; line = x.saved };
+  stable = end_of (up_to x.stable x.log.batches);
+}
+
+-- up; how often a log has been opened isn't seen, so that this can't be counted further is answered as it comes
+abbrev pub UpRow : Held → ℕ → Node → Answer → Held → Type 0
+UpRow h b x IsUp h' = (x.up ≡ true) × (h' ≡ h)
+UpRow h b x LastIncarnation h' = (x.up ≡ false) × (h' ≡ h)
+UpRow h b x (Up n) h' = (x.up ≡ false) × (n ≡ end_of (up_to x.stable x.log.batches)) × (h' ≡ put_node h b (opened x))
+UpRow h b x other h' = ⊥
+
+-- clock
+abbrev pub ClockRow : Held → ℤ → Answer → Held → Type 0
+ClockRow h ms Ok h' = h' ≡ record h { clock = ms }
+ClockRow h ms other h' = ⊥
+
+-- a command of one turn
+abbrev pub AnswerRow : Held → ℕ → Node → Command → Answer → Held → Type 0
+AnswerRow h b x (Append recs) answer h' = AppendRow h b x (built recs) answer h'
+AnswerRow h b x (Raw bytes) answer h' = RawRow h b x bytes answer h'
+AnswerRow h b x Flush answer h' = FlushRow h b x answer h'
+AnswerRow h b x Roll answer h' = RollRow h x answer h'
+AnswerRow h b x Elect answer h' = ElectRow h b x answer h'
+AnswerRow h b x Unclean answer h' = UncleanRow h b x answer h'
+AnswerRow h b x Learn answer h' = LearnRow h b x answer h'
+AnswerRow h b x Join answer h' = JoinRow h b x answer h'
+AnswerRow h b x Ack answer h' = AckRow h b x answer h'
+AnswerRow h b x Shrink answer h' = ShrinkRow h b answer h'
+AnswerRow h b x Expand answer h' = ExpandRow h b x answer h'
+AnswerRow h b x (Raise start) answer h' = RaiseRow h b x start answer h'
+AnswerRow h b x (Clock ms) answer h' = ClockRow h ms answer h'
+AnswerRow h b x StopCommand answer h' = StopRow h b x answer h'
+AnswerRow h b x UpCommand answer h' = UpRow h b x answer h'
+AnswerRow h b x (Fetch offset limit) answer h' = FetchRow h x offset limit answer h'
+AnswerRow h b x other answer h' = ⊥
+
+-- a first turn
+abbrev pub FirstRow : Held → ℕ → Node → Command → Turned → Held → Type 0
+FirstRow h b x (Follow limit) turned h' = FollowRow h b x limit turned h'
+FirstRow h b x command (Answers answer) h' = AnswerRow h b x command answer h'
+FirstRow h b x command (Begins g) h' = ⊥
+
+-- a later turn
+abbrev pub LaterRow : Held → ℕ → Node → Command → Begun → Turned → Held → Type 0
+LaterRow h b x (Follow limit) g (Answers answer) h' = FollowOnRow h b x g answer h'
+LaterRow h b x command g turned h' = ⊥
+
+-- a turn of a command of broker b, of which so much has begun
+abbrev pub Row : Held → ℕ → Node → Option Begun → Command → Turned → Held → Type 0
+Row h b x None command turned h' = FirstRow h b x command turned h'
+Row h b x (Some g) command turned h' = LaterRow h b x command g turned h'

@@ -1,0 +1,116 @@
+-- What a turn of a follower's command comes to: join, follow.
+--
+-- A follower's log meets the leader's where their lines of leader epochs still agree. A follow takes a run of the
+-- leader's log at its first turn, which a seat keeps, and puts as much of it at the end of its own at the second as
+-- stands in one segment.
+use Rattle.std.specs.Prelude.{◌≡◌, ◌≢◌, ℕ, ◌^◌, ◌<◌, ◌≤◌, true, false, min, List, ◌++◌, length, Option, None, Some, IsSome, IsSomeAnd, IsOk, All}
+use Rattle.tier_base.specs.declared.plain.Stop.{Stop}
+use Rattle.log_terms.specs.Batch.{epoch_of}
+use Rattle.log_terms.specs.Log.{IsConsecutive, end_of, end_from, up_to}
+use Rattle.epoch_line.specs.Meet.{IsMeetBelow}
+use Rattle.record_batch.specs.Check.{checked}
+use Rattle.plain_log.specs.declared.answer.Answer.{Answer}
+use Rattle.plain_log.specs.declared.answer.Answer.TheVariants.{Down, NotFollower, StaleEpoch, NoLeader, Cut, NotJoined, Level, Stopped, Passed, TooManySegments, Copied}
+use Rattle.plain_log.specs.declared.state.Role.TheVariants.{Joined}
+use Rattle.plain_log.specs.State.{followed, joined}
+use Rattle.partition_seen.specs.declared.begun.Begun.{Begun}
+use Rattle.partition_seen.specs.Seen.{Node, Held}
+use Rattle.partition_seen.specs.Held.{put_node, the_leader}
+use Rattle.partition_seen.specs.Log.{IsRunOf, MayTake, cut_at, with_batches, epoch_in}
+use Rattle.partition_seen.specs.declared.begun.Turned.{Turned}
+use Rattle.partition_seen.specs.declared.begun.Turned.TheVariants.{Answers, Begins}
+
+-- the registry's epoch is above this one
+abbrev pub IsStale : Held → Option ℕ → Type 0
+IsStale h e = IsSomeAnd e (λ e. e < h.registry.epoch)
+
+-- it isn't
+abbrev pub IsFresh : Held → Option ℕ → Type 0
+IsFresh h e = IsSomeAnd e (λ e. h.registry.epoch ≤ e)
+
+-- where the logs of two nodes meet: the greatest offset up to both ends to which their lines agree
+abbrev pub IsMeet : Node → Node → ℕ → Type 0
+IsMeet x y n = IsMeetBelow x.log.line y.log.line (min (end_of x.log.batches) (end_of y.log.batches)) n
+
+-- a node of this epoch whose log is cut to where it meets another's
+abbrev pub cut_node : Node → ℕ → ℕ → Node
+cut_node x e n = record x {
+  role = Joined e;
+  log = cut_at x.log n;
+  stable = end_of (up_to n x.log.batches);
+  known = min x.known (end_of (up_to n x.log.batches));
+  saved = (cut_at x.log n).line;
+}
+
+-- join: the log is cut to where it meets the leader's, durably
+abbrev pub JoinRow : Held → ℕ → Node → Answer → Held → Type 0
+JoinRow h b x Down h' = (x.up ≡ false) × (h' ≡ h)
+JoinRow h b x NotFollower h' = (x.up ≡ true) × (followed x.role ≡ None) × (h' ≡ h)
+JoinRow h b x (StaleEpoch n) h' = (x.up ≡ true) × IsStale h (followed x.role) × (n ≡ h.registry.epoch) × (h' ≡ h)
+JoinRow h b x NoLeader h' = (x.up ≡ true) × IsFresh h (followed x.role) × (the_leader h ≡ None) × (h' ≡ h)
+JoinRow h b x (Cut n) h' = (x.up ≡ true) × IsFresh h (followed x.role) × IsSomeAnd (the_leader h) (λ y.
+    (e m : ℕ) × (followed x.role ≡ Some e) × IsMeet x y m × (n ≡ end_of (up_to m x.log.batches))
+    × (h' ≡ put_node h b (cut_node x e m)))
+JoinRow h b x other h' = ⊥
+
+-- what a follow's seat keeps after its first turn: what was noted, and a run of the leader's log from the follower's end on
+pub record Takes (h : Held) (x y : Node) (limit : ℕ) (g : Begun) : Type 0 where
+  pub stops : g.stops ≡ x.stops
+  pub role : g.role ≡ x.role
+  pub end : g.end ≡ end_of x.log.batches
+  pub start : g.start ≡ h.registry.start
+  pub are : All (λ batch. IsOk (checked batch)) g.batches
+  pub stop : Stop
+  pub run : IsRunOf y.log.batches g.end limit (end_of y.log.batches) stop g.batches
+
+-- what was taken are batches, at least one and all of one epoch, that can be put at the end of a follower's log
+pub record CanExtend (x : Node) (g : Begun) : Type 0 where
+  pub end : g.end ≡ end_of x.log.batches
+  pub joined : IsSome (joined x.role)
+  pub are : All (λ batch. IsOk (checked batch)) g.batches
+  pub epoch : ℕ
+  pub first : epoch_in g.batches ≡ Some epoch
+  pub may : MayTake x.log.line epoch
+  pub follow : IsConsecutive g.end g.batches
+  pub same : All (λ batch. Some (epoch_of batch) ≡ epoch_in g.batches) g.batches
+  pub fits : epoch < 2 ^ 31
+  pub small : end_from g.end g.batches ≤ 4611686018427387904
+
+-- a later turn goes on: no stop, and no newer epoch
+abbrev pub GoesOn : Held → Node → Begun → Type 0
+GoesOn h x g = (g.stops ≡ x.stops) × ¬ IsStale h (followed g.role)
+
+-- the follower's log with batches of this epoch at its end
+abbrev pub extended : Node → List (List ℕ) → ℕ → Node
+extended x front e = record x { log = with_batches x.log e front }
+
+-- the first of the batches that were taken, at least one, stand at the end of the log, which ends at n then
+pub record Extends (h : Held) (b : ℕ) (x : Node) (g : Begun) (n e : ℕ) (h' : Held) : Type 0 where
+  pub front : List (List ℕ)
+  pub rest : List (List ℕ)
+  pub parts : g.batches ≡ front ++ rest
+  pub some : 0 < length front
+  pub end : n ≡ end_from g.end front
+  pub after : h' ≡ put_node h b (extended x front e)
+
+-- follow, first turn
+abbrev pub FollowRow : Held → ℕ → Node → ℕ → Turned → Held → Type 0
+FollowRow h b x limit (Answers Down) h' = (x.up ≡ false) × (h' ≡ h)
+FollowRow h b x limit (Answers NotJoined) h' = (x.up ≡ true) × (joined x.role ≡ None) × (h' ≡ h)
+FollowRow h b x limit (Answers (StaleEpoch n)) h' = (x.up ≡ true) × IsStale h (joined x.role) × (n ≡ h.registry.epoch) × (h' ≡ h)
+FollowRow h b x limit (Answers NoLeader) h' = (x.up ≡ true) × IsFresh h (joined x.role) × (the_leader h ≡ None) × (h' ≡ h)
+FollowRow h b x limit (Answers Level) h' = (x.up ≡ true) × IsFresh h (joined x.role)
+    × IsSomeAnd (the_leader h) (λ y. end_of y.log.batches ≤ end_of x.log.batches) × (h' ≡ h)
+FollowRow h b x limit (Begins g) h' = (x.up ≡ true) × IsFresh h (joined x.role)
+    × IsSomeAnd (the_leader h) (λ y. (end_of x.log.batches < end_of y.log.batches) × Takes h x y limit g) × (h' ≡ h)
+FollowRow h b x limit other h' = ⊥
+
+-- follow, second turn
+abbrev pub FollowOnRow : Held → ℕ → Node → Begun → Answer → Held → Type 0
+FollowOnRow h b x g Stopped h' = (g.stops ≢ x.stops) × (h' ≡ h)
+FollowOnRow h b x g (StaleEpoch n) h' = (g.stops ≡ x.stops) × IsStale h (followed g.role) × (n ≡ h.registry.epoch) × (h' ≡ h)
+FollowOnRow h b x g (Passed n) h' = GoesOn h x g × (n ≡ end_of x.log.batches) × (CanExtend x g → ⊥) × (h' ≡ h)
+FollowOnRow h b x g TooManySegments h' = GoesOn h x g × CanExtend x g × (h' ≡ h)
+FollowOnRow h b x g (Copied n) h' =
+    GoesOn h x g × CanExtend x g × IsSomeAnd (epoch_in g.batches) (λ e. Extends h b x g n e h')
+FollowOnRow h b x g other h' = ⊥

@@ -1,0 +1,84 @@
+-- What a turn of a command on a broker's own log comes to: append, raw, flush, roll, fetch.
+--
+-- A row says for each answer exactly when it is given, the tests in their order, and the partition afterwards. Of a
+-- log's segments nothing is seen: that there are too many, that the open one is empty, or which one a run lies in, is
+-- answered as it comes.
+use Rattle.std.specs.Prelude.{◌≡◌, ◌+◌, ℕ, ◌<◌, ◌≤◌, ◌⊎◌, true, false, List, length, Err, IsOk}
+use Rattle.tier_base.specs.declared.plain.Stop.{Stop}
+use Rattle.log_terms.specs.Batch.{last_offset_delta_of}
+use Rattle.log_terms.specs.Log.{end_of, joined}
+use Rattle.record_batch.specs.Check.{checked}
+use Rattle.record_batch.specs.Stamp.{stamped}
+use Rattle.plain_log.specs.declared.answer.Answer.{Answer}
+use Rattle.plain_log.specs.declared.answer.Answer.TheVariants.{OkAt, OkSpan, Down, NotLeader, Refused, LastOffset, TooManySegments, EmptySegment, OutOfRange, Empty, Run}
+use Rattle.plain_log.specs.declared.answer.Tier.TheVariants.{Local}
+use Rattle.plain_log.specs.declared.state.Role.TheVariants.{Leads}
+use Rattle.plain_log.specs.State.{leads}
+use Rattle.plain_log.specs.RowsOfLog.{offset_limit}
+use Rattle.partition_seen.specs.Seen.{Node, Held}
+use Rattle.partition_seen.specs.Held.{put_node}
+use Rattle.partition_seen.specs.Log.{with_batch, IsRunOf}
+
+-- where the log would end with the batch
+abbrev pub end_with : Node → List ℕ → ℕ
+end_with x batch = end_of x.log.batches + last_offset_delta_of batch + 1
+
+-- append: the leader's log gains the batch, stamped with its end and its epoch
+abbrev pub AppendRow : Held → ℕ → Node → List ℕ → Answer → Held → Type 0
+AppendRow h b x batch Down h' = (x.up ≡ false) × (h' ≡ h)
+AppendRow h b x batch NotLeader h' = (x.up ≡ true) × (leads x.role ≡ false) × (h' ≡ h)
+AppendRow h b x batch LastOffset h' = (x.up ≡ true) × (leads x.role ≡ true) × (offset_limit < end_with x batch) × (h' ≡ h)
+AppendRow h b x batch TooManySegments h' =
+    (x.up ≡ true) × (leads x.role ≡ true) × (end_with x batch ≤ offset_limit) × (h' ≡ h)
+AppendRow h b x batch (OkSpan base last e) h' =
+    (x.up ≡ true) × (x.role ≡ Leads e) × (end_with x batch ≤ offset_limit) × (base ≡ end_of x.log.batches)
+    × (last ≡ base + last_offset_delta_of batch)
+    × (h' ≡ put_node h b (record x { log = with_batch x.log (stamped batch base e) }))
+AppendRow h b x batch other h' = ⊥
+
+-- raw: bytes from outside are appended where they are a batch, and else refused with the first test that they fail
+abbrev pub RawRow : Held → ℕ → Node → List ℕ → Answer → Held → Type 0
+RawRow h b x bytes (Refused cause) h' = (x.up ≡ true) × (leads x.role ≡ true) × (checked bytes ≡ Err cause) × (h' ≡ h)
+RawRow h b x bytes LastOffset h' = IsOk (checked bytes) × AppendRow h b x bytes LastOffset h'
+RawRow h b x bytes TooManySegments h' = IsOk (checked bytes) × AppendRow h b x bytes TooManySegments h'
+RawRow h b x bytes (OkSpan base last e) h' = IsOk (checked bytes) × AppendRow h b x bytes (OkSpan base last e) h'
+RawRow h b x bytes answer h' = AppendRow h b x bytes answer h'
+
+-- flush: all of the log is stable, and its line is saved
+abbrev pub FlushRow : Held → ℕ → Node → Answer → Held → Type 0
+FlushRow h b x Down h' = (x.up ≡ false) × (h' ≡ h)
+FlushRow h b x (OkAt n) h' =
+    (x.up ≡ true) × (n ≡ end_of x.log.batches) × (h' ≡ put_node h b (record x { stable = n; saved = x.log.line }))
+FlushRow h b x other h' = ⊥
+
+-- roll: the open segment is closed, and nothing that is seen changes
+abbrev pub RollRow : Held → Node → Answer → Held → Type 0
+RollRow h x Down h' = (x.up ≡ false) × (h' ≡ h)
+RollRow h x EmptySegment h' = (x.up ≡ true) × (h' ≡ h)
+RollRow h x TooManySegments h' = (x.up ≡ true) × (h' ≡ h)
+RollRow h x (OkAt n) h' = (x.up ≡ true) × (n ≡ end_of x.log.batches) × (h' ≡ h)
+RollRow h x other h' = ⊥
+
+-- the offset lies between the log start offset and the log end offset
+abbrev pub IsInLog : Held → Node → ℕ → Type 0
+IsInLog h x offset = (h.registry.start ≤ offset) × (offset ≤ end_of x.log.batches)
+
+-- the bytes are those of the run at the offset, up to the high watermark that the broker knows
+pub record GivesRun (x : Node) (offset limit size : ℕ) (stop : Stop) (bytes : List ℕ) : Type 0 where
+  pub run : List (List ℕ)
+  pub is : IsRunOf x.log.batches offset limit x.known stop run
+  pub spelled : bytes ≡ joined run
+  pub size_is : size ≡ length bytes
+
+-- fetch: nothing changes
+abbrev pub FetchRow : Held → Node → ℕ → ℕ → Answer → Held → Type 0
+FetchRow h x offset limit Down h' = (x.up ≡ false) × (h' ≡ h)
+FetchRow h x offset limit NotLeader h' = (x.up ≡ true) × (leads x.role ≡ false) × (h' ≡ h)
+FetchRow h x offset limit (OutOfRange start end) h' =
+    (x.up ≡ true) × (leads x.role ≡ true) × ((offset < start) ⊎ (end < offset)) × (start ≡ h.registry.start)
+    × (end ≡ end_of x.log.batches) × (h' ≡ h)
+FetchRow h x offset limit Empty h' = (x.up ≡ true) × (leads x.role ≡ true) × IsInLog h x offset × (x.known ≤ offset) × (h' ≡ h)
+FetchRow h x offset limit (Run tier size stop bytes) h' =
+    (x.up ≡ true) × (leads x.role ≡ true) × IsInLog h x offset × (offset < x.known)
+    × ((segment : ℕ) × (tier ≡ Local segment)) × GivesRun x offset limit size stop bytes × (h' ≡ h)
+FetchRow h x offset limit other h' = ⊥

@@ -1,0 +1,27 @@
+//! A partition as it is seen: its registry, its brokers' logs, the lists of commands and the journal of what they came
+//! to.
+//!
+//! A log is seen as its batches and its line of leader epochs, with how much of them comes back after a stop. What it
+//! stands on is no matter here.
+//!
+//! A turn of an actor carries out its next command, or goes on with one that has begun, and enters what it came to.
+//! `specs/Rows.antt` says for each command which answer it is given and what that does. `specs/Central.antt` has the
+//! central fact, that the world is the plain log after the world's own journal, with the plain log's safety rules. That
+//! each turn keeps it is a law over the rows.
+//!
+//! A partition has 1 to 8 brokers: one leads, others follow, and elections, stops and starts change which. A follow
+//! takes two turns, and whatever comes between them may stop it. What it has taken at the first is kept as bytes, and
+//! seen as the batches that these are.
+#![tactic(auto)]
+
+mod begun;
+mod laws;
+mod seat;
+mod taken;
+
+pub use begun::{Begun, Turned};
+pub use laws::{
+    ends_are_complete, fresh_is_central, joined_come_apart, reaches_later, steps_keep_central,
+};
+pub use seat::{Seat, Stepped};
+pub use taken::Taken;
