@@ -140,7 +140,13 @@ script-fits t h =
     let long : length (take count parts) ≡ min count (length parts) = length-take count parts in
     let all : length parts ≡ 64 = lists-count t.actors t.parts 0 ∙ h.parts in
     record {
-      config = record { some = h.options.brokers.0; few = h.options.brokers.1 };
+      config = record {
+        some = h.options.brokers.0;
+        few = h.options.brokers.1;
+        segment_low = h.options.segment.0;
+        segment_high = h.options.segment.1;
+        interval_high = h.options.interval;
+      };
       some = omega (arith, long, all, h.options.partitions.0);
       few = omega (arith, long, all);
       numbered = numbered-take count 0 parts (lists-numbered t.actors t.parts 0 h.numbered);

@@ -82,7 +82,7 @@ in-range : (command : Command) → IsSaid command → size_of command ≤ 104857
 in-range (Append recs) said fits built = record { some = said; fits = fits }
 in-range (Raw bytes) said fits built = fits
 in-range Flush said fits built = tt
-in-range Roll said fits built = absurd (cc)
+in-range Roll said fits built = tt
 in-range Elect said fits built = tt
 in-range Unclean said fits built = tt
 in-range Learn said fits built = tt
@@ -177,7 +177,12 @@ lists-empty n (suc count) = All-cons (λ (part : PartScript). part.lists ≡ [])
 -- with no line
 pub sound-new : AreSmall none_so_far → IsSound nothing_told
 sound-new small = record {
-  options = record { brokers = (omega arith, omega arith); partitions = (omega arith, omega arith) };
+  options = record {
+    brokers = (omega arith, omega arith);
+    partitions = (omega arith, omega arith);
+    segment = (omega arith, omega arith);
+    interval = omega arith;
+  };
   small = small;
   few = λ a. rw (no-orders 64 a) (omega arith);
   orders = λ a. rw (no-orders 64 a) (All-nil (IsOrderFor (config_of nothing_told.options)));

@@ -13,12 +13,12 @@ use Rattle.script_lang.specs.declared.form.Form.{Form}
 use Rattle.script_lang.specs.declared.form.Form.TheVariants.{Blank, Given, Placed, Turn, Faulty}
 use Rattle.script_lang.specs.declared.options.Options.{Options}
 use Rattle.script_lang.specs.declared.options.OptionLine.{OptionLine}
-use Rattle.script_lang.specs.declared.options.OptionLine.TheVariants.{Brokers, Partitions}
+use Rattle.script_lang.specs.declared.options.OptionLine.TheVariants.{Brokers, Partitions, SegmentBytes, IndexIntervalBytes}
 use Rattle.script_lang.specs.declared.script.PartScript.{PartScript}
 use Rattle.script_lang.specs.declared.script.Script.{Script}
 use Rattle.script_lang.specs.Forms.{brokers_of, partitions_of}
 use Rattle.script_lang.specs.Limits.{AreSmall, size_of}
-use Rattle.script_lang.specs.Script.{Told, slot_at, config_of}
+use Rattle.script_lang.specs.Script.{Told, slot_at, segment_bytes_of, index_interval_of, config_of}
 
 -- partitions that are numbered from this number on
 abbrev pub AreNumbered : ℕ → List PartScript → Type 0
@@ -58,10 +58,12 @@ pub record IsSaidTo (brokers : ℕ) (order : Order) : Type 0 where
   pub broker : order.broker.0 < brokers
   pub command : IsSaid order.command
 
--- a count of brokers or partitions is in its range
+-- an option that worlds are made with is in its range
 abbrev pub IsOptionInRange : OptionLine → Type 0
 IsOptionInRange (Brokers n) = (1 ≤ n) × (n ≤ 8)
 IsOptionInRange (Partitions n) = (1 ≤ n) × (n ≤ 64)
+IsOptionInRange (SegmentBytes n) = (100 ≤ n) × (n ≤ 16777216)
+IsOptionInRange (IndexIntervalBytes n) = n ≤ 16777216
 IsOptionInRange other = Unit {0}
 
 -- a form with these options is in range
@@ -87,10 +89,12 @@ pub record AreCountsWith (before : Counts) (form : Form) (counts : Counts) : Typ
   pub small : AreSmall counts
   pub commands : counts.commands ≡ before.commands + commands_of form
 
--- the counts of brokers and partitions are in their ranges
+-- the counts of brokers and partitions, and the sizes of segments and intervals, are in their ranges
 pub record AreInRange (options : Options) : Type 0 where
   pub brokers : (1 ≤ brokers_of options) × (brokers_of options ≤ 8)
   pub partitions : (1 ≤ partitions_of options) × (partitions_of options ≤ 64)
+  pub segment : (100 ≤ segment_bytes_of options) × (segment_bytes_of options ≤ 16777216)
+  pub interval : index_interval_of options ≤ 16777216
 
 -- what holds of the lines so far
 pub record IsSound (t : Told) : Type 0 where

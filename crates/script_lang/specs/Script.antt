@@ -21,7 +21,7 @@ use Rattle.tier_base.specs.declared.names.ActorId.{ActorId}
 use Rattle.tier_base.specs.declared.names.PartitionId.{PartitionId}
 use Rattle.tier_base.specs.declared.plain.Keep.{Keep}
 use Rattle.plain_log.specs.declared.command.Command.{Command}
-use Rattle.plain_log.specs.declared.command.Command.TheVariants.{Append, Raw, Flush, Elect, Unclean, Learn, Join, Follow, Ack, Shrink, Expand, Raise, Clock, Stop, Up, Fetch}
+use Rattle.plain_log.specs.declared.command.Command.TheVariants.{Append, Raw, Flush, Roll, Elect, Unclean, Learn, Join, Follow, Ack, Shrink, Expand, Raise, Clock, Stop, Up, Fetch}
 use Rattle.plain_log.specs.declared.command.Config.{Config}
 use Rattle.plain_log.specs.declared.command.Order.{Order}
 use Rattle.plain_log.specs.declared.command.Pace.{Pace}
@@ -127,6 +127,10 @@ may_stand t (Faulty partition fault) = Ok tt
 abbrev pub segment_bytes_of : Options → ℕ
 segment_bytes_of options = unwrap_or options.segment_bytes 1048576
 
+-- the bytes between two index entries, as far as they were given
+abbrev pub index_interval_of : Options → ℕ
+index_interval_of options = unwrap_or options.index_interval_bytes 4096
+
 -- the counts with a form
 abbrev pub sums_with : ℕ → Counts → Form → Result Counts Why
 sums_with segment_bytes s Blank = Ok s
@@ -140,6 +144,7 @@ abbrev pub is_built_command : Command → Bool
 is_built_command (Append recs) = true
 is_built_command (Raw bytes) = true
 is_built_command Flush = true
+is_built_command Roll = true
 is_built_command Elect = true
 is_built_command Unclean = true
 is_built_command Learn = true
@@ -159,6 +164,8 @@ is_built_command other = false
 abbrev pub is_built_option : OptionLine → Bool
 is_built_option (Brokers n) = true
 is_built_option (Partitions n) = true
+is_built_option (SegmentBytes n) = true
+is_built_option (IndexIntervalBytes n) = true
 is_built_option other = false
 
 -- the forms that are built
@@ -274,7 +281,7 @@ local_keep_of options = record {
 abbrev pub config_of : Options → Config
 config_of options = record {
   brokers = brokers_of options;
-  settings = record { segment_bytes = segment_bytes_of options; index_interval = unwrap_or options.index_interval_bytes 4096 };
+  settings = record { segment_bytes = segment_bytes_of options; index_interval = index_interval_of options };
   keep = keep_of options;
   local_keep = local_keep_of options;
 }

@@ -12,7 +12,6 @@ fn is_built_command(command: &Command) -> bool
     ensures { result ≡ is_built_command command.now }
 {
     match command {
-        Command::Roll => false,
         Command::Copy => false,
         Command::Trim => false,
         Command::Expire => false,
@@ -29,6 +28,8 @@ fn is_built_option(option: &OptionLine) -> bool
     match option {
         OptionLine::Brokers(_) => true,
         OptionLine::Partitions(_) => true,
+        OptionLine::SegmentBytes(_) => true,
+        OptionLine::IndexIntervalBytes(_) => true,
         _ => false,
     }
 }

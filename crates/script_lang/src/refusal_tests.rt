@@ -281,11 +281,7 @@ fn fetches_past_the_sum(rt: HostRuntime) -> Result<(), Fail> {
 fn forms_that_are_not_built(rt: HostRuntime) -> Result<(), Fail> {
     let alloc = rt.alloc();
     let why = Why::Unbuilt;
-    let bad: [(&[u8], u32); 29] = [
-        (b"segment_bytes 100\n".as_slice(), 1),
-        (b"segment_bytes 16777216\n".as_slice(), 1),
-        (b"index_interval_bytes 0\n".as_slice(), 1),
-        (b"index_interval_bytes 16777216\n".as_slice(), 1),
+    let bad: [(&[u8], u32); 23] = [
         (b"retention_ms -1\n".as_slice(), 1),
         (b"retention_ms 9223372036854775807\n".as_slice(), 1),
         (b"retention_bytes -1\n".as_slice(), 1),
@@ -298,8 +294,6 @@ fn forms_that_are_not_built(rt: HostRuntime) -> Result<(), Fail> {
         (b"fault 0 store put 1 before\n".as_slice(), 1),
         (b"fault 0 meta append 4294967295 after\n".as_slice(), 1),
         (b"fault 0 disk 0 sync 1 before\n".as_slice(), 1),
-        (b"0 0 0 roll\n".as_slice(), 1),
-        (b"later 63 0 0 roll\n".as_slice(), 1),
         (b"0 0 0 copy\n".as_slice(), 1),
         (b"0 0 0 trim\n".as_slice(), 1),
         (b"0 0 0 expire\n".as_slice(), 1),
@@ -307,8 +301,8 @@ fn forms_that_are_not_built(rt: HostRuntime) -> Result<(), Fail> {
         (b"0 0 0 offset at 0\n".as_slice(), 1),
         (b"0 0 - pack 0\n".as_slice(), 1),
         (b"0 0 - copying 1\n".as_slice(), 1),
-        (b"brokers 8\n0 0 7 up\n0 0 7 roll\n".as_slice(), 3),
-        (b"partitions 64\n0 0 0 flush\n63 63 0 roll\n".as_slice(), 3),
+        (b"brokers 8\n0 0 7 roll\n0 0 7 trim\n".as_slice(), 3),
+        (b"partitions 64\n0 0 0 roll\n63 63 0 copy\n".as_slice(), 3),
         (
             b"later 0 0 0 up\nturn 0 1\nlater 0 0 0 trim\n0 0 0 frob\n".as_slice(),
             3,
