@@ -1,163 +1,88 @@
--- Each turn keeps the central fact.
-use Rattle.std.proofs.Common.{◌≡◌, ◌∙◌, sym, ap, subst, refl, ℕ, ◌+◌, List, [], ◌∷◌, ◌++◌, length, slice_get, Some, None, Option, true, arith}
-use Rattle.std.specs.Prelude.{map}
-use Rattle.log_terms.proofs.Lists.{length-slice_set, look, within, set-same}
-use Rattle.registry.specs.declared.registry.Replica.{Replica}
-use Rattle.plain_log.specs.declared.answer.Answer.{Answer}
-use Rattle.plain_log.specs.declared.command.ActorList.{ActorList}
-use Rattle.plain_log.specs.declared.command.Command.{Command}
-use Rattle.plain_log.specs.declared.command.Order.{Order}
-use Rattle.plain_log.specs.declared.journal.Event.TheVariants.{Answers as Answered, Begins as Began}
-use Rattle.plain_log.specs.declared.journal.JournalEntry.{JournalEntry}
+-- Each turn keeps the central fact, and at the end it says that the run is complete.
+use Rattle.std.proofs.Common.{◌≡◌, ◌∙◌, sym, ap, subst, ℕ, Some, slice_get}
+use Rattle.tier_base.specs.Device.{Control}
+use Rattle.disk_model.specs.Call.{call_code}
+use Rattle.disk_model.specs.Content.{Content}
 use Rattle.plain_log.specs.declared.state.Actor.{Actor}
-use Rattle.plain_log.specs.declared.state.Noted.{Noted}
 use Rattle.plain_log.specs.declared.state.State.{State}
-use Rattle.plain_log.specs.State.{actor_at, put_actor, with_actor, put_broker}
-use Rattle.plain_log.specs.Orders.{AreRising}
-use Rattle.plain_log.specs.Rows.{row}
-use Rattle.plain_log.specs.Runs.{order_of, entry_step, replay}
-use Rattle.plain_log.specs.Safe.{PlainSafe}
-use Rattle.plain_log.specs.Step.{begins, is_noted, noted_of as noted_by, step}
-use Rattle.plain_log.proofs.Replays.{replay_more}
-use Rattle.plain_log.proofs.StepLaw.{actor_put, step_safe}
-use Rattle.plain_log.proofs.Wider.{Wider}
-use Rattle.partition_world.specs.declared.begun.Begun.{Begun}
-use Rattle.partition_world.specs.declared.begun.Turned.{Turned}
-use Rattle.partition_world.specs.declared.begun.Turned.TheVariants.{Answers, Begins}
-use Rattle.partition_world.specs.declared.held.Node.{Node}
-use Rattle.partition_world.specs.declared.held.Held.{Held}
-use Rattle.partition_world.specs.declared.seat.Seat.{Seat}
-use Rattle.partition_world.specs.declared.seat.Stepped.{Stepped}
-use Rattle.partition_world.specs.declared.seat.Stepped.TheVariants.{Ran, Done, Nothing, NoMemory}
-use Rattle.partition_world.specs.Held.{broker_of, noted_of}
-use Rattle.partition_world.specs.Central.{HeldStands, LinesStand, SeatStands, Stands, IsCentral, KeepsCentral}
-use Rattle.partition_world.specs.Rows.{FirstRow, Row}
-use Rattle.partition_world.specs.Turn.{IsTurn, seat_after, event_of, Steps}
-use Rattle.partition_world.specs.Whole.{Whole}
-use Rattle.partition_world.proofs.Lists.{orders_at}
-use Rattle.partition_world.proofs.BoolTests.{some_of}
-use Rattle.partition_world.proofs.Standing.{Standing, Allowed, broker_at, wider_self}
-use Rattle.partition_world.proofs.TurnRows.{first_allowed, first_starts, later_follows, later_allowed, no_later}
-use Rattle.partition_world.proofs.SeatLaw.{noted_none, noted_some, answer_steps, begin_steps, noted_its, going, answered_seat, begun_seat, desk_goes}
+use Rattle.plain_log.specs.State.{actor_at}
+use Rattle.plain_log.specs.Fresh.{fresh}
+use Rattle.plain_log.specs.Safe.{NotedSafe}
+use Rattle.partition_seen.specs.declared.begun.Begun.{Begun}
+use Rattle.partition_seen.specs.declared.begun.Turned.{Turned}
+use Rattle.partition_seen.specs.declared.begun.Turned.TheVariants.{Answers, Begins}
+use Rattle.partition_seen.specs.declared.seat.Stepped.{Stepped}
+use Rattle.partition_seen.specs.declared.seat.Stepped.TheVariants.{Ran, Done, Nothing, NoMemory}
+use Rattle.partition_seen.specs.Seen as seen
+use Rattle.partition_seen.specs.Held as seen_held
+use Rattle.partition_seen.specs.Rows as seen_rows
+use Rattle.partition_seen.specs.Turn as seen_turn
+use Rattle.partition_seen.specs.Central as seen_central
+use Rattle.partition_seen.proofs.BoolTests.{some_of}
+use Rattle.partition_seen.proofs.Standing.{broker_at}
+use Rattle.partition_seen.proofs.SeatLaw.{noted_some}
+use Rattle.partition_seen.proofs.CentralLaw as seen_law
+use Rattle.partition_seen.proofs.CompleteLaw.{ends_complete}
+use Rattle.partition_world.specs.Held.{node_of}
+use Rattle.partition_world.specs.Whole.{Whole, seen_as}
+use Rattle.partition_world.specs.Turns.{Row}
+use Rattle.partition_world.specs.Turn.{IsTurn, IsAtEnd, StaysWhole, Steps}
+use Rattle.partition_world.specs.Central.{IsCentral, KeepsCentral}
+use Rattle.partition_world.specs.Laws.{IsCompleteRun}
+use Rattle.partition_world.proofs.FollowersRefined.{IsKept}
+use Rattle.partition_world.proofs.Refinement.{row_refined}
+use Rattle.partition_world.proofs.Shown.{some_at, sees_at, held_stays}
 
--- the step of the plain log that a turn is
-record StepsTo (w : Whole) (a : ℕ) (turned : Turned) (w' : Whole) (p : State) (t : IsTurn w a turned w') : Type 0 where
-  state : State
-  actor : Actor
-  step_is : step p t.order (record { actor = t.list.actor; number = t.seat.number; event = event_of turned }) ≡ Some state
-  held : HeldStands w'.held state
-  lines : PlainSafe state → LinesStand w'.held state.paths
-  actors : state.actors ≡ put_actor p.actors t.list.actor.0 actor
-  wide : Wider p.paths state.paths
-  seat : SeatStands state t.list (seat_after t.seat turned)
+module _ {D : Type 0} (content : D → Content) (control : D → Control call_code) where
+  -- what is known of what the turn's seat keeps
+  kept_at : (opening : State) (w : Whole D) (a : ℕ) (turned : Turned) (w' : Whole D) (p : seen.Held) (y : seen.Node) (t : IsTurn content control w a turned w')
+      → seen_central.IsCentral opening (seen_as w p) → slice_get p.nodes t.order.broker.0 ≡ Some y → (g : Begun) → t.seat.begun ≡ Some g → IsKept y g
+  kept_at opening w a turned w' p y t c at g begun =
+      let st = c.stands.desk t.place t.list t.seat t.at.list t.at.seat_is in
+      let run = (st.follow g begun).4 in
+      let noted : (actor_at c.plain.actors t.list.actor.0).begun ≡ Some (seen_held.noted_of t.order g) = ap (λ (k : Actor). k.begun) st.actor ∙ noted_some t.list.orders t.seat t.order g t.next begun in
+      let k : NotedSafe c.plain.paths c.plain.registry.epoch (seen_held.noted_of t.order g) (seen_held.broker_of y) =
+      c.safe.noted t.list.actor.0 (seen_held.noted_of t.order g) (seen_held.broker_of y) noted (broker_at p c.plain t.order.broker.0 y c.stands.held at) in
+      record { noted = k.up; are = run.are; epochs = run.epochs; small = run.small }
 
--- what a turn starts from
-standing : (w : Whole) (a : ℕ) (turned : Turned) (w' : Whole) (p : State) (t : IsTurn w a turned w') → PlainSafe p → Stands w p
-    → (x : Node) → slice_get w.held.nodes t.order.broker.0 ≡ Some x → (s : Replica) × Standing w.held p t.order.broker.0 x s
-standing w a turned w' p t safe st x at =
-    let b = t.order.broker.0 in
-    let bx = broker_at w.held p b x st.held at in
-    let s = look p.registry.replicas b (omega (arith, safe.same_count, within p.brokers b (broker_of x) bx)) in
-    (s.0, record { safe = safe; held = st.held; lines = st.lines; at = at; replica = s.1 })
+  -- a turn keeps the central fact
+  pub turn_central : (opening : State) (w : Whole D) (a : ℕ) (turned : Turned) (w' : Whole D) → IsTurn content control w a turned w' → IsCentral content control opening w → IsCentral content control opening w'
+  turn_central opening w a turned w' t c =
+      let b = t.order.broker.0 in
+      let x = some_of (λ x. Row content control w.held b x t.seat.begun t.order.command turned w'.held) (slice_get w.held.nodes b) t.row in
+      let v = sees_at content control w.held c.partition b x.0 c.shows c.calm x.1 in
+      let y = node_of x.0 v.0 in
+      let r = row_refined content control w.held c.partition b x.0 v.0 t.seat.begun t.order.command turned w'.held v.1 (λ n z at. (c.central.stands.lines.each n z at).sound)
+      (kept_at opening w a turned w' c.partition y t c.central v.1.there) x.2 in
+      let turn : seen_turn.IsTurn (seen_as w c.partition) a turned (seen_as w' r.after) = record {
+        place = t.place;
+        list = t.list;
+        seat = t.seat;
+        order = t.order;
+        at = record { list = t.at.list; actor = t.at.actor; seat_is = t.at.seat_is };
+        next = t.next;
+        row = some_at (λ (z : seen.Node). seen_rows.Row c.partition b z t.seat.begun t.order.command turned r.after) (slice_get c.partition.nodes b) y v.1.there r.row;
+        desk = t.desk;
+        entered = t.entered;
+        partition = t.partition;
+        config = t.config;
+        lists = t.lists;
+      } in
+      record { partition = r.after; shows = r.held; calm = r.calm; central = seen_law.turn_central opening (seen_as w c.partition) a turned (seen_as w' r.after) turn c.central }
 
--- an answer
-answer_to : (w : Whole) (a : ℕ) (answer : Answer) (w' : Whole) (p : State) (t : IsTurn w a (Answers answer) w') (x : Node) (s : Replica) (noted : Option Noted)
-    → Standing w.held p t.order.broker.0 x s → actor_at p.actors t.list.actor.0 ≡ record { number = t.seat.number; begun = noted } → is_noted noted t.order ≡ true
-    → Allowed p t.order.broker.0 x s noted t.order.command answer w'.held → StepsTo w a (Answers answer) w' p t
-answer_to w a answer w' p t x s noted st at its k =
-    let b = t.order.broker.0 in
-    let y : Actor = record { number = t.seat.number + 1; begun = None } in
-    let n = t.list.actor.0 in
-    record {
-      state = with_actor n y k.state;
-      actor = y;
-      step_is = answer_steps p t.order n t.seat.number (broker_of x) s noted (record { actor = t.list.actor; number = t.seat.number; event = Answered answer }) answer k.state
-          (broker_at w.held p b x st.held st.at) st.replica at its refl refl refl k.is;
-      held = record { registry = k.registry; brokers = k.brokers };
-      lines = λ safe. k.lines (λ c z is. (safe.brokers c z is).log);
-      actors = ap (λ (ys : List Actor). put_actor ys n y) k.actors;
-      wide = k.paths;
-      seat = answered_seat (with_actor n y k.state) t.list t.seat answer (actor_put k.state.actors n y);
-    }
+  -- and so does want of memory
+  whole_central : (opening : State) (w w' : Whole D) → StaysWhole content control w w' → IsCentral content control opening w → IsCentral content control opening w'
+  whole_central opening w w' s c =
+      let k = held_stays content control w.held c.partition w'.held c.shows c.calm s.held in
+      subst (IsCentral content control opening) (sym s.fields) (record { partition = c.partition; shows = k.0; calm = k.1; central = c.central })
 
--- a beginning
-begin_to : (w : Whole) (a : ℕ) (g : Begun) (w' : Whole) (p : State) (t : IsTurn w a (Begins g) w') (x : Node) (s : Replica)
-    → Standing w.held p t.order.broker.0 x s → actor_at p.actors t.list.actor.0 ≡ record { number = t.seat.number; begun = None }
-    → FirstRow w.held t.order.broker.0 x t.order.command (Begins g) w'.held → StepsTo w a (Begins g) w' p t
-begin_to w a g w' p t x s st at row =
-    let b = t.order.broker.0 in
-    let k = first_starts w.held p b x s t.order.command g w'.held st row in
-    let n = t.list.actor.0 in
-    let noted : noted_by p t.order (broker_of x) ≡ noted_of t.order g = rw (k.starts.stops, k.starts.role, k.starts.end, k.starts.start) refl in
-    let y : Actor = record { number = t.seat.number; begun = Some (noted_of t.order g) } in
-    let bx = broker_at w.held p b x st.held st.at in
-    let begun = subst (λ (c : Command). begins p (broker_of x) c None ≡ Some (broker_of x)) (sym k.is) k.starts.is in
-    record {
-      state = with_actor n y (put_broker p b (broker_of x));
-      actor = y;
-      step_is = begin_steps p t.order n t.seat.number (broker_of x) s (record { actor = t.list.actor; number = t.seat.number; event = Began None }) bx st.replica at refl refl refl begun
-          ∙ ap (λ (m : Noted). Some (with_actor n (record { number = t.seat.number; begun = Some m }) (put_broker p b (broker_of x)))) noted;
-      held = record {
-        registry = st.held.registry ∙ ap (λ (h : Held). h.registry) (sym k.starts.same);
-        brokers = set-same p.brokers b (broker_of x) bx ∙ (st.held.brokers ∙ ap (λ (h : Held). map broker_of h.nodes) (sym k.starts.same));
-      };
-      lines = λ safe. subst (λ (h : Held). LinesStand h p.paths) (sym k.starts.same) st.lines;
-      actors = refl;
-      wide = wider_self p.paths;
-      seat = begun_seat (with_actor n y (put_broker p b (broker_of x))) t.list t.seat t.order k.limit g (actor_put p.actors n y) t.next k.is k.starts.run;
-    }
+  pub step_central : (w : Whole D) (a : ℕ) (stepped : Stepped) (w' : Whole D) → Steps content control w a stepped w' → KeepsCentral content control w w'
+  step_central w a Ran w' s = λ opening c. turn_central opening w a (Begins s.0) w' s.1 c
+  step_central w a Done w' s = λ opening c. turn_central opening w a (Answers s.0) w' s.1 c
+  step_central w a Nothing w' s = λ opening c. subst (IsCentral content control opening) (sym s.1) c
+  step_central w a NoMemory w' s = λ opening c. whole_central opening w w' s c
 
--- a turn, whether its command has begun or not
-steps_to : (w : Whole) (a : ℕ) (turned : Turned) (w' : Whole) (p : State) (t : IsTurn w a turned w') (x : Node) (s : Replica) (begun : Option Begun)
-    → Standing w.held p t.order.broker.0 x s → SeatStands p t.list t.seat → t.seat.begun ≡ begun → Row w.held t.order.broker.0 x begun t.order.command turned w'.held
-    → StepsTo w a turned w' p t
-steps_to w a (Answers answer) w' p t x s None st at is row =
-    let noted = at.actor ∙ ap (λ (o : Option Noted). record { number = t.seat.number; begun = o }) (noted_none t.list.orders t.seat is) in
-    answer_to w a answer w' p t x s None st noted refl (first_allowed w.held p t.order.broker.0 x s t.order.command answer w'.held st row)
-steps_to w a (Begins g) w' p t x s None st at is row =
-    let noted = at.actor ∙ ap (λ (o : Option Noted). record { number = t.seat.number; begun = o }) (noted_none t.list.orders t.seat is) in
-    begin_to w a g w' p t x s st noted row
-steps_to w a (Answers answer) w' p t x s (Some g) st at is row =
-    let f = later_follows w.held t.order.broker.0 x t.order.command g (Answers answer) w'.held row in
-    let noted = at.actor ∙ ap (λ (o : Option Noted). record { number = t.seat.number; begun = o }) (noted_some t.list.orders t.seat t.order g t.next is) in
-    let k = going p x t.order t.list t.seat f.0 g st.safe at t.next is (broker_at w.held p t.order.broker.0 x st.held st.at) f.1 in
-    answer_to w a answer w' p t x s (Some (noted_of t.order g)) st noted (noted_its t.order g f.0 f.1)
-    (later_allowed w.held p t.order.broker.0 x s t.order f.0 t.order.command g answer w'.held st f.1 k row)
-steps_to w a (Begins h) w' p t x s (Some g) st at is row =
-    absurd (no_later w.held t.order.broker.0 x t.order.command g h w'.held row)
-
--- the same lists and the same journal
-replays_on : (lists after : List ActorList) (opening r : State) (journal more : List JournalEntry) → after ≡ lists → more ≡ journal → replay lists opening journal ≡ Some r
-    → replay after opening more ≡ Some r
-replays_on lists after opening r journal more is same h = rw (is, same) h
-
--- a turn keeps the central fact
-pub turn_central : (opening : State) (w : Whole) (a : ℕ) (turned : Turned) (w' : Whole) → IsTurn w a turned w' → IsCentral opening w → IsCentral opening w'
-turn_central opening w a turned w' t c =
-    let p = c.plain in
-    let x = some_of _ (slice_get w.held.nodes t.order.broker.0) t.row in
-    let s = standing w a turned w' p t c.safe c.stands x.0 x.1 in
-    let k = steps_to w a turned w' p t x.0 s.0 t.seat.begun s.1 (c.stands.desk t.place t.list t.seat t.at.list t.at.seat_is) refl x.2 in
-    let entry : JournalEntry = record { actor = t.list.actor; number = t.seat.number; event = event_of turned } in
-    let order : order_of w.lists entry ≡ Some t.order = ap (λ (l : List Order). slice_get l t.seat.number) (orders_at w.lists t.place t.list c.stands.rising t.at.list) ∙ t.next in
-    let taken : entry_step w.lists p entry ≡ Some k.state = rw order k.step_is in
-    let safe = step_safe p t.order entry k.state k.step_is c.safe in
-    record {
-      plain = k.state;
-      replays = replays_on w.lists w'.lists opening k.state (w.journal.items ++ entry ∷ []) w'.journal.items t.lists t.entered (replay_more w.lists opening w.journal.items p entry k.state c.replays taken);
-      safe = safe;
-      stands = record {
-        held = k.held;
-        lines = k.lines safe;
-        desk = desk_goes w a turned w' p k.state k.actor t c.stands k.actors k.wide k.seat;
-        rising = subst AreRising (sym t.lists) c.stands.rising;
-        seats = ap (λ (l : List Seat). length l) t.desk
-            ∙ (length-slice_set w.desk t.place (seat_after t.seat turned) ∙ (c.stands.seats ∙ ap (λ (l : List ActorList). length l) (sym t.lists)));
-      };
-    }
-
-pub step_central : (w : Whole) (a : ℕ) (stepped : Stepped) (w' : Whole) → Steps w a stepped w' → KeepsCentral w w'
-step_central w a Ran w' s = λ opening c. turn_central opening w a (Begins s.0) w' s.1 c
-step_central w a Done w' s = λ opening c. turn_central opening w a (Answers s.0) w' s.1 c
-step_central w a Nothing w' s = λ opening c. subst (IsCentral opening) (sym s.1) c
-step_central w a NoMemory w' s = λ opening c. subst (IsCentral opening) (sym s) c
+  pub complete : (w : Whole D) → IsCentral content control (fresh w.config) w → ((a : ℕ) → IsAtEnd w a) → IsCompleteRun w
+  complete w c ends =
+      let k = ends_complete (seen_as w c.partition) c.central (λ a place l seat at. ends a place l seat (record { list = at.list; actor = at.actor; seat_is = at.seat_is })) in
+      record { run = k.run; complete = k.complete }

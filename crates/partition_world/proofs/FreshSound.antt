@@ -1,64 +1,58 @@
--- A fresh world has what its turns need.
-use Rattle.std.proofs.Common.{◌≡◌, ◌∙◌, ap, subst, refl, inl, inr, ℕ, zero, suc, ◌≤◌, ◌+◌, ◌-◌, ◌++◌, List, [], ◌∷◌, length, slice_get, Some, arith}
-use Rattle.std.specs.Prelude.{replicate}
-use Rattle.std.proofs.lemmas.List.{replicate_more}
-use Rattle.log_terms.proofs.Logs.{ends_at_zero}
+-- A fresh world has what its turns need, over any disks.
+use Rattle.std.proofs.Common.{◌≡◌, ◌∙◌, sym, ap, subst, ℕ, zero, suc, ◌^◌, ◌<◌, List, [], ◌∷◌, length, slice_get, Some, Option, arith}
+use Rattle.std.specs.Prelude.{unwrap_or}
+use Rattle.tier_base.specs.Device.{Control}
+use Rattle.disk_model.specs.Call.{call_code}
+use Rattle.epoch_line.specs.Line.{last_epoch}
+use Rattle.registry.specs.declared.registry.Registry.{Registry}
 use Rattle.registry.specs.Replicas.{fresh_replica}
-use Rattle.plain_log.specs.declared.command.ActorList.{ActorList}
 use Rattle.plain_log.specs.declared.state.Role.TheVariants.{Leads, Joined}
+use Rattle.partition_seen.proofs.FreshSound.{length_replicate}
 use Rattle.partition_world.specs.declared.held.Node.{Node}
-use Rattle.partition_world.specs.declared.seat.Seat.{Seat}
-use Rattle.partition_world.specs.Fresh.{fresh_held, fresh_node, fresh_seat}
-use Rattle.partition_world.specs.Sound.{NodeSound, HeldSound, turns_left}
-use Rattle.partition_world.proofs.Lists.{turns_all}
+use Rattle.partition_world.specs.declared.held.Held.{Held}
+use Rattle.partition_world.specs.Held.{line_of}
+use Rattle.partition_world.specs.Sound.{NodeSound, HeldSound}
+use Rattle.partition_world.specs.Fresh.{IsFreshNode, AreFreshFollowers, AreFreshNodes, IsFreshHeld}
 
-length_replicate : {A : Type 0} (n : ℕ) (x : A) → length (replicate n x) ≡ n
-length_replicate zero x = refl
-length_replicate (suc n) x = ap suc (length_replicate n x)
+leads_is : (e f : ℕ) → Leads e ≡ Leads f → e ≡ f
+leads_is e f is = cc (is)
 
-replicate_is : {A : Type 0} (n i : ℕ) (x y : A) → slice_get (replicate n x) i ≡ Some y → x ≡ y
-replicate_is zero i x y at = absurd cc
-replicate_is (suc n) zero x y at = cc
-replicate_is (suc n) (suc i) x y at = replicate_is n i x y at
+joined_leads : (e f : ℕ) → Joined e ≡ Leads f → ⊥
+joined_leads e f is = absurd cc
 
-leader_sound : NodeSound (fresh_node (Leads 0) ((0, 0) ∷ []))
-leader_sound = record {
-  log = record { consecutive = tt; line_is = inr (0, refl); rises = (omega arith, omega arith, tt, tt); ends = refl; small = omega arith };
-  stable = ends_at_zero [];
-  known = ends_at_zero [];
-  leads = λ e is. (let same : 0 ≡ e = cc (is) in ap Some same);
-  down = λ is. absurd (cc (is));
-}
+module _ {D : Type 0} (control : D → Control call_code) where
+  leader_sound : (x : Node D) → IsFreshNode control (Leads 0) ((0, 0) ∷ []) x → NodeSound x
+  leader_sound x f =
+      let line : line_of x ≡ (0, 0) ∷ [] = ap (λ (o : Option (List (ℕ × ℕ))). unwrap_or o []) f.line_is in
+      record {
+        up = λ e is. f.up;
+        leads = λ e is. ap last_epoch line ∙ ap (λ (n : ℕ). Some n) (leads_is 0 e (sym f.role_is ∙ is));
+        fits = λ e is. (let same = leads_is 0 e (sym f.role_is ∙ is) in omega (arith, same));
+        down = λ down. absurd (let up = f.up in cc);
+      }
 
-follower_sound : NodeSound (fresh_node (Joined 0) [])
-follower_sound = record {
-  log = record { consecutive = tt; line_is = inl refl; rises = tt; ends = refl; small = omega arith };
-  stable = ends_at_zero [];
-  known = ends_at_zero [];
-  leads = λ e is. absurd (cc (is));
-  down = λ is. absurd (cc (is));
-}
+  follower_sound : (x : Node D) → IsFreshNode control (Joined 0) [] x → NodeSound x
+  follower_sound x f = record {
+    up = λ e is. f.up;
+    leads = λ e is. absurd (joined_leads 0 e (sym f.role_is ∙ is));
+    fits = λ e is. absurd (joined_leads 0 e (sym f.role_is ∙ is));
+    down = λ down. absurd (let up = f.up in cc);
+  }
 
-node_sound : (n b : ℕ) (x : Node) → slice_get (fresh_held n).nodes b ≡ Some x → NodeSound x
-node_sound n zero x at = let same : fresh_node (Leads 0) ((0, 0) ∷ []) ≡ x = cc in subst NodeSound same leader_sound
-node_sound n (suc b) x at = subst NodeSound (replicate_is (n - 1) b (fresh_node (Joined 0) []) x at) follower_sound
+  followers_sound : (xs : List (Node D)) (b : ℕ) (x : Node D) → AreFreshFollowers control xs → slice_get xs b ≡ Some x → NodeSound x
+  followers_sound [] b x f at = absurd cc
+  followers_sound (y ∷ xs) zero x f at = let same : y ≡ x = cc in subst NodeSound same (follower_sound y f.0)
+  followers_sound (y ∷ xs) (suc b) x f at = followers_sound xs b x f.1 at
 
-pub fresh_sound : (n : ℕ) → 1 ≤ n → HeldSound n (fresh_held n)
-fresh_sound n some = record {
-  count = omega (arith, length_replicate (n - 1) (fresh_node (Joined 0) []), some);
-  same = length_replicate n fresh_replica;
-  epoch = omega arith;
-  nodes = node_sound n;
-}
+  nodes_sound : (xs : List (Node D)) (b : ℕ) (x : Node D) → AreFreshNodes control xs → slice_get xs b ≡ Some x → NodeSound x
+  nodes_sound [] b x f at = absurd f
+  nodes_sound (y ∷ xs) zero x f at = let same : y ≡ x = cc in subst NodeSound same (leader_sound y f.0)
+  nodes_sound (y ∷ xs) (suc b) x f at = followers_sound xs b x f.1 at
 
-pub fresh_seats : (lists : List ActorList) (n : ℕ) (desk : List Seat) → n ≡ length lists → desk ≡ replicate n fresh_seat → length desk ≡ length lists
-fresh_seats lists n desk many is = ap (λ (k : List Seat). length k) is ∙ (length_replicate n fresh_seat ∙ many)
-
-pub fresh_left : (lists : List ActorList) (n : ℕ) (desk : List Seat) → desk ≡ replicate n fresh_seat → turns_left lists desk ≡ turns_left lists []
-fresh_left lists n desk is = ap (λ (k : List Seat). turns_left lists k) is ∙ turns_all lists n
-
--- one node more
-pub nodes_more : (first x y : Node) (xs ys : List Node) (i : ℕ) → 1 ≤ i → xs ≡ first ∷ replicate (i - 1) x → y ≡ x → ys ≡ xs ++ y ∷ [] → ys ≡ first ∷ replicate (i + 1 - 1) x
-nodes_more first x y xs ys i some is same more =
-    let count : (i - 1) + 1 ≡ i + 1 - 1 = omega (arith, some) in
-    more ∙ (rw (is, same) (ap (λ (l : List Node). first ∷ l) (replicate_more (i - 1) x)) ∙ ap (λ (n : ℕ). first ∷ replicate n x) count)
+  pub fresh_sound : (n : ℕ) (h : Held D) → IsFreshHeld control n h → HeldSound n h
+  fresh_sound n h f = record {
+    count = f.count;
+    same = ap (λ (r : Registry). length r.replicas) f.registry ∙ length_replicate n fresh_replica;
+    epoch = subst (λ (r : Registry). r.epoch < 2 ^ 31) (sym f.registry) (omega arith);
+    nodes = λ b x at. nodes_sound h.nodes b x f.nodes at;
+  }

@@ -1,29 +1,23 @@
-mod Search
-mod Writes
-mod BoolTests
-mod Lines
-mod Meets
-mod LongestRun
-mod LogSound
-pub mod Counted
-mod Leading
-mod Dispatch
-mod RegistryLaw
-mod NodeLaw
-mod SoundLaw
-pub mod Lists
-mod FreshSound
-mod WorldSound
+pub mod Dispatch
+pub mod Open
+pub mod Staying
+pub mod Putting
+pub mod FollowedOn
+pub mod Shown
+pub mod Fronts
+pub mod OwnRefined
+pub mod RunsShown
+pub mod FetchRefined
+pub mod ElectionsRefined
+pub mod FollowersRefined
+pub mod Refinement
+pub mod CentralLaw
 pub mod LaterLaw
-mod Chains
-mod Standing
-mod OwnRows
-mod ElectionRows
-mod LearnRows
-mod FollowRows
-mod FollowOnRows
-mod TurnRows
-mod SeatLaw
-mod CentralLaw
-mod ReachesLaw
-mod CompleteLaw
+pub mod ReachesLaw
+pub mod Chains
+pub mod SoundLaw
+pub mod FreshLaw
+pub mod WorldSound
+pub mod FreshSound
+pub mod FreshNodes
+pub mod Writes

@@ -1,97 +1,22 @@
--- The central fact, which holds between any two turns: the world is the plain log after the world's own journal.
-use Rattle.std.specs.Prelude.{◌≡◌, ◌≢◌, ℕ, ◌≤◌, Option, Some, List, ◌++◌, length, map, slice_get, option_map, is_some, true, All}
-use Rattle.std.specs.Option.{option_and_then}
-use mathlib.Core.List.{IsPrefix}
-use Rattle.log_terms.specs.Line.{line_of}
-use Rattle.log_terms.specs.Batch.{epoch_of}
-use Rattle.log_terms.specs.Log.{end_of, end_from}
-use Rattle.epoch_line.specs.Line.{last_entry}
-use Rattle.plain_log.specs.declared.command.ActorList.{ActorList}
-use Rattle.plain_log.specs.declared.command.Command.TheVariants.{Follow}
-use Rattle.plain_log.specs.declared.command.Order.{Order}
-use Rattle.plain_log.specs.declared.state.Noted.{Noted}
-use Rattle.plain_log.specs.declared.state.Path.{Path}
-use Rattle.plain_log.specs.declared.state.Role.TheVariants.{Joined}
+-- The central fact, which holds between any two turns where the disks tell and no call of them can fail: the world, as its
+-- partition is seen, is the plain log after the world's own journal.
+use Rattle.tier_base.specs.Device.{Control}
+use Rattle.disk_model.specs.Call.{call_code}
+use Rattle.disk_model.specs.Content.{Content}
 use Rattle.plain_log.specs.declared.state.State.{State}
-use Rattle.plain_log.specs.State.{actor_at, path_of, followed}
-use Rattle.plain_log.specs.Fetch.{is_within}
-use Rattle.plain_log.specs.Orders.{AreRising}
-use Rattle.plain_log.specs.Runs.{replay}
-use Rattle.plain_log.specs.Safe.{PlainSafe}
-use Rattle.partition_world.specs.declared.begun.Begun.{Begun}
-use Rattle.partition_world.specs.declared.held.Node.{Node}
-use Rattle.partition_world.specs.declared.held.Held.{Held}
-use Rattle.partition_world.specs.declared.seat.Seat.{Seat}
-use Rattle.partition_world.specs.Held.{broker_of, noted_of}
-use Rattle.partition_world.specs.Log.{epoch_in}
-use Rattle.partition_world.specs.Sound.{NodeSound}
-use Rattle.partition_world.specs.Whole.{Whole}
+use Rattle.partition_seen.specs.Seen as seen
+use Rattle.partition_seen.specs.Central as seen_central
+use Rattle.partition_world.specs.Held.{ShowsHeld, AreCalm}
+use Rattle.partition_world.specs.Whole.{Whole, seen_as}
 
--- what was noted of the order that the seat is at, where it has begun
-abbrev pub noted_at : List Order → Seat → Option Noted
-noted_at orders seat = option_and_then (λ order. option_map (noted_of order) seat.begun) (slice_get orders seat.number)
+module _ {D : Type 0} (content : D → Content) (control : D → Control call_code) where
+  -- the partition is seen so that the central fact holds of it
+  pub record IsCentral (opening : State) (w : Whole D) : Type 0 where
+    pub partition : seen.Held
+    pub shows : ShowsHeld content w.held partition
+    pub calm : AreCalm control w.held.nodes
+    pub central : seen_central.IsCentral opening (seen_as w partition)
 
--- the registry and the brokers are the plain log's
-pub record HeldStands (h : Held) (p : State) : Type 0 where
-  pub registry : p.registry ≡ h.registry
-  pub brokers : p.brokers ≡ map broker_of h.nodes
-
--- a node's line is its log's; against the paths: each of its epochs has one, and that of a follower that has joined has
--- none beyond its log's
-pub record LineStands (paths : List Path) (x : Node) : Type 0 where
-  pub sound : NodeSound x
-  pub paths_are : All (λ entry. is_some (path_of paths entry.0) ≡ true) x.log.line
-  pub joined : (e : ℕ) → x.role ≡ Joined e → x.log.line ≡ line_of x.log.batches
-
--- the leader of the registry's epoch, once it has led it: its line ends with that epoch, from a stable offset on
-abbrev pub LeaderStands : List Path → ℕ → Node → Type 0
-LeaderStands paths epoch x = is_some (path_of paths epoch) ≡ true
-    → (start : ℕ) × (last_entry x.log.line ≡ Some (epoch, start)) × (start ≤ x.stable)
-
--- the lines of the nodes; and no follower of the registry's epoch is its leader
-pub record LinesStand (h : Held) (paths : List Path) : Type 0 where
-  pub each : (b : ℕ) (x : Node) → slice_get h.nodes b ≡ Some x → LineStands paths x
-  pub leader : (x : Node) → slice_get h.nodes h.registry.leader.0 ≡ Some x → LeaderStands paths h.registry.epoch x
-  pub followers : (b : ℕ) (x : Node) → slice_get h.nodes b ≡ Some x → followed x.role ≡ Some h.registry.epoch
-      → h.registry.leader.0 ≢ b
-
--- a run that a follow keeps: batches of the path that it follows, from its noted end on, of one epoch, as many as fit
--- its limit
-pub record RunStands (paths : List Path) (limit : ℕ) (g : Begun) : Type 0 where
-  pub epoch : ℕ
-  pub role : g.role ≡ Joined epoch
-  pub path : List (List ℕ)
-  pub path_is : path_of paths epoch ≡ Some path
-  pub front : List (List ℕ)
-  pub ends : end_of front ≡ g.end
-  pub begins : IsPrefix (front ++ g.batches) path
-  pub within : is_within limit g.batches ≡ true
-  pub epochs : All (λ batch. Some (epoch_of batch) ≡ epoch_in g.batches) g.batches
-  pub small : end_from g.end g.batches ≤ 4611686018427387904
-
--- the seats: the plain log's actors have come as far, and what follows keep are runs
-pub record SeatStands (p : State) (l : ActorList) (seat : Seat) : Type 0 where
-  pub actor : actor_at p.actors l.actor.0 ≡ record { number = seat.number; begun = noted_at l.orders seat }
-  pub follow : (g : Begun) → seat.begun ≡ Some g
-      → (order : Order) × (limit : ℕ) × (slice_get l.orders seat.number ≡ Some order) × (order.command ≡ Follow limit)
-      × RunStands p.paths limit g
-
--- the world's registry, nodes and desk are those of a state of the plain log
-pub record Stands (w : Whole) (p : State) : Type 0 where
-  pub held : HeldStands w.held p
-  pub lines : LinesStand w.held p.paths
-  pub desk : (place : ℕ) (l : ActorList) (seat : Seat) → slice_get w.lists place ≡ Some l → slice_get w.desk place ≡ Some seat
-      → SeatStands p l seat
-  pub rising : AreRising w.lists
-  pub seats : length w.desk ≡ length w.lists
-
--- the journal leads from the opening state to one in which the safety rules hold and to which the world stands
-pub record IsCentral (opening : State) (w : Whole) : Type 0 where
-  pub plain : State
-  pub replays : replay w.lists opening w.journal.items ≡ Some plain
-  pub safe : PlainSafe plain
-  pub stands : Stands w plain
-
--- for each opening state the central fact goes on
-abbrev pub KeepsCentral : Whole → Whole → Type 0
-KeepsCentral w w' = (opening : State) → IsCentral opening w → IsCentral opening w'
+  -- for each opening state the central fact goes on
+  abbrev pub KeepsCentral : Whole D → Whole D → Type 0
+  KeepsCentral w w' = (opening : State) → IsCentral opening w → IsCentral opening w'

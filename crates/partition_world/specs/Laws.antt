@@ -1,37 +1,44 @@
 -- The laws of a world.
-use Rattle.std.specs.Prelude.{ℕ, List}
+use Rattle.std.specs.Prelude.{◌≡◌, ℕ, List}
 use Rattle.tier_base.specs.declared.names.PartitionId.{PartitionId}
+use Rattle.tier_base.specs.Device.{Control}
+use Rattle.disk_model.specs.Call.{call_code}
+use Rattle.disk_model.specs.Content.{Content}
 use Rattle.plain_log.specs.declared.command.ActorList.{ActorList}
 use Rattle.plain_log.specs.declared.command.Config.{Config}
 use Rattle.plain_log.specs.declared.command.Pace.{Pace}
 use Rattle.plain_log.specs.Fresh.{fresh}
 use Rattle.plain_log.specs.Orders.{AreListsFor, IsConfig}
 use Rattle.plain_log.specs.Runs.{IsPlainRun, IsComplete}
-use Rattle.partition_world.specs.declared.seat.Stepped.{Stepped}
-use Rattle.partition_world.specs.Whole.{Whole}
-use Rattle.partition_world.specs.Turn.{Steps, IsAtEnd}
+use Rattle.partition_seen.specs.declared.seat.Stepped.{Stepped}
 use Rattle.partition_world.specs.Central.{IsCentral, KeepsCentral}
-use Rattle.partition_world.specs.Fresh.{IsFresh}
+use Rattle.partition_world.specs.Fresh.{IsFresh, AllSeen}
 use Rattle.partition_world.specs.Later.{IsLater}
 use Rattle.partition_world.specs.Reaches.{Reaches}
-
--- each step keeps the central fact
-abbrev pub StepsKeepCentral : Type 0
-StepsKeepCentral = (w : Whole) (a : ℕ) (stepped : Stepped) (w' : Whole) → Steps w a stepped w' → KeepsCentral w w'
-
--- it holds of a fresh world
-abbrev pub FreshIsCentral : Type 0
-FreshIsCentral = (partition : PartitionId) (config : Config) (lists : List ActorList) (w : Whole) → IsConfig config
-    → AreListsFor config lists → IsFresh partition config lists w → IsCentral (fresh config) w
-
--- a world that a schedule reaches is a later one
-abbrev pub ReachesLater : Type 0
-ReachesLater = (w : Whole) (schedule : List Pace) (w' : Whole) → Reaches w schedule w' → IsLater w w'
+use Rattle.partition_world.specs.Turn.{Steps, IsAtEnd}
+use Rattle.partition_world.specs.Whole.{Whole}
 
 -- where it holds and each actor is at its end, the journal is a complete run of the plain log
-pub record IsCompleteRun (w : Whole) : Type 0 where
+pub record IsCompleteRun {D : Type 0} (w : Whole D) : Type 0 where
   pub run : IsPlainRun w.config w.lists w.journal.items
   pub complete : IsComplete w.lists w.journal.items
 
-abbrev pub EndsAreComplete : Type 0
-EndsAreComplete = (w : Whole) → IsCentral (fresh w.config) w → ((a : ℕ) → IsAtEnd w a) → IsCompleteRun w
+module _ {D : Type 0} (content : D → Content) (control : D → Control call_code) where
+  -- each step keeps the central fact
+  abbrev pub StepsKeepCentral : Type 0
+  StepsKeepCentral = (w : Whole D) (a : ℕ) (stepped : Stepped) (w' : Whole D) → Steps content control w a stepped w'
+      → KeepsCentral content control w w'
+
+  -- it holds of a fresh world whose logs are seen
+  abbrev pub FreshIsCentral : Type 0
+  FreshIsCentral = (partition : PartitionId) (config : Config) (lists : List ActorList) (w : Whole D) → IsConfig config
+      → AreListsFor config lists → IsFresh control partition config lists w → AllSeen content w.held.nodes
+      → IsCentral content control (fresh config) w
+
+  -- a world that a schedule reaches is a later one
+  abbrev pub ReachesLater : Type 0
+  ReachesLater = (w : Whole D) (schedule : List Pace) (w' : Whole D) → Reaches content control w schedule w'
+      → IsLater content control w w'
+
+  abbrev pub EndsAreComplete : Type 0
+  EndsAreComplete = (w : Whole D) → IsCentral content control (fresh w.config) w → ((a : ℕ) → IsAtEnd w a) → IsCompleteRun w

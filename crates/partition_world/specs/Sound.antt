@@ -1,47 +1,35 @@
--- What a world keeps, whatever its journal: what its turns need to be carried out.
-use Rattle.std.specs.Prelude.{◌≡◌, ℕ, ◌+◌, ◌-◌, ◌*◌, ◌^◌, ◌<◌, ◌≤◌, Some, false, List, [], ◌∷◌, length, slice_get, is_some, if◌then◌else◌}
-use Rattle.log_terms.specs.Log.{EndsAt, end_of}
+-- What a world keeps over any disks: what its turns need to be carried out.
+use Rattle.std.specs.Prelude.{◌≡◌, ℕ, ◌^◌, ◌<◌, ◌≤◌, Some, true, false, List, length, slice_get}
 use Rattle.epoch_line.specs.Line.{last_epoch}
 use Rattle.plain_log.specs.declared.command.ActorList.{ActorList}
 use Rattle.plain_log.specs.declared.command.Config.{Config}
-use Rattle.plain_log.specs.declared.command.Order.{Order}
 use Rattle.plain_log.specs.declared.state.Role.TheVariants.{Leads, Idle}
 use Rattle.plain_log.specs.Orders.{AreListsFor, IsConfig}
+use Rattle.partition_seen.specs.declared.seat.Seat.{Seat}
+use Rattle.partition_seen.specs.Sound.{turns_left}
 use Rattle.partition_world.specs.declared.held.Node.{Node}
 use Rattle.partition_world.specs.declared.held.Held.{Held}
-use Rattle.partition_world.specs.declared.seat.Seat.{Seat}
-use Rattle.partition_world.specs.Log.{IsLog}
+use Rattle.partition_world.specs.Held.{is_up, line_of}
 
--- a node's log is one, its stable end and the high watermark that it knows are 0 or ends of its batches, a leader's line
--- ends with its epoch, and a node that is down is idle and knows no high watermark
-pub record NodeSound (x : Node) : Type 0 where
-  pub log : IsLog (end_of x.log.batches) x.log
-  pub stable : EndsAt x.stable x.log.batches
-  pub known : EndsAt x.known x.log.batches
-  pub leads : (e : ℕ) → x.role ≡ Leads e → last_epoch x.log.line ≡ Some e
-  pub down : x.up ≡ false → (x.role ≡ Idle) × (x.known ≡ 0)
+module _ {D : Type 0} where
+  -- a leader is up, and its line ends with its epoch; a node that is down is idle and knows no high watermark
+  pub record NodeSound (x : Node D) : Type 0 where
+    pub up : (e : ℕ) → x.role ≡ Leads e → is_up x ≡ true
+    pub leads : (e : ℕ) → x.role ≡ Leads e → last_epoch (line_of x) ≡ Some e
+    pub fits : (e : ℕ) → x.role ≡ Leads e → e < 2 ^ 31
+    pub down : is_up x ≡ false → (x.role ≡ Idle) × (x.known ≡ 0)
 
--- as many nodes and replicas as brokers, and an epoch that a line can have
-pub record HeldSound (brokers : ℕ) (h : Held) : Type 0 where
-  pub count : length h.nodes ≡ brokers
-  pub same : length h.registry.replicas ≡ brokers
-  pub epoch : h.registry.epoch < 2 ^ 31
-  pub nodes : (b : ℕ) (x : Node) → slice_get h.nodes b ≡ Some x → NodeSound x
+  -- as many nodes and replicas as brokers, and an epoch that a line can have
+  pub record HeldSound (brokers : ℕ) (h : Held D) : Type 0 where
+    pub count : length h.nodes ≡ brokers
+    pub same : length h.registry.replicas ≡ brokers
+    pub epoch : h.registry.epoch < 2 ^ 31
+    pub nodes : (b : ℕ) (x : Node D) → slice_get h.nodes b ≡ Some x → NodeSound x
 
--- the turns that are left of a list: an order takes at most two, and one that has begun one more
-abbrev pub turns_of : List Order → Seat → ℕ
-turns_of orders seat = 2 * (length orders - seat.number) - (if is_some seat.begun then 1 else 0)
-
--- the turns that are left
-abbrev pub turns_left : List ActorList → List Seat → ℕ
-turns_left [] desk = 0
-turns_left (l ∷ lists) [] = 2 * length l.orders + turns_left lists []
-turns_left (l ∷ lists) (seat ∷ desk) = turns_of l.orders seat + turns_left lists desk
-
--- the whole world: its lists can be run, and the journal has room for an entry of each turn that is left
-pub record IsSound (config : Config) (lists : List ActorList) (h : Held) (desk : List Seat) (free : ℕ) : Type 0 where
-  pub config_fits : IsConfig config
-  pub fit : AreListsFor config lists
-  pub held : HeldSound config.brokers h
-  pub seats : length desk ≡ length lists
-  pub room : turns_left lists desk ≤ free
+  -- the whole world: its lists can be run, and the journal has room for an entry of each turn that is left
+  pub record IsSound (config : Config) (lists : List ActorList) (h : Held D) (desk : List Seat) (free : ℕ) : Type 0 where
+    pub config_fits : IsConfig config
+    pub fit : AreListsFor config lists
+    pub held : HeldSound config.brokers h
+    pub seats : length desk ≡ length lists
+    pub room : turns_left lists desk ≤ free

@@ -3,9 +3,9 @@
 ghost use Rattle.std.specs.Prelude.{◌≡◌, ◌≢◌, ◌<◌, ℕ, length, replicate, slice_get, Some, None, IfSome, IfOk, IsSomeAnd, []};
 ghost use Rattle.plain_log.specs.declared.command.ActorList.{ActorList};
 ghost use Rattle.partition_world.specs.Fresh.{fresh_seat};
-ghost use Rattle.partition_world.specs.Sound.{turns_left};
+ghost use Rattle.partition_seen.specs.Sound.{turns_left};
 
-use crate::seat::Seat;
+use partition_seen::Seat;
 use plain_log::ActorList;
 use std::alloc::{AllocError, Global};
 use tier_base::{ActorId, Row};

@@ -2,12 +2,15 @@
 
 ghost use Rattle.std.specs.Prelude.{◌≡◌, ◌<◌, ◌^◌, true, false, length, IfOk, OnErr};
 ghost use Rattle.std.specs.Option.{ForSome};
-ghost use Rattle.partition_world.specs.Held.{AtNode, put_node};
-ghost use Rattle.partition_world.specs.RowsOfElections.{answer_of, IsNew, led, ElectRow, UncleanRow, LearnRow, AckRow, ShrinkRow, ExpandRow, RaiseRow};
+ghost use Rattle.partition_seen.specs.RowsOfElections.{answer_of};
+ghost use Rattle.partition_world.specs.Held.{AtNode, CanStop, StaysHeld};
+ghost use Rattle.partition_world.specs.TurnsOfElections.{MayLead, LeadRow, ElectRow, UncleanRow, LearnRow, AckRow, ShrinkRow, ExpandRow, RaiseRow};
 ghost use Rattle.partition_world.specs.Sound.{HeldSound};
 
 use crate::held::Held;
 use crate::roles::{acking, epoch_in, leading};
+use broker_log::LogRefusal;
+use disk_model::Disk;
 use plain_log::{Answer, Role};
 use registry::RegRefusal;
 use std::alloc::{AllocError, Global};
@@ -30,14 +33,14 @@ fn refused(why: RegRefusal) -> Answer
     }
 }
 
-impl Held {
+impl<D: Disk> Held<D> {
     /// Elects a broker out of the replicas in sync.
     pub(crate) fn elect(&mut self, broker: BrokerId) -> Answer
         requires node { broker.0 < length self.old.nodes }
         requires replica { broker.0 < length self.old.registry.replicas }
         ensures { AtNode self.old broker.0 (λ x. ElectRow self.old broker.0 x result self.new) }
     {
-        let up = self.nodes.get(broker.0 as usize).up;
+        let up = self.nodes.get(broker.0 as usize).is_up();
         match self.registry.elect(broker, up) {
             Ok(epoch) => Answer::OkAt(epoch as u64),
             Err(why) => refused(why),
@@ -51,7 +54,7 @@ impl Held {
         ensures { AtNode self.old broker.0 (λ x. UncleanRow self.old broker.0 x result self.new) }
     {
         let node = self.nodes.get(broker.0 as usize);
-        let (up, stable) = (node.up, node.stable);
+        let (up, stable) = (node.is_up(), node.stable());
         match self.registry.elect_unclean(broker, up, stable) {
             Ok(epoch) => Answer::OkAt(epoch as u64),
             Err(why) => refused(why),
@@ -61,15 +64,16 @@ impl Held {
     /// Lets a broker learn who leads.
     #[tactic(auto, using(crate::proofs::Writes::set_same))]
     pub(crate) fn learn(&mut self, broker: BrokerId) -> Result<Answer, AllocError>
-        requires node { broker.0 < length self.old.nodes }
+        requires node { CanStop self.old broker.0 }
         requires sound { HeldSound (length self.old.nodes) self.old }
-        ensures row { IfOk result (λ answer. AtNode self.old broker.0 (λ x. LearnRow self.old broker.0 x answer self.new)) }
-        ensures err { OnErr result (self.new ≡ self.old) }
+        ensures row { IfOk result (λ answer. AtNode self.old broker.0 (λ x.
+            LearnRow D.content D.control self.old broker.0 x answer self.new)) }
+        ensures err { OnErr result (StaysHeld D.content D.control self.old self.new) }
     {
         let b = broker.0 as usize;
         let epoch = self.registry.epoch;
         let node = self.nodes.get(b);
-        if !node.up {
+        if !node.is_up() {
             return Ok(Answer::Down);
         }
         if epoch_in(node.role) == Some(epoch) {
@@ -79,46 +83,52 @@ impl Held {
             self.nodes.at_mut(b).role = Role::Follows(epoch);
             return Ok(Answer::Follows(epoch as u64));
         }
-        if !is_new(node.log.line().last_epoch(), epoch) {
+        if !is_new(node.last_epoch(), epoch) {
             return Ok(Answer::NeedsElection(epoch as u64));
         }
-        self.lead(b, epoch)?;
-        Ok(Answer::Leads(epoch as u64))
+        self.lead(b, epoch)
     }
 
     /// Lets a broker lead an epoch that its line doesn't have.
-    #[tactic(auto, using(crate::proofs::Writes::set_same))]
-    fn lead(&mut self, b: usize, epoch: u32) -> Result<(), AllocError>
-        requires node { b < length self.old.nodes }
+    fn lead(&mut self, b: usize, epoch: u32) -> Result<Answer, AllocError>
+        requires node { CanStop self.old b }
         requires few { epoch < 2 ^ 31 }
-        requires new { AtNode self.old b (λ x. IsNew x epoch) }
-        ensures ok { IfOk result (λ done. AtNode self.old b (λ x. self.new ≡ put_node self.old b (led self.old x epoch))) }
-        ensures err { OnErr result (self.new ≡ self.old) }
+        requires new { AtNode self.old b (λ x. MayLead x epoch) }
+        ensures row { IfOk result (λ answer. AtNode self.old b (λ x. LeadRow D.content D.control self.old b x epoch answer self.new)) }
+        ensures err { OnErr result (StaysHeld D.content D.control self.old self.new) }
     {
         let mark = self.registry.mark;
         let node = self.nodes.at_mut(b);
-        node.log.lead(epoch)?;
-        node.role = Role::Leads(epoch);
-        node.stable = node.log.end();
-        node.known = node.log.end_up_to(mark);
-        Ok(())
+        match node.log.lead(epoch) {
+            Ok(_) => {
+                node.role = Role::Leads(epoch);
+                node.known = node.log.end_up_to(mark);
+                Ok(Answer::Leads(epoch as u64))
+            }
+            Err(LogRefusal::DiskFault) => {
+                node.note_stop();
+                Ok(Answer::DiskFault)
+            }
+            Err(LogRefusal::NoMemory) => Err(AllocError),
+            Err(_) => unreachable!(),
+        }
     }
 
     /// Acknowledges a broker's stable end.
     pub(crate) fn ack(&mut self, broker: BrokerId) -> Answer
         requires node { broker.0 < length self.old.nodes }
         requires replica { broker.0 < length self.old.registry.replicas }
-        ensures { AtNode self.old broker.0 (λ x. AckRow self.old broker.0 x result self.new) }
+        ensures { AtNode self.old broker.0 (λ x. AckRow D.content D.control self.old broker.0 x result self.new) }
     {
         let b = broker.0 as usize;
         let node = self.nodes.get(b);
-        if !node.up {
+        if !node.is_up() {
             return Answer::Down;
         }
         let Some(epoch) = acking(node.role) else {
             return Answer::NotJoined;
         };
-        let stable = node.stable;
+        let stable = node.stable();
         match self.registry.ack(broker, epoch, stable) {
             Ok(mark) => {
                 let known = self.nodes.get(b).log.end_up_to(mark);
@@ -146,7 +156,7 @@ impl Held {
         requires replica { broker.0 < length self.old.registry.replicas }
         ensures { AtNode self.old broker.0 (λ x. ExpandRow self.old broker.0 x result self.new) }
     {
-        let up = self.nodes.get(broker.0 as usize).up;
+        let up = self.nodes.get(broker.0 as usize).is_up();
         match self.registry.expand(broker, up) {
             Ok(()) => Answer::Ok,
             Err(why) => refused(why),
@@ -159,7 +169,7 @@ impl Held {
         ensures { AtNode self.old b (λ x. RaiseRow self.old b x start result self.new) }
     {
         let node = self.nodes.get(b);
-        if !node.up {
+        if !node.is_up() {
             return Answer::Down;
         }
         let Some(epoch) = leading(node.role) else {

@@ -1,29 +1,38 @@
 //! Commands of a follower: it joins where its log meets the leader's, and copies from there on.
 //!
-//! A follow takes a run of the leader's log at its first turn, and puts it at the end of its own at the second, where
-//! nothing has come between.
+//! A follow reads a run of the leader's log at its first turn, and puts of it at the end of its own log at the second what
+//! stands in one segment, where nothing has come between.
 
-ghost use Rattle.std.specs.Prelude.{◌≡◌, ◌<◌, ◌≤◌, true, false, length, Some, None, All, IfOk, OnErr, IsSomeAnd, MatchOption, option_copied};
-ghost use Rattle.std.specs.Option.{ForSome};
-ghost use Rattle.log_terms.specs.Batch.{epoch_of};
-ghost use Rattle.log_terms.specs.Log.{IsConsecutive, end_of, end_from, up_to};
-ghost use Rattle.partition_world.specs.Log.{epoch_in as epoch_of_run};
-ghost use Rattle.partition_world.specs.Held.{AtNode, put_node, the_leader};
-ghost use Rattle.partition_world.specs.RowsOfFollowers.{cut_node, CanExtend, JoinRow, FollowRow, FollowOnRow};
+ghost use Rattle.std.specs.Prelude.{◌≡◌, ◌<◌, ◌≤◌, true, false, length, IfOk, OnErr, IsSomeAnd, IsTrue, ◌↔◌, option_copied};
+ghost use Rattle.partition_world.specs.Held.{AtNode, CanStop, StaysHeld, the_leader, is_up};
+ghost use Rattle.partition_world.specs.TurnsOfFollowers.{IsMeet, MayCut, CutRow, JoinRow, MayTake, TakeRow, FollowRow, MayExtend, ExtendRow, FollowOnRow};
 
-use crate::begun::{Begun, Turned};
 use crate::held::{Held, Node};
-use crate::log::share;
 use crate::roles::{followed, joined};
-use crate::stored::Stored;
-use crate::taking::run_of;
-use plain_log::{Answer, Role};
-use std::alloc::{AllocError, Global};
-use tier_base::Row;
+use broker_log::LogRefusal;
+use bytes::Bytes;
+use disk_model::Disk;
+use partition_seen::{Begun, Taken, Turned};
+use plain_log::{Answer, Place, Role};
+use std::alloc::AllocError;
 
-impl Held {
+impl<D: Disk> Node<D> {
+    /// Where its log and another's meet.
+    fn meet(&self, other: &Node<D>) -> u64
+        requires up { is_up self.now ≡ true }
+        requires other_up { is_up other.now ≡ true }
+        ensures { IsMeet self.now other.now result }
+    {
+        let (Some(own), Some(its)) = (self.log.line(), other.log.line()) else {
+            unreachable!()
+        };
+        own.meet(self.end(), its, other.end())
+    }
+}
+
+impl<D: Disk> Held<D> {
     /// The registry's leader, where it is up and leads the registry's epoch.
-    fn leader(&self) -> Option<&Node>
+    fn leader(&self) -> Option<&Node<D>>
         ensures { option_copied result ≡ the_leader self.now }
     {
         let place = self.registry.leader.0 as usize;
@@ -32,56 +41,66 @@ impl Held {
         }
         let node = self.nodes.get(place);
         match node.role {
-            Role::Leads(epoch) if node.up && epoch == self.registry.epoch => Some(node),
+            Role::Leads(epoch) if node.is_up() && epoch == self.registry.epoch => Some(node),
             _ => None,
         }
     }
 
     /// Brings a follower's log to where it meets the leader's.
-    pub(crate) fn join(&mut self, b: usize) -> Answer
-        requires { b < length self.old.nodes }
-        ensures { AtNode self.old b (λ x. JoinRow self.old b x result self.new) }
+    pub(crate) fn join(&mut self, b: usize) -> Result<Answer, AllocError>
+        requires { CanStop self.old b }
+        ensures row { IfOk result (λ answer. AtNode self.old b (λ x. JoinRow D.content D.control self.old b x answer self.new)) }
+        ensures err { OnErr result (StaysHeld D.content D.control self.old self.new) }
     {
         let node = self.nodes.get(b);
-        if !node.up {
-            return Answer::Down;
+        if !node.is_up() {
+            return Ok(Answer::Down);
         }
         let Some(epoch) = followed(node.role) else {
-            return Answer::NotFollower;
+            return Ok(Answer::NotFollower);
         };
         if epoch < self.registry.epoch {
-            return Answer::StaleEpoch(self.registry.epoch as u64);
+            return Ok(Answer::StaleEpoch(self.registry.epoch as u64));
         }
         let Some(leader) = self.leader() else {
-            return Answer::NoLeader;
+            return Ok(Answer::NoLeader);
         };
-        let (log, other) = (&node.log, &leader.log);
-        let met = log.line().meet(log.end(), other.line(), other.end());
-        Answer::Cut(self.cut(b, epoch, met))
+        let met = node.meet(leader);
+        self.cut(b, epoch, met)
     }
 
-    /// Cuts a follower's log, which has joined an epoch then, and answers its end.
-    fn cut(&mut self, b: usize, epoch: u32, met: u64) -> u64
-        requires { b < length self.old.nodes }
-        ensures { AtNode self.old b (λ x.
-            (result ≡ end_of (up_to met x.log.batches)) × (self.new ≡ put_node self.old b (cut_node x epoch met))) }
+    /// Cuts a follower's log, which has joined an epoch then.
+    fn cut(&mut self, b: usize, epoch: u32, met: u64) -> Result<Answer, AllocError>
+        requires node { CanStop self.old b }
+        requires up { AtNode self.old b (λ x. MayCut x met) }
+        ensures row { IfOk result (λ answer. AtNode self.old b (λ x. CutRow D.content D.control self.old b x epoch met answer self.new)) }
+        ensures err { OnErr result (StaysHeld D.content D.control self.old self.new) }
     {
         let node = self.nodes.at_mut(b);
-        node.log.cut_to(met);
-        let end = node.log.end();
-        node.role = Role::Joined(epoch);
-        node.stable = end;
-        node.known = node.known.min(end);
-        end
+        let end = node.log.end_up_to(met);
+        match node.log.cut_to(met) {
+            Ok(end) => {
+                node.role = Role::Joined(epoch);
+                node.known = node.known.min(end);
+                Ok(Answer::Cut(end))
+            }
+            Err(LogRefusal::DiskFault) => {
+                node.note_stop();
+                Ok(Answer::DiskFaultAt(end))
+            }
+            Err(LogRefusal::NoMemory) => Err(AllocError),
+            Err(_) => unreachable!(),
+        }
     }
 
-    /// Takes a run of the leader's log for a follower that isn't as far.
-    pub(crate) fn follow(&self, alloc: Global, b: usize, limit: u32) -> Result<Turned, AllocError>
-        requires { b < length self.now.nodes }
-        ensures { IfOk result (λ turned. AtNode self.now b (λ x. FollowRow self.now b x limit turned self.now)) }
+    /// Reads a run of the leader's log for a follower that isn't as far.
+    pub(crate) fn follow(&mut self, b: usize, limit: u32) -> Result<Turned, AllocError>
+        requires { b < length self.old.nodes }
+        ensures row { IfOk result (λ turned. AtNode self.old b (λ x. FollowRow D.content D.control self.old b x limit turned self.new)) }
+        ensures err { OnErr result (StaysHeld D.content D.control self.old self.new) }
     {
         let node = self.nodes.get(b);
-        if !node.up {
+        if !node.is_up() {
             return Ok(Turned::Answers(Answer::Down));
         }
         let Some(epoch) = joined(node.role) else {
@@ -93,46 +112,94 @@ impl Held {
         let Some(leader) = self.leader() else {
             return Ok(Turned::Answers(Answer::NoLeader));
         };
-        let (end, bound) = (node.log.end(), leader.log.end());
+        let (end, bound) = (node.end(), leader.end());
         if bound <= end {
             return Ok(Turned::Answers(Answer::Level));
         }
-        let run = run_of(&leader.log, end, limit, bound);
-        let batches = Row::from_vec(share(alloc, run.batches)?);
-        Ok(Turned::Begins(Begun {
+        let noted = Begun {
             stops: node.stops,
             role: node.role,
             end,
             start: self.registry.start,
-            batches,
-        }))
+            batches: Taken::new(Bytes::new()),
+        };
+        self.take(self.registry.leader.0 as usize, noted, limit, bound)
     }
 
-    /// Puts the run that a follow has taken at the end of the follower's log.
-    #[tactic(auto, using(crate::proofs::Writes::set_same))]
-    pub(crate) fn follow_on(
+    /// Reads the run that a follow takes, of the leader's log up to its end.
+    fn take(
         &mut self,
-        alloc: Global,
-        b: usize,
-        begun: &Begun,
-    ) -> Result<Answer, AllocError>
-        requires { b < length self.old.nodes }
-        ensures row { IfOk result (λ answer. AtNode self.old b (λ x. FollowOnRow self.old b x begun.now answer self.new)) }
-        ensures err { OnErr result (self.new ≡ self.old) }
+        leader: usize,
+        noted: Begun,
+        limit: u32,
+        bound: u64,
+    ) -> Result<Turned, AllocError>
+        requires node { AtNode self.old leader (λ y. MayTake y noted.end bound) }
+        ensures row { IfOk result (λ turned. AtNode self.old leader (λ y.
+            TakeRow D.content D.control self.old leader y noted limit turned self.new)) }
+        ensures err { OnErr result (StaysHeld D.content D.control self.old self.new) }
+    {
+        let node = self.nodes.at_mut(leader);
+        match node.log.read_run(noted.end, limit as u64, bound) {
+            Ok(run) => Ok(Turned::Begins(Begun {
+                stops: noted.stops,
+                role: noted.role,
+                end: noted.end,
+                start: noted.start,
+                batches: Taken::new(run.bytes),
+            })),
+            Err(LogRefusal::DiskFault) => Ok(Turned::Answers(Answer::DiskFault)),
+            Err(LogRefusal::Damaged { file, at }) => {
+                Ok(Turned::Answers(Answer::Damaged(Place::File(file), at)))
+            }
+            Err(_) => Err(AllocError),
+        }
+    }
+
+    /// Puts of the run that a follow has read at the end of the follower's log what stands in one segment.
+    #[tactic(auto, using(crate::proofs::Writes::set_same))]
+    pub(crate) fn follow_on(&mut self, b: usize, begun: &Begun) -> Result<Answer, AllocError>
+        requires { CanStop self.old b }
+        ensures row { IfOk result (λ answer. AtNode self.old b (λ x. FollowOnRow D.content D.control self.old b x begun.now answer self.new)) }
+        ensures err { OnErr result (StaysHeld D.content D.control self.old self.new) }
     {
         let node = self.nodes.get(b);
-        if begun.stops != node.stops {
+        if begun.stops != node.stops || !node.is_up() {
             return Ok(Answer::Stopped);
         }
         if is_behind(followed(begun.role), self.registry.epoch) {
             return Ok(Answer::StaleEpoch(self.registry.epoch as u64));
         }
-        let Some(epoch) = can_extend(node, begun) else {
-            return Ok(Answer::Passed(node.log.end()));
-        };
+        let end = node.end();
+        if begun.end != end
+            || joined(node.role).is_none()
+            || !node.log.takes(begun.batches.as_slice())
+        {
+            return Ok(Answer::Passed(end));
+        }
+        self.extend(b, begun.batches.as_slice())
+    }
+
+    /// Appends a run to a follower's log.
+    #[tactic(auto, using(crate::proofs::Writes::set_same))]
+    fn extend(&mut self, b: usize, run: &[u8]) -> Result<Answer, AllocError>
+        requires node { CanStop self.old b }
+        requires fits { AtNode self.old b (λ x. MayExtend x run.now) }
+        ensures row { IfOk result (λ answer. AtNode self.old b (λ x. ExtendRow D.content D.control self.old b x run.now answer self.new)) }
+        ensures err { OnErr result (StaysHeld D.content D.control self.old self.new) }
+    {
         let node = self.nodes.at_mut(b);
-        node.log.extend(alloc, begun.batches.as_slice(), epoch)?;
-        Ok(Answer::Copied(node.log.end()))
+        match node.log.append(run) {
+            Ok(_) => Ok(Answer::Copied(node.end())),
+            Err(LogRefusal::LastOffset) => Ok(Answer::Passed(node.end())),
+            Err(LogRefusal::TooManySegments) => Ok(Answer::TooManySegments),
+            Err(LogRefusal::DiskFault) => {
+                node.note_stop();
+                Ok(Answer::DiskFault)
+            }
+            Err(LogRefusal::NoMemory) => Err(AllocError),
+            Err(_) => unreachable!(),
+        }
     }
 }
 
@@ -145,54 +212,4 @@ fn is_behind(epoch: Option<u32>, other: u32) -> bool
         Some(epoch) => epoch < other,
         None => false,
     }
-}
-
-/// The epoch of a run that can be put at the end of a follower's log.
-fn can_extend(node: &Node, begun: &Begun) -> Option<u32>
-    ensures { MatchOption result (CanExtend node.now begun.now → ⊥) (λ e.
-        CanExtend node.now begun.now × (epoch_of_run begun.now.batches ≡ Some e)) }
-{
-    let end = node.log.end();
-    if begun.end != end || joined(node.role).is_none() {
-        return None;
-    }
-    let batches = begun.batches.as_slice();
-    let Some(first) = batches.first() else {
-        return None;
-    };
-    let epoch = first.epoch();
-    if may_take(node.log.line().last_epoch(), epoch) && are_run(batches, end, epoch) {
-        Some(epoch)
-    } else {
-        None
-    }
-}
-
-/// Whether no epoch of a line is above this one.
-fn may_take(last: Option<u32>, epoch: u32) -> bool
-    ensures may { result ≡ true → ForSome last (λ e. e ≤ epoch) }
-    ensures not { result ≡ false → ForSome last (λ e. e ≤ epoch) → ⊥ }
-{
-    match last {
-        Some(last) => last <= epoch,
-        None => true,
-    }
-}
-
-/// Whether batches follow one another from an offset on, and are all of one epoch.
-fn are_run(batches: &[Stored], at: u64, epoch: u32) -> bool
-    requires { at ≤ 4611686018427387904 }
-    ensures follow { result ≡ true → IsConsecutive at batches.now }
-    ensures epochs { result ≡ true → All (λ batch. epoch_of batch ≡ epoch) batches.now }
-    ensures small { result ≡ true → end_from at batches.now ≤ 4611686018427387904 }
-    ensures not { result ≡ false → IsConsecutive at batches.now → All (λ batch. epoch_of batch ≡ epoch) batches.now → ⊥ }
-{
-    let mut end = at;
-    for batch in batches {
-        if batch.base() != end || batch.epoch() != epoch {
-            return false;
-        }
-        end = batch.end();
-    }
-    true
 }

@@ -1,79 +1,86 @@
 //! What the turns of commands work on: the registry, the brokers with their logs, and the clock.
 //!
-//! Each command has a method of its own, which makes its tests in their order and leaves all as it was where it finds no
-//! memory.
+//! Each command has a method of its own, which makes its tests in their order. Where it finds no memory nothing that is
+//! seen has changed. A fault of a broker's disk in a write stops the broker.
 
-ghost use Rattle.std.specs.Prelude.{◌≡◌, ◌<◌, ◌≤◌, [], length, IfOk, OnErr};
+ghost use Rattle.std.specs.Prelude.{◌≡◌, ◌<◌, ◌≤◌, ◌+◌, length, IfOk, OnErr};
+ghost use Rattle.epoch_line.specs.Line.{last_epoch};
 ghost use Rattle.plain_log.specs.Orders.{IsInRange};
-ghost use Rattle.partition_world.specs.Held.{AtNode};
-ghost use Rattle.partition_world.specs.Rows.{Row as RowOf, FirstRow, LaterRow, AnswerRow};
+ghost use Rattle.partition_world.specs.Held.{AtNode, CanStop, StaysHeld, stopped, is_up, end_of, stable_of, line_of};
+ghost use Rattle.partition_world.specs.Turns.{Row as RowOf, FirstRow, LaterRow, AnswerRow};
 ghost use Rattle.partition_world.specs.Sound.{HeldSound};
-ghost use Rattle.partition_world.specs.Fresh.{fresh_node, fresh_held};
 
-use crate::begun::{Begun, Turned};
-use crate::log::Log;
+use broker_log::BrokerLog;
+use disk_model::Disk;
+use partition_seen::{Begun, Turned};
 use plain_log::{Answer, Command, Order, Registry, Role};
 use std::alloc::{AllocError, Global};
 use tier_base::Row;
 
 /// A broker.
-#[derive(Debug, Drop)]
-pub struct Node {
-    pub up: bool,
+#[derive(Drop)]
+pub struct Node<D: Disk> {
     /// How often it has stopped.
     pub stops: u64,
     pub role: Role,
-    pub log: Log,
-    /// The offset up to which the log survives a stop.
-    pub stable: u64,
+    /// Its log, or its disk alone while it is down.
+    pub log: BrokerLog<D>,
     /// The high watermark that it knows, as far as its log goes.
     pub known: u64,
 }
 
 /// The registry, the brokers, and the partition's clock in milliseconds.
-#[derive(Debug, Drop)]
-pub struct Held {
+#[derive(Drop)]
+pub struct Held<D: Disk> {
     pub registry: Registry,
-    pub nodes: Row<Node>,
+    pub nodes: Row<Node<D>>,
     pub clock: i64,
 }
 
-/// A broker that is up, with an empty log.
-fn fresh_broker(role: Role, log: Log) -> Node
-    requires { log.batches ≡ [] }
-    ensures { result ≡ fresh_node role log.line }
-{
-    Node {
-        up: true,
-        stops: 0,
-        role,
-        log,
-        stable: 0,
-        known: 0,
+impl<D: Disk> Node<D> {
+    /// Whether it is up.
+    pub(crate) fn is_up(&self) -> bool
+        ensures { result ≡ is_up self.now }
+    {
+        self.log.is_up()
+    }
+
+    /// Its log end offset, 0 while it is down.
+    pub(crate) fn end(&self) -> u64
+        ensures { result ≡ end_of self.now }
+    {
+        self.log.end().unwrap_or(0)
+    }
+
+    /// Its stable end, 0 while it is down.
+    pub(crate) fn stable(&self) -> u64
+        ensures { result ≡ stable_of self.now }
+    {
+        self.log.stable().unwrap_or(0)
+    }
+
+    /// The last leader epoch of its line.
+    pub(crate) fn last_epoch(&self) -> Option<u32>
+        ensures { result ≡ last_epoch (line_of self.now) }
+    {
+        match self.log.line() {
+            Some(line) => line.last_epoch(),
+            None => None,
+        }
+    }
+
+    /// Notes a stop: the broker does nothing, and knows no high watermark.
+    pub(crate) fn note_stop(&mut self)
+        requires { self.old.stops < 18446744073709551615 }
+        ensures { self.new ≡ record (stopped self.old) { log = self.old.log } }
+    {
+        self.stops += 1;
+        self.role = Role::Idle;
+        self.known = 0;
     }
 }
 
-impl Held {
-    /// Makes a partition of so many brokers. The first leads epoch 0, the others have joined it, and all are in sync.
-    pub(crate) fn fresh(alloc: Global, brokers: u16) -> Result<Held, AllocError>
-        requires some { 1 ≤ brokers }
-        requires few { brokers ≤ 8 }
-        ensures { IfOk result (λ held. held ≡ fresh_held brokers) }
-    {
-        let registry = Registry::fresh(alloc, brokers)?;
-        let mut nodes = Row::new(alloc);
-        let leader = fresh_broker(Role::Leads(0), Log::leading(alloc)?);
-        nodes.push(leader)?;
-        for _ in 1..brokers {
-            nodes.push(fresh_broker(Role::Joined(0), Log::new(alloc)))?;
-        }
-        Ok(Held {
-            registry,
-            nodes,
-            clock: 0,
-        })
-    }
-
+impl<D: Disk> Held<D> {
     /// Carries out a turn of a command, of which so much has begun.
     pub(crate) fn turn(
         &mut self,
@@ -86,45 +93,46 @@ impl Held {
         requires fit { IsInRange order.now.command }
         ensures row { IfOk result (λ turned.
             AtNode self.old order.now.broker.0 (λ x.
-            RowOf self.old order.now.broker.0 x begun.now order.now.command turned self.new)) }
-        ensures err { OnErr result (self.new ≡ self.old) }
+            RowOf D.content D.control self.old order.now.broker.0 x begun.now order.now.command turned self.new)) }
+        ensures err { OnErr result (StaysHeld D.content D.control self.old self.new) }
     {
+        // A count of stops that stood still would let a command of before a stop go on.
+        if self.nodes.get(order.broker.0 as usize).stops == u64::MAX {
+            return Err(AllocError);
+        }
         match begun {
             None => self.first_turn(alloc, order),
-            Some(begun) => Ok(Turned::Answers(self.later_turn(alloc, order, begun)?)),
+            Some(begun) => Ok(Turned::Answers(self.later_turn(order, begun)?)),
         }
     }
 
     /// Carries out the first turn of a command.
     fn first_turn(&mut self, alloc: Global, order: &Order) -> Result<Turned, AllocError>
-        requires node { order.now.broker.0 < length self.old.nodes }
+        requires node { CanStop self.old order.now.broker.0 }
         requires sound { HeldSound (length self.old.nodes) self.old }
         requires fit { IsInRange order.now.command }
         ensures row { IfOk result (λ turned.
-            AtNode self.old order.now.broker.0 (λ x. FirstRow self.old order.now.broker.0 x order.now.command turned self.new)) }
-        ensures err { OnErr result (self.new ≡ self.old) }
+            AtNode self.old order.now.broker.0 (λ x.
+            FirstRow D.content D.control self.old order.now.broker.0 x order.now.command turned self.new)) }
+        ensures err { OnErr result (StaysHeld D.content D.control self.old self.new) }
     {
         match &order.command {
-            Command::Follow { limit } => self.follow(alloc, order.broker.0 as usize, *limit),
+            Command::Follow { limit } => self.follow(order.broker.0 as usize, *limit),
             _ => Ok(Turned::Answers(self.answer(alloc, order)?)),
         }
     }
 
     /// Carries out the last turn of a command that has begun.
-    fn later_turn(
-        &mut self,
-        alloc: Global,
-        order: &Order,
-        begun: &Begun,
-    ) -> Result<Answer, AllocError>
-        requires { order.now.broker.0 < length self.old.nodes }
+    fn later_turn(&mut self, order: &Order, begun: &Begun) -> Result<Answer, AllocError>
+        requires node { CanStop self.old order.now.broker.0 }
+        requires sound { HeldSound (length self.old.nodes) self.old }
         ensures row { IfOk result (λ answer.
             AtNode self.old order.now.broker.0 (λ x.
-            LaterRow self.old order.now.broker.0 x order.now.command begun.now (Turned.Answers answer) self.new)) }
-        ensures err { OnErr result (self.new ≡ self.old) }
+            LaterRow D.content D.control self.old order.now.broker.0 x order.now.command begun.now (Turned.Answers answer) self.new)) }
+        ensures err { OnErr result (StaysHeld D.content D.control self.old self.new) }
     {
         match &order.command {
-            Command::Follow { .. } => self.follow_on(alloc, order.broker.0 as usize, begun),
+            Command::Follow { .. } => self.follow_on(order.broker.0 as usize, begun),
             // No other command begins, by its row.
             _ => Err(AllocError),
         }
@@ -132,31 +140,33 @@ impl Held {
 
     /// Carries out a command of one turn.
     fn answer(&mut self, alloc: Global, order: &Order) -> Result<Answer, AllocError>
-        requires node { order.now.broker.0 < length self.old.nodes }
+        requires node { CanStop self.old order.now.broker.0 }
         requires sound { HeldSound (length self.old.nodes) self.old }
         requires fit { IsInRange order.now.command }
         ensures row { IfOk result (λ answer.
-            AtNode self.old order.now.broker.0 (λ x. AnswerRow self.old order.now.broker.0 x order.now.command answer self.new)) }
-        ensures err { OnErr result (self.new ≡ self.old) }
+            AtNode self.old order.now.broker.0 (λ x.
+            AnswerRow D.content D.control self.old order.now.broker.0 x order.now.command answer self.new)) }
+        ensures err { OnErr result (StaysHeld D.content D.control self.old self.new) }
     {
         let broker = order.broker;
         let b = broker.0 as usize;
         match &order.command {
             Command::Append(recs) => self.append(alloc, b, recs.as_slice()),
             Command::Raw(bytes) => self.raw(alloc, b, bytes.as_slice()),
-            Command::Flush => Ok(self.flush(b)),
+            Command::Flush => self.flush(b),
+            Command::Roll => self.roll(b),
             Command::Elect => Ok(self.elect(broker)),
             Command::Unclean => Ok(self.unclean(broker)),
             Command::Learn => self.learn(broker),
-            Command::Join => Ok(self.join(b)),
+            Command::Join => self.join(b),
             Command::Ack => Ok(self.ack(broker)),
             Command::Shrink => Ok(self.shrink(broker)),
             Command::Expand => Ok(self.expand(broker)),
             Command::Raise { start } => Ok(self.raise(b, *start)),
             Command::Clock { ms } => Ok(self.set_clock(*ms)),
-            Command::Stop => self.stop(b),
-            Command::Up => Ok(self.up(b)),
-            Command::Fetch { offset, limit } => self.fetch(alloc, b, *offset, *limit),
+            Command::Stop => Ok(self.stop(b)),
+            Command::Up => self.up(b),
+            Command::Fetch { offset, limit } => self.fetch(b, *offset, *limit),
             // A follow has turns of its own, and no list of a world has another command.
             _ => Err(AllocError),
         }

@@ -2,22 +2,24 @@
 
 ghost use Rattle.partition_world.specs.Laws.{StepsKeepCentral, FreshIsCentral, ReachesLater, EndsAreComplete};
 
+use disk_model::Disk;
+
 /// Each step keeps the central fact, for each opening state.
-pub fn steps_keep_central()
-    ensures { StepsKeepCentral }
+pub fn steps_keep_central<D: Disk>()
+    ensures { StepsKeepCentral D.content D.control }
 {}
 
-/// A fresh world has it.
-pub fn fresh_is_central()
-    ensures { FreshIsCentral }
+/// A fresh world whose brokers' logs are seen has it.
+pub fn fresh_is_central<D: Disk>()
+    ensures { FreshIsCentral D.content D.control }
 {}
 
 /// A world that a schedule reaches is a later one.
-pub fn reaches_later()
-    ensures { ReachesLater }
+pub fn reaches_later<D: Disk>()
+    ensures { ReachesLater D.content D.control }
 {}
 
 /// Where each actor is at its end, the journal is a complete run of the plain log.
-pub fn ends_are_complete()
-    ensures { EndsAreComplete }
+pub fn ends_are_complete<D: Disk>()
+    ensures { EndsAreComplete D.content D.control }
 {}

@@ -5,21 +5,22 @@ ghost use Rattle.partition_world.specs.Turn.{IsAtEnd};
 ghost use Rattle.partition_world.specs.Later.{IsLater};
 ghost use Rattle.partition_world.specs.Reaches.{GoesTimes, GoesUntil, Paces, Reaches};
 
-use crate::seat::Stepped;
 use crate::world::World;
+use disk_model::Disk;
+use partition_seen::Stepped;
 use plain_log::Pace;
 use std::alloc::{AllocError, Global};
 use tier_base::ActorId;
 
 /// Steps an actor until it has answered so many of its commands, or all of them.
-fn run_until(
+fn run_until<D: Disk>(
     alloc: Global,
-    world: &mut World,
+    world: &mut World<D>,
     actor: ActorId,
     number: u32,
 ) -> Result<(), AllocError>
-    ensures later { IsLater world.old world.new }
-    ensures reaches { OnOk result ((turns : ℕ) × GoesUntil world.old actor.0 number turns world.new) }
+    ensures later { IsLater D.content D.control world.old world.new }
+    ensures reaches { OnOk result ((turns : ℕ) × GoesUntil D.content D.control world.old actor.0 number turns world.new) }
 {
     while !world.has_answered(actor, number) {
         match world.step(alloc, actor) {
@@ -31,9 +32,14 @@ fn run_until(
 }
 
 /// Steps an actor so many times, and no longer once it is at the end of its list.
-fn run_times(alloc: Global, world: &mut World, actor: ActorId, turns: u32) -> Result<(), AllocError>
-    ensures later { IsLater world.old world.new }
-    ensures reaches { OnOk result (GoesTimes world.old actor.0 turns world.new) }
+fn run_times<D: Disk>(
+    alloc: Global,
+    world: &mut World<D>,
+    actor: ActorId,
+    turns: u32,
+) -> Result<(), AllocError>
+    ensures later { IsLater D.content D.control world.old world.new }
+    ensures reaches { OnOk result (GoesTimes D.content D.control world.old actor.0 turns world.new) }
 {
     for _i in 0..turns {
         match world.step(alloc, actor) {
@@ -46,9 +52,9 @@ fn run_times(alloc: Global, world: &mut World, actor: ActorId, turns: u32) -> Re
 }
 
 /// Steps an actor as one item of a schedule says.
-fn run_pace(alloc: Global, world: &mut World, pace: Pace) -> Result<(), AllocError>
-    ensures later { IsLater world.old world.new }
-    ensures reaches { OnOk result (Paces world.old pace world.new) }
+fn run_pace<D: Disk>(alloc: Global, world: &mut World<D>, pace: Pace) -> Result<(), AllocError>
+    ensures later { IsLater D.content D.control world.old world.new }
+    ensures reaches { OnOk result (Paces D.content D.control world.old pace world.new) }
 {
     match pace {
         Pace::Until { actor, number } => run_until(alloc, world, actor, number),
@@ -57,9 +63,13 @@ fn run_pace(alloc: Global, world: &mut World, pace: Pace) -> Result<(), AllocErr
 }
 
 /// Steps the actors as a schedule says. Where there is no memory the turns so far have been taken.
-pub fn run_in_order(alloc: Global, world: &mut World, schedule: &[Pace]) -> Result<(), AllocError>
-    ensures later { IsLater world.old world.new }
-    ensures reaches { OnOk result (Reaches world.old schedule.now world.new) }
+pub fn run_in_order<D: Disk>(
+    alloc: Global,
+    world: &mut World<D>,
+    schedule: &[Pace],
+) -> Result<(), AllocError>
+    ensures later { IsLater D.content D.control world.old world.new }
+    ensures reaches { OnOk result (Reaches D.content D.control world.old schedule.now world.new) }
 {
     for pace in schedule {
         run_pace(alloc, world, *pace)?;
@@ -68,8 +78,8 @@ pub fn run_in_order(alloc: Global, world: &mut World, schedule: &[Pace]) -> Resu
 }
 
 /// Steps an actor to the end of its list.
-fn run_actor(alloc: Global, world: &mut World, actor: ActorId) -> Result<(), AllocError>
-    ensures later { IsLater world.old world.new }
+fn run_actor<D: Disk>(alloc: Global, world: &mut World<D>, actor: ActorId) -> Result<(), AllocError>
+    ensures later { IsLater D.content D.control world.old world.new }
     ensures ended { OnOk result (IsAtEnd world.new actor.0) }
 {
     loop {
@@ -82,8 +92,8 @@ fn run_actor(alloc: Global, world: &mut World, actor: ActorId) -> Result<(), All
 }
 
 /// Steps the actors, in the order of their lists, each to the end of its list.
-pub fn run_to_end(alloc: Global, world: &mut World) -> Result<(), AllocError>
-    ensures later { IsLater world.old world.new }
+pub fn run_to_end<D: Disk>(alloc: Global, world: &mut World<D>) -> Result<(), AllocError>
+    ensures later { IsLater D.content D.control world.old world.new }
     ensures ended { OnOk result ((a : ℕ) → IsAtEnd world.new a) }
 {
     let count = world.lists().len();

@@ -1,50 +1,52 @@
 //! A broker's stops and starts, and the partition's clock.
 
 ghost use Rattle.std.specs.Prelude.{◌≡◌, ◌<◌, length, IfOk, OnErr};
-ghost use Rattle.partition_world.specs.Held.{AtNode};
-ghost use Rattle.partition_world.specs.Rows.{StopRow, UpRow, ClockRow};
+ghost use Rattle.partition_world.specs.Held.{AtNode, CanStop, StaysHeld};
+ghost use Rattle.partition_world.specs.Turns.{StopRow, UpRow, ClockRow};
 
 use crate::held::Held;
-use plain_log::{Answer, Role};
+use broker_log::{OpenRefusal, UpRefusal};
+use disk_model::{Disk, FileName};
+use plain_log::{Answer, Place};
 use std::alloc::AllocError;
 
-impl Held {
+impl<D: Disk> Held<D> {
     /// Stops a broker. What isn't stable is gone when it comes up again.
-    pub(crate) fn stop(&mut self, b: usize) -> Result<Answer, AllocError>
-        requires { b < length self.old.nodes }
-        ensures row { IfOk result (λ answer. AtNode self.old b (λ x. StopRow self.old b x answer self.new)) }
-        ensures err { OnErr result (self.new ≡ self.old) }
+    pub(crate) fn stop(&mut self, b: usize) -> Answer
+        requires { CanStop self.old b }
+        ensures { AtNode self.old b (λ x. StopRow D.content D.control self.old b x result self.new) }
     {
-        let node = self.nodes.get(b);
-        if !node.up {
-            return Ok(Answer::Down);
+        if !self.nodes.get(b).is_up() {
+            return Answer::Down;
         }
-        // A count that stood still would let a command of before the stop go on.
-        let Some(stops) = node.stops.checked_add(1) else {
-            return Err(AllocError);
-        };
         let node = self.nodes.at_mut(b);
-        node.up = false;
-        node.stops = stops;
-        node.role = Role::Idle;
-        node.known = 0;
-        Ok(Answer::Ok)
+        node.log.stop();
+        node.note_stop();
+        Answer::Ok
     }
 
     /// Lets a broker come up with what it has stable.
-    pub(crate) fn up(&mut self, b: usize) -> Answer
+    pub(crate) fn up(&mut self, b: usize) -> Result<Answer, AllocError>
         requires { b < length self.old.nodes }
-        ensures { AtNode self.old b (λ x. UpRow self.old b x result self.new) }
+        ensures row { IfOk result (λ answer. AtNode self.old b (λ x. UpRow D.content D.control self.old b x answer self.new)) }
+        ensures err { OnErr result (StaysHeld D.content D.control self.old self.new) }
     {
-        if self.nodes.get(b).up {
-            return Answer::IsUp;
+        if self.nodes.get(b).is_up() {
+            return Ok(Answer::IsUp);
         }
-        let node = self.nodes.at_mut(b);
-        node.log.open_at(node.stable);
-        let end = node.log.end();
-        node.up = true;
-        node.stable = end;
-        Answer::Up(end)
+        match self.nodes.at_mut(b).log.up() {
+            Ok(end) => Ok(Answer::Up(end)),
+            Err(UpRefusal::Open(OpenRefusal::DiskFault)) => Ok(Answer::DiskFault),
+            Err(UpRefusal::Open(OpenRefusal::Damaged { file, at })) => {
+                Ok(Answer::Damaged(Place::File(file), at))
+            }
+            Err(UpRefusal::Open(OpenRefusal::LastIncarnation)) => Ok(Answer::LastIncarnation),
+            Err(UpRefusal::Open(OpenRefusal::NoMemory)) => Err(AllocError),
+            // The local start stands at this place of the manifest.
+            Err(UpRefusal::LateStart { .. }) => {
+                Ok(Answer::Damaged(Place::File(FileName::Manifest), 8))
+            }
+        }
     }
 
     /// Sets the clock.

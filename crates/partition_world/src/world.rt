@@ -5,16 +5,17 @@
 ghost use Rattle.std.specs.Prelude.{◌≡◌, ◌<◌, ◌+◌, length, true, false, IfOk, IsTrue, ◌↔◌};
 ghost use Rattle.plain_log.specs.Fresh.{fresh as fresh_plain};
 ghost use Rattle.plain_log.specs.Orders.{AreListsFor, IsConfig};
-ghost use Rattle.partition_world.specs.Fresh.{IsFresh};
+ghost use Rattle.partition_world.specs.Fresh.{IsFresh, AreFreshDisks, DisksTell, AllSeen};
 ghost use Rattle.partition_world.specs.Turn.{Steps};
 ghost use Rattle.partition_world.specs.Central.{IsCentral, KeepsCentral};
 ghost use Rattle.partition_world.specs.Reaches.{HasAnswered};
 
-use crate::begun::Turned;
 use crate::desk::{count_turns, fresh_desk, place_of};
 use crate::held::Held;
 use crate::laws::{fresh_is_central, steps_keep_central};
-use crate::seat::{Seat, Stepped};
+use crate::refusal::WorldRefusal;
+use disk_model::Disk;
+use partition_seen::{Seat, Stepped, Turned};
 use plain_log::{ActorList, Config, Event, Journal, JournalEntry};
 use std::alloc::{AllocError, Global};
 use std::marker::Model;
@@ -22,20 +23,20 @@ use tier_base::{ActorId, PartitionId, Row};
 
 /// A partition with its lists of commands and its journal.
 #[derive(Drop)]
-pub struct World {
+pub struct World<D: Disk> {
     partition: PartitionId,
     config: Config,
     lists: Row<ActorList>,
-    held: Held,
+    held: Held<D>,
     desk: Row<Seat>,
     journal: Journal,
 }
 
-impl Model for World {
+impl<D: Disk> Model for World<D> {
     ghost use Rattle.partition_world.specs.Whole.{Whole};
     ghost use Rattle.partition_world.specs.Sound.{IsSound};
 
-    ghost Value = { Whole };
+    ghost Value = { Whole D };
 
     ghost view = { λ w. record {
       partition = w.partition;
@@ -49,21 +50,27 @@ impl Model for World {
     ghost invariant = { λ w. IsSound w.config w.lists w.held w.desk w.journal.room };
 }
 
-impl World {
-    /// Makes a world where nothing has happened.
+impl<D: Disk> World<D> {
+    /// Makes a world where nothing has happened, whose brokers have these disks, in their order. The first broker leads
+    /// epoch 0.
     pub fn fresh(
         alloc: Global,
         partition: PartitionId,
         config: Config,
         lists: Row<ActorList>,
-    ) -> Result<World, AllocError>
+        disks: Vec<D>,
+    ) -> Result<World<D>, WorldRefusal>
         requires brokers { IsConfig config }
         requires fit { AreListsFor config lists }
-        ensures fresh { IfOk result (IsFresh partition config lists) }
-        ensures central { IfOk result (IsCentral (fresh_plain config)) }
+        requires count { length disks.items ≡ config.brokers }
+        requires disks { AreFreshDisks D.content D.control disks.items }
+        ensures fresh { IfOk result (IsFresh D.control partition config lists) }
+        ensures told { IfOk result (λ w. DisksTell D.content disks.items → AllSeen D.content w.held.nodes) }
+        ensures central { IfOk result (λ w. AllSeen D.content w.held.nodes
+            → IsCentral D.content D.control (fresh_plain config) w) }
     {
-        fresh_is_central();
-        Self::made(alloc, partition, config, lists)
+        fresh_is_central::<D>();
+        Self::made(alloc, partition, config, lists, disks)
     }
 
     fn made(
@@ -71,18 +78,22 @@ impl World {
         partition: PartitionId,
         config: Config,
         lists: Row<ActorList>,
-    ) -> Result<World, AllocError>
+        disks: Vec<D>,
+    ) -> Result<World<D>, WorldRefusal>
         requires brokers { IsConfig config }
         requires fit { AreListsFor config lists }
-        ensures { IfOk result (IsFresh partition config lists) }
+        requires count { length disks.items ≡ config.brokers }
+        requires disks { AreFreshDisks D.content D.control disks.items }
+        ensures fresh { IfOk result (IsFresh D.control partition config lists) }
+        ensures told { IfOk result (λ w. DisksTell D.content disks.items → AllSeen D.content w.held.nodes) }
     {
         let Some(count) = count_turns(lists.as_slice()) else {
-            return Err(AllocError);
+            return Err(WorldRefusal::NoMemory);
         };
         let mut journal = Journal::new(alloc);
         journal.reserve(count)?;
         let desk = fresh_desk(alloc, lists.len())?;
-        let held = Held::fresh(alloc, config.brokers)?;
+        let held = Held::fresh(alloc, disks, config.settings)?;
         Ok(World {
             partition,
             config,
@@ -128,15 +139,15 @@ impl World {
 
     /// Takes the next turn of an actor's commands.
     pub fn step(&mut self, alloc: Global, actor: ActorId) -> Stepped
-        ensures steps { Steps self.old actor.0 result self.new }
-        ensures central { KeepsCentral self.old self.new }
+        ensures steps { Steps D.content D.control self.old actor.0 result self.new }
+        ensures central { KeepsCentral D.content D.control self.old self.new }
     {
-        steps_keep_central();
+        steps_keep_central::<D>();
         self.take_turn(alloc, actor)
     }
 
     fn take_turn(&mut self, alloc: Global, actor: ActorId) -> Stepped
-        ensures { Steps self.old actor.0 result self.new }
+        ensures { Steps D.content D.control self.old actor.0 result self.new }
     {
         let Some(place) = place_of(self.lists.as_slice(), actor) else {
             return Stepped::Nothing;

@@ -1,5 +1,5 @@
-use Rattle.partition_world.proofs.CompleteLaw.{ends_complete}
+use Rattle.partition_world.proofs.CentralLaw.{complete}
 use Rattle.partition_world.proofs.laws.ends_are_complete.Goals as goal
 
 pub returns : goal.returns
-returns c = ends_complete
+returns g c = complete g.D.Disk.content g.D.Disk.control

@@ -1,5 +1,5 @@
-use Rattle.partition_world.proofs.CompleteLaw.{fresh_central}
+use Rattle.partition_world.proofs.FreshLaw.{fresh_is_central}
 use Rattle.partition_world.proofs.laws.fresh_is_central.Goals as goal
 
 pub returns : goal.returns
-returns c = fresh_central
+returns g c = fresh_is_central g.D.Disk.content g.D.Disk.control

@@ -1,7 +1,7 @@
 use Rattle.std.proofs.Common.{◌∙◌, sym, arith}
 use Rattle.std.specs.Int.{w32, cast_unsigned}
 use Rattle.std.proofs.lemmas.Int.{of_z-to_z}
-use Rattle.partition_world.proofs.Counted.{counted}
+use Rattle.partition_seen.proofs.Counted.{counted}
 use Rattle.partition_world.proofs.own_log.count_checked.Goals as goal
 
 pub overflow_add-result : goal.overflow_add-result

@@ -3,7 +3,7 @@ use Rattle.partition_world.proofs.Chains.{AddsTimes}
 use Rattle.partition_world.proofs.runs.run_times.Given as goal
 
 abbrev pub invariant-loop-i : goal.invariant-loop-i
-invariant-loop-i l = record {
-  later : IsLater l.initial.world l.world;
-  adds : AddsTimes l.initial.world l.actor.0 l._i l.world;
+invariant-loop-i g l = record {
+  later : IsLater g.D.Disk.content g.D.Disk.control l.initial.world l.world;
+  adds : AddsTimes g.D.Disk.content g.D.Disk.control l.initial.world l.actor.0 l._i l.world;
 }

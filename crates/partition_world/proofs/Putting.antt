@@ -1,0 +1,79 @@
+-- A batch that the leader puts at the end of its log is a run of it.
+use Rattle.std.proofs.Common.{◌≡◌, ◌∙◌, ap, sym, subst, refl, ℕ, ◌+◌, ◌-◌, ◌^◌, ◌≤◌, ◌<◌, List, [], ◌∷◌, Option, Some, None, Ok, Err, arith, append-nil}
+use Rattle.std.specs.Prelude.{IsOk, unwrap_or, slice_get, IsSomeAnd}
+use Rattle.log_terms.specs.Batch.{base_of, last_of, epoch_of, last_offset_delta_of}
+use Rattle.epoch_line.specs.Line.{last_epoch}
+use Rattle.std.specs.declared.result.Result.{Result}
+use Rattle.record_batch.specs.Head.{head_of}
+use Rattle.record_batch.specs.declared.refusal.BatchRefusal.{BatchRefusal}
+use Rattle.record_batch.specs.Check.{Batch, checked}
+use Rattle.record_batch.specs.Stamp.{stamped}
+use Rattle.segment_file.specs.Segment.{EpochsRise}
+use Rattle.local_log.specs.Run.{IsRun}
+use Rattle.plain_log.specs.declared.state.Role.{Role}
+use Rattle.plain_log.specs.declared.state.Role.TheVariants.{Idle, Leads, Follows, Joined}
+use Rattle.plain_log.specs.State.{leading}
+use Rattle.broker_log.specs.Seen.{WhileUp}
+use Rattle.partition_world.specs.declared.held.Node.{Node}
+use Rattle.partition_world.specs.declared.held.Held.{Held}
+use Rattle.partition_world.specs.Held.{AtNode, end_of, line_of}
+use Rattle.partition_world.specs.Sound.{NodeSound}
+use Rattle.partition_world.specs.TurnsOfLog.{MayPut}
+use Rattle.partition_world.proofs.Open.{while_of}
+
+-- the epoch that a role leads
+pub leads_role : (r : Role) (e : ℕ) → leading r ≡ Some e → r ≡ Leads e
+leads_role Idle e is = absurd cc
+leads_role (Leads f) e is = cc
+leads_role (Follows f) e is = absurd cc
+leads_role (Joined f) e is = absurd cc
+
+-- bytes that pass the checks, by another name
+pub is_ok_of : (batch bytes : List ℕ) (b : Batch) → batch ≡ bytes → checked bytes ≡ Ok b → IsOk (checked batch)
+is_ok_of batch bytes b is ok = rw (is, ok) refl
+
+pub ok_of : (batch bytes : List ℕ) → batch ≡ bytes → IsOk (checked bytes) → IsOk (checked batch)
+ok_of batch bytes is ok = rw is ok
+
+-- bytes that pass the checks pass them when they are stamped
+pub stamped_ok : ((bytes : List ℕ) (batch : Batch) (base epoch : ℕ) → checked bytes ≡ Ok batch → checked (stamped bytes base epoch) ≡ Ok (record { head = head_of (stamped bytes base epoch); recs = batch.recs }))
+    → (bytes : List ℕ) (base epoch : ℕ) → IsOk (checked bytes) → IsOk (checked (stamped bytes base epoch))
+stamped_ok law bytes base epoch ok = go (checked bytes) refl ok
+  where
+    go : (r : Result Batch BatchRefusal) → checked bytes ≡ r → IsOk r → IsOk (checked (stamped bytes base epoch))
+    go (Ok batch) is ok = rw (law bytes batch base epoch is) refl
+    go (Err why) is ok = absurd cc
+
+module _ {D : Type 0} where
+  -- what is said of the node at a place holds of it
+  pub of_node : (h : Held D) (b : ℕ) (x : Node D) (P : Node D → Type 0) → slice_get h.nodes b ≡ Some x → AtNode h b P → P x
+  of_node h b x P there at = subst (λ (o : Option (Node D)). IsSomeAnd o P) there at
+
+  pub may_put : (x : Node D) (batch : List ℕ) (base end e n : ℕ) → NodeSound x → x.role ≡ Leads e → end_of x ≡ base → IsOk (checked batch) → base_of batch ≡ base → epoch_of batch ≡ e
+      → last_offset_delta_of batch + 1 ≡ n → end ≡ base + n → end ≤ 2 ^ 62 → MayPut x batch base (end - 1) e
+  may_put x batch base end e n s role at is base_is epoch_is delta ends low = record {
+    up = s.up e role;
+    end = at;
+    is = is;
+    base_is = base_is;
+    last_is = omega (arith, base_is, delta, ends);
+    low = omega (arith, delta, ends, low);
+    epoch_is = epoch_is;
+    few = s.fits e role;
+    leads = s.leads e role;
+  }
+
+  pub one_run : (x : Node D) (batch : List ℕ) (base last e : ℕ) → MayPut x batch base last e → WhileUp x.log (λ log. IsRun log.end log.line batch)
+  one_run x batch base last e m = while_of (λ end line. IsRun end line batch) x.log m.up (record {
+    batches = batch ∷ [];
+    bytes = sym (append-nil batch);
+    some = λ none. absurd (cc none);
+    are = (m.is, tt);
+    consecutive = (m.base_is ∙ sym m.end, tt);
+    epochs = (
+      (let last_is : unwrap_or (last_epoch (line_of x)) 0 ≡ e = ap (λ (o : Option ℕ). unwrap_or o 0) m.leads in
+          let of_batch = m.epoch_is in omega (arith, last_is, of_batch)),
+      (let few = m.few in let of_batch = m.epoch_is in omega (arith, few, of_batch)),
+      tt,
+    );
+  })

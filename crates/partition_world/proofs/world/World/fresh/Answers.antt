@@ -1,0 +1,6 @@
+use Rattle.partition_world.proofs.Writes.{ok_more}
+use Rattle.partition_world.proofs.world.World.fresh.Goals as goal
+
+pub returns-clause-central : goal.returns-clause-central
+returns-clause-central g c =
+    ok_more _ _ c.made.result (λ w f seen. c.fresh_is_central.ensures c.args.partition c.args.config c.args.lists w c.requires.brokers c.requires.fit f seen) c.made.ensures.fresh

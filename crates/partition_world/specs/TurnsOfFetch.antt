@@ -1,0 +1,65 @@
+-- What a turn of a fetch comes to over disks: the run at an offset of the leader's log, up to the high watermark that the
+-- broker knows.
+use Rattle.std.specs.Prelude.{◌≡◌, ℕ, ◌<◌, ◌≤◌, ◌⊎◌, true, false, List, length}
+use Rattle.tier_base.specs.Device.{Control}
+use Rattle.disk_model.specs.Call.{call_code}
+use Rattle.disk_model.specs.Content.{Content}
+use Rattle.local_log.specs.declared.reading.RunOut.{RunOut}
+use Rattle.plain_log.specs.declared.answer.Answer.{Answer}
+use Rattle.plain_log.specs.declared.answer.Answer.TheVariants.{Down, NotLeader, DiskFault, Damaged, OutOfRange, Empty, Run}
+use Rattle.plain_log.specs.declared.answer.Place.TheVariants.{File}
+use Rattle.plain_log.specs.declared.answer.Tier.{Tier}
+use Rattle.plain_log.specs.declared.answer.Tier.TheVariants.{Local}
+use Rattle.tier_base.specs.declared.plain.Stop.{Stop}
+use Rattle.plain_log.specs.State.{leads}
+use Rattle.broker_log.specs.Seen.{Kept, Lasting}
+use Rattle.broker_log.specs.Turns.{Reads}
+use Rattle.partition_world.specs.declared.held.Node.{Node}
+use Rattle.partition_world.specs.declared.held.Held.{Held}
+use Rattle.partition_world.specs.Held.{is_up, end_of, put_node, Misses, Rests, Fails}
+use Rattle.partition_world.specs.TurnsOfLog.{IsInLog}
+
+module _ {D : Type 0} where
+  -- the broker is up, and the offset lies below the high watermark that it knows
+  abbrev pub MayGive : Node D → ℕ → ℕ → Type 0
+  MayGive x offset known = (is_up x ≡ true) × (known ≡ x.known) × (offset < known)
+
+module _ {D : Type 0} (content : D → Content) (control : D → Control call_code) where
+  -- the bytes are those of a run that was read at the offset
+  pub record GivesRun (h : Held D) (b : ℕ) (x : Node D) (offset limit : ℕ) (tier : Tier) (size : ℕ) (stop : Stop) (bytes : List ℕ) (h' : Held D) : Type 0 where
+    pub kept : Kept D
+    pub out : RunOut
+    pub reads : Reads content x.log kept offset limit x.known out
+    pub lasts : Lasting control x.log kept
+    pub after : h' ≡ put_node h b (record x { log = kept })
+    pub tier_is : tier ≡ Local out.base
+    pub bytes_are : bytes ≡ out.bytes
+    pub size_is : size ≡ length bytes
+    pub stop_is : stop ≡ out.stop
+
+  -- what is read for it
+  abbrev pub GiveRow : Held D → ℕ → Node D → ℕ → ℕ → Answer → Held D → Type 0
+  GiveRow h b x offset limit (Run tier size stop bytes) h' = GivesRun h b x offset limit tier size stop bytes h'
+  GiveRow h b x offset limit DiskFault h' = Fails content control h b x h'
+  GiveRow h b x offset limit (Damaged (File name) at) h' = Misses content x.log x.known × Rests content control h b x h'
+  GiveRow h b x offset limit other h' = ⊥
+
+  -- fetch: nothing that is seen changes
+  abbrev pub FetchRow : Held D → ℕ → Node D → ℕ → ℕ → Answer → Held D → Type 0
+  FetchRow h b x offset limit Down h' = (is_up x ≡ false) × (h' ≡ h)
+  FetchRow h b x offset limit NotLeader h' = (is_up x ≡ true) × (leads x.role ≡ false) × (h' ≡ h)
+  FetchRow h b x offset limit (OutOfRange start end) h' =
+      (is_up x ≡ true) × (leads x.role ≡ true) × ((offset < start) ⊎ (end < offset)) × (start ≡ h.registry.start)
+      × (end ≡ end_of x) × (h' ≡ h)
+  FetchRow h b x offset limit Empty h' =
+      (is_up x ≡ true) × (leads x.role ≡ true) × IsInLog h x offset × (x.known ≤ offset) × (h' ≡ h)
+  FetchRow h b x offset limit (Run tier size stop bytes) h' =
+      (is_up x ≡ true) × (leads x.role ≡ true) × IsInLog h x offset × (offset < x.known)
+      × GivesRun h b x offset limit tier size stop bytes h'
+  FetchRow h b x offset limit DiskFault h' =
+      (is_up x ≡ true) × (leads x.role ≡ true) × IsInLog h x offset × (offset < x.known)
+      × Fails content control h b x h'
+  FetchRow h b x offset limit (Damaged (File name) at) h' =
+      (is_up x ≡ true) × (leads x.role ≡ true) × IsInLog h x offset × (offset < x.known)
+      × Misses content x.log x.known × Rests content control h b x h'
+  FetchRow h b x offset limit other h' = ⊥
