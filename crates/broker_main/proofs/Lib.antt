@@ -1,2 +1,3 @@
+mod Disks
 mod OneWord
 mod Running

@@ -2,6 +2,9 @@
 use Rattle.std.proofs.Common.{◌≡◌, inl, inr, ◌∙◌, sym, ap, subst, refl, ℕ, zero, suc, ◌≤◌, List, [], ◌∷◌, ◌++◌, length, slice_get, Some, arith, append_assoc, append-nil}
 use Rattle.std.specs.Prelude.{All}
 use Rattle.std.proofs.lemmas.Option.{get_or_from_slice_get, slice_get_within}
+use Rattle.tier_base.specs.Device.{Control}
+use Rattle.disk_model.specs.Call.{call_code}
+use Rattle.disk_model.specs.Content.{Content}
 use Rattle.plain_log.specs.declared.command.ActorList.{ActorList}
 use Rattle.plain_log.specs.declared.command.Config.{Config}
 use Rattle.plain_log.specs.declared.journal.JournalEntry.{JournalEntry}
@@ -12,13 +15,13 @@ use Rattle.plain_log.specs.Orders.{AreListsFor, AreRising}
 use Rattle.plain_log.specs.Runs.{IsPlainRun, IsComplete}
 use Rattle.plain_log.specs.Laws.{RunsAreCommitted, RunsAreLed}
 use Rattle.partition_world.specs.Whole.{Whole}
-use Rattle.partition_world.specs.declared.seat.Seat.{Seat}
+use Rattle.partition_seen.specs.declared.seat.Seat.{Seat}
 use Rattle.partition_world.specs.Turn.{IsSeat, IsAtEnd}
 use Rattle.partition_world.specs.Central.{IsCentral}
-use Rattle.partition_world.specs.Fresh.{IsFresh}
+use Rattle.partition_world.specs.Fresh.{IsFresh, AllSeen}
 use Rattle.partition_world.specs.Laws.{EndsAreComplete, ReachesLater}
 use Rattle.partition_world.specs.Reaches.{GoesUntil, HasAnswered, Reaches}
-use Rattle.partition_world.proofs.Lists.{one_list}
+use Rattle.partition_seen.proofs.Lists.{one_list}
 use Rattle.partition_world.proofs.LaterLaw.{all_ended}
 use Rattle.script_lang.specs.Fit.{StepsTo, StepsToEnds}
 use Rattle.script_lang.specs.declared.script.PartScript.{PartScript}
@@ -30,92 +33,93 @@ use Rattle.broker_main.specs.Running.{AddsRun, IsRunText, IsSoFar}
 all_at : {A : Type 0} (P : A → Type 0) (xs : List A) (i : ℕ) (x : A) → All P xs → slice_get xs i ≡ Some x → P x
 all_at P xs i x h at = subst P (get_or_from_slice_get xs i x x at) (h i x (slice_get_within xs i x at))
 
--- a schedule in two parts
-reaches_split : (w : Whole) (before after : List Pace) (w' : Whole) → Reaches w (before ++ after) w' → (v : Whole) × Reaches w before v × Reaches v after w'
-reaches_split w [] after w' r = (w, refl, r)
-reaches_split w (pace ∷ before) after w' r =
-    let rest = reaches_split r.0 before after w' r.2 in
-    (rest.0, (r.0, r.1, rest.1), rest.2)
+module _ {D : Type 0} (content : D → Content) (control : D → Control call_code) where
+  -- a schedule in two parts
+  reaches_split : (w : Whole D) (before after : List Pace) (w' : Whole D) → Reaches content control w (before ++ after) w' → (v : Whole D) × Reaches content control w before v × Reaches content control v after w'
+  reaches_split w [] after w' r = (w, refl, r)
+  reaches_split w (pace ∷ before) after w' r =
+      let rest = reaches_split r.0 before after w' r.2 in
+      (rest.0, (r.0, r.1, rest.1), rest.2)
 
--- who was stepped until it had answered so many of its commands has
-until_answered : (w : Whole) (a number turns : ℕ) (w' : Whole) → GoesUntil w a number turns w' → HasAnswered w' a number
-until_answered w a number zero w' g = subst (λ (k : Whole). HasAnswered k a number) (sym g.1) g.0
-until_answered w a number (suc turns) w' g = until_answered g.1.0 a number turns w' g.1.2
+  -- who was stepped until it had answered so many of its commands has
+  until_answered : (w : Whole D) (a number turns : ℕ) (w' : Whole D) → GoesUntil content control w a number turns w' → HasAnswered w' a number
+  until_answered w a number zero w' g = subst (λ (k : Whole D). HasAnswered k a number) (sym g.1) g.0
+  until_answered w a number (suc turns) w' g = until_answered g.1.0 a number turns w' g.1.2
 
--- where the schedule steps the actor of a list to its end, it comes there
-stepped_to_end : (w : Whole) (schedule : List Pace) (w' : Whole) (place : ℕ) (l : ActorList) → ReachesLater → AreRising w.lists → slice_get w.lists place ≡ Some l
-    → Reaches w schedule w' → StepsTo schedule l.actor (length l.orders) → IsAtEnd w' l.actor.0
-stepped_to_end w schedule w' place l law rising at r s =
-    let parts = reaches_split w s.before (Until l.actor (length l.orders) ∷ s.after) w' (subst (λ (k : List Pace). Reaches w k w') s.parts r) in
-    let v : Whole = parts.0 in
-    let u : Whole = parts.2.0 in
-    let lists : u.lists ≡ w.lists =
-    (law v (Until l.actor (length l.orders) ∷ []) u (u, parts.2.1, refl)).lists ∙ (law w s.before v parts.1).lists in
-    let answered = until_answered v l.actor.0 (length l.orders) parts.2.1.0 u parts.2.1.1 in
-    (law u s.after w' parts.2.2).ends l.actor.0 (λ i m seat is.
-    let old : slice_get w.lists i ≡ Some m = ap (λ (k : List ActorList). slice_get k i) (sym lists) ∙ is.list in
-    let one : i ≡ place = one_list w.lists i place m l rising old at is.actor in
-    let same : m ≡ l = cc (old, at, ap (λ (k : ℕ). slice_get w.lists k) one) in
-    elim (answered i m seat is) [
-      | inl many ↦ let long : length m.orders ≡ length l.orders = ap (λ (k : ActorList). length k.orders) same in omega (arith, many, long)
-      | inr many ↦ many
-    ])
+  -- where the schedule steps the actor of a list to its end, it comes there
+  stepped_to_end : (w : Whole D) (schedule : List Pace) (w' : Whole D) (place : ℕ) (l : ActorList) → ReachesLater content control → AreRising w.lists → slice_get w.lists place ≡ Some l
+      → Reaches content control w schedule w' → StepsTo schedule l.actor (length l.orders) → IsAtEnd w' l.actor.0
+  stepped_to_end w schedule w' place l law rising at r s =
+      let parts = reaches_split w s.before (Until l.actor (length l.orders) ∷ s.after) w' (subst (λ (k : List Pace). Reaches content control w k w') s.parts r) in
+      let v : Whole D = parts.0 in
+      let u : Whole D = parts.2.0 in
+      let lists : u.lists ≡ w.lists =
+      (law v (Until l.actor (length l.orders) ∷ []) u (u, parts.2.1, refl)).lists ∙ (law w s.before v parts.1).lists in
+      let answered = until_answered v l.actor.0 (length l.orders) parts.2.1.0 u parts.2.1.1 in
+      (law u s.after w' parts.2.2).ends l.actor.0 (λ i m seat is.
+      let old : slice_get w.lists i ≡ Some m = ap (λ (k : List ActorList). slice_get k i) (sym lists) ∙ is.list in
+      let one : i ≡ place = one_list w.lists i place m l rising old at is.actor in
+      let same : m ≡ l = cc (old, at, ap (λ (k : ℕ). slice_get w.lists k) one) in
+      elim (answered i m seat is) [
+        | inl many ↦ let long : length m.orders ≡ length l.orders = ap (λ (k : ActorList). length k.orders) same in omega (arith, many, long)
+        | inr many ↦ many
+      ])
 
--- the journal of a world that was run by its schedule is a run of its partition
-pub is_run_of : (config : Config) (part : PartScript) (w w' : Whole) → EndsAreComplete → ReachesLater → RunsAreLed → RunsAreCommitted → AreListsFor config part.lists → StepsToEnds part
-    → IsFresh part.partition config part.lists w → IsCentral (fresh config) w → Reaches w part.schedule w' → IsRunOf config part (part.partition.0, w'.journal.items)
-is_run_of config part w w' law goes led runs fit ends f c reaches =
-    let lists = part.lists in
-    let later = goes w part.schedule w' reaches in
-    let same : w'.config ≡ config = later.config ∙ f.config_is in
-    let its : w'.lists ≡ lists = later.lists ∙ f.lists_are in
-    let central : IsCentral (fresh (w'.config)) w' = subst (λ (k : Config). IsCentral (fresh k) w') (sym same) (later.central (fresh config) c) in
-    let ended : (a : ℕ) → IsAtEnd w' a = all_ended w' (λ place l at.
-    let old : slice_get w.lists place ≡ Some l = ap (λ (k : List ActorList). slice_get k place) (sym later.lists) ∙ at in
-    let here : slice_get lists place ≡ Some l = ap (λ (k : List ActorList). slice_get k place) (sym f.lists_are) ∙ old in
-    stepped_to_end w part.schedule w' place l goes (subst AreRising (sym f.lists_are) fit.rising) old reaches
-    (all_at (λ (m : ActorList). StepsTo part.schedule m.actor (length m.orders)) lists place l ends here)) in
-    let whole = law w' central ended in
-    let run : IsPlainRun config lists w'.journal.items =
-    subst (λ (k : Config). IsPlainRun k lists w'.journal.items) same (subst (λ (k : List ActorList). IsPlainRun w'.config k w'.journal.items) its whole.run) in
-    record {
-      partition = refl;
-      plain = run;
-      complete = subst (λ (k : List ActorList). IsComplete k w'.journal.items) its whole.complete;
-      led = led config lists w'.journal.items run;
-      committed = runs config lists w'.journal.items run;
-      reached = record { first = w; last = w'; fresh = f; reaches = reaches; its = refl };
-    }
+  -- the journal of a world that was run by its schedule is a run of its partition
+  pub is_run_of : (config : Config) (part : PartScript) (w w' : Whole D) → EndsAreComplete content control → ReachesLater content control → RunsAreLed → RunsAreCommitted → AreListsFor config part.lists → StepsToEnds part
+      → IsFresh control part.partition config part.lists w → AllSeen content w.held.nodes → IsCentral content control (fresh config) w → Reaches content control w part.schedule w' → IsRunOf content control config part (part.partition.0, w'.journal.items)
+  is_run_of config part w w' law goes led runs fit ends f empty c reaches =
+      let lists = part.lists in
+      let later = goes w part.schedule w' reaches in
+      let same : w'.config ≡ config = later.config ∙ f.config_is in
+      let its : w'.lists ≡ lists = later.lists ∙ f.lists_are in
+      let central : IsCentral content control (fresh (w'.config)) w' = subst (λ (k : Config). IsCentral content control (fresh k) w') (sym same) (later.central (fresh config) c) in
+      let ended : (a : ℕ) → IsAtEnd w' a = all_ended content control w' (λ place l at.
+      let old : slice_get w.lists place ≡ Some l = ap (λ (k : List ActorList). slice_get k place) (sym later.lists) ∙ at in
+      let here : slice_get lists place ≡ Some l = ap (λ (k : List ActorList). slice_get k place) (sym f.lists_are) ∙ old in
+      stepped_to_end w part.schedule w' place l goes (subst AreRising (sym f.lists_are) fit.rising) old reaches
+      (all_at (λ (m : ActorList). StepsTo part.schedule m.actor (length m.orders)) lists place l ends here)) in
+      let whole = law w' central ended in
+      let run : IsPlainRun config lists w'.journal.items =
+      subst (λ (k : Config). IsPlainRun k lists w'.journal.items) same (subst (λ (k : List ActorList). IsPlainRun w'.config k w'.journal.items) its whole.run) in
+      record {
+        partition = refl;
+        plain = run;
+        complete = subst (λ (k : List ActorList). IsComplete k w'.journal.items) its whole.complete;
+        led = led config lists w'.journal.items run;
+        committed = runs config lists w'.journal.items run;
+        reached = record { first = w; last = w'; fresh = f; empty = empty; reaches = reaches; its = refl };
+      }
 
--- one partition more
-pub runs_snoc : (config : Config) (parts : List PartScript) (runs : List (ℕ × List JournalEntry)) (part : PartScript) (run : ℕ × List JournalEntry)
-    → AreRunsOf config parts runs → IsRunOf config part run → AreRunsOf config (parts ++ part ∷ []) (runs ++ run ∷ [])
-runs_snoc config [] [] part run are is = (is, tt)
-runs_snoc config (first ∷ parts) (one ∷ runs) part run are is = (are.0, runs_snoc config parts runs part run are.1 is)
-runs_snoc config [] (one ∷ runs) part run are is = elim are [ ]
-runs_snoc config (first ∷ parts) [] part run are is = elim are [ ]
+  -- one partition more
+  pub runs_snoc : (config : Config) (parts : List PartScript) (runs : List (ℕ × List JournalEntry)) (part : PartScript) (run : ℕ × List JournalEntry)
+      → AreRunsOf content control config parts runs → IsRunOf content control config part run → AreRunsOf content control config (parts ++ part ∷ []) (runs ++ run ∷ [])
+  runs_snoc config [] [] part run are is = (is, tt)
+  runs_snoc config (first ∷ parts) (one ∷ runs) part run are is = (are.0, runs_snoc config parts runs part run are.1 is)
+  runs_snoc config [] (one ∷ runs) part run are is = elim are [ ]
+  runs_snoc config (first ∷ parts) [] part run are is = elim are [ ]
 
-trace_snoc : (runs : List (ℕ × List JournalEntry)) (run : ℕ × List JournalEntry) → trace_of (runs ++ run ∷ []) ≡ trace_of runs ++ journal_text run.0 run.1
-trace_snoc [] run = append-nil (journal_text run.0 run.1)
-trace_snoc (one ∷ runs) run = ap (λ (t : List ℕ). journal_text one.0 one.1 ++ t) (trace_snoc runs run) ∙ sym (append_assoc (journal_text one.0 one.1) (trace_of runs) (journal_text run.0 run.1))
+  trace_snoc : (runs : List (ℕ × List JournalEntry)) (run : ℕ × List JournalEntry) → trace_of (runs ++ run ∷ []) ≡ trace_of runs ++ journal_text run.0 run.1
+  trace_snoc [] run = append-nil (journal_text run.0 run.1)
+  trace_snoc (one ∷ runs) run = ap (λ (t : List ℕ). journal_text one.0 one.1 ++ t) (trace_snoc runs run) ∙ sym (append_assoc (journal_text one.0 one.1) (trace_of runs) (journal_text run.0 run.1))
 
-pub text_snoc : (config : Config) (parts : List PartScript) (part : PartScript) (text new : List ℕ) → IsRunText config parts text → AddsRun config part text new
-    → IsRunText config (parts ++ part ∷ []) new
-text_snoc config parts part text new t a = record {
-  runs = t.runs ++ a.run ∷ [];
-  are = runs_snoc config parts t.runs part a.run t.are a.is;
-  spelled = a.added ∙ (ap (λ (k : List ℕ). k ++ journal_text a.run.0 a.run.1) t.spelled ∙ sym (trace_snoc t.runs a.run));
-}
+  pub text_snoc : (config : Config) (parts : List PartScript) (part : PartScript) (text new : List ℕ) → IsRunText content control config parts text → AddsRun content control config part text new
+      → IsRunText content control config (parts ++ part ∷ []) new
+  text_snoc config parts part text new t a = record {
+    runs = t.runs ++ a.run ∷ [];
+    are = runs_snoc config parts t.runs part a.run t.are a.is;
+    spelled = a.added ∙ (ap (λ (k : List ℕ). k ++ journal_text a.run.0 a.run.1) t.spelled ∙ sym (trace_snoc t.runs a.run));
+  }
 
--- one partition more was run
-pub goes_on : (config : Config) (parts before after : List PartScript) (part : PartScript) (text new : List ℕ) → before ≡ part ∷ after → IsSoFar config parts before text
-    → AddsRun config part text new → IsSoFar config parts after new
-goes_on config parts before after part text new steps so a =
-    let s : IsSoFar config parts (part ∷ after) text = subst (λ (k : List PartScript). IsSoFar config parts k text) steps so in
-    record {
-      run = s.run ++ part ∷ [];
-      all = append_assoc s.run (part ∷ []) after ∙ s.all;
-      text_is = text_snoc config s.run part text new s.text_is a;
-      fit = λ i d within. s.fit (suc i) d (omega (arith, within));
-      ends = λ i d within. s.ends (suc i) d (omega (arith, within));
-    }
+  -- one partition more was run
+  pub goes_on : (config : Config) (parts before after : List PartScript) (part : PartScript) (text new : List ℕ) → before ≡ part ∷ after → IsSoFar content control config parts before text
+      → AddsRun content control config part text new → IsSoFar content control config parts after new
+  goes_on config parts before after part text new steps so a =
+      let s : IsSoFar content control config parts (part ∷ after) text = subst (λ (k : List PartScript). IsSoFar content control config parts k text) steps so in
+      record {
+        run = s.run ++ part ∷ [];
+        all = append_assoc s.run (part ∷ []) after ∙ s.all;
+        text_is = text_snoc config s.run part text new s.text_is a;
+        fit = λ i d within. s.fit (suc i) d (omega (arith, within));
+        ends = λ i d within. s.ends (suc i) d (omega (arith, within));
+      }

@@ -1,14 +1,19 @@
 -- The headline: whatever the script, the written trace is a run of the plain log.
+--
+-- The brokers' logs stand on disks, of which `content` and `control` tell.
 use Rattle.std.specs.Prelude.{◌≡◌, ℕ, false, List, [], ◌∷◌, Ok, Err}
 use Rattle.std.specs.declared.option.Option.{Option}
 use Rattle.std.specs.Io.KnownBytes.{Appends}
 use Rattle.tier_base.specs.Stream.{ReadsWhole, AppendsFront}
+use Rattle.tier_base.specs.Device.{Control}
+use Rattle.disk_model.specs.Call.{call_code}
+use Rattle.disk_model.specs.Content.{Content}
 use Rattle.plain_log.specs.declared.command.Config.{Config}
 use Rattle.plain_log.specs.declared.journal.JournalEntry.{JournalEntry}
 use Rattle.plain_log.specs.Runs.{IsPlainRun, IsComplete}
 use Rattle.plain_log.specs.Committed.{IsCommitted, IsLed}
 use Rattle.partition_world.specs.Whole.{Whole}
-use Rattle.partition_world.specs.Fresh.{IsFresh}
+use Rattle.partition_world.specs.Fresh.{IsFresh, AllSeen}
 use Rattle.partition_world.specs.Reaches.{Reaches}
 use Rattle.script_lang.specs.declared.refusal.Why.{Why}
 use Rattle.script_lang.specs.declared.script.PartScript.{PartScript}
@@ -16,55 +21,57 @@ use Rattle.script_lang.specs.declared.script.Script.{Script}
 use Rattle.script_lang.specs.Script.{script_in}
 use Rattle.trace_text.specs.Trace.{trace_of}
 
--- the journal is that of a world which the partition's schedule reaches from the fresh one
-pub record IsReached (config : Config) (part : PartScript) (journal : List JournalEntry) : Type 0 where
-  pub first : Whole
-  pub last : Whole
-  pub fresh : IsFresh part.partition config part.lists first
-  pub reaches : Reaches first part.schedule last
-  pub its : last.journal.items ≡ journal
+module _ {D : Type 0} (content : D → Content) (control : D → Control call_code) where
+  -- the journal is that of a world which the partition's schedule reaches from the fresh one, whose logs are empty
+  pub record IsReached (config : Config) (part : PartScript) (journal : List JournalEntry) : Type 0 where
+    pub first : Whole D
+    pub last : Whole D
+    pub fresh : IsFresh control part.partition config part.lists first
+    pub empty : AllSeen content first.held.nodes
+    pub reaches : Reaches content control first part.schedule last
+    pub its : last.journal.items ≡ journal
 
--- a partition's number and journal: a run of the plain log over the partition's lists, by its schedule, each command
--- answered once and in order, each fetch out of the log of one leader epoch, and while elections are clean out of one
--- committed list
-pub record IsRunOf (config : Config) (part : PartScript) (run : ℕ × List JournalEntry) : Type 0 where
-  pub partition : run.0 ≡ part.partition.0
-  pub plain : IsPlainRun config part.lists run.1
-  pub complete : IsComplete part.lists run.1
-  pub led : IsLed part.lists run.1
-  pub committed : plain.last.unclean ≡ false → IsCommitted part.lists run.1
-  pub reached : IsReached config part run.1
+  -- a partition's number and journal: a run of the plain log over the partition's lists, by its schedule, each command
+  -- answered once and in order, each fetch out of the log of one leader epoch, and while elections are clean out of one
+  -- committed list
+  pub record IsRunOf (config : Config) (part : PartScript) (run : ℕ × List JournalEntry) : Type 0 where
+    pub partition : run.0 ≡ part.partition.0
+    pub plain : IsPlainRun config part.lists run.1
+    pub complete : IsComplete part.lists run.1
+    pub led : IsLed part.lists run.1
+    pub committed : plain.last.unclean ≡ false → IsCommitted part.lists run.1
+    pub reached : IsReached config part run.1
 
--- each partition has its run
-abbrev pub AreRunsOf : Config → List PartScript → List (ℕ × List JournalEntry) → Type 0
-AreRunsOf config [] [] = Unit {0}
-AreRunsOf config (part ∷ parts) (run ∷ runs) = IsRunOf config part run × AreRunsOf config parts runs
-AreRunsOf config [] (run ∷ runs) = ⊥
-AreRunsOf config (part ∷ parts) [] = ⊥
+  -- each partition has its run
+  abbrev pub AreRunsOf : Config → List PartScript → List (ℕ × List JournalEntry) → Type 0
+  AreRunsOf config [] [] = Unit {0}
+  AreRunsOf config (part ∷ parts) (run ∷ runs) = IsRunOf config part run × AreRunsOf config parts runs
+  AreRunsOf config [] (run ∷ runs) = ⊥
+  AreRunsOf config (part ∷ parts) [] = ⊥
 
--- the script has a reading, and the text is the trace of a run of each of its partitions
-pub record IsTrace (bytes text : List ℕ) : Type 0 where
-  pub script : Script
-  pub read : script_in bytes ≡ Ok script
-  pub runs : List (ℕ × List JournalEntry)
-  pub are : AreRunsOf script.config script.parts runs
-  pub spelled : text ≡ trace_of runs
+  -- the script has a reading, and the text is the trace of a run of each of its partitions
+  pub record IsTrace (bytes text : List ℕ) : Type 0 where
+    pub script : Script
+    pub read : script_in bytes ≡ Ok script
+    pub runs : List (ℕ × List JournalEntry)
+    pub are : AreRunsOf script.config script.parts runs
+    pub spelled : text ≡ trace_of runs
 
--- the source was read to its end, and a trace of what it gave was written
-pub record WritesTrace (left_old left_new written_old written_new : Option (List ℕ)) : Type 0 where
-  pub script : List ℕ
-  pub read : ReadsWhole left_old left_new script
-  pub text : List ℕ
-  pub trace : IsTrace script text
-  pub written : Appends written_old written_new text
+  -- the source was read to its end, and a trace of what it gave was written
+  pub record WritesTrace (left_old left_new written_old written_new : Option (List ℕ)) : Type 0 where
+    pub script : List ℕ
+    pub read : ReadsWhole left_old left_new script
+    pub text : List ℕ
+    pub trace : IsTrace script text
+    pub written : Appends written_old written_new text
 
--- the same, but that a front of the trace was written, and not all of it
-pub record WritesFront (left_old left_new written_old written_new : Option (List ℕ)) : Type 0 where
-  pub script : List ℕ
-  pub read : ReadsWhole left_old left_new script
-  pub text : List ℕ
-  pub trace : IsTrace script text
-  pub written : AppendsFront written_old written_new text
+  -- the same, but that a front of the trace was written, and not all of it
+  pub record WritesFront (left_old left_new written_old written_new : Option (List ℕ)) : Type 0 where
+    pub script : List ℕ
+    pub read : ReadsWhole left_old left_new script
+    pub text : List ℕ
+    pub trace : IsTrace script text
+    pub written : AppendsFront written_old written_new text
 
 -- the source was read to its end, this line of what it gave is the first without a reading, and this is why
 pub record ReadsBad (left_old left_new : Option (List ℕ)) (line : ℕ) (why : Why) : Type 0 where

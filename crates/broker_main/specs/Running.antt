@@ -1,5 +1,8 @@
 -- How the trace grows, a partition at a time.
 use Rattle.std.specs.Prelude.{◌≡◌, ℕ, List, ◌++◌, All}
+use Rattle.tier_base.specs.Device.{Control}
+use Rattle.disk_model.specs.Call.{call_code}
+use Rattle.disk_model.specs.Content.{Content}
 use Rattle.plain_log.specs.declared.command.Config.{Config}
 use Rattle.plain_log.specs.Orders.{AreListsFor}
 use Rattle.plain_log.specs.declared.journal.JournalEntry.{JournalEntry}
@@ -8,22 +11,23 @@ use Rattle.script_lang.specs.Fit.{StepsToEnds}
 use Rattle.trace_text.specs.Trace.{journal_text, trace_of}
 use Rattle.broker_main.specs.Headline.{IsRunOf, AreRunsOf}
 
--- the text of a run of the partition stands behind what stood there
-pub record AddsRun (config : Config) (part : PartScript) (text new : List ℕ) : Type 0 where
-  pub run : ℕ × List JournalEntry
-  pub is : IsRunOf config part run
-  pub added : new ≡ text ++ journal_text run.0 run.1
+module _ {D : Type 0} (content : D → Content) (control : D → Control call_code) where
+  -- the text of a run of the partition stands behind what stood there
+  pub record AddsRun (config : Config) (part : PartScript) (text new : List ℕ) : Type 0 where
+    pub run : ℕ × List JournalEntry
+    pub is : IsRunOf content control config part run
+    pub added : new ≡ text ++ journal_text run.0 run.1
 
--- the text is that of a run of each partition
-pub record IsRunText (config : Config) (parts : List PartScript) (text : List ℕ) : Type 0 where
-  pub runs : List (ℕ × List JournalEntry)
-  pub are : AreRunsOf config parts runs
-  pub spelled : text ≡ trace_of runs
+  -- the text is that of a run of each partition
+  pub record IsRunText (config : Config) (parts : List PartScript) (text : List ℕ) : Type 0 where
+    pub runs : List (ℕ × List JournalEntry)
+    pub are : AreRunsOf content control config parts runs
+    pub spelled : text ≡ trace_of runs
 
--- so far: the parts that were run, those that are left, and the text of the former
-pub record IsSoFar (config : Config) (parts rest : List PartScript) (text : List ℕ) : Type 0 where
-  pub run : List PartScript
-  pub all : run ++ rest ≡ parts
-  pub text_is : IsRunText config run text
-  pub fit : All (λ part. AreListsFor config part.lists) rest
-  pub ends : All StepsToEnds rest
+  -- so far: the parts that were run, those that are left, and the text of the former
+  pub record IsSoFar (config : Config) (parts rest : List PartScript) (text : List ℕ) : Type 0 where
+    pub run : List PartScript
+    pub all : run ++ rest ≡ parts
+    pub text_is : IsRunText config run text
+    pub fit : All (λ part. AreListsFor config part.lists) rest
+    pub ends : All StepsToEnds rest

@@ -8,7 +8,7 @@ use std::test::Fail;
 use tier_base::MemorySink;
 
 /// Scripts and the traces that they give.
-const ROWS: [(&str, &str, &str); 9] = [
+const ROWS: [(&str, &str, &str); 12] = [
     (
         "a leader stops, is elected again, and its follower is cut to where their logs meet",
         "brokers 2\n0 0 0 append 1000,-,:a\n0 0 0 append 1000,-,:b\n0 0 0 flush\n0 0 0 append 1000,-,:c\n1 0 1 follow 1000\n0 0 0 stop\n0 0 0 up\n0 0 0 learn\n0 0 0 elect\n0 0 0 learn\n0 0 0 append 1000,-,:d\n1 0 1 learn\n1 0 1 join\n1 0 1 follow 1000\n",
@@ -16,8 +16,8 @@ const ROWS: [(&str, &str, &str); 9] = [
     ),
     (
         "a broker stops and comes up",
-        "0 0 0 stop\n0 0 0 stop\n0 0 0 fetch 0 1\n0 0 0 up\n0 0 0 up\n0 0 0 learn\n0 0 0 elect\n0 0 0 learn\n0 0 0 learn\n",
-        "0 0 0 = Ok\n0 0 1 = Down\n0 0 2 = Down\n0 0 3 = Up 0\n0 0 4 = IsUp\n0 0 5 = NeedsElection 0\n0 0 6 = Ok 1\n0 0 7 = Leads 1\n0 0 8 = Known\n",
+        "0 0 0 stop\n0 0 0 stop\n0 0 0 fetch 0 1\n0 0 0 up\n0 0 0 up\n0 0 0 learn\n0 0 0 elect\n0 0 0 learn\n0 0 0 learn\n0 0 0 roll\n",
+        "0 0 0 = Ok\n0 0 1 = Down\n0 0 2 = Down\n0 0 3 = Up 0\n0 0 4 = IsUp\n0 0 5 = NeedsElection 0\n0 0 6 = Ok 1\n0 0 7 = Leads 1\n0 0 8 = Known\n0 0 9 = EmptySegment\n",
     ),
     (
         "replicas in sync, an election, and a leader that doesn't know of it",
@@ -54,6 +54,21 @@ const ROWS: [(&str, &str, &str); 9] = [
         "brokers 2\npartitions 2\n0 0 0 append 1000,-,:a\n1 1 1 append 1000,-,:b\n1 1 0 append 1000,-,:c\n2 1 - clock 5\n",
         "0 0 0 = Ok 0 0 0\n1 1 0 = NotLeader\n1 1 1 = Ok 0 0 0\n1 2 0 = Ok\n",
     ),
+    (
+        "a run ends where its log segment does",
+        "segment_bytes 200\n0 0 0 append 1000,-,:a\n0 0 0 append 1000,-,:b\n0 0 0 append 1000,-,:c\n0 0 0 flush\n0 0 0 ack\n0 0 0 fetch 0 1000\n0 0 0 fetch 0 1\n0 0 0 fetch 1 1\n0 0 0 fetch 2 1\n0 0 0 fetch 3 1000\n0 0 0 fetch 4 1000\n",
+        "0 0 0 = Ok 0 0 0\n0 0 1 = Ok 1 1 0\n0 0 2 = Ok 2 2 0\n0 0 3 = Ok 3\n0 0 4 = Ok 3\n0 0 5 = Run local 0 138 Piece 0000000000000000000000390000000002ebf1884b00000000000000000000000003e800000000000003e8ffffffffffffffffffffffffffff000000010e000000010261000000000000000001000000390000000002df1620d200000000000000000000000003e800000000000003e8ffffffffffffffffffffffffffff000000010e00000001026200\n0 0 6 = Run local 0 69 Limit 0000000000000000000000390000000002ebf1884b00000000000000000000000003e800000000000003e8ffffffffffffffffffffffffffff000000010e00000001026100\n0 0 7 = Run local 0 69 Piece 0000000000000001000000390000000002df1620d200000000000000000000000003e800000000000003e8ffffffffffffffffffffffffffff000000010e00000001026200\n0 0 8 = Run local 2 69 Mark 0000000000000002000000390000000002ccb4b8a500000000000000000000000003e800000000000003e8ffffffffffffffffffffffffffff000000010e00000001026300\n0 0 9 = Empty\n0 0 10 = OutOfRange 0 3\n",
+    ),
+    (
+        "a batch larger than a segment stands alone in one",
+        "segment_bytes 100\n0 0 0 append 1000,-,:aaaaaaaaaaaaaaaaaaaaaaaaaaaaaaaa\n0 0 0 append 1000,-,:bbbbbbbbbbbbbbbbbbbbbbbbbbbbbbbbb\n0 0 0 append 1000,-,:c\n0 0 0 flush\n0 0 0 ack\n0 0 0 fetch 0 1000\n0 0 0 fetch 1 1000\n0 0 0 fetch 2 1000\n",
+        "0 0 0 = Ok 0 0 0\n0 0 1 = Ok 1 1 0\n0 0 2 = Ok 2 2 0\n0 0 3 = Ok 3\n0 0 4 = Ok 3\n0 0 5 = Run local 0 100 Piece 000000000000000000000058000000000214669c9500000000000000000000000003e800000000000003e8ffffffffffffffffffffffffffff000000014c0000000140616161616161616161616161616161616161616161616161616161616161616100\n0 0 6 = Run local 1 101 Piece 0000000000000001000000590000000002c436542f00000000000000000000000003e800000000000003e8ffffffffffffffffffffffffffff000000014e000000014262626262626262626262626262626262626262626262626262626262626262626200\n0 0 7 = Run local 2 69 Mark 0000000000000002000000390000000002ccb4b8a500000000000000000000000003e800000000000003e8ffffffffffffffffffffffffffff000000010e00000001026300\n",
+    ),
+    (
+        "a log comes back in its segments after a stop",
+        "index_interval_bytes 0\n0 0 0 roll\n0 0 0 append 1000,-,:a\n0 0 0 roll\n0 0 0 append 1000,-,:b\n0 0 0 flush\n0 0 0 ack\n0 0 0 append 1000,-,:c\n0 0 0 stop\n0 0 0 roll\n0 0 0 up\n0 0 0 learn\n0 0 0 elect\n0 0 0 learn\n0 0 0 ack\n0 0 0 fetch 0 1000\n0 0 0 fetch 1 1000\n",
+        "0 0 0 = EmptySegment\n0 0 1 = Ok 0 0 0\n0 0 2 = Ok 1\n0 0 3 = Ok 1 1 0\n0 0 4 = Ok 2\n0 0 5 = Ok 2\n0 0 6 = Ok 2 2 0\n0 0 7 = Ok\n0 0 8 = Down\n0 0 9 = Up 2\n0 0 10 = NeedsElection 0\n0 0 11 = Ok 1\n0 0 12 = Leads 1\n0 0 13 = Ok 2\n0 0 14 = Run local 0 69 Piece 0000000000000000000000390000000002ebf1884b00000000000000000000000003e800000000000003e8ffffffffffffffffffffffffffff000000010e00000001026100\n0 0 15 = Run local 1 69 Mark 0000000000000001000000390000000002df1620d200000000000000000000000003e800000000000003e8ffffffffffffffffffffffffffff000000010e00000001026200\n",
+    ),
 ];
 
 #[test]
@@ -67,5 +82,32 @@ fn scripts_of_several_brokers_give_their_traces(rt: HostRuntime) -> Result<(), F
         assert_eq!(rt; status, Status::Ok, "{name}");
         assert_eq!(rt; sink.written(), trace.as_bytes(), "{name}");
     }
+    Ok(())
+}
+
+/// A log has 4,096 segments at most. Of a segment's size each of these batches takes more than a half.
+#[test]
+fn segments_are_counted(rt: HostRuntime) -> Result<(), Fail> {
+    let alloc = rt.alloc();
+    let words = words_of(alloc, &["sim"])?;
+    let mut script = Vec::from_slice(alloc, b"segment_bytes 100\n")?;
+    let mut trace = Vec::new(alloc);
+    for number in 0..4098 {
+        script.extend_from_slice(b"0 0 0 append 1000,-,:a\n")?;
+        let line = if number < 4096 {
+            format!(in alloc; "0 0 {number} = Ok {number} {number} 0\n")?
+        } else {
+            format!(in alloc; "0 0 {number} = TooManySegments\n")?
+        };
+        trace.extend_from_slice(line.as_bytes())?;
+    }
+    let mut source = source_of(alloc, script.as_slice(), &[])?;
+    let mut sink = MemorySink::new(alloc, 200_000, 65_536, Vec::new(alloc))?;
+    let status = tiered(&rt, words.as_slice(), &mut source, &mut sink);
+    assert_eq!(rt; status, Status::Ok, "4,098 appends");
+    assert!(rt;
+        sink.written() == trace.as_slice(),
+        "the trace of 4,098 appends"
+    );
     Ok(())
 }

@@ -6,7 +6,10 @@
 ghost use Rattle.std.specs.Prelude.{◌≡◌, ◌≢◌, ◌↔◌, ℕ, ◌+◌, ◌-◌, ◌<◌, ◌≤◌, ◌^◌, List, ◌++◌, All, Some, Err, length, IsOk, IfOk, IsErrOf, IsTrue};
 ghost use Rattle.tier_base.specs.Counts.{counted, Rose};
 ghost use Rattle.tier_base.specs.Stream.{Gave};
+ghost use Rattle.plain_log.specs.Fresh.{fresh};
 ghost use Rattle.plain_log.specs.Orders.{AreListsFor, IsConfig};
+ghost use Rattle.partition_world.specs.Central.{IsCentral};
+ghost use Rattle.partition_world.specs.Fresh.{IsFresh, AllSeen, AreFreshDisks, DisksTell};
 ghost use Rattle.script_lang.specs.declared.refusal.Why.{Why};
 ghost use Rattle.script_lang.specs.Fit.{StepsToEnds};
 ghost use Rattle.script_lang.specs.Script.{script_in};
@@ -16,15 +19,51 @@ ghost use Rattle.broker_main.specs.Running.{AddsRun, IsRunText};
 ghost use Rattle.broker_main.specs.Endings.{IsDoneOrNoMemory, IsRefusedOrNoMemory};
 
 use crate::status::Status;
+use disk_model::{Disk, MemoryDisk};
 use partition_world::{World, ends_are_complete, reaches_later, run_in_order};
-use plain_log::{Config, runs_are_committed, runs_are_led};
+use plain_log::{ActorList, Config, runs_are_committed, runs_are_led};
 use script_lang::{PartScript, ScriptRefusal, Why, parse};
 use std::alloc::{AllocError, Global};
-use tier_base::{ReadRefusal, Row, Sink, Source, read_all, write_all};
+use tier_base::{PartitionId, ReadRefusal, Row, Sink, Source, read_all, write_all};
 use trace_text::print;
 
 /// The most bytes that a script may have.
 pub const SCRIPT_LIMIT: usize = 16_777_216;
+
+/// Makes so many disks in memory, without files.
+fn disks(alloc: Global, count: u16) -> Result<Vec<MemoryDisk>, AllocError>
+    ensures count { IfOk result (λ disks. length disks.items ≡ count) }
+    ensures fresh { IfOk result (λ disks. AreFreshDisks ⟦<MemoryDisk as Disk>⟧.content ⟦<MemoryDisk as Disk>⟧.control disks.items) }
+    ensures told { IfOk result (λ disks. DisksTell ⟦<MemoryDisk as Disk>⟧.content disks.items) }
+{
+    let mut disks = Vec::new(alloc);
+    for _ in 0..count {
+        disks.push(MemoryDisk::new(alloc, Vec::new(alloc)))?;
+    }
+    Ok(disks)
+}
+
+/// Makes a partition's world, whose brokers have empty disks in memory.
+fn fresh_world(
+    alloc: Global,
+    partition: PartitionId,
+    config: Config,
+    lists: Row<ActorList>,
+) -> Result<World<MemoryDisk>, AllocError>
+    requires config { IsConfig config }
+    requires fit { AreListsFor config lists }
+    ensures fresh { IfOk result (IsFresh ⟦<MemoryDisk as Disk>⟧.control partition config lists) }
+    ensures empty { IfOk result (λ world. AllSeen ⟦<MemoryDisk as Disk>⟧.content world.held.nodes) }
+    ensures central { IfOk result (IsCentral ⟦<MemoryDisk as Disk>⟧.content ⟦<MemoryDisk as Disk>⟧.control
+        (fresh config)) }
+{
+    let disks = disks(alloc, config.brokers)?;
+    match World::fresh(alloc, partition, config, lists, disks) {
+        Ok(world) => Ok(world),
+        // A disk in memory without a plan fails no call, so it was memory.
+        Err(_) => Err(AllocError),
+    }
+}
 
 /// Runs a partition's lists on a fresh world, by its schedule, and puts the trace behind the text. The first partition's
 /// is not copied.
@@ -37,10 +76,11 @@ fn run_part(
     requires config { IsConfig config }
     requires fit { AreListsFor config part.lists }
     requires ends { StepsToEnds part }
-    ensures { IfOk result (λ new. AddsRun config part text.items new.items) }
+    ensures { IfOk result (λ new. AddsRun ⟦<MemoryDisk as Disk>⟧.content ⟦<MemoryDisk as Disk>⟧.control
+        config part text.items new.items) }
 {
-    ends_are_complete();
-    reaches_later();
+    ends_are_complete::<MemoryDisk>();
+    reaches_later::<MemoryDisk>();
     runs_are_led();
     runs_are_committed();
     let PartScript {
@@ -49,7 +89,7 @@ fn run_part(
         schedule,
         ..
     } = part;
-    let mut world = World::fresh(alloc, partition, config, lists)?;
+    let mut world = fresh_world(alloc, partition, config, lists)?;
     run_in_order(alloc, &mut world, schedule.as_slice())?;
     let printed = print(alloc, partition, world.journal())?;
     joined(text, printed)
@@ -72,7 +112,8 @@ fn run_parts(alloc: Global, config: Config, parts: Row<PartScript>) -> Result<Ve
     requires config { IsConfig config }
     requires fit { All (λ part. AreListsFor config part.lists) parts }
     requires ends { All StepsToEnds parts }
-    ensures { IfOk result (λ text. IsRunText config parts text.items) }
+    ensures { IfOk result (λ text. IsRunText ⟦<MemoryDisk as Disk>⟧.content ⟦<MemoryDisk as Disk>⟧.control
+        config parts text.items) }
 {
     let mut text = Vec::new(alloc);
     for part in parts.into_vec() {
@@ -84,7 +125,8 @@ fn run_parts(alloc: Global, config: Config, parts: Row<PartScript>) -> Result<Ve
 /// Reads a script, runs it, and answers the trace.
 fn trace_of(alloc: Global, script: &[u8]) -> Result<Vec<u8>, ScriptRefusal>
     requires { length script.now < 2 ^ 32 - 1 }
-    ensures trace { IfOk result (λ text. IsTrace script.now text.items) }
+    ensures trace { IfOk result (λ text. IsTrace ⟦<MemoryDisk as Disk>⟧.content ⟦<MemoryDisk as Disk>⟧.control
+        script.now text.items) }
     ensures bad { (line : ℕ) (why : Why) → IsErrOf result (ScriptRefusal.Bad line why)
         → script_in script.now ≡ Err (line, why) }
 {
@@ -113,7 +155,8 @@ pub fn tiered<H: AllocGlobal, R: Source, W: Sink>(
     out: &mut W,
 ) -> Status
     // Every command of the script is answered once and in order, as the plain log allows, and all of that is written.
-    ensures trace { result ≡ Status.Ok → WritesTrace (R.left script.old) (R.left script.new)
+    ensures trace { result ≡ Status.Ok → WritesTrace ⟦<MemoryDisk as Disk>⟧.content ⟦<MemoryDisk as Disk>⟧.control
+        (R.left script.old) (R.left script.new)
         (W.written out.old) (W.written out.new) }
 
     // Each other status has its cause. Want of memory alone is free.
@@ -125,7 +168,8 @@ pub fn tiered<H: AllocGlobal, R: Source, W: Sink>(
     ensures bad { (line : ℕ) (why : Why) → result ≡ Status.BadScript line why
         → ReadsBad (R.left script.old) (R.left script.new) line why }
     ensures write_fault { result ≡ Status.WriteFault → Rose (W.faults out.old) (W.faults out.new) }
-    ensures front { result ≡ Status.WriteFault → WritesFront (R.left script.old) (R.left script.new)
+    ensures front { result ≡ Status.WriteFault → WritesFront ⟦<MemoryDisk as Disk>⟧.content ⟦<MemoryDisk as Disk>⟧.control
+        (R.left script.old) (R.left script.new)
         (W.written out.old) (W.written out.new) }
 
     // Where nothing fails, a script with a reading is run, unless memory runs out.
