@@ -1,7 +1,8 @@
 -- What a turn of each command comes to over disks: its answer's cause, or what its seat keeps, and what it does to the
 -- partition.
 --
--- A row says for each answer exactly when it is given, the tests in their order, and the partition afterwards. Follow
+-- A row says for each answer the tests before it, in their order, its own, and the partition afterwards. When a segment is
+-- empty, when no further one fits and when a manifest can't be opened is said by the broker's log alone. Follow
 -- is the one command of two turns. A fault of a broker's disk in a write stops the broker.
 use Rattle.std.specs.Prelude.{◌≡◌, ◌+◌, ℕ, ℤ, true, false, Option, None, Some}
 use Rattle.tier_base.specs.Device.{Control}

@@ -1,6 +1,7 @@
 -- What a turn of a command on a broker's own log comes to over disks: append, raw, flush, roll, fetch.
 --
--- A row says for each answer exactly when it is given, the tests in their order, and the partition afterwards.
+-- A row says for each answer which tests come before it, in their order, its own, and the partition afterwards. When a
+-- segment is empty and when no further one fits is said by the clauses of the broker's log alone.
 use Rattle.std.specs.Prelude.{◌≡◌, ◌+◌, ◌^◌, ℕ, ◌<◌, ◌≤◌, ◌⊎◌, true, false, List, length, Some, Err, IsOk}
 use Rattle.tier_base.specs.Device.{Control}
 use Rattle.tier_base.specs.declared.plain.FileName.{FileName}
