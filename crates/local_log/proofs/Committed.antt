@@ -7,14 +7,16 @@ use Rattle.log_terms.specs.Log.{up_to}
 use Rattle.epoch_line.specs.Line.{IsLine, cut_end}
 use Rattle.log_manifest.specs.Spelling.{manifest_bytes}
 use Rattle.segment_file.specs.Growing.{Grown}
-use Rattle.log_steps.specs.Opens.{Opens}
+use Rattle.log_steps.specs.Opens.{Opened, Opens}
 use Rattle.log_steps.specs.Reopens.{Reopens}
 use Rattle.log_steps.specs.Publishes.{Publishes}
 use Rattle.log_steps.proofs.Moments.{leaves_weaker, leaves_then}
 use Rattle.local_log.specs.Stored.{all_batches, end_of}
 use Rattle.local_log.specs.Listing.{AreSegmentsOf, manifest_of}
 use Rattle.local_log.specs.Inside.{HasLog}
-use Rattle.local_log.proofs.Having.{OpensUpTo, has_kept, kept_batches, kept_since, has_reopens, published_since, published_batches, has_published, published_dry, published_reopens, published_opens}
+use Rattle.local_log.specs.Cutting.{OpensAsOr}
+use Rattle.local_log.proofs.Retold.{kept_opens, or_last}
+use Rattle.local_log.proofs.Having.{OpensUpTo, has_kept, kept_batches, kept_since, has_reopens, published_since, published_as, published_batches, has_published, published_dry, published_reopens, published_opens}
 
 module _ (d m : Content) (laws : Lawful d) (laws-m : Lawful m) (incarnation local_start : ℕ) (closed : List Grown) (active : Grown) (line : List (ℕ × ℕ)) (stable : ℕ) (has : HasLog d incarnation local_start closed active line stable) (k : Keeps d m) where
   abbrev pub segments : List Grown
@@ -45,6 +47,16 @@ module _ (d m : Content) (laws : Lawful d) (laws-m : Lawful m) (incarnation loca
         leaves_then d m d' (Either other) (room_since other)
         (subst (λ (l : List (List ℕ)). LeavesOnly m d' (λ c. OpensUpTo incarnation local_start stable l line c ⊎ OpensUpTo incarnation local_start (end_of active) l other c)) room_batches
         (published_since m laws-m incarnation local_start closed active line stable room_has d' laws' are opened fits other is is' same_line fate change))
+
+    -- all of the log, with the other line
+    abbrev pub all_open : Opened
+    all_open = record { incarnation = incarnation; local_start = local_start; batches = up_to (end_of active) (all_batches d.files segments); line = cut_end other (end_of active + 1) }
+
+    pub commit_as : LeavesOnly d d' (OpensAsOr d all_open)
+    commit_as =
+        or_last d m d' all_open laws-m (kept_opens d m k)
+        (subst (λ (l : List (List ℕ)). LeavesOnly m d' (OpensAsOr m (record { incarnation = incarnation; local_start = local_start; batches = up_to (end_of active) l; line = cut_end other (end_of active + 1) }))) room_batches
+        (published_as m laws-m incarnation local_start closed active line stable room_has d' laws' are opened fits other is is' same_line fate change))
 
     pub commit_tells : d'.tells ≡ d.tells
     commit_tells = change.tells ∙ k.tells

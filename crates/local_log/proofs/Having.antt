@@ -23,11 +23,12 @@ use Rattle.log_steps.proofs.Lists.{each_map, each_both, each_join, each_left, ea
 use Rattle.log_steps.proofs.Moments.{leaves_weaker, leaves_then}
 use Rattle.log_steps.proofs.Rewritten.{log_no_manifest}
 use Rattle.log_steps.proofs.Standing.{stands_since, same_stands, keeps_stands, keeps_since, sync_stands, publish_since, publish_whole, publish_dry, publish_stands, like_fronts}
-use Rattle.log_steps.proofs.Reading.{held_opens, segments_like, reopens_two, stands_reopens}
+use Rattle.log_steps.proofs.Reading.{held_opens, opens_as, opened_by, segments_like, reopens_two, stands_reopens}
 use Rattle.local_log.specs.Stored.{bytes_of, all_batches, size_of, end_of, extent_of, AreChained, IsStored}
 use Rattle.local_log.specs.Log.{IsUpTo}
 use Rattle.local_log.specs.Listing.{IsLaidOut, AreSegmentsOf, AreListed, manifest_of}
 use Rattle.local_log.specs.Inside.{HasLog}
+use Rattle.local_log.specs.Cutting.{OpensAs, OpensAsOr}
 use Rattle.local_log.proofs.Pieces.{stored_segments, consecutive_segments, all_end, chain_snoc, up_to_all, all_append, all_same, stored_same, stored_end}
 use Rattle.local_log.proofs.Lines.{cut_cut, placed_same}
 use Rattle.local_log.proofs.Listed.{rules_of, chain_up}
@@ -56,6 +57,17 @@ module _ (d : Content) (laws : Lawful d) (incarnation local_start : ℕ) (closed
     held_opens c d.files bytes has.listed (map extent_of closed) has.opened reading h.1 (has.read h.0),
     record { incarnation_is = has.incarnation_is; local_start_is = has.start_is; batches_are = has.batches_are h.0; line_is = has.line_is },
   )
+
+  -- what has the manifest and the fronts that it lists opens as the files do
+  pub listed_as : (c : Files) → IsTrue d.tells → c file.Manifest ≡ Some bytes → Each (Agrees c d.files) has.listed.segments → OpensAs d c
+  listed_as c t there fronts = (
+    d.files,
+    laws.reads t,
+    λ o opens. opens_as c d.files bytes has.listed o there reading fronts (opened_by d.files bytes has.listed o (has.images d.files (laws.reads t)).manifest reading opens),
+  )
+
+  pub held_as : (c : Files) → IsTrue d.tells × Holds c d.files bytes has.listed.segments (map extent_of closed) → OpensAs d c
+  held_as c h = listed_as c h.0 h.1.manifest h.1.listed_fronts
 
   pub image_opens : (c : Files) → Image d c → OpensUpTo incarnation local_start stable (all_batches d.files segments) line c
   image_opens c now = held_up c (laws.told c now, has.images c now)
@@ -216,6 +228,22 @@ module _ (d : Content) (laws : Lawful d) (incarnation local_start : ℕ) (closed
       published_since =
           leaves_weaker d d' _ _
           (λ c h. ⊎_elim (λ a. inl (held_up c (h.0, a))) (λ b. inr (after_up c (h.0, b))) h.1)
+          (publish_since d d' laws laws' bytes has.listed.segments (map extent_of closed) has.images (extent_of active) long (manifest_bytes all) (map extent_of segments) lists fate change)
+
+      -- all of it, up to its end
+      abbrev pub all_open : Opened
+      all_open = record { incarnation = incarnation; local_start = local_start; batches = up_to (end_of active) whole; line = cut_end other (end_of active + 1) }
+
+      after_opens : (c : Files) → IsTrue d.tells × Holds c d.files (manifest_bytes all) (map extent_of segments) (map extent_of closed) → Opens c all_open
+      after_opens c h =
+          let up = up_to_all local_start whole (consecutive_segments d.files other local_start (map extent_of segments) whole (read_whole h.0).batches) in
+          subst (λ (l : List (List ℕ)). Opens c (record { incarnation = incarnation; local_start = local_start; batches = l; line = cut_end other (end_of active + 1) })) (sym up ∙ ap (λ (n : ℕ). up_to n whole) (whole_end h.0))
+          (held_opens c d.files (manifest_bytes all) all (map extent_of closed) now_open rules h.1 (read_whole h.0))
+
+      pub published_as : LeavesOnly d d' (OpensAsOr d all_open)
+      published_as =
+          leaves_weaker d d' _ (OpensAsOr d all_open)
+          (λ c h. ⊎_elim (λ a. inl (held_as c (h.0, a))) (λ b. inr (after_opens c (h.0, b))) h.1)
           (publish_since d d' laws laws' bytes has.listed.segments (map extent_of closed) has.images (extent_of active) long (manifest_bytes all) (map extent_of segments) lists fate change)
 
       published_files : IsTrue d.tells → (b : ℕ) → d'.files (file.Log b) ≡ d.files (file.Log b)

@@ -26,9 +26,9 @@ use Rattle.log_steps.proofs.Standing.{agrees_then, same_kept}
 use Rattle.log_steps.proofs.Reading.{opens_as, reopens_two}
 use Rattle.local_log.specs.Stored.{all_batches, extent_of}
 use Rattle.local_log.specs.Inside.{HasLog}
-use Rattle.local_log.specs.Cutting.{names_of, Without, RemovesAll}
+use Rattle.local_log.specs.Cutting.{names_of, Without, RemovesAll, OpensAsOr}
 use Rattle.local_log.specs.Renewing.{HasNew, Renewed, Renews}
-use Rattle.local_log.proofs.Having.{OpensUpTo, reading, has_same}
+use Rattle.local_log.proofs.Having.{OpensUpTo, reading, listed_as, has_same}
 use Rattle.local_log.proofs.Settled.{agrees_none}
 
 pub err_fate : {T : Type 0} (r : Result T Trouble) (e : Trouble) → IsErrAnd r (λ x. x ≡ e) → fate_of r ≡ fate_of_trouble e
@@ -176,6 +176,18 @@ module _ (d : Content) (laws : Lawful d) (incarnation local_start : ℕ) (closed
 
   pub renew_since : LeavesOnly d d' (λ c. OpensUpTo incarnation local_start stable (all_batches d.files segments) line c ⊎ Opens c o)
   renew_since = leaves_weaker d d' (Renewed bytes (names_of gs) d) _ opens_either change.since
+
+  pub renew_as : LeavesOnly d d' (OpensAsOr d o)
+  renew_as =
+      leaves_weaker d d' (Renewed bytes (names_of gs) d) (OpensAsOr d o)
+      (λ c h. (
+      let i = renew_image c h in
+      ⊎_elim
+      (λ old. inl (listed_as d laws incarnation local_start closed active line stable has c i.0 old.0 old.1))
+      (λ new. inr (opens_as c d.files bytes next o new.0 reads new.1 (read i.0)))
+      i.1
+      ))
+      change.since
 
   -- an image has the fronts that no removal touches
   module _ (es : List Extent) (untouched : Each (λ (e : Extent). (e.len ≡ 0) ⊎ Each (λ (g : Grown). e.base ≢ g.base) gs) es)

@@ -26,13 +26,13 @@ use Rattle.log_steps.proofs.Reading.{held_opens, read_moved, segments_whole, reo
 use Rattle.local_log.specs.Stored.{all_batches, size_of, end_of, extent_of, IsStored}
 use Rattle.local_log.specs.Listing.{IsLaidOut, AreSegmentsOf, AreListed, front_to}
 use Rattle.local_log.specs.Inside.{HasLog}
-use Rattle.local_log.specs.Cutting.{closed_by, open_by, behind, cut_point}
+use Rattle.local_log.specs.Cutting.{closed_by, open_by, behind, cut_point, OpensAsOr}
 use Rattle.local_log.proofs.Pieces.{all_same, stored_same}
 use Rattle.local_log.proofs.Lines.{cut_cut}
 use Rattle.local_log.proofs.Listed.{rules_of}
 use Rattle.local_log.proofs.Listings.{ending_none, ending_all}
 use Rattle.local_log.proofs.Parting.{parts, closed_front, closed_low, front_less, front_laid, last_low, later_high}
-use Rattle.local_log.proofs.Having.{OpensUpTo, reading, held_up, has_same}
+use Rattle.local_log.proofs.Having.{OpensUpTo, reading, held_up, held_as, has_same}
 use Rattle.local_log.proofs.Shortened.{manifest, opened, short_line, short_are, short_stored, short_reading, short_read, up_to_end}
 
 pub agrees_none : (c f : Files) (e : Extent) → e.len ≡ 0 → Agrees c f e
@@ -140,6 +140,15 @@ module _ (d : Content) (laws : Lawful d) (incarnation local_start : ℕ) (closed
     pub settle_since : LeavesOnly d d' (λ c. OpensUpTo incarnation local_start stable (all_batches d.files segments) line c ⊎ Opens c now_open)
     settle_since =
         leaves_weaker d d' _ _ held_either
+        (publish_since d d' laws laws' old_bytes has.listed.segments (map extent_of closed) has.images last_front last_long bytes next.segments next_lists fate change)
+
+    pub settle_as : LeavesOnly d d' (OpensAsOr d now_open)
+    settle_as =
+        leaves_weaker d d' _ (OpensAsOr d now_open)
+        (λ c h. ⊎_elim
+        (λ old. inl (held_as d laws incarnation local_start closed active line stable has c (h.0, old)))
+        (λ new. inr (held_opens c d.files bytes next (map extent_of closed) now_open next_reading new (reads h.0)))
+        h.1)
         (publish_since d d' laws laws' old_bytes has.listed.segments (map extent_of closed) has.images last_front last_long bytes next.segments next_lists fate change)
 
     -- each image has one of the manifests

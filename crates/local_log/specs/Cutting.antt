@@ -125,6 +125,10 @@ module _ {D : Type 0} where
 abbrev pub OpensAs : Content → Files → Type 0
 OpensAs old c = (d : Files) × Image old d × ((o : Opened) → Opens d o → Opens c o)
 
+-- it opens as an image of before does, or as this
+abbrev pub OpensAsOr : Content → Opened → Files → Type 0
+OpensAsOr old o c = OpensAs old c ⊎ Opens c o
+
 -- files of these names may be gone
 abbrev pub Without : List FileName → Files → Files → Type 0
 Without names d c = (n : FileName) → (c n ≡ d n) ⊎ (In n names × (c n ≡ None))

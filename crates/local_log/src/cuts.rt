@@ -15,7 +15,7 @@ ghost use Rattle.log_steps.specs.Opens.{Opens};
 ghost use Rattle.local_log.specs.declared.refusal.LogRefusal.TheVariants.{DiskFault, NoMemory};
 ghost use Rattle.local_log.specs.Listing.{front_to, manifest_of};
 ghost use Rattle.local_log.specs.Log.{Becomes};
-ghost use Rattle.local_log.specs.Cutting.{closed_by, open_by, cut_point, shortened, settled, cut, restarted, cut_at, IsLeftUpTo, all_of, opened_to, Cutting, OpensEither, Breaks, OpensAs};
+ghost use Rattle.local_log.specs.Cutting.{closed_by, open_by, cut_point, shortened, settled, cut, restarted, cut_at, IsLeftUpTo, all_of, opened_to, Cutting, OpensEither, Breaks, OpensAs, OpensAsOr};
 
 use crate::log::{LocalLog, refused};
 use crate::refusal::LogRefusal;
@@ -39,11 +39,15 @@ impl<D: Disk> LocalLog<D> {
         // A crash at any moment of the call leaves the stable log of before, or the cut one.
         ensures any_moment { LeavesOnly (D.content self.old.disk) (D.content self.new.disk)
             (OpensEither self.old (cut_at self.old end)) }
+        // Each of these images opens as an image of before does, or as the cut log.
+        ensures opens { LeavesOnly (D.content self.old.disk) (D.content self.new.disk)
+            (OpensAsOr (D.content self.old.disk) (all_of (cut_at self.old end))) }
 
         ensures others { OnErr result (IsErrOf result NoMemory ⊎ IsErrOf result DiskFault) }
         ensures no_memory { IsErrOf result NoMemory → Becomes D.content self.old self.new }
         ensures no_image { IsErrOf result NoMemory → (c : Files) → Image (D.content self.new.disk) c → Image (D.content self.old.disk) c }
         ensures broken { IsErrOf result DiskFault → self.new.broken ≡ true }
+        ensures tells { (D.content self.new.disk).tells ≡ (D.content self.old.disk).tells }
         ensures control { Lasts (D.control self.old.disk) (D.control self.new.disk) }
         ensures cause { IsErrOf result DiskFault → Rose (D.control self.old.disk).faults (D.control self.new.disk).faults }
     {
@@ -63,10 +67,14 @@ impl<D: Disk> LocalLog<D> {
             → Opens c (all_of (restarted self.old end (cut_end self.old.line end)))) }
         ensures any_moment { LeavesOnly (D.content self.old.disk) (D.content self.new.disk)
             (OpensEither self.old (restarted self.old end (cut_end self.old.line end))) }
+        // Each of these images opens as an image of before does, or as the empty log.
+        ensures opens { LeavesOnly (D.content self.old.disk) (D.content self.new.disk)
+            (OpensAsOr (D.content self.old.disk) (all_of (restarted self.old end (cut_end self.old.line end)))) }
         ensures others { OnErr result (IsErrOf result NoMemory ⊎ IsErrOf result DiskFault) }
         ensures no_memory { IsErrOf result NoMemory → Becomes D.content self.old self.new }
         ensures no_image { IsErrOf result NoMemory → (c : Files) → Image (D.content self.new.disk) c → Image (D.content self.old.disk) c }
         ensures broken { IsErrOf result DiskFault → self.new.broken ≡ true }
+        ensures tells { (D.content self.new.disk).tells ≡ (D.content self.old.disk).tells }
         ensures control { Lasts (D.control self.old.disk) (D.control self.new.disk) }
         ensures cause { IsErrOf result DiskFault → Rose (D.control self.old.disk).faults (D.control self.new.disk).faults }
     {
@@ -87,10 +95,14 @@ impl<D: Disk> LocalLog<D> {
             → Opens c (all_of (cut self.old (cut_point end self.old.closed self.old.active)))) }
         ensures any_moment { LeavesOnly (D.content self.old.disk) (D.content self.new.disk)
             (OpensEither self.old (cut self.old (cut_point end self.old.closed self.old.active))) }
+        // Each of these images opens as an image of before does, or as the cut log.
+        ensures opens { LeavesOnly (D.content self.old.disk) (D.content self.new.disk)
+            (OpensAsOr (D.content self.old.disk) (all_of (cut self.old (cut_point end self.old.closed self.old.active)))) }
         ensures others { OnErr result (IsErrOf result NoMemory ⊎ IsErrOf result DiskFault) }
         ensures no_memory { IsErrOf result NoMemory → Becomes D.content self.old self.new }
         ensures no_image { IsErrOf result NoMemory → (c : Files) → Image (D.content self.new.disk) c → Image (D.content self.old.disk) c }
         ensures broken { IsErrOf result DiskFault → self.new.broken ≡ true }
+        ensures tells { (D.content self.new.disk).tells ≡ (D.content self.old.disk).tells }
         ensures control { Lasts (D.control self.old.disk) (D.control self.new.disk) }
         ensures cause { IsErrOf result DiskFault → Rose (D.control self.old.disk).faults (D.control self.new.disk).faults }
     {
@@ -123,11 +135,15 @@ impl<D: Disk> LocalLog<D> {
         ensures ok { OnOk result (Becomes D.content (settled self.old end) self.new) }
         ensures durable { OnOk result ((c : Files) → Image (D.content self.new.disk) c → Opens c (opened_to self.old end)) }
         ensures any_moment { LeavesOnly (D.content self.old.disk) (D.content self.new.disk) (Cutting self.old end) }
+        // Each of these images opens as an image of before does, or as the cut log.
+        ensures opens { LeavesOnly (D.content self.old.disk) (D.content self.new.disk)
+            (OpensAsOr (D.content self.old.disk) (opened_to self.old end)) }
         ensures others { OnErr result (IsErrOf result NoMemory ⊎ IsErrOf result DiskFault) }
         ensures no_memory { IsErrOf result NoMemory → Becomes D.content self.old self.new }
         ensures no_image { IsErrOf result NoMemory → (c : Files) → Image (D.content self.new.disk) c → Image (D.content self.old.disk) c }
         ensures broken { IsErrOf result DiskFault → Breaks D.content self.old self.new }
         ensures room { OnOk result (D.spare self.new.disk + 1 ≡ D.spare self.old.disk) }
+        ensures tells { (D.content self.new.disk).tells ≡ (D.content self.old.disk).tells }
         ensures control { Lasts (D.control self.old.disk) (D.control self.new.disk) }
         ensures cause { IsErrOf result DiskFault → Rose (D.control self.old.disk).faults (D.control self.new.disk).faults }
     {
@@ -153,6 +169,7 @@ impl<D: Disk> LocalLog<D> {
         ensures any_moment { LeavesOnly (D.content self.old.disk) (D.content self.new.disk) (OpensAs (D.content self.old.disk)) }
         ensures broken { OnErr result (Breaks D.content self.old self.new) }
         ensures why { OnErr result (IsErrOf result DiskFault) }
+        ensures tells { (D.content self.new.disk).tells ≡ (D.content self.old.disk).tells }
         ensures control { Lasts (D.control self.old.disk) (D.control self.new.disk) }
         ensures cause { OnErr result (Rose (D.control self.old.disk).faults (D.control self.new.disk).faults) }
     {
@@ -181,10 +198,14 @@ impl<D: Disk> LocalLog<D> {
         ensures ok { OnOk result (Becomes D.content (cut self.old end) self.new) }
         ensures durable { OnOk result ((c : Files) → Image (D.content self.new.disk) c → Opens c (opened_to self.old end)) }
         ensures any_moment { LeavesOnly (D.content self.old.disk) (D.content self.new.disk) (Cutting self.old end) }
+        // Each of these images opens as an image of before does, or as the cut log.
+        ensures opens { LeavesOnly (D.content self.old.disk) (D.content self.new.disk)
+            (OpensAsOr (D.content self.old.disk) (opened_to self.old end)) }
         ensures others { OnErr result (IsErrOf result NoMemory ⊎ IsErrOf result DiskFault) }
         ensures no_memory { IsErrOf result NoMemory → Becomes D.content self.old self.new }
         ensures no_image { IsErrOf result NoMemory → (c : Files) → Image (D.content self.new.disk) c → Image (D.content self.old.disk) c }
         ensures broken { IsErrOf result DiskFault → self.new.broken ≡ true }
+        ensures tells { (D.content self.new.disk).tells ≡ (D.content self.old.disk).tells }
         ensures control { Lasts (D.control self.old.disk) (D.control self.new.disk) }
         ensures cause { IsErrOf result DiskFault → Rose (D.control self.old.disk).faults (D.control self.new.disk).faults }
     {
@@ -201,10 +222,14 @@ impl<D: Disk> LocalLog<D> {
         ensures ok { OnOk result (Becomes D.content (cut self.old end) self.new) }
         ensures durable { OnOk result ((c : Files) → Image (D.content self.new.disk) c → Opens c (opened_to self.old end)) }
         ensures any_moment { LeavesOnly (D.content self.old.disk) (D.content self.new.disk) (Cutting self.old end) }
+        // Each of these images opens as an image of before does, or as the cut log.
+        ensures opens { LeavesOnly (D.content self.old.disk) (D.content self.new.disk)
+            (OpensAsOr (D.content self.old.disk) (opened_to self.old end)) }
         ensures others { OnErr result (IsErrOf result NoMemory ⊎ IsErrOf result DiskFault) }
         ensures no_memory { IsErrOf result NoMemory → Becomes D.content self.old self.new }
         ensures no_image { IsErrOf result NoMemory → (c : Files) → Image (D.content self.new.disk) c → Image (D.content self.old.disk) c }
         ensures broken { IsErrOf result DiskFault → self.new.broken ≡ true }
+        ensures tells { (D.content self.new.disk).tells ≡ (D.content self.old.disk).tells }
         ensures control { Lasts (D.control self.old.disk) (D.control self.new.disk) }
         ensures cause { IsErrOf result DiskFault → Rose (D.control self.old.disk).faults (D.control self.new.disk).faults }
     {

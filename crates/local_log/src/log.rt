@@ -22,7 +22,7 @@ ghost use Rattle.local_log.specs.Stored.{size_of};
 ghost use Rattle.local_log.specs.Run.{IsRun, is_due, rolled, IsAppended, IsAppendedTo};
 ghost use Rattle.local_log.specs.Taking.{line_or};
 ghost use Rattle.local_log.specs.Coheres.{Coheres};
-ghost use Rattle.local_log.specs.Cutting.{OpensAs};
+ghost use Rattle.local_log.specs.Cutting.{OpensAs, OpensAsOr};
 ghost use Rattle.local_log.specs.Refusing.{IsSoundCause, IsOfManifest};
 ghost use Rattle.local_log.specs.Opening.{IsOpenLog, IsOf, HoldsLast, OpenFails};
 ghost use Rattle.local_log.specs.Cutting.{whole_log};
@@ -377,6 +377,9 @@ impl<D: Disk> LocalLog<D> {
         // A crash at any moment of the call leaves the stable log of before, or all of the log.
         ensures any_moment { LeavesOnly (D.content self.old.disk) (D.content self.new.disk)
             (Committing self.old self.old.line) }
+        // Each of these images opens as an image of before does, or as all of the log.
+        ensures opens { LeavesOnly (D.content self.old.disk) (D.content self.new.disk)
+            (OpensAsOr (D.content self.old.disk) (stable_log (committed self.old self.old.line))) }
 
         ensures no_memory { IsErrOf result NoMemory → Becomes D.content self.old self.new }
         ensures no_image { IsErrOf result NoMemory → (c : Files) → Image (D.content self.new.disk) c → Image (D.content self.old.disk) c }
@@ -401,6 +404,9 @@ impl<D: Disk> LocalLog<D> {
         // A crash at any moment of the call leaves the stable log of before, or all of the log with the epoch.
         ensures any_moment { LeavesOnly (D.content self.old.disk) (D.content self.new.disk)
             (Committing self.old (assign self.old.line epoch self.old.end)) }
+        // Each of these images opens as an image of before does, or as all of the log with the epoch.
+        ensures opens { LeavesOnly (D.content self.old.disk) (D.content self.new.disk)
+            (OpensAsOr (D.content self.old.disk) (stable_log (committed self.old (assign self.old.line epoch self.old.end)))) }
 
         ensures no_memory { IsErrOf result NoMemory → Becomes D.content self.old self.new }
         ensures no_image { IsErrOf result NoMemory → (c : Files) → Image (D.content self.new.disk) c → Image (D.content self.old.disk) c }
@@ -427,6 +433,9 @@ impl<D: Disk> LocalLog<D> {
         // A crash at any moment of the call leaves the stable log of before, or all of the log with this line.
         ensures any_moment { LeavesOnly (D.content self.old.disk) (D.content self.new.disk)
             (Committing self.old line) }
+        // Each of these images opens as an image of before does, or as all of the log with this line.
+        ensures opens { LeavesOnly (D.content self.old.disk) (D.content self.new.disk)
+            (OpensAsOr (D.content self.old.disk) (stable_log (committed self.old line))) }
 
         ensures no_memory { IsErrOf result NoMemory → Becomes D.content self.old self.new }
         ensures no_image { IsErrOf result NoMemory → (c : Files) → Image (D.content self.new.disk) c → Image (D.content self.old.disk) c }

@@ -15,7 +15,7 @@ ghost use Rattle.log_steps.specs.Runs.{Runs};
 ghost use Rattle.local_log.specs.declared.refusal.LogRefusal.TheVariants.{DiskFault, NoMemory};
 ghost use Rattle.local_log.specs.Listing.{manifest_of};
 ghost use Rattle.local_log.specs.Log.{Becomes};
-ghost use Rattle.local_log.specs.Cutting.{names_of, restarted, all_of, OpensEither};
+ghost use Rattle.local_log.specs.Cutting.{names_of, restarted, all_of, OpensEither, OpensAsOr};
 ghost use Rattle.local_log.specs.Renewing.{Renews};
 
 use crate::listing::listing;
@@ -57,11 +57,15 @@ impl<D: Disk> LocalLog<D> {
         // A crash at any moment of the call leaves the stable log of before, or the empty one.
         ensures any_moment { LeavesOnly (D.content self.old.disk) (D.content self.new.disk)
             (OpensEither self.old (restarted self.old start line)) }
+        // Each of these images opens as an image of before does, or as the empty log.
+        ensures opens { LeavesOnly (D.content self.old.disk) (D.content self.new.disk)
+            (OpensAsOr (D.content self.old.disk) (all_of (restarted self.old start line))) }
 
         ensures others { OnErr result (IsErrOf result NoMemory ⊎ IsErrOf result DiskFault) }
         ensures no_memory { IsErrOf result NoMemory → Becomes D.content self.old self.new }
         ensures no_image { IsErrOf result NoMemory → (c : Files) → Image (D.content self.new.disk) c → Image (D.content self.old.disk) c }
         ensures broken { IsErrOf result DiskFault → self.new.broken ≡ true }
+        ensures tells { (D.content self.new.disk).tells ≡ (D.content self.old.disk).tells }
         ensures control { Lasts (D.control self.old.disk) (D.control self.new.disk) }
         ensures cause { IsErrOf result DiskFault → Rose (D.control self.old.disk).faults (D.control self.new.disk).faults }
     {
@@ -87,10 +91,14 @@ impl<D: Disk> LocalLog<D> {
             → Opens c (all_of (restarted self.old active.base line))) }
         ensures any_moment { LeavesOnly (D.content self.old.disk) (D.content self.new.disk)
             (OpensEither self.old (restarted self.old active.base line)) }
+        // Each of these images opens as an image of before does, or as the empty log.
+        ensures opens { LeavesOnly (D.content self.old.disk) (D.content self.new.disk)
+            (OpensAsOr (D.content self.old.disk) (all_of (restarted self.old active.base line))) }
         ensures others { OnErr result (IsErrOf result NoMemory ⊎ IsErrOf result DiskFault) }
         ensures no_memory { IsErrOf result NoMemory → Becomes D.content self.old self.new }
         ensures no_image { IsErrOf result NoMemory → (c : Files) → Image (D.content self.new.disk) c → Image (D.content self.old.disk) c }
         ensures broken { IsErrOf result DiskFault → self.new.broken ≡ true }
+        ensures tells { (D.content self.new.disk).tells ≡ (D.content self.old.disk).tells }
         ensures control { Lasts (D.control self.old.disk) (D.control self.new.disk) }
         ensures cause { IsErrOf result DiskFault → Rose (D.control self.old.disk).faults (D.control self.new.disk).faults }
     {

@@ -13,7 +13,8 @@ use Rattle.log_steps.specs.Fronts.{Each}
 use Rattle.local_log.specs.Listing.{manifest_of}
 use Rattle.local_log.specs.Stored.{end_of}
 use Rattle.local_log.proofs.Refused.{not_broken, breaks}
-use Rattle.local_log.proofs.Committed.{room_has, room_since, room_reopens, commit_since, commit_tells, commit_batches, commit_has, commit_dry, commit_reopens, commit_opens}
+use Rattle.local_log.proofs.Committed.{room_has, room_since, room_reopens, commit_since, commit_as, commit_tells, commit_batches, commit_has, commit_dry, commit_reopens, commit_opens}
+use Rattle.local_log.proofs.Retold.{kept_or}
 use Rattle.local_log.proofs.log.LocalLog.commit.Goals as goal
 
 pub invariant_of-self : goal.invariant_of-self
@@ -48,6 +49,13 @@ returns-in_err-reserve-clause-any_moment g c =
     let has = c.self.invariant.has unbroken in
     rw (← c.self.view_is) (room_since d m laws laws-m s.incarnation s.local_start s.closed.items s.active s.line s.stable has c.reserve.ensures.content c.args.line)
 
+pub returns-in_err-reserve-clause-opens : goal.returns-in_err-reserve-clause-opens
+returns-in_err-reserve-clause-opens g c =
+    let s = c.self.inside in
+    let d = g.D.Disk.content s.disk in
+    let m = g.D.Disk.content c.reserve.new.self in
+    rw (← c.self.view_is) (kept_or d m _ c.reserve.ensures.content)
+
 pub invariant_of-self-in_err-bytes : goal.invariant_of-self-in_err-bytes
 invariant_of-self-in_err-bytes g c =
     let s = c.self.inside in
@@ -79,6 +87,13 @@ returns-in_err-bytes-clause-any_moment g c =
     let unbroken : s.broken ≡ false = ap (λ (l : Log g.row.D.Denot). l.broken) c.self.view_is ∙ c.requires.unbroken in
     let has = c.self.invariant.has unbroken in
     rw (← c.self.view_is) (room_since d m laws laws-m s.incarnation s.local_start s.closed.items s.active s.line s.stable has c.reserve.ensures.content c.args.line)
+
+pub returns-in_err-bytes-clause-opens : goal.returns-in_err-bytes-clause-opens
+returns-in_err-bytes-clause-opens g c =
+    let s = c.self.inside in
+    let d = g.D.Disk.content s.disk in
+    let m = g.D.Disk.content c.reserve.new.self in
+    rw (← c.self.view_is) (kept_or d m _ c.reserve.ensures.content)
 
 pub invariant_of-self-in-Ok-1 : goal.invariant_of-self-in-Ok-1
 invariant_of-self-in-Ok-1 g c =
@@ -201,6 +216,25 @@ returns-in-Ok-clause-any_moment g c =
     let change = subst (λ (b : List ℕ). Publishes (file.Log s.active.base) b (fate_of c.publish.result) m d') bytes_are named in
     rw (← c.self.view_is) (commit_since d m laws laws-m s.incarnation s.local_start s.closed.items s.active s.line s.stable has c.reserve.ensures.content d' laws' c.self.invariant.segments c.self.invariant.opened c.self.invariant.fits c.args.line c.self.invariant.line c.requires.line same_line (fate_of c.publish.result) change)
 
+pub returns-in-Ok-clause-opens : goal.returns-in-Ok-clause-opens
+returns-in-Ok-clause-opens g c =
+    let s = c.self.inside in
+    let d = g.D.Disk.content s.disk in
+    let m = g.D.Disk.content c.reserve.new.self in
+    let laws : Lawful d = g.met.D.Disk.lawful s.disk in
+    let laws-m : Lawful m = g.met.D.Disk.lawful c.reserve.new.self in
+    let unbroken : s.broken ≡ false = ap (λ (l : Log g.row.D.Denot). l.broken) c.self.view_is ∙ c.requires.unbroken in
+    let has = c.self.invariant.has unbroken in
+    let d' = g.D.Disk.content c.publish.new.disk in
+    let laws' : Lawful d' = g.met.D.Disk.lawful c.publish.new.disk in
+    let end_is : end_of s.active ≡ c.args.self.now.end = ap (λ (l : Log g.row.D.Denot). l.end) c.self.view_is in
+    let line_is : s.line ≡ c.args.self.now.line = ap (λ (l : Log g.row.D.Denot). l.line) c.self.view_is in
+    let same_line : cut_end c.args.line (end_of s.active) ≡ cut_end s.line (end_of s.active) = rw (end_is, line_is) c.requires.same in
+    let bytes_are = c.deref-2.ensures.value ∙ c.in_ok-bytes.ensures ∙ ap (λ (l : List Grown). manifest_bytes (manifest_of s.incarnation s.local_start l s.active c.args.line)) c.deref.ensures.value in
+    let named = subst (λ (b : ℕ). Publishes (file.Log b) c.deref-2.result.now (fate_of c.publish.result) m d') c.base.ensures c.publish.ensures.content in
+    let change = subst (λ (b : List ℕ). Publishes (file.Log s.active.base) b (fate_of c.publish.result) m d') bytes_are named in
+    rw (← c.self.view_is) (commit_as d m laws laws-m s.incarnation s.local_start s.closed.items s.active s.line s.stable has c.reserve.ensures.content d' laws' c.self.invariant.segments c.self.invariant.opened c.self.invariant.fits c.args.line c.self.invariant.line c.requires.line same_line (fate_of c.publish.result) change)
+
 pub returns-in-Err-clause-any_moment : goal.returns-in-Err-clause-any_moment
 returns-in-Err-clause-any_moment g c =
     let s = c.self.inside in
@@ -219,6 +253,25 @@ returns-in-Err-clause-any_moment g c =
     let named = subst (λ (b : ℕ). Publishes (file.Log b) c.deref-2.result.now (fate_of c.publish.result) m d') c.base.ensures c.publish.ensures.content in
     let change = subst (λ (b : List ℕ). Publishes (file.Log s.active.base) b (fate_of c.publish.result) m d') bytes_are named in
     rw (← c.self.view_is) (commit_since d m laws laws-m s.incarnation s.local_start s.closed.items s.active s.line s.stable has c.reserve.ensures.content d' laws' c.self.invariant.segments c.self.invariant.opened c.self.invariant.fits c.args.line c.self.invariant.line c.requires.line same_line (fate_of c.publish.result) change)
+
+pub returns-in-Err-clause-opens : goal.returns-in-Err-clause-opens
+returns-in-Err-clause-opens g c =
+    let s = c.self.inside in
+    let d = g.D.Disk.content s.disk in
+    let m = g.D.Disk.content c.reserve.new.self in
+    let laws : Lawful d = g.met.D.Disk.lawful s.disk in
+    let laws-m : Lawful m = g.met.D.Disk.lawful c.reserve.new.self in
+    let unbroken : s.broken ≡ false = ap (λ (l : Log g.row.D.Denot). l.broken) c.self.view_is ∙ c.requires.unbroken in
+    let has = c.self.invariant.has unbroken in
+    let d' = g.D.Disk.content c.publish.new.disk in
+    let laws' : Lawful d' = g.met.D.Disk.lawful c.publish.new.disk in
+    let end_is : end_of s.active ≡ c.args.self.now.end = ap (λ (l : Log g.row.D.Denot). l.end) c.self.view_is in
+    let line_is : s.line ≡ c.args.self.now.line = ap (λ (l : Log g.row.D.Denot). l.line) c.self.view_is in
+    let same_line : cut_end c.args.line (end_of s.active) ≡ cut_end s.line (end_of s.active) = rw (end_is, line_is) c.requires.same in
+    let bytes_are = c.deref-2.ensures.value ∙ c.in_ok-bytes.ensures ∙ ap (λ (l : List Grown). manifest_bytes (manifest_of s.incarnation s.local_start l s.active c.args.line)) c.deref.ensures.value in
+    let named = subst (λ (b : ℕ). Publishes (file.Log b) c.deref-2.result.now (fate_of c.publish.result) m d') c.base.ensures c.publish.ensures.content in
+    let change = subst (λ (b : List ℕ). Publishes (file.Log s.active.base) b (fate_of c.publish.result) m d') bytes_are named in
+    rw (← c.self.view_is) (commit_as d m laws laws-m s.incarnation s.local_start s.closed.items s.active s.line s.stable has c.reserve.ensures.content d' laws' c.self.invariant.segments c.self.invariant.opened c.self.invariant.fits c.args.line c.self.invariant.line c.requires.line same_line (fate_of c.publish.result) change)
 
 pub returns-in-Err-clause-broken : goal.returns-in-Err-clause-broken
 returns-in-Err-clause-broken g c =

@@ -6,6 +6,7 @@ use Rattle.log_steps.proofs.Moments.{leaves_weaker}
 use Rattle.local_log.specs.Log.{Log}
 use Rattle.local_log.specs.Stored.{end_of}
 use Rattle.local_log.proofs.Having.{start_since}
+use Rattle.local_log.proofs.Retold.{start_or}
 use Rattle.local_log.proofs.log.LocalLog.flush.Goals as goal
 
 pub returns-in_err-line-clause-any_moment : goal.returns-in_err-line-clause-any_moment
@@ -15,6 +16,12 @@ returns-in_err-line-clause-any_moment g c =
     let laws : Lawful d = g.met.D.Disk.lawful s.disk in
     let unbroken : s.broken ≡ false = ap (λ (l : Log g.row.D.Denot). l.broken) c.self.view_is ∙ c.requires in
     rw (← c.self.view_is) (leaves_weaker d d _ _ (λ f h. inl h) (start_since d laws s.incarnation s.local_start s.closed.items s.active s.line s.stable (c.self.invariant.has unbroken)))
+
+pub returns-in_err-line-clause-opens : goal.returns-in_err-line-clause-opens
+returns-in_err-line-clause-opens g c =
+    let s = c.self.inside in
+    let d = g.D.Disk.content s.disk in
+    rw (← c.self.view_is) (start_or d _)
 
 pub commit-requires-clause-line : goal.commit-requires-clause-line
 commit-requires-clause-line g c = subst IsLine (sym c.in_ok-line.ensures) c.self.invariant.line

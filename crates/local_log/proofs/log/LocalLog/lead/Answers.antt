@@ -8,6 +8,7 @@ use Rattle.local_log.specs.Log.{Log}
 use Rattle.local_log.specs.Stored.{end_of}
 use Rattle.local_log.proofs.Having.{start_since}
 use Rattle.local_log.proofs.Lines.{cut_assign, within_assign}
+use Rattle.local_log.proofs.Retold.{start_or}
 use Rattle.local_log.proofs.log.LocalLog.lead.Goals as goal
 
 pub returns-in_err-line-clause-any_moment : goal.returns-in_err-line-clause-any_moment
@@ -18,6 +19,12 @@ returns-in_err-line-clause-any_moment g c =
     let unbroken : s.broken ≡ false = ap (λ (l : Log g.row.D.Denot). l.broken) c.self.view_is ∙ c.requires.unbroken in
     rw (← c.self.view_is) (leaves_weaker d d _ _ (λ f h. inl h) (start_since d laws s.incarnation s.local_start s.closed.items s.active s.line s.stable (c.self.invariant.has unbroken)))
 
+pub returns-in_err-line-clause-opens : goal.returns-in_err-line-clause-opens
+returns-in_err-line-clause-opens g c =
+    let s = c.self.inside in
+    let d = g.D.Disk.content s.disk in
+    rw (← c.self.view_is) (start_or d _)
+
 pub returns-in_err-assign-clause-any_moment : goal.returns-in_err-assign-clause-any_moment
 returns-in_err-assign-clause-any_moment g c =
     let s = c.self.inside in
@@ -25,6 +32,12 @@ returns-in_err-assign-clause-any_moment g c =
     let laws : Lawful d = g.met.D.Disk.lawful s.disk in
     let unbroken : s.broken ≡ false = ap (λ (l : Log g.row.D.Denot). l.broken) c.self.view_is ∙ c.requires.unbroken in
     rw (← c.self.view_is) (leaves_weaker d d _ _ (λ f h. inl h) (start_since d laws s.incarnation s.local_start s.closed.items s.active s.line s.stable (c.self.invariant.has unbroken)))
+
+pub returns-in_err-assign-clause-opens : goal.returns-in_err-assign-clause-opens
+returns-in_err-assign-clause-opens g c =
+    let s = c.self.inside in
+    let d = g.D.Disk.content s.disk in
+    rw (← c.self.view_is) (start_or d _)
 
 pub commit-requires-clause-line : goal.commit-requires-clause-line
 commit-requires-clause-line g c =

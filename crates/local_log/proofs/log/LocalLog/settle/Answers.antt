@@ -12,7 +12,7 @@ use Rattle.local_log.specs.Stored.{end_of}
 use Rattle.local_log.specs.Listing.{manifest_of, front_to}
 use Rattle.local_log.specs.Cutting.{closed_by, open_by, cut_point}
 use Rattle.local_log.proofs.Refused.{not_broken}
-use Rattle.local_log.proofs.Settled.{settle_since, settle_reopens, settle_dry, settle_batches, settled_opens, settled_has}
+use Rattle.local_log.proofs.Settled.{settle_since, settle_as, settle_reopens, settle_dry, settle_batches, settled_opens, settled_has}
 use Rattle.local_log.proofs.log.LocalLog.settle.Goals as goal
 
 pub invariant_of-self : goal.invariant_of-self
@@ -137,6 +137,29 @@ returns-in-Ok-clause-any_moment g c =
     let change = subst (λ (b : List ℕ). Publishes (file.Log (open_by n s.closed.items s.active).base) b (fate_of c.publish.result) d d') bytes_are named in
     rw (← c.self.view_is) (settle_since d laws s.incarnation s.local_start s.closed.items s.active s.line s.stable has c.self.invariant.segments c.self.invariant.line n from exact within c.self.invariant.opened c.self.invariant.fits d' laws' (fate_of c.publish.result) change)
 
+pub returns-in-Ok-clause-opens : goal.returns-in-Ok-clause-opens
+returns-in-Ok-clause-opens g c =
+    let s = c.self.inside in
+    let n = c.args.end in
+    let d = g.D.Disk.content s.disk in
+    let d' = g.D.Disk.content c.publish.new.disk in
+    let laws : Lawful d = g.met.D.Disk.lawful s.disk in
+    let laws' : Lawful d' = g.met.D.Disk.lawful c.publish.new.disk in
+    let unbroken : s.broken ≡ false = ap (λ (l : Log g.row.D.Denot). l.broken) c.self.view_is ∙ c.requires.unbroken in
+    let has = c.self.invariant.has unbroken in
+    let from : s.local_start ≤ n = subst (λ (l : Log g.row.D.Denot). l.local_start ≤ n) (sym c.self.view_is) c.requires.from in
+    let within : n ≤ end_of s.active = subst (λ (l : Log g.row.D.Denot). n ≤ l.end) (sym c.self.view_is) c.requires.within in
+    let exact : cut_point n s.closed.items s.active ≡ n = subst (λ (l : Log g.row.D.Denot). cut_point n l.closed l.active ≡ n) (sym c.self.view_is) c.requires.exact in
+    let bytes_are : c.args.bytes.now ≡ manifest_bytes (manifest_of s.incarnation s.local_start (closed_by n s.closed.items) (front_to n (open_by n s.closed.items s.active)) (cut_end s.line n)) =
+    subst (λ (l : Log g.row.D.Denot). c.args.bytes.now ≡ manifest_bytes (manifest_of l.incarnation l.local_start (closed_by n l.closed) (front_to n (open_by n l.closed l.active)) (cut_end l.line n))) (sym c.self.view_is) c.requires.bytes in
+    let base_is : c.open_front-last.result.base ≡ (open_by n s.closed.items s.active).base = ap (λ (e : Extent). e.base) c.open_front-last.ensures ∙ ap (λ (l : List Grown). (open_by n l s.active).base) c.deref.ensures.value in
+    let named = subst (λ (b : ℕ). Publishes (file.Log b) c.args.bytes.now (fate_of c.publish.result) d d') base_is c.publish.ensures.content in
+    let change = subst (λ (b : List ℕ). Publishes (file.Log (open_by n s.closed.items s.active).base) b (fate_of c.publish.result) d d') bytes_are named in
+    rw (← c.self.view_is) (settle_as d laws s.incarnation s.local_start s.closed.items s.active s.line s.stable has c.self.invariant.segments c.self.invariant.line n from exact within c.self.invariant.opened c.self.invariant.fits d' laws' (fate_of c.publish.result) change)
+
+pub returns-in-Ok-clause-tells : goal.returns-in-Ok-clause-tells
+returns-in-Ok-clause-tells g c = rw (← c.self.view_is) c.publish.ensures.content.tells
+
 pub returns-in-Err-clause-any_moment : goal.returns-in-Err-clause-any_moment
 returns-in-Err-clause-any_moment g c =
     let s = c.self.inside in
@@ -156,3 +179,26 @@ returns-in-Err-clause-any_moment g c =
     let named = subst (λ (b : ℕ). Publishes (file.Log b) c.args.bytes.now (fate_of c.publish.result) d d') base_is c.publish.ensures.content in
     let change = subst (λ (b : List ℕ). Publishes (file.Log (open_by n s.closed.items s.active).base) b (fate_of c.publish.result) d d') bytes_are named in
     rw (← c.self.view_is) (settle_since d laws s.incarnation s.local_start s.closed.items s.active s.line s.stable has c.self.invariant.segments c.self.invariant.line n from exact within c.self.invariant.opened c.self.invariant.fits d' laws' (fate_of c.publish.result) change)
+
+pub returns-in-Err-clause-opens : goal.returns-in-Err-clause-opens
+returns-in-Err-clause-opens g c =
+    let s = c.self.inside in
+    let n = c.args.end in
+    let d = g.D.Disk.content s.disk in
+    let d' = g.D.Disk.content c.publish.new.disk in
+    let laws : Lawful d = g.met.D.Disk.lawful s.disk in
+    let laws' : Lawful d' = g.met.D.Disk.lawful c.publish.new.disk in
+    let unbroken : s.broken ≡ false = ap (λ (l : Log g.row.D.Denot). l.broken) c.self.view_is ∙ c.requires.unbroken in
+    let has = c.self.invariant.has unbroken in
+    let from : s.local_start ≤ n = subst (λ (l : Log g.row.D.Denot). l.local_start ≤ n) (sym c.self.view_is) c.requires.from in
+    let within : n ≤ end_of s.active = subst (λ (l : Log g.row.D.Denot). n ≤ l.end) (sym c.self.view_is) c.requires.within in
+    let exact : cut_point n s.closed.items s.active ≡ n = subst (λ (l : Log g.row.D.Denot). cut_point n l.closed l.active ≡ n) (sym c.self.view_is) c.requires.exact in
+    let bytes_are : c.args.bytes.now ≡ manifest_bytes (manifest_of s.incarnation s.local_start (closed_by n s.closed.items) (front_to n (open_by n s.closed.items s.active)) (cut_end s.line n)) =
+    subst (λ (l : Log g.row.D.Denot). c.args.bytes.now ≡ manifest_bytes (manifest_of l.incarnation l.local_start (closed_by n l.closed) (front_to n (open_by n l.closed l.active)) (cut_end l.line n))) (sym c.self.view_is) c.requires.bytes in
+    let base_is : c.open_front-last.result.base ≡ (open_by n s.closed.items s.active).base = ap (λ (e : Extent). e.base) c.open_front-last.ensures ∙ ap (λ (l : List Grown). (open_by n l s.active).base) c.deref.ensures.value in
+    let named = subst (λ (b : ℕ). Publishes (file.Log b) c.args.bytes.now (fate_of c.publish.result) d d') base_is c.publish.ensures.content in
+    let change = subst (λ (b : List ℕ). Publishes (file.Log (open_by n s.closed.items s.active).base) b (fate_of c.publish.result) d d') bytes_are named in
+    rw (← c.self.view_is) (settle_as d laws s.incarnation s.local_start s.closed.items s.active s.line s.stable has c.self.invariant.segments c.self.invariant.line n from exact within c.self.invariant.opened c.self.invariant.fits d' laws' (fate_of c.publish.result) change)
+
+pub returns-in-Err-clause-tells : goal.returns-in-Err-clause-tells
+returns-in-Err-clause-tells g c = rw (← c.self.view_is) c.publish.ensures.content.tells

@@ -127,6 +127,9 @@ returns-in-Ok-clause-any_moment g c =
     let change = subst (λ (l : List Grown). Trims (names_of (behind n l s.active)) (open_by n l s.active).base (size_of (front_to n (open_by n l s.active))) (failing c.trim.result) d d') c.deref.ensures.value c.trim.ensures.content in
     rw (← c.self.view_is) (shed_since d laws s.incarnation s.local_start s.closed.items s.active s.line s.stable has c.self.invariant.segments c.self.invariant.line n from exact within up d' laws' (failing c.trim.result) change)
 
+pub returns-in-Ok-clause-tells : goal.returns-in-Ok-clause-tells
+returns-in-Ok-clause-tells g c = rw (← c.self.view_is) c.trim.ensures.content.tells
+
 pub returns-in-Err-clause-any_moment : goal.returns-in-Err-clause-any_moment
 returns-in-Err-clause-any_moment g c =
     let s = c.self.inside in
@@ -143,3 +146,6 @@ returns-in-Err-clause-any_moment g c =
     let exact : cut_point n s.closed.items s.active ≡ n = subst (λ (l : Log g.row.D.Denot). cut_point n l.closed l.active ≡ n) (sym c.self.view_is) c.requires.exact in
     let change = subst (λ (l : List Grown). Trims (names_of (behind n l s.active)) (open_by n l s.active).base (size_of (front_to n (open_by n l s.active))) (failing c.trim.result) d d') c.deref.ensures.value c.trim.ensures.content in
     rw (← c.self.view_is) (shed_since d laws s.incarnation s.local_start s.closed.items s.active s.line s.stable has c.self.invariant.segments c.self.invariant.line n from exact within up d' laws' (failing c.trim.result) change)
+
+pub returns-in-Err-clause-tells : goal.returns-in-Err-clause-tells
+returns-in-Err-clause-tells g c = rw (← c.self.view_is) c.trim.ensures.content.tells

@@ -1,0 +1,29 @@
+use Rattle.std.proofs.Common.{ap, subst, inl}
+use Rattle.disk_model.specs.Content.{LeavesOnly}
+use Rattle.log_steps.specs.Opens.{Opened}
+use Rattle.log_steps.proofs.Moments.{leaves_then}
+use Rattle.local_log.specs.Log.{Log}
+use Rattle.local_log.specs.Cutting.{Cutting, OpensAsOr, opened_to}
+use Rattle.local_log.proofs.Retold.{kept_moments, kept_opens, or_last}
+use Rattle.local_log.proofs.log.LocalLog.cut_within.Goals as goal
+
+pub returns-clause-any_moment : goal.returns-clause-any_moment
+returns-clause-any_moment g c =
+    let content = g.D.Disk.content in
+    let o = c.args.self.now in
+    let m = c.make_room.new.self in
+    let n = c.cut_listed.new.self in
+    let P = Cutting o c.args.end in
+    leaves_then (content o.disk) (content m.disk) (content n.disk) P
+    (kept_moments (content o.disk) (content m.disk) P c.make_room.ensures.keeps (λ f now. inl (c.stands.ensures c.requires.unbroken f now)))
+    (subst (λ (l : Log g.row.D.Denot). LeavesOnly (content m.disk) (content n.disk) (Cutting l c.args.end)) c.make_room.ensures.same c.cut_listed.ensures.any_moment)
+
+pub returns-clause-opens : goal.returns-clause-opens
+returns-clause-opens g c =
+    let content = g.D.Disk.content in
+    let o = c.args.self.now in
+    let m = c.make_room.new.self in
+    let n = c.cut_listed.new.self in
+    let same = ap (λ (l : Log g.row.D.Denot). opened_to l c.args.end) c.make_room.ensures.same in
+    subst (λ (p : Opened). LeavesOnly (content o.disk) (content n.disk) (OpensAsOr (content o.disk) p)) same
+    (or_last (content o.disk) (content m.disk) (content n.disk) (opened_to m c.args.end) (g.met.D.Disk.lawful m.disk) (kept_opens (content o.disk) (content m.disk) c.make_room.ensures.keeps) c.cut_listed.ensures.opens)
