@@ -1,16 +1,17 @@
 -- How a log is seen after a cut.
 use Rattle.std.proofs.Common.{◌≡◌, ◌∙◌, ap, sym, subst, refl, ℕ, false, List, Some, IsTrue, arith, le-ltb}
-use Rattle.disk_model.specs.Content.{Content, Files, Image}
+use Rattle.disk_model.specs.Content.{Content, Files, Image, Lawful, LeavesOnly}
 use Rattle.log_terms.specs.Log.{up_to, end_from, end_of, IsConsecutive}
 use Rattle.log_terms.proofs.Logs.{up_to_prefix, up_to_is, consecutive_prefix}
 use Rattle.epoch_line.specs.Line.{cut_end}
 use Rattle.log_steps.specs.Opens.{Opens}
 use Rattle.local_log.specs.Log.{Log, Becomes}
 use Rattle.local_log.specs.Coheres.{Coheres}
-use Rattle.local_log.specs.Cutting.{cut, cut_at, cut_point, all_of}
+use Rattle.local_log.specs.Cutting.{cut, cut_at, cut_point, all_of, OpensAsOr}
 use Rattle.local_log.proofs.Pieces.{up_to_all}
-use Rattle.broker_log.specs.Seen.{Seen, Up, returns, ShowsOpen}
-use Rattle.broker_log.specs.Turns.{Cuts, cut_to}
+use Rattle.broker_log.specs.Seen.{Seen, Up, Down, returning, returns, ShowsOpen}
+use Rattle.broker_log.specs.Turns.{Cuts, Breaks, cut_to, torn}
+use Rattle.broker_log.proofs.Breaking.{breaks_by, torn_back, image_or}
 
 -- a log that begins at 0 is cut to one of its ends
 pub cut_from_0 : {D : Type 0} (log : Log D) (end : ℕ) → log.local_start ≡ 0 → cut_at log end ≡ cut log (cut_point end log.closed log.active)
@@ -38,6 +39,16 @@ module _ {D : Type 0} (content : D → Content) (old new : Log D) (start : old.l
 
     pub front_all : up_to (end_of front) front ≡ front
     front_all = up_to_all 0 front (consecutive_prefix 0 front s.batches (up_to_prefix end s.batches) all)
+
+  -- the cut may be done
+  module _ (tells : (content new.disk).tells ≡ (content old.disk).tells) (laws : Lawful (content new.disk)) (opens : LeavesOnly (content old.disk) (content new.disk) (OpensAsOr (content old.disk) (all_of (cut_at old end)))) where
+    made : (s : Seen) → ShowsOpen content old s → all_of (cut_at old end) ≡ returning old.incarnation s (end_of (up_to end s.batches)) (cut_end s.line (end_of (up_to end s.batches)))
+    made s h = ap all_of (cut_from_0 old end start) ∙ rw (sym (point_is s h), start, h.line_is, h.batches_are) refl
+
+    pub cut_breaks : Breaks content (Up old) (Down new.disk) (λ s. torn s (end_of (up_to end s.batches)) (cut_end s.line (end_of (up_to end s.batches))))
+    cut_breaks =
+        breaks_by content old new _ tells
+        (λ s h c now. (old.incarnation, torn_back old.incarnation s (end_of (up_to end s.batches)) (cut_end s.line (end_of (up_to end s.batches))) c (image_or content old new laws (all_of (cut_at old end)) opens s h _ _ (made s h) c now)))
 
   -- the cut is done
   module _ (unbroken : old.broken ≡ false) (becomes : Becomes content (cut_at old end) new) (durable : (c : Files) → Image (content new.disk) c → Opens c (all_of (cut_at old end))) where
@@ -70,6 +81,7 @@ module _ {D : Type 0} (content : D → Content) (old new : Log D) (start : old.l
       line_is = ap (λ (l : List (ℕ × ℕ)). cut_end l (end_of (up_to end s.batches))) h.line_is ∙ ap (cut_end old.line) (sym (point_is s h)) ∙ sym line_now;
       stable_is = sym (point_is s h) ∙ sym stable_now;
       ends = sym (point_is s h) ∙ sym end_now;
+      tight = h.tight;
       images = λ c now. subst (Opens c) (opened s h) (opens c now);
     }
 

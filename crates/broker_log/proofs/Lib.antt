@@ -1,4 +1,5 @@
 pub mod Showing
+pub mod Breaking
 pub mod Placing
 pub mod Cuts
 pub mod Runs

@@ -77,3 +77,7 @@ ended_err (Err e) r' end ok err others = subst (λ (q : Result ℕ LogRefusal). 
 pub ended_dry : {T : Type 0} (r : Result T LogRefusal) (r' : Result ℕ LogRefusal) (end : ℕ) → (IsOk r → r' ≡ Ok end) → IfErr r (λ e. r' ≡ Err e) → IsErrOf r' NoMemory → IsErrOf r NoMemory
 ended_dry (Ok x) r' end ok err dry = absurd (cc (ok refl, dry))
 ended_dry (Err e) r' end ok err dry = cc (err, dry)
+
+pub ended_fault : {T : Type 0} (r : Result T LogRefusal) (r' : Result ℕ LogRefusal) (end : ℕ) → (IsOk r → r' ≡ Ok end) → IfErr r (λ e. r' ≡ Err e) → IsErrOf r' DiskFault → IsErrOf r DiskFault
+ended_fault (Ok x) r' end ok err fault = absurd (cc (ok refl, fault))
+ended_fault (Err e) r' end ok err fault = cc (err, fault)

@@ -56,6 +56,7 @@ module _ {D : Type 0} (content : D → Content) (old new : Log D) where
         line_is = h.line_is ∙ sym (ap (λ (l : Log D). l.line) b.fields);
         stable_is = h.stable_is ∙ sym (ap (λ (l : Log D). l.stable) b.fields);
         ends = h.ends ∙ sym (ap (λ (l : Log D). l.end) b.fields);
+        tight = h.tight;
         images = λ c now. (let was = opens c now in
             subst (λ (i : ℕ). Opens c (returns i s)) (sym (ap (λ (l : Log D). l.incarnation) b.fields)) (was.2 (returns old.incarnation s) (h.images was.0 was.1)));
       },
@@ -80,6 +81,7 @@ module _ {D : Type 0} (content : D → Content) (old new : Log D) where
         line_is = h.line_is ∙ sym (ap (λ (l : Log D). l.line) b.fields);
         stable_is = h.stable_is ∙ sym (ap (λ (l : Log D). l.stable) b.fields);
         ends = h.ends ∙ sym (ap (λ (l : Log D). l.end) b.fields);
+        tight = h.tight;
         images = λ c now. (let was = opens c now in
             subst (λ (i : ℕ). Opens c (returns i s)) (sym (ap (λ (l : Log D). l.incarnation) b.fields)) (was.2 (returns old.incarnation s) (h.images was.0 was.1)));
       },
@@ -110,6 +112,7 @@ module _ {D : Type 0} (content : D → Content) (old new : Log D) where
             line_is = ap (λ (l : List (ℕ × ℕ)). f l (end_of s.batches)) h.line_is ∙ ap (f old.line) h.ends ∙ sym line;
             stable_is = h.ends ∙ sym stable;
             ends = h.ends ∙ sym end;
+            tight = h.tight;
             images = λ c now. subst (Opens c) (opened s h) (durable c now);
           },
           refl,
@@ -193,6 +196,7 @@ module _ {D : Type 0} (content : D → Content) where
           line_is = ap (λ (l : List (ℕ × ℕ)). lined l front) h.line_is ∙ sym new_line;
           stable_is = h.stable_is ∙ sym new_stable;
           ends = end_append 0 s.batches front ∙ ap (λ (n : ℕ). end_from n front) ends ∙ sym new_end;
+          tight = h.tight;
           images = λ f now. (
               let was = image_as (content old.disk) (content new.disk) laws opens f now in
               let o = was.2 (returns old.incarnation s) (h.images was.0 was.1) in

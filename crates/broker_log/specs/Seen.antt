@@ -1,12 +1,14 @@
 -- A broker's log as it is seen: its batches and its line, and what comes back of them after a stop.
 --
+-- A write that failed may have been done or not, so one of two ends comes back after it, each with its line.
+--
 --   form                      says
 --   Shows content kept s      the log, or its disk, is seen so
 --   Goes content old new R    a call makes this of what is seen
 --   Stays content old new     a call leaves what is seen, and the plain facts
 --
 -- Of a disk that doesn't tell nothing is seen. A log that is up also has its end, its stable end and its line.
-use Rattle.std.specs.Prelude.{◌≡◌, ℕ, Bool, true, false, List, Option, Some, None, IsTrue}
+use Rattle.std.specs.Prelude.{◌≡◌, ◌⊎◌, ℕ, Bool, true, false, List, Option, Some, None, IsTrue, IsSomeAnd}
 use Rattle.tier_base.specs.Device.{Control, Lasts}
 use Rattle.tier_base.specs.Counts.{Rose}
 use Rattle.disk_model.specs.Call.{call_code}
@@ -23,6 +25,8 @@ pub record Seen : Type 0 where
   pub stable : ℕ
   -- the line that comes back after a stop
   pub saved : List (ℕ × ℕ)
+  -- after a write that failed: the other end and line that may come back
+  pub loose : Option (ℕ × List (ℕ × ℕ))
 
 -- a log that is open, or its disk while the broker is down
 pub data Kept (D : Type 0) : Type 0 where
@@ -31,9 +35,17 @@ pub data Kept (D : Type 0) : Type 0 where
   -- taken out, in the course of a call alone
   Away : Kept D
 
+-- what is opened where the log comes back up to this end, with this line, opened so many times
+abbrev pub returning : ℕ → Seen → ℕ → List (ℕ × ℕ) → Opened
+returning i s end line = record { incarnation = i; local_start = 0; batches = up_to end s.batches; line = line }
+
 -- what comes back after a stop, opened so many times
 abbrev pub returns : ℕ → Seen → Opened
-returns i s = record { incarnation = i; local_start = 0; batches = up_to s.stable s.batches; line = s.saved }
+returns i s = returning i s s.stable s.saved
+
+-- the files open as what comes back after a stop
+abbrev pub ComesBack : ℕ → Seen → Files → Type 0
+ComesBack i s c = Opens c (returns i s) ⊎ IsSomeAnd s.loose (λ other. Opens c (returning i s other.0 other.1))
 
 -- an open log is seen so
 pub record ShowsOpen {D : Type 0} (content : D → Content) (log : Log D) (s : Seen) : Type 0 where
@@ -44,12 +56,13 @@ pub record ShowsOpen {D : Type 0} (content : D → Content) (log : Log D) (s : S
   pub line_is : s.line ≡ log.line
   pub stable_is : s.stable ≡ log.stable
   pub ends : end_of s.batches ≡ log.end
+  pub tight : s.loose ≡ None
   pub images : (c : Files) → Image (content log.disk) c → Opens c (returns log.incarnation s)
 
 -- a log that is closed is seen so, by its disk
 pub record ShowsClosed {D : Type 0} (content : D → Content) (disk : D) (s : Seen) : Type 0 where
   pub told : IsTrue (content disk).tells
-  pub images : (c : Files) → Image (content disk) c → (i : ℕ) × Opens c (returns i s)
+  pub images : (c : Files) → Image (content disk) c → (i : ℕ) × ComesBack i s c
 
 module _ {D : Type 0} where
   abbrev pub Shows : (D → Content) → Kept D → Seen → Type 0

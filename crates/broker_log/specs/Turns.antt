@@ -1,5 +1,5 @@
 -- What each call makes of a broker's log.
-use Rattle.std.specs.Prelude.{◌≡◌, ◌≢◌, ◌⊎◌, IsTrue, ℕ, ◌+◌, ◌≤◌, List, [], ◌++◌, length, Some, IsOk, false, ◌∷◌, ◌<◌}
+use Rattle.std.specs.Prelude.{◌≡◌, ◌≢◌, ◌⊎◌, IsTrue, ℕ, ◌+◌, ◌≤◌, List, [], ◌++◌, length, Some, None, IsOk, IsSomeAnd, false, ◌∷◌, ◌<◌, nat_lt, if◌then◌else◌}
 use Rattle.tier_base.specs.declared.plain.Stop.{Stop}
 use Rattle.tier_base.specs.declared.plain.Stop.TheVariants.{Mark, Piece, Limit}
 use Rattle.segment_file.specs.Run.{Fits, StopIs as StopsIn}
@@ -32,25 +32,48 @@ led s epoch = settled s (assign s.line epoch (end_of s.batches))
 
 -- the log up to an offset, all of it stable
 abbrev pub cut_to : Seen → ℕ → Seen
-cut_to s end = record {
+cut_to s end = record s {
   batches = up_to end s.batches;
   line = cut_end s.line (end_of (up_to end s.batches));
   stable = end_of (up_to end s.batches);
   saved = cut_end s.line (end_of (up_to end s.batches));
 }
 
--- the log as it comes back
-abbrev pub opened : Seen → Seen
-opened s = record {
-  batches = up_to s.stable s.batches;
-  line = s.saved;
-  stable = end_of (up_to s.stable s.batches);
-  saved = s.saved;
+-- the log as it comes back up to this end, with this line
+abbrev pub opened : Seen → ℕ → List (ℕ × ℕ) → Seen
+opened s end line = record {
+  batches = up_to end s.batches;
+  line = line;
+  stable = end_of (up_to end s.batches);
+  saved = line;
+  loose = None;
 }
+
+-- the log comes back up to this end, with this line
+abbrev pub OpensAt : ℕ → Seen → Seen → ℕ → List (ℕ × ℕ) → Type 0
+OpensAt now s s' end line = (s' ≡ opened s end line) × (now ≡ end_of (up_to end s.batches))
 
 -- the log comes back, and this is its end
 abbrev pub Opens : ℕ → Seen → Seen → Type 0
-Opens end s s' = (s' ≡ opened s) × (end ≡ end_of (up_to s.stable s.batches))
+Opens now s s' = OpensAt now s s' s.stable s.saved ⊎ IsSomeAnd s.loose (λ other. OpensAt now s s' other.0 other.1)
+
+-- a write failed that was to make this end stable, with this line: it may have been done or not
+abbrev pub loosened : Seen → ℕ → List (ℕ × ℕ) → Seen
+loosened s end line = record s { loose = Some (end, line) }
+
+-- a cut failed, to this end, with this line: the smaller end is stable
+abbrev pub torn : Seen → ℕ → List (ℕ × ℕ) → Seen
+torn s end line =
+    if nat_lt end s.stable then record s { stable = end; saved = line; loose = Some (s.stable, s.saved) } else loosened s end line
+
+-- a write failed, and the broker is down
+pub record Breaks {D : Type 0} (content : D → Content) (old new : Kept D) (after : Seen → Seen) : Type 0 where
+  pub down : is_up new ≡ false
+  pub seen : Goes content old new (λ s s'. s' ≡ after s)
+
+-- a write of what isn't stable yet failed
+abbrev pub BreaksUnsaved : {D : Type 0} → (D → Content) → Kept D → Kept D → Type 0
+BreaksUnsaved content old new = Breaks content old new (λ s. loosened s s.stable s.saved)
 
 -- why a broker didn't come up, where the opening tells it
 abbrev pub OfOpening : (OpenRefusal → Type 0) → UpRefusal → Type 0
@@ -97,7 +120,7 @@ pub record Settles {D : Type 0} (content : D → Content) (old new : Kept D) (li
 
 -- the empty log of a disk
 abbrev pub first_seen : Seen
-first_seen = record { batches = []; line = []; stable = 0; saved = [] }
+first_seen = record { batches = []; line = []; stable = 0; saved = []; loose = None }
 
 -- an empty log at 0 that is open
 pub record IsFirst {D : Type 0} (content : D → Content) (disk : D) (new : Kept D) : Type 0 where

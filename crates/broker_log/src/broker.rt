@@ -13,7 +13,7 @@ ghost use Rattle.local_log.specs.Reading.{piece_of, IsCut, RunFails, IsOfDevice}
 ghost use Rattle.local_log.specs.declared.refusal.CreateRefusal.TheVariants as create;
 ghost use Rattle.std.specs.Option.{ForSome};
 ghost use Rattle.log_terms.specs.Batch.{last_of};
-ghost use Rattle.epoch_line.specs.Line.{last_epoch, assign};
+ghost use Rattle.epoch_line.specs.Line.{last_epoch, assign, cut_end};
 ghost use Rattle.local_log.specs.Stored.{size_of};
 ghost use Rattle.local_log.specs.Run.{IsRun, is_due};
 ghost use Rattle.local_log.specs.declared.refusal.LogRefusal.TheVariants.{LastOffset, TooManySegments, EmptySegment, DiskFault, NoMemory};
@@ -22,7 +22,7 @@ ghost use Rattle.local_log.specs.Opening.{OpenFails, HoldsLast};
 ghost use Rattle.local_log.specs.declared.refusal.OpenRefusal.TheVariants as opening;
 ghost use Rattle.broker_log.specs.declared.refusal.UpRefusal.TheVariants.{Open};
 ghost use Rattle.broker_log.specs.Seen.{Seen, Shows, Goes, Stays, WhileUp, OnDisk, Lasting, Faulted, is_up, end_in, stable_in, line_in};
-ghost use Rattle.broker_log.specs.Turns.{IsFirst, OfOpening, IsNotLate, IsUnread, Appends, Settles, Cuts, IsEndUpTo, IsRunAt, IsRunIn, Stops, ComesUp};
+ghost use Rattle.broker_log.specs.Turns.{IsFirst, OfOpening, IsNotLate, IsUnread, Appends, Settles, Cuts, Breaks, BreaksUnsaved, loosened, torn, IsEndUpTo, IsRunAt, IsRunIn, Stops, ComesUp};
 
 use crate::opening::open_whole;
 use crate::place::{Place, is_fault, placed, taken, taken_disk};
@@ -155,7 +155,7 @@ impl<D: Disk> BrokerLog<D> {
         ensures ok { IfOk result (λ end. Settles D.content self.old self.new (λ line _. line) end) }
         ensures refused { OnErr result (IsErrOf result NoMemory ⊎ IsErrOf result DiskFault) }
         ensures no_memory { IsErrOf result NoMemory → Stays D.content self.old self.new }
-        ensures fault { IsErrOf result DiskFault → is_up self.new ≡ false }
+        ensures fault { IsErrOf result DiskFault → Breaks D.content self.old self.new (λ s. loosened s (end_of s.batches) s.line) }
         ensures control { Lasting D.control self.old self.new }
         ensures cause { IsErrOf result DiskFault → Faulted D.control self.old self.new }
     {
@@ -180,7 +180,7 @@ impl<D: Disk> BrokerLog<D> {
         ensures refused { OnErr result ((IsErrOf result LastOffset ⊎ IsErrOf result TooManySegments)
             ⊎ (IsErrOf result NoMemory ⊎ IsErrOf result DiskFault)) }
         ensures no_memory { IsErrOf result NoMemory → Stays D.content self.old self.new }
-        ensures fault { IsErrOf result DiskFault → is_up self.new ≡ false }
+        ensures fault { IsErrOf result DiskFault → BreaksUnsaved D.content self.old self.new }
         ensures control { Lasting D.control self.old self.new }
         ensures cause { IsErrOf result DiskFault → Faulted D.control self.old self.new }
     {
@@ -198,7 +198,8 @@ impl<D: Disk> BrokerLog<D> {
         ensures ok { IfOk result (λ end. Settles D.content self.old self.new (λ line end. assign line epoch end) end) }
         ensures refused { OnErr result (IsErrOf result NoMemory ⊎ IsErrOf result DiskFault) }
         ensures no_memory { IsErrOf result NoMemory → Stays D.content self.old self.new }
-        ensures fault { IsErrOf result DiskFault → is_up self.new ≡ false }
+        ensures fault { IsErrOf result DiskFault → Breaks D.content self.old self.new
+            (λ s. loosened s (end_of s.batches) (assign s.line epoch (end_of s.batches))) }
         ensures control { Lasting D.control self.old self.new }
         ensures cause { IsErrOf result DiskFault → Faulted D.control self.old self.new }
     {
@@ -223,7 +224,7 @@ impl<D: Disk> BrokerLog<D> {
         ensures refused { OnErr result ((IsErrOf result EmptySegment ⊎ IsErrOf result TooManySegments)
             ⊎ (IsErrOf result NoMemory ⊎ IsErrOf result DiskFault)) }
         ensures no_memory { IsErrOf result NoMemory → Stays D.content self.old self.new }
-        ensures fault { IsErrOf result DiskFault → is_up self.new ≡ false }
+        ensures fault { IsErrOf result DiskFault → BreaksUnsaved D.content self.old self.new }
         ensures control { Lasting D.control self.old self.new }
         ensures cause { IsErrOf result DiskFault → Faulted D.control self.old self.new }
     {
@@ -239,7 +240,8 @@ impl<D: Disk> BrokerLog<D> {
         ensures ok { IfOk result (λ now. Cuts D.content self.old self.new end now) }
         ensures refused { OnErr result (IsErrOf result NoMemory ⊎ IsErrOf result DiskFault) }
         ensures no_memory { IsErrOf result NoMemory → Stays D.content self.old self.new }
-        ensures fault { IsErrOf result DiskFault → is_up self.new ≡ false }
+        ensures fault { IsErrOf result DiskFault → Breaks D.content self.old self.new
+            (λ s. torn s (end_of (up_to end s.batches)) (cut_end s.line (end_of (up_to end s.batches)))) }
         ensures control { Lasting D.control self.old self.new }
         ensures cause { IsErrOf result DiskFault → Faulted D.control self.old self.new }
     {

@@ -2,7 +2,7 @@
 //!
 //! Above it nobody sees segments, manifests or images: the clauses speak of the log as it is seen, by its batches, its line,
 //! how far it is stable, and the line that comes back after a stop. A fault of the disk closes the log, since a write may
-//! then have been done or not; opening it again finds what is stable.
+//! then have been done or not; opening it again finds what was stable, or what the write was to make stable.
 #![tactic(auto)]
 
 mod broker;

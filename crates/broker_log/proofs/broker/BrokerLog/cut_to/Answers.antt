@@ -1,8 +1,8 @@
 use Rattle.std.proofs.Common.{◌≡◌, ◌∙◌, ap, sym}
 use Rattle.local_log.specs.Log.{Log}
 use Rattle.broker_log.specs.Seen.{Up}
-use Rattle.broker_log.proofs.Placing.{dry_open, ended_ok, ended_err, ended_dry, well_up, place_well, whole_on}
-use Rattle.broker_log.proofs.Cuts.{cuts_by, cut_whole}
+use Rattle.broker_log.proofs.Placing.{dry_open, ended_ok, ended_err, ended_dry, ended_fault, well_up, place_well, whole_on}
+use Rattle.broker_log.proofs.Cuts.{cuts_by, cut_breaks, cut_whole}
 use Rattle.broker_log.proofs.Showing.{stays_by}
 use Rattle.broker_log.proofs.broker.BrokerLog.cut_to.Goals as goal
 
@@ -48,3 +48,16 @@ returns-clause-no_memory g c =
     let dry = ended_dry r c.ended.result c.end-now.result c.ended.ensures.ok c.ended.ensures.err dried in
     let clear = dry_open r c.is_fault.result c.is_fault.ensures dry in
     rw (now_is, c.placed.ensures.up clear) (stays_by content o n (c.cut_to-outcome.ensures.no_memory dry) (λ f now. (f, c.cut_to-outcome.ensures.no_image dry f now, λ p opens. opens)))
+
+pub returns-clause-fault : goal.returns-clause-fault
+returns-clause-fault g c =
+    let content = g.D.Disk.content in
+    let o = c.taken-log.result in
+    let n = c.cut_to-outcome.new.self in
+    let r = c.cut_to-outcome.result in
+    let well = well_up content c.self.inside.place o c.taken-log.ensures c.self.invariant.placed in
+    let now_is : c.args.self.now ≡ Up o = sym c.self.view_is ∙ c.taken-log.ensures in
+    λ failed.
+    let fault = ended_fault r c.ended.result c.end-now.result c.ended.ensures.ok c.ended.ensures.err failed in
+    rw (now_is, c.placed.ensures.down (c.is_fault.ensures.1 fault))
+    (cut_breaks content o n well.1 c.args.end (c.coheres.ensures well.0) c.cut_to-outcome.ensures.tells (g.met.D.Disk.lawful n.disk) c.cut_to-outcome.ensures.opens)

@@ -3,6 +3,7 @@ use Rattle.epoch_line.specs.Line.{assign}
 use Rattle.broker_log.specs.Seen.{Up}
 use Rattle.broker_log.proofs.Placing.{ok_open, ok_told, well_up}
 use Rattle.broker_log.proofs.Showing.{settles_by, assigned_within}
+use Rattle.broker_log.proofs.Breaking.{breaks_settling}
 use Rattle.broker_log.proofs.broker.BrokerLog.lead.Goals as goal
 
 pub returns-clause-ok : goal.returns-clause-ok
@@ -17,3 +18,14 @@ returns-clause-ok g c =
     rw (now_is, c.placed.ensures.up clear) (ok_told _ _ r
     (λ end is ok durable. rw is (settles_by content o n (λ line k. assign line c.args.epoch k) well.1 well.0 (λ t. assigned_within o.line c.args.epoch o.end) ok durable))
     c.lead-outcome.ensures.end c.lead-outcome.ensures.ok c.lead-outcome.ensures.durable))
+
+pub returns-clause-fault : goal.returns-clause-fault
+returns-clause-fault g c =
+    let content = g.D.Disk.content in
+    let o = c.taken-log.result in
+    let n = c.lead-outcome.new.self in
+    let well = well_up content c.self.inside.place o c.taken-log.ensures c.self.invariant.placed in
+    let now_is : c.args.self.now ≡ Up o = sym c.self.view_is ∙ c.taken-log.ensures in
+    λ fault.
+    rw (now_is, c.placed.ensures.down (c.is_fault.ensures.1 fault))
+    (breaks_settling content o n (g.met.D.Disk.lawful n.disk) (λ line k. assign line c.args.epoch k) well.1 (λ t. assigned_within o.line c.args.epoch o.end) (c.lead-outcome.ensures.broken fault).tells c.lead-outcome.ensures.opens)

@@ -2,6 +2,7 @@ use Rattle.std.proofs.Common.{◌≡◌, ◌∙◌, sym}
 use Rattle.broker_log.specs.Seen.{Up}
 use Rattle.broker_log.proofs.Placing.{on_open, dry_open, on_told}
 use Rattle.broker_log.proofs.Showing.{stays_by, rolled_stays, image_as}
+use Rattle.broker_log.proofs.Breaking.{breaks_unsaved}
 use Rattle.broker_log.proofs.broker.BrokerLog.roll.Goals as goal
 
 pub returns-clause-ok : goal.returns-clause-ok
@@ -26,3 +27,13 @@ returns-clause-no_memory g c =
     λ dry.
     let clear = dry_open r c.is_fault.result c.is_fault.ensures dry in
     rw (now_is, c.placed.ensures.up clear) (stays_by content o n (c.roll-outcome.ensures.no_memory dry) (image_as (content o.disk) (content n.disk) (g.met.D.Disk.lawful n.disk) c.roll-outcome.ensures.opens))
+
+pub returns-clause-fault : goal.returns-clause-fault
+returns-clause-fault g c =
+    let content = g.D.Disk.content in
+    let o = c.taken-log.result in
+    let n = c.roll-outcome.new.self in
+    let now_is : c.args.self.now ≡ Up o = sym c.self.view_is ∙ c.taken-log.ensures in
+    λ fault.
+    rw (now_is, c.placed.ensures.down (c.is_fault.ensures.1 fault))
+    (breaks_unsaved content o n (g.met.D.Disk.lawful n.disk) (c.roll-outcome.ensures.broken fault).tells c.roll-outcome.ensures.opens)
