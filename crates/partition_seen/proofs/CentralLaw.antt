@@ -45,7 +45,7 @@ record StepsTo (w : Whole) (a : ℕ) (turned : Turned) (w' : Whole) (p : State) 
   actor : Actor
   step_is : step p t.order (record { actor = t.list.actor; number = t.seat.number; event = event_of turned }) ≡ Some state
   held : HeldStands w'.held state
-  lines : PlainSafe state → LinesStand w'.held state.paths
+  lines : PlainSafe state → LinesStand w'.held state.paths state.broken
   actors : state.actors ≡ put_actor p.actors t.list.actor.0 actor
   wide : Wider p.paths state.paths
   seat : SeatStands state t.list (seat_after t.seat turned)
@@ -100,7 +100,7 @@ begin_to w a g w' p t x s st at row =
         registry = st.held.registry ∙ ap (λ (h : Held). h.registry) (sym k.starts.same);
         brokers = set-same p.brokers b (broker_of x) bx ∙ (st.held.brokers ∙ ap (λ (h : Held). map broker_of h.nodes) (sym k.starts.same));
       };
-      lines = λ safe. subst (λ (h : Held). LinesStand h p.paths) (sym k.starts.same) st.lines;
+      lines = λ safe. subst (λ (h : Held). LinesStand h p.paths p.broken) (sym k.starts.same) st.lines;
       actors = refl;
       wide = wider_self p.paths;
       seat = begun_seat (with_actor n y (put_broker p b (broker_of x))) t.list t.seat t.order k.limit g (actor_put p.actors n y) t.next k.is k.starts.run;

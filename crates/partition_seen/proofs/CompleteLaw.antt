@@ -1,6 +1,6 @@
 -- A fresh world has the central fact, and at the end it says that the run is complete.
 use Rattle.std.proofs.Common.{◌≡◌, ◌≢◌, inl, inr, ◌∙◌, sym, ap, subst, refl, ℕ, zero, suc, ◌-◌, ◌≤◌, List, [], ◌∷◌, length, slice_get, Some, None, Option, true, arith}
-use Rattle.std.specs.Prelude.{map, replicate, is_some}
+use Rattle.std.specs.Prelude.{map, replicate}
 use Rattle.std.proofs.lemmas.List.Elements.{All-from_recursion}
 use Rattle.log_terms.proofs.Lists.{look, within}
 use Rattle.tier_base.specs.declared.names.PartitionId.{PartitionId}
@@ -15,7 +15,7 @@ use Rattle.plain_log.specs.declared.state.Noted.{Noted}
 use Rattle.plain_log.specs.declared.state.Path.{Path}
 use Rattle.plain_log.specs.declared.state.Role.TheVariants.{Leads, Joined}
 use Rattle.plain_log.specs.declared.state.State.{State}
-use Rattle.plain_log.specs.State.{followed, path_of, actor_at}
+use Rattle.plain_log.specs.State.{followed, actor_at}
 use Rattle.plain_log.specs.Orders.{AreListsFor, AreRising, IsConfig}
 use Rattle.plain_log.specs.Runs.{orders_of, replay, answered, numbers_from}
 use Rattle.plain_log.specs.Fresh.{fresh, fresh_broker}
@@ -25,7 +25,7 @@ use Rattle.partition_seen.specs.Seen.{Node, Held}
 use Rattle.partition_seen.specs.declared.seat.Seat.{Seat}
 use Rattle.partition_seen.specs.Held.{broker_of}
 use Rattle.partition_seen.specs.Whole.{Whole}
-use Rattle.partition_seen.specs.Central.{LineStands, LeaderStands, LinesStand, SeatStands, IsCentral}
+use Rattle.partition_seen.specs.Central.{was_taken, LineStands, LeaderStands, LinesStand, SeatStands, IsCentral}
 use Rattle.partition_seen.specs.Fresh.{fresh_node, fresh_held, fresh_seat, IsFresh}
 use Rattle.partition_seen.specs.Sound.{NodeSound}
 use Rattle.partition_seen.specs.Turn.{IsAtEnd}
@@ -53,28 +53,30 @@ abbrev fresh_paths : List Path
 fresh_paths = record { epoch = 0; log = [] } ∷ []
 
 -- a node of a fresh world, by its place
-fresh_line : (n : ℕ) → 1 ≤ n → (b : ℕ) (x : Node) → slice_get (fresh_held n).nodes b ≡ Some x → LineStands fresh_paths x
+fresh_line : (n : ℕ) → 1 ≤ n → (b : ℕ) (x : Node) → slice_get (fresh_held n).nodes b ≡ Some x → LineStands fresh_paths [] x
 fresh_line n some zero x at =
     let is : fresh_node (Leads 0) ((0, 0) ∷ []) ≡ x = cc in
-    subst (LineStands fresh_paths) is (record {
+    subst (LineStands fresh_paths []) is (record {
       sound = subst (λ (y : Node). NodeSound y) (sym is) ((fresh_sound n some).nodes 0 x at);
-      paths_are = All-from_recursion (λ (entry : ℕ × ℕ). is_some (path_of fresh_paths entry.0) ≡ true) ((0, 0) ∷ []) (refl, tt);
-      saved_are = All-from_recursion (λ (entry : ℕ × ℕ). is_some (path_of fresh_paths entry.0) ≡ true) ((0, 0) ∷ []) (refl, tt);
+      paths_are = All-from_recursion (λ (entry : ℕ × ℕ). was_taken fresh_paths [] entry.0 ≡ true) ((0, 0) ∷ []) (refl, tt);
+      saved_are = All-from_recursion (λ (entry : ℕ × ℕ). was_taken fresh_paths [] entry.0 ≡ true) ((0, 0) ∷ []) (refl, tt);
+      back_are = λ back b. absurd cc;
       joined = λ e j. absurd cc;
     })
 fresh_line n some (suc b) x at =
     let is : fresh_node (Joined 0) [] ≡ x = replicated (n - 1) (fresh_node (Joined 0) []) b x at in
-    subst (LineStands fresh_paths) is (record {
+    subst (LineStands fresh_paths []) is (record {
       sound = subst (λ (y : Node). NodeSound y) (sym is) ((fresh_sound n some).nodes (suc b) x at);
-      paths_are = All-from_recursion (λ (entry : ℕ × ℕ). is_some (path_of fresh_paths entry.0) ≡ true) [] tt;
-      saved_are = All-from_recursion (λ (entry : ℕ × ℕ). is_some (path_of fresh_paths entry.0) ≡ true) [] tt;
+      paths_are = All-from_recursion (λ (entry : ℕ × ℕ). was_taken fresh_paths [] entry.0 ≡ true) [] tt;
+      saved_are = All-from_recursion (λ (entry : ℕ × ℕ). was_taken fresh_paths [] entry.0 ≡ true) [] tt;
+      back_are = λ back b. absurd cc;
       joined = λ e j. refl;
     })
 
-fresh_lines : (n : ℕ) → 1 ≤ n → LinesStand (fresh_held n) fresh_paths
+fresh_lines : (n : ℕ) → 1 ≤ n → LinesStand (fresh_held n) fresh_paths []
 fresh_lines n some = record {
   each = fresh_line n some;
-  leader = λ x at has. (let is : fresh_node (Leads 0) ((0, 0) ∷ []) ≡ x = cc in subst (λ (y : Node). LeaderStands fresh_paths 0 y) is (λ h. (0, refl, refl, omega arith)) has);
+  leader = λ x at has. (let is : fresh_node (Leads 0) ((0, 0) ∷ []) ≡ x = cc in subst (λ (y : Node). LeaderStands fresh_paths 0 y) is (λ h. (0, refl, refl, omega arith, λ back b. absurd cc)) has);
   followers = λ b x at f. other b x at f;
 }
   where
@@ -106,7 +108,7 @@ fresh_central partition config lists w fits fit f =
           brokers = ap (λ (l : List Broker). fresh_broker (Leads 0) ∷ l) (sym (map_replicate broker_of (n - 1) (fresh_node (Joined 0) [])))
               ∙ ap (λ (h : Held). map broker_of h.nodes) (sym f.held);
         };
-        lines = subst (λ (h : Held). LinesStand h fresh_paths) (sym f.held) (fresh_lines n fits.some);
+        lines = subst (λ (h : Held). LinesStand h fresh_paths []) (sym f.held) (fresh_lines n fits.some);
         desk = λ place l seat ll ss.
             seat_stands (fresh config) l seat refl (replicated (length lists) fresh_seat place seat (ap (λ (k : List Seat). slice_get k place) (sym f.desk) ∙ ss));
         rising = subst AreRising (sym f.lists_are) fit.rising;

@@ -30,13 +30,13 @@ left_as p o r is = rw is refl
 
 -- what a row of the registry leaves
 calls : (h : Held) (p q : State) (b : ℕ) (x : Node) (s : Replica) (command : Command) (answer : Answer) (h' : Held) (f : Registry → Option Registry) → Standing h p b x s
-    → q.registry ≡ p.registry → q.brokers ≡ p.brokers → q.actors ≡ p.actors → q.paths ≡ p.paths
+    → q.registry ≡ p.registry → q.brokers ≡ p.brokers → q.actors ≡ p.actors → q.paths ≡ p.paths → q.broken ≡ p.broken
     → row p b (broker_of x) s None command answer ≡ left_by q (f p.registry) → ((r : Registry) → f h.registry ≡ Some r → Moves h.registry r)
     → Leaves h (f h.registry) h' → Allowed p b x s None command answer h'
-calls h p q b x s command answer h' f st registry brokers actors paths to moves w =
+calls h p q b x s command answer h' f st registry brokers actors paths broken to moves w =
     let r = some_of _ (f h.registry) w in
     let is : f p.registry ≡ Some r.0 = ap f st.held.registry ∙ r.1 in
-    leaves h p (set_registry q r.0) b x s r.0 None command answer h' st (to ∙ left_as q (f p.registry) r.0 is) refl brokers actors paths (moves r.0 r.1) r.2
+    leaves h p (set_registry q r.0) b x s r.0 None command answer h' st (to ∙ left_as q (f p.registry) r.0 is) refl brokers actors paths broken (moves r.0 r.1) r.2
 
 -- the registry's replica is the plain log's
 pub replica_is : (h : Held) (p : State) (b : ℕ) (x : Node) (s t : Replica) → Standing h p b x s → slice_get h.registry.replicas b ≡ Some t → t ≡ s
@@ -50,7 +50,7 @@ elect_by : (h : Held) (p : State) (b : ℕ) (x : Node) (s : Replica) (answer : A
 elect_by h p b x s answer result h' st to w =
     let t = some_of _ (slice_get h.registry.replicas b) w in
     let same = replica_is h p b x s t.0 st t.1 in
-    calls h p p b x s Elect answer h' (λ (r : Registry). after_elect r b s x.up result) st refl refl refl refl to
+    calls h p p b x s Elect answer h' (λ (r : Registry). after_elect r b s x.up result) st refl refl refl refl refl to
     (λ r e. elect_moves h.registry b s x.up result r e) (subst (λ (k : Replica). Leaves h (after_elect h.registry b k x.up result) h') same t.2)
 
 pub elect_allowed : (h : Held) (p : State) (b : ℕ) (x : Node) (s : Replica) (answer : Answer) (h' : Held) → Standing h p b x s → ElectRow h b x answer h' → Allowed p b x s None Elect answer h'
@@ -64,16 +64,16 @@ elect_allowed h p b x s other h' st w = elim w [ ]
 
 pub unclean_allowed : (h : Held) (p : State) (b : ℕ) (x : Node) (s : Replica) (answer : Answer) (h' : Held) → Standing h p b x s → UncleanRow h b x answer h' → Allowed p b x s None Unclean answer h'
 unclean_allowed h p b x s LastEpoch h' st w =
-    calls h p p b x s Unclean LastEpoch h' (λ (r : Registry). after_unclean r b x.up x.stable (Err Reg.LastEpoch)) st refl refl refl refl refl
+    calls h p p b x s Unclean LastEpoch h' (λ (r : Registry). after_unclean r b x.up x.stable (Err Reg.LastEpoch)) st refl refl refl refl refl refl
     (λ r e. unclean_moves h.registry b x.up x.stable (Err Reg.LastEpoch) r e) w
 unclean_allowed h p b x s DownBroker h' st w =
-    calls h p p b x s Unclean DownBroker h' (λ (r : Registry). after_unclean r b x.up x.stable (Err Reg.DownBroker)) st refl refl refl refl refl
+    calls h p p b x s Unclean DownBroker h' (λ (r : Registry). after_unclean r b x.up x.stable (Err Reg.DownBroker)) st refl refl refl refl refl refl
     (λ r e. unclean_moves h.registry b x.up x.stable (Err Reg.DownBroker) r e) w
 unclean_allowed h p b x s (BehindStart end start) h' st w =
-    calls h p p b x s Unclean (BehindStart end start) h' (λ (r : Registry). after_unclean r b x.up x.stable (Err (Reg.BehindStart end start))) st refl refl refl refl refl
+    calls h p p b x s Unclean (BehindStart end start) h' (λ (r : Registry). after_unclean r b x.up x.stable (Err (Reg.BehindStart end start))) st refl refl refl refl refl refl
     (λ r e. unclean_moves h.registry b x.up x.stable (Err (Reg.BehindStart end start)) r e) w
 unclean_allowed h p b x s (OkAt n) h' st w =
-    calls h p (restarted p (broker_of x)) b x s Unclean (OkAt n) h' (λ (r : Registry). after_unclean r b x.up x.stable (Done n)) st refl refl refl refl refl
+    calls h p (restarted p (broker_of x)) b x s Unclean (OkAt n) h' (λ (r : Registry). after_unclean r b x.up x.stable (Done n)) st refl refl refl refl refl refl
     (λ r e. unclean_moves h.registry b x.up x.stable (Done n) r e) w
 unclean_allowed h p b x s other h' st w = elim w [ ]
 
@@ -85,7 +85,7 @@ shrink_by : (h : Held) (p : State) (b : ℕ) (x : Node) (s : Replica) (answer : 
 shrink_by h p b x s answer result h' st to w =
     let t = some_of _ (slice_get h.registry.replicas b) w in
     let same = replica_is h p b x s t.0 st t.1 in
-    calls h p p b x s Shrink answer h' (λ (r : Registry). after_shrink r b s result) st refl refl refl refl to
+    calls h p p b x s Shrink answer h' (λ (r : Registry). after_shrink r b s result) st refl refl refl refl refl to
     (λ r e. shrink_moves h.registry b s result r e) (subst (λ (k : Replica). Leaves h (after_shrink h.registry b k result) h') same t.2)
 
 pub shrink_allowed : (h : Held) (p : State) (b : ℕ) (x : Node) (s : Replica) (answer : Answer) (h' : Held) → Standing h p b x s → ShrinkRow h b answer h' → Allowed p b x s None Shrink answer h'
@@ -100,7 +100,7 @@ expand_by : (h : Held) (p : State) (b : ℕ) (x : Node) (s : Replica) (answer : 
 expand_by h p b x s answer result h' st to w =
     let t = some_of _ (slice_get h.registry.replicas b) w in
     let same = replica_is h p b x s t.0 st t.1 in
-    calls h p p b x s Expand answer h' (λ (r : Registry). after_expand r b s x.up result) st refl refl refl refl to
+    calls h p p b x s Expand answer h' (λ (r : Registry). after_expand r b s x.up result) st refl refl refl refl refl to
     (λ r e. expand_moves h.registry b s x.up result r e) (subst (λ (k : Replica). Leaves h (after_expand h.registry b k x.up result) h') same t.2)
 
 pub expand_allowed : (h : Held) (p : State) (b : ℕ) (x : Node) (s : Replica) (answer : Answer) (h' : Held) → Standing h p b x s → ExpandRow h b x answer h' → Allowed p b x s None Expand answer h'
@@ -118,7 +118,7 @@ raise_by : (h : Held) (p : State) (b : ℕ) (x : Node) (s : Replica) (wanted : �
     → row p b (broker_of x) s None (Raise wanted) answer ≡ raised_by p (broker_of x) wanted result
     → (x.up ≡ true) × ((e : ℕ) × (x.role ≡ LeadsIn e) × Leaves h (after_raise h.registry e wanted result) h') → Allowed p b x s None (Raise wanted) answer h'
 raise_by h p b x s wanted answer result h' st to w =
-    calls h p p b x s (Raise wanted) answer h' (λ (r : Registry). after_raise r w.1.0 wanted result) st refl refl refl refl
+    calls h p p b x s (Raise wanted) answer h' (λ (r : Registry). after_raise r w.1.0 wanted result) st refl refl refl refl refl
     (to ∙ raised_as p (broker_of x) wanted w.1.0 result w.0 w.1.1) (λ r e. raise_moves h.registry w.1.0 wanted result r e) w.1.2
 
 pub raise_allowed : (h : Held) (p : State) (b : ℕ) (x : Node) (s : Replica) (wanted : ℕ) (answer : Answer) (h' : Held) → Standing h p b x s → RaiseRow h b x wanted answer h'

@@ -14,14 +14,14 @@ use Rattle.registry.specs.declared.registry.Replica.{Replica}
 use Rattle.registry.specs.declared.registry.Registry.{Registry}
 use Rattle.registry.specs.Registry.{epoch_limit}
 use Rattle.plain_log.specs.declared.answer.Answer.{Answer}
-use Rattle.plain_log.specs.declared.answer.Answer.TheVariants.{StaleEpoch, Stopped, Passed, TooManySegments, Copied}
+use Rattle.plain_log.specs.declared.answer.Answer.TheVariants.{StaleEpoch, Stopped, Passed, TooManySegments, DiskFault, Copied}
 use Rattle.plain_log.specs.declared.command.Command.TheVariants.{Follow}
 use Rattle.plain_log.specs.declared.command.Order.{Order}
 use Rattle.plain_log.specs.declared.state.State.{State}
 use Rattle.plain_log.specs.declared.state.Broker.{Broker}
 use Rattle.plain_log.specs.declared.state.Role.{Role}
 use Rattle.plain_log.specs.declared.state.Role.TheVariants.{Joined}
-use Rattle.plain_log.specs.State.{path_of, put_broker, followed, joined}
+use Rattle.plain_log.specs.State.{path_of, put_broker, breaks, followed, joined}
 use Rattle.plain_log.specs.Ends.{is_end}
 use Rattle.plain_log.specs.Fetch.{is_within}
 use Rattle.plain_log.specs.RowsOfFollowers.{goes_on, extended as extended_broker, copied}
@@ -39,8 +39,9 @@ use Rattle.partition_seen.proofs.Lines.{consecutive_back, line_last}
 use Rattle.partition_seen.proofs.Meets.{last_batch}
 use Rattle.partition_seen.proofs.BoolTests.{some_of, and_true, not_false, when_true, eq_same, eq_differs, le_true, lt_true}
 use Rattle.partition_seen.proofs.Parts.{joined_append}
-use Rattle.partition_seen.proofs.NodeLaw.{node_extended}
-use Rattle.partition_seen.proofs.Standing.{Standing, Allowed, silent, put, broker_at, wider_self, line_paths}
+use Rattle.partition_seen.proofs.NodeLaw.{joined_up, node_extended}
+use Rattle.partition_seen.proofs.Standing.{Standing, Allowed, silent, put, broker_at, wider_self, keeps_self, line_taken}
+use Rattle.partition_seen.proofs.BreakRows.{stable_breaks}
 use Rattle.partition_seen.proofs.FollowRows.{stale_true, stale_false, IsNow, now, epoch_same}
 
 -- what holds of a follow that has begun
@@ -198,10 +199,12 @@ copy_on h p b x s limit order g n e h' st k on can first w =
       brokers = ap (λ (w : List (List ℕ)). slice_set p.brokers b (record bx { log = w })) up;
       actors = refl;
       paths = wider_self p.paths;
+      broken = keeps_self p.broken;
       keys = λ other has. has;
       sound = node.0;
-      paths_are = λ safe. line_paths p.paths (extended x w.front e).log.line more node.1 (log_prefix p.paths more o.path begins log);
+      paths_are = λ safe. line_taken p.paths p.broken (extended x w.front e).log.line more node.1 (log_prefix p.paths more o.path begins log);
       saved_are = λ safe. line.saved_are;
+      back_are = λ safe. line.back_are;
       joined = λ f j. node.1;
       leader = λ it. absurd (o.now_is.other it);
       followers = λ f. o.now_is.other;
@@ -221,6 +224,10 @@ follow_on_allowed h p b x s limit order g (Passed n) h' st k w =
     (not_false _ (eq_differs n g.end differs)))) w.3
 follow_on_allowed h p b x s limit order g TooManySegments h' st k w =
     silent h p b x s (Some (noted_of order g)) (Follow limit) TooManySegments h' st (when_true _ p (goes_true h p x order g st.held w.0 w.1.end)) w.2
+follow_on_allowed h p b x s limit order g DiskFault h' st k w =
+    let up = joined_up x (st.lines.each b x st.at).sound w.1.joined in
+    stable_breaks h p b x s (Some (noted_of order g)) (Follow limit) DiskFault h' st
+    (when_true _ (breaks p b (broker_of x)) (and_true _ _ (goes_true h p x order g st.held w.0 w.1.end) up)) w.2
 follow_on_allowed h p b x s limit order g (Copied n) h' st k w =
     let e = some_of _ (epoch_in g.batches) w.2 in
     copy_on h p b x s limit order g n e.0 h' st k w.0 w.1 e.1 e.2

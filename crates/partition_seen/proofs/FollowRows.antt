@@ -11,13 +11,13 @@ use Rattle.registry.specs.declared.registry.Replica.{Replica}
 use Rattle.registry.specs.declared.registry.Registry.{Registry}
 use Rattle.registry.specs.Calls.{when}
 use Rattle.plain_log.specs.declared.answer.Answer.{Answer}
-use Rattle.plain_log.specs.declared.answer.Answer.TheVariants.{Down, NotFollower, StaleEpoch, NoLeader, Cut, NotJoined, Level}
+use Rattle.plain_log.specs.declared.answer.Answer.TheVariants.{Down, NotFollower, StaleEpoch, NoLeader, Cut, DiskFault, DiskFaultAt, NotJoined, Level}
 use Rattle.plain_log.specs.declared.command.Command.TheVariants.{Join, Follow}
 use Rattle.plain_log.specs.declared.state.State.{State}
 use Rattle.plain_log.specs.declared.state.Broker.{Broker}
 use Rattle.plain_log.specs.declared.state.Role.{Role}
 use Rattle.plain_log.specs.declared.state.Role.TheVariants.{Idle, Leads, Follows, Joined}
-use Rattle.plain_log.specs.State.{path_of, put_broker, followed, joined, leads_in, is_stale, the_leader as leader_of, leader_leads}
+use Rattle.plain_log.specs.State.{path_of, put_broker, breaks, stopped as stopped_broker, followed, joined, leads_in, is_stale, the_leader as leader_of, leader_leads}
 use Rattle.plain_log.specs.Ends.{common}
 use Rattle.plain_log.specs.RowsOfFollowers.{is_current, may_join, cut_to, leader_end, may_follow}
 use Rattle.plain_log.specs.Step.{begins}
@@ -26,14 +26,15 @@ use Rattle.plain_log.proofs.AppendRow.{leads_in_is}
 use Rattle.partition_seen.specs.declared.begun.Begun.{Begun}
 use Rattle.partition_seen.specs.declared.begun.Turned.TheVariants.{Answers, Begins}
 use Rattle.partition_seen.specs.Seen.{Node, Held}
-use Rattle.partition_seen.specs.Held.{broker_of, put_node, the_leader}
-use Rattle.partition_seen.specs.Central.{HeldStands, RunStands}
+use Rattle.partition_seen.specs.Held.{broker_of, put_node, torn, the_leader}
+use Rattle.partition_seen.specs.Log.{cut_at}
+use Rattle.partition_seen.specs.Central.{HeldStands, AreTaken, RunStands}
 use Rattle.partition_seen.specs.RowsOfFollowers.{IsStale, IsFresh, IsMeet, cut_node, JoinRow, FollowRow}
 use Rattle.partition_seen.proofs.Meets.{meet_common}
-use Rattle.partition_seen.proofs.BoolTests.{some_of, and_true, not_false, when_true, eq_same, lt_true, lt_false}
-use Rattle.partition_seen.proofs.NodeLaw.{joined_is, node_cut}
-use Rattle.partition_seen.proofs.Standing.{Standing, Allowed, silent, put, broker_at, wider_self, followed_below}
-use Rattle.partition_seen.proofs.OwnRows.{filter_paths}
+use Rattle.partition_seen.proofs.BoolTests.{some_of, and_true, not_false, when_true, eq_same, eq_differs, lt_true, lt_false}
+use Rattle.partition_seen.proofs.NodeLaw.{joined_is, none_back, node_cut, torn_below, torn_above, node_torn}
+use Rattle.partition_seen.proofs.Standing.{Standing, Allowed, silent, put, broker_at, wider_self, keeps_self, followed_below}
+use Rattle.partition_seen.proofs.OwnRows.{filter_taken}
 
 -- the registry's leader
 
@@ -149,10 +150,16 @@ cut_is h p b x s y m st l w =
     (st.safe.brokers b (broker_of x) (broker_at h p b x st.held st.at)).log (st.safe.brokers h.registry.leader.0 (broker_of y) (broker_at h p h.registry.leader.0 y st.held l.at)).log
     (record { mine_for = mine.line_is; mine_rises = mine.rises; theirs_for = theirs.line_is; theirs_rises = theirs.rises }) w).1
 
-join_cut : (h : Held) (p : State) (b : ℕ) (x : Node) (s : Replica) (y : Node) (e m n : ℕ) (h' : Held) → Standing h p b x s → IsLeading h p y → x.up ≡ true
-    → followed x.role ≡ Some e → h.registry.epoch ≤ e → IsMeet x y m → n ≡ end_of (up_to m x.log.batches) → h' ≡ put_node h b (cut_node x e m)
-    → Allowed p b x s None Join (Cut n) h'
-join_cut h p b x s y e m n h' st l up is le w n_is same =
+-- a follower's log that is cut to where it meets its leader's
+record Cuts (h : Held) (p : State) (b : ℕ) (x : Node) (e m n : ℕ) : Type 0 where
+  log : List (List ℕ)
+  is : log ≡ up_to m x.log.batches
+  other : h.registry.leader.0 ≢ b
+  to : cut_to p (broker_of x) n ≡ Some (record (broker_of x) { role = Joined e; log = log; stable = n; known = min x.known n })
+
+cuts : (h : Held) (p : State) (b : ℕ) (x : Node) (s : Replica) (y : Node) (e m n : ℕ) → Standing h p b x s → IsLeading h p y → x.up ≡ true
+    → followed x.role ≡ Some e → h.registry.epoch ≤ e → IsMeet x y m → n ≡ end_of (up_to m x.log.batches) → Cuts h p b x e m n
+cuts h p b x s y e m n st l up is le w n_is =
     let k = now h p b x s e st is le in
     let cut = cut_is h p b x s y m st l w in
     let bx = broker_of x in
@@ -161,20 +168,89 @@ join_cut h p b x s y e m n h' st l up is le w n_is same =
     let fresh : is_stale p (Some e) ≡ false = lt_false e p.registry.epoch (omega (arith, k.plain)) in
     let joins : may_join p bx e ≡ true = and_true _ _ (and_true _ _ up (rw fresh refl)) (leader_some h p y l) in
     let test : (may_join p bx e && (n == end_of (common x.log.batches y.log.batches))) ≡ true = and_true _ _ joins (eq_same _ _ (n_is ∙ ap end_of cut)) in
-    let to : cut_to p bx n ≡ Some z = rw (is, path) (when_true _ z test) in
+    record {
+      log = common x.log.batches y.log.batches;
+      is = sym cut;
+      other = k.other;
+      to = rw (is, path) (when_true _ z test);
+    }
+
+join_cut : (h : Held) (p : State) (b : ℕ) (x : Node) (s : Replica) (e m n : ℕ) (h' : Held) → Standing h p b x s → x.up ≡ true
+    → Cuts h p b x e m n → n ≡ end_of (up_to m x.log.batches) → h' ≡ put_node h b (cut_node x e m) → Allowed p b x s None Join (Cut n) h'
+join_cut h p b x s e m n h' st up k n_is same =
+    let bx = broker_of x in
+    let z : Broker = record bx { role = Joined e; log = k.log; stable = n; known = min x.known n } in
     let line = (st.lines.each b x st.at) in
     let node = node_cut x e m line.sound up in
-    put h p (put_broker p b z) b x (cut_node x e m) s None Join (Cut n) h' st (ap (option_map (put_broker p b)) to) (record {
+    put h p (put_broker p b z) b x (cut_node x e m) s None Join (Cut n) h' st (ap (option_map (put_broker p b)) k.to) (record {
       registry = refl;
-      brokers = ap (λ (log : List (List ℕ)). slice_set p.brokers b (record bx { role = Joined e; log = log; stable = n; known = min x.known n })) (sym cut)
+      brokers = ap (λ (log : List (List ℕ)). slice_set p.brokers b (record bx { role = Joined e; log = log; stable = n; known = min x.known n })) k.is
           ∙ ap (λ (k : ℕ). slice_set p.brokers b (record bx { role = Joined e; log = up_to m x.log.batches; stable = k; known = min x.known k })) n_is;
       actors = refl;
       paths = wider_self p.paths;
+      broken = keeps_self p.broken;
       keys = λ other has. has;
       sound = node.0;
-      paths_are = λ safe. filter_paths p.paths x.log.line (end_of (up_to m x.log.batches)) line.paths_are;
-      saved_are = λ safe. filter_paths p.paths x.log.line (end_of (up_to m x.log.batches)) line.paths_are;
+      paths_are = λ safe. filter_taken p.paths p.broken x.log.line (end_of (up_to m x.log.batches)) line.paths_are;
+      saved_are = λ safe. filter_taken p.paths p.broken x.log.line (end_of (up_to m x.log.batches)) line.paths_are;
+      back_are = λ safe back b. absurd (none_back x back line.sound up b);
       joined = λ f j. node.1;
+      leader = λ it. absurd (k.other it);
+      followers = λ f. k.other;
+    }) same
+
+-- a cut that failed
+record TearsTo (p : State) (x y : Node) (n : ℕ) : Type 0 where
+  is : broker_of y ≡ record (stopped_broker (record (broker_of x) { stable = min x.stable n })) { loose = true }
+  lines : AreTaken p.paths p.broken y.log.line
+  saved : AreTaken p.paths p.broken y.saved
+  back : (back : ℕ × List (ℕ × ℕ)) → y.loose ≡ Some back → AreTaken p.paths p.broken back.1
+  role : y.role ≡ Idle
+
+tears_to : (p : State) (x : Node) (n : ℕ) (line : List (ℕ × ℕ)) → AreTaken p.paths p.broken x.log.line → AreTaken p.paths p.broken x.saved → AreTaken p.paths p.broken line
+    → TearsTo p x (torn x n line) n
+tears_to p x n line lines saved cut = elim (cases_lt n x.stable) [
+  | inl less ↦
+      let low : min x.stable n ≡ n = omega (arith, less) in
+      subst (λ (y : Node). TearsTo p x y n) (sym (torn_below x n line (lt_true n x.stable less))) (record {
+        is = ap (λ (k : ℕ). record (stopped_broker (record (broker_of x) { stable = k })) { loose = true }) (sym low);
+        lines = lines;
+        saved = cut;
+        back = λ back b. (let one : (x.stable, x.saved) ≡ back = cc (b) in subst (λ (k : ℕ × List (ℕ × ℕ)). AreTaken p.paths p.broken k.1) one saved);
+        role = refl;
+      })
+  | inr more ↦
+      let high : min x.stable n ≡ x.stable = omega (arith, more) in
+      subst (λ (y : Node). TearsTo p x y n) (sym (torn_above x n line (lt_false n x.stable more))) (record {
+        is = ap (λ (k : ℕ). record (stopped_broker (record (broker_of x) { stable = k })) { loose = true }) (sym high);
+        lines = lines;
+        saved = saved;
+        back = λ back b. (let one : (n, line) ≡ back = cc (b) in subst (λ (k : ℕ × List (ℕ × ℕ)). AreTaken p.paths p.broken k.1) one cut);
+        role = refl;
+      })
+]
+
+join_torn : (h : Held) (p : State) (b : ℕ) (x : Node) (s : Replica) (e m n : ℕ) (h' : Held) → Standing h p b x s
+    → Cuts h p b x e m n → n ≡ end_of (up_to m x.log.batches) → h' ≡ put_node h b (torn x n (cut_at x.log m).line) → Allowed p b x s None Join (DiskFaultAt n) h'
+join_torn h p b x s e m n h' st k n_is same =
+    let bx = broker_of x in
+    let l = st.lines.each b x st.at in
+    let line = (cut_at x.log m).line in
+    let y = torn x n line in
+    let t = tears_to p x n line l.paths_are l.saved_are (filter_taken p.paths p.broken x.log.line (end_of (up_to m x.log.batches)) l.paths_are) in
+    let q = breaks p b (record bx { stable = min x.stable n }) in
+    put h p q b x y s None Join (DiskFaultAt n) h' st (ap (option_map (λ (z : Broker). q)) k.to) (record {
+      registry = refl;
+      brokers = ap (λ (z : Broker). slice_set p.brokers b z) (sym t.is);
+      actors = refl;
+      paths = wider_self p.paths;
+      broken = keeps_self p.broken;
+      keys = λ other has. has;
+      sound = node_torn x m n l.sound n_is;
+      paths_are = λ safe. t.lines;
+      saved_are = λ safe. t.saved;
+      back_are = λ safe. t.back;
+      joined = λ f j. absurd (let no : Idle ≡ Joined f = sym t.role ∙ j in cc);
       leader = λ it. absurd (k.other it);
       followers = λ f. k.other;
     }) same
@@ -191,7 +267,15 @@ join_allowed h p b x s (Cut n) h' st w =
     let o = fresh_of h (followed x.role) w.1 in
     let k = y.2 in
     let one : o.0 ≡ k.0 = cc (o.1, k.2) in
-    join_cut h p b x s y.0 k.0 k.1 n h' st (leading h p b x s y.0 st y.1) w.0 k.2 (omega (arith, o.2, one)) k.3 k.4 k.5
+    let cut = cuts h p b x s y.0 k.0 k.1 n st (leading h p b x s y.0 st y.1) w.0 k.2 (omega (arith, o.2, one)) k.3 k.4 in
+    join_cut h p b x s k.0 k.1 n h' st w.0 cut k.4 k.5
+join_allowed h p b x s (DiskFaultAt n) h' st w =
+    let y = some_of _ (the_leader h) w.2 in
+    let o = fresh_of h (followed x.role) w.1 in
+    let k = y.2 in
+    let one : o.0 ≡ k.0 = cc (o.1, k.2) in
+    let cut = cuts h p b x s y.0 k.0 k.1 n st (leading h p b x s y.0 st y.1) w.0 k.2 (omega (arith, o.2, one)) k.3 k.4 in
+    join_torn h p b x s k.0 k.1 n h' st cut k.4 k.5
 join_allowed h p b x s other h' st w = elim w [ ]
 
 -- follow, first turn
@@ -236,6 +320,11 @@ follow_allowed h p b x s limit Level h' st w =
     let low = prefix_end x.log.batches y.0.log.batches (st.lines.each h.registry.leader.0 y.0 l.at).sound.log.consecutive front in
     let ends : end_of x.log.batches ≡ leader_end p = omega (arith, low, y.2, leader_ends h p y.0 l) in
     silent h p b x s None (Follow limit) Level h' st (when_true _ p (and_true _ _ (follow_true h p x y.0 st.held l w.0 w.1) (eq_same _ _ ends))) w.3
+follow_allowed h p b x s limit DiskFault h' st w =
+    let y = some_of _ (the_leader h) w.2 in
+    let l = leading h p b x s y.0 st y.1 in
+    let differs : end_of x.log.batches ≢ leader_end p = λ e. omega (arith, e, y.2, leader_ends h p y.0 l) in
+    silent h p b x s None (Follow limit) DiskFault h' st (when_true _ p (and_true _ _ (follow_true h p x y.0 st.held l w.0 w.1) (not_false _ (eq_differs _ _ differs)))) w.3
 follow_allowed h p b x s limit other h' st w = elim w [ ]
 
 -- what a follow begins with

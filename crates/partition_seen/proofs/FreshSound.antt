@@ -28,6 +28,8 @@ leader_sound = record {
   known = ends_at_zero [];
   saved = inr (0, refl);
   saved_rises = (omega arith, omega arith, tt, tt);
+  back = λ back is. absurd cc;
+  tight = λ up. refl;
   leads = λ e is. (let same : 0 ≡ e = cc (is) in ap Some same);
   down = λ is. absurd (cc (is));
 }
@@ -39,6 +41,8 @@ follower_sound = record {
   known = ends_at_zero [];
   saved = inl refl;
   saved_rises = tt;
+  back = λ back is. absurd cc;
+  tight = λ up. refl;
   leads = λ e is. absurd (cc (is));
   down = λ is. absurd (cc (is));
 }

@@ -1,6 +1,6 @@
 -- The rows of a broker that acknowledges, or learns of an election, are the plain log's.
 use Rattle.std.proofs.Common.{◌≡◌, inl, inr, ◌∙◌, sym, ap, subst, refl, ℕ, ◌+◌, ◌^◌, ◌<◌, ◌≤◌, ◌==◌, List, [], ◌∷◌, ◌++◌, slice_get, slice_set, Some, None, Option, Ok as Done, Err, Bool, true, false, not, ◌&&◌, min, arith}
-use Rattle.std.specs.Prelude.{is_some, map, option_map}
+use Rattle.std.specs.Prelude.{is_some, map, option_map, if◌then◌else◌}
 use Rattle.std.specs.List.{AllByRecursion}
 use Rattle.std.proofs.lemmas.Bool.{cases_lt}
 use Rattle.std.proofs.lemmas.Bool.Decides.{nat_tests}
@@ -11,21 +11,21 @@ use Rattle.log_terms.specs.Batch.{last_of}
 use Rattle.log_terms.specs.Log.{IsConsecutive, end_from, end_of, up_to, EndsAt}
 use Rattle.log_terms.proofs.Lists.{prefix_self}
 use Rattle.log_terms.proofs.Logs.{end_above, consecutive_prefix, up_to_prefix, up_to_end, nested}
-use Rattle.epoch_line.specs.Line.{last_entry, last_epoch}
+use Rattle.epoch_line.specs.Line.{last_entry, last_epoch, assign}
 use Rattle.registry.specs.declared.registry.Replica.{Replica}
 use Rattle.registry.specs.declared.registry.Registry.{Registry}
 use Rattle.registry.specs.declared.refusal.RegRefusal.TheVariants as Reg
 use Rattle.registry.specs.Registry.{epoch_limit, with_ack}
 use Rattle.registry.specs.Calls.{is_stale as is_behind, after_ack}
 use Rattle.plain_log.specs.declared.answer.Answer.{Answer}
-use Rattle.plain_log.specs.declared.answer.Answer.TheVariants.{OkAt, Down, Known, Follows, NeedsElection, Leads, NotJoined, StaleEpoch}
+use Rattle.plain_log.specs.declared.answer.Answer.TheVariants.{OkAt, Down, Known, Follows, NeedsElection, DiskFault, Leads, NotJoined, StaleEpoch}
 use Rattle.plain_log.specs.declared.command.Command.TheVariants.{Learn, Ack}
 use Rattle.plain_log.specs.declared.state.State.{State}
 use Rattle.plain_log.specs.declared.state.Path.{Path}
 use Rattle.plain_log.specs.declared.state.Broker.{Broker}
 use Rattle.plain_log.specs.declared.state.Role.{Role}
 use Rattle.plain_log.specs.declared.state.Role.TheVariants.{Idle, Leads as LeadsIn, Follows as FollowsIn, Joined}
-use Rattle.plain_log.specs.State.{path_of, has_path, put_broker, acking, epoch_in, is_stale}
+use Rattle.plain_log.specs.State.{path_of, has_path, is_in, put_broker, breaks, acking, epoch_in, is_stale}
 use Rattle.plain_log.specs.RowsOfElections.{knows, led as led_plain, learns}
 use Rattle.plain_log.specs.RowsOfReplicas.{acknowledged, may_ack}
 use Rattle.plain_log.specs.Rows.{row}
@@ -34,14 +34,14 @@ use Rattle.plain_log.proofs.Options.{when_some, both, eq_of, not_true}
 use Rattle.plain_log.proofs.Wider.{Wider}
 use Rattle.plain_log.proofs.StepLaw.{row_keeps}
 use Rattle.partition_seen.specs.Seen.{Node, Held}
-use Rattle.partition_seen.specs.Held.{broker_of, put_node}
-use Rattle.partition_seen.specs.Central.{HeldStands, LinesStand}
+use Rattle.partition_seen.specs.Held.{broker_of, put_node, broken}
+use Rattle.partition_seen.specs.Central.{HeldStands, was_taken, AreTaken, LinesStand}
 use Rattle.partition_seen.specs.RowsOfElections.{IsKnown, IsNew, led, LearnRow, acked, AckRow}
 use Rattle.partition_seen.proofs.Lines.{by_last, assign_line}
 use Rattle.partition_seen.proofs.BoolTests.{some_of, and_true, not_false, when_true, eq_same, eq_differs, lt_true}
-use Rattle.partition_seen.proofs.NodeLaw.{node_told, node_follows, node_led}
+use Rattle.partition_seen.proofs.NodeLaw.{none_back, node_told, node_follows, node_led, lead_back, node_broken}
 use Rattle.partition_seen.proofs.RegistryLaw.{Moves, ack_moves}
-use Rattle.partition_seen.proofs.Standing.{Standing, Allowed, HavePaths, LogsSafe, silent, put, leaves, get_put, broker_at, map_set, wider_self, log_paths, lines_put, lines_same}
+use Rattle.partition_seen.proofs.Standing.{Standing, Allowed, LogsSafe, Keeps, silent, put, leaves, get_put, broker_at, map_set, wider_self, keeps_self, path_taken, broken_taken, by_taken, line_wide, log_taken, lines_put, lines_same}
 use Rattle.partition_seen.proofs.ElectionRows.{replica_is}
 
 -- ack
@@ -136,8 +136,8 @@ ack_given h p b x s e mark h' st w =
     let told = told_is r.mark x.log.batches path.0 (st.safe.paths p.registry.epoch path.0 path.1).log_safe.consecutive path.2 ends in
     let y : Node = record x { known = end_of (up_to r.mark x.log.batches) } in
     let l = st.lines.each b x st.at in
-    let put : LinesStand (put_node h b y) p.paths = lines_put h p.paths p.paths b y st.lines (wider_self p.paths) (λ other has. has)
-    (record { sound = node_told x r.mark l.sound w.up; paths_are = l.paths_are; saved_are = l.saved_are; joined = l.joined })
+    let put : LinesStand (put_node h b y) p.paths p.broken = lines_put h p.paths p.paths p.broken p.broken b y st.lines (wider_self p.paths) (keeps_self p.broken) (λ other has. has)
+    (record { sound = node_told x r.mark l.sound w.up; paths_are = l.paths_are; saved_are = l.saved_are; back_are = l.back_are; joined = l.joined })
     (λ it has. st.lines.leader x (ap (λ (c : ℕ). slice_get h.nodes c) it ∙ st.at) has) (λ f. st.lines.followers b x st.at f) in
     record {
       state = q;
@@ -148,13 +148,13 @@ ack_given h p b x s e mark h' st w =
           ∙ (sym (map_set broker_of h.nodes b y) ∙ ap (λ (k : Held). map broker_of k.nodes) (sym w.after)));
       actors = refl;
       paths = wider_self p.paths;
-      lines = λ _. subst (λ (k : Held). LinesStand k p.paths) (sym w.after) (same put);
+      lines = λ _. subst (λ (k : Held). LinesStand k p.paths p.broken) (sym w.after) (same put);
     }
   where
-    same : LinesStand (put_node h b (record x { known = end_of (up_to (with_ack p.registry b s x.stable).mark x.log.batches) })) p.paths
-        → LinesStand (acked h b x (with_ack p.registry b s x.stable)) p.paths
+    same : LinesStand (put_node h b (record x { known = end_of (up_to (with_ack p.registry b s x.stable).mark x.log.batches) })) p.paths p.broken
+        → LinesStand (acked h b x (with_ack p.registry b s x.stable)) p.paths p.broken
     same l = elim w.moves.epoch [
-      | inl k ↦ lines_same (put_node h b (record x { known = end_of (up_to (with_ack p.registry b s x.stable).mark x.log.batches) })) p.paths (with_ack p.registry b s x.stable) l k
+      | inl k ↦ lines_same (put_node h b (record x { known = end_of (up_to (with_ack p.registry b s x.stable).mark x.log.batches) })) p.paths p.broken (with_ack p.registry b s x.stable) l k
       | inr k ↦ absurd (omega (arith, k.epoch, ap (λ (q : Registry). q.epoch) st.held.registry))
     ]
 
@@ -169,7 +169,7 @@ ack_allowed h p b x s (StaleEpoch n) h' st w =
     let stale : is_stale p (acking x.role) ≡ true = rw o.1 (subst (λ (q : Registry). is_behind q o.0 ≡ true) (sym st.held.registry) k.0) in
     let epoch : n ≡ p.registry.epoch = k.1 ∙ ap (λ (q : Registry). q.epoch) (sym st.held.registry) in
     leaves h p p b x s r.0 None Ack (StaleEpoch n) h' st (when_true _ p (and_true _ _ (and_true _ _ w.0 stale) (eq_same _ _ epoch)))
-    (st.held.registry ∙ k.2) refl refl refl (ack_moves h.registry b t.0 o.0 x.stable (Err (Reg.StaleEpoch n)) r.0 r.1) r.2
+    (st.held.registry ∙ k.2) refl refl refl refl (ack_moves h.registry b t.0 o.0 x.stable (Err (Reg.StaleEpoch n)) r.0 r.1) r.2
 ack_allowed h p b x s (OkAt mark) h' st w = let k = acks_of h p b x s mark h' st w in ack_given h p b x s k.0 mark h' st k.1
 ack_allowed h p b x s other h' st w = elim w [ ]
 
@@ -189,12 +189,12 @@ learns_true : (h : Held) (p : State) (x : Node) (n : ℕ) → HeldStands h p →
 learns_true h p x n st up new is =
     and_true _ _ (and_true _ _ up (not_false _ (known_false h p x st new))) (eq_same _ _ (is ∙ ap (λ (q : Registry). q.epoch) (sym st.registry)))
 
--- the last entry's epoch has a path
-last_path : (paths : List Path) (line : List (ℕ × ℕ)) (e : ℕ) → AllByRecursion (λ entry. is_some (path_of paths entry.0) ≡ true) line → last_epoch line ≡ Some e
-    → is_some (path_of paths e) ≡ true
-last_path paths [] e all is = absurd cc
-last_path paths (one ∷ []) e all is = let same : one.0 ≡ e = cc in subst (λ (n : ℕ). is_some (path_of paths n) ≡ true) same all.0
-last_path paths (one ∷ two ∷ line) e all is = last_path paths (two ∷ line) e all.1 is
+-- the lead of the last entry's epoch was taken
+last_taken : (paths : List Path) (broken : List ℕ) (line : List (ℕ × ℕ)) (e : ℕ) → AllByRecursion (λ entry. was_taken paths broken entry.0 ≡ true) line → last_epoch line ≡ Some e
+    → was_taken paths broken e ≡ true
+last_taken paths broken [] e all is = absurd cc
+last_taken paths broken (one ∷ []) e all is = let same : one.0 ≡ e = cc in subst (λ (n : ℕ). was_taken paths broken n ≡ true) same all.0
+last_taken paths broken (one ∷ two ∷ line) e all is = last_taken paths broken (two ∷ line) e all.1 is
 
 path_there : (p : State) (e : ℕ) → PlainSafe p → is_some (path_of p.paths e) ≡ true → e ≤ p.registry.epoch
 path_there p e s h = go (path_of p.paths e) refl h
@@ -203,19 +203,25 @@ path_there p e s h = go (path_of p.paths e) refl h
     go None is t = absurd cc
     go (Some log) is t = (s.paths e log is).below
 
--- a broker that is to lead an epoch that its line has was its leader
-was_led : (h : Held) (p : State) (b : ℕ) (x : Node) (s : Replica) (n : ℕ) → Standing h p b x s → n ≡ h.registry.epoch → (IsNew x n → ⊥) → has_path p n ≡ true
+taken_there : (p : State) (e : ℕ) → PlainSafe p → was_taken p.paths p.broken e ≡ true → e ≤ p.registry.epoch
+taken_there p e s h = elim (by_taken p.paths p.broken e h) [
+  | inl path ↦ path_there p e s path
+  | inr off ↦ s.broken e off
+]
+
+-- a broker that is to lead an epoch that its line has was its leader, or took its lead and broke off
+was_led : (h : Held) (p : State) (b : ℕ) (x : Node) (s : Replica) (n : ℕ) → Standing h p b x s → n ≡ h.registry.epoch → (IsNew x n → ⊥) → was_taken p.paths p.broken n ≡ true
 was_led h p b x s n st is old = elim (by_last x.log.line) [
   | inl none ↦ absurd (old (λ last e. absurd (cc (e, none))))
   | inr some ↦
       let l = st.lines.each b x st.at in
-      let has = last_path p.paths x.log.line some.0 (recursion_from_All _ x.log.line l.paths_are) some.1 in
-      let low = path_there p some.0 st.safe has in
+      let has = last_taken p.paths p.broken x.log.line some.0 (recursion_from_All _ x.log.line l.paths_are) some.1 in
+      let low = taken_there p some.0 st.safe has in
       elim (cases_lt some.0 n) [
         | inl less ↦ absurd (old (λ last e. (let same : last ≡ some.0 = cc (e, some.1) in omega (arith, same, less))))
         | inr more ↦
             let same : some.0 ≡ n = omega (arith, more, low, is, ap (λ (q : Registry). q.epoch) st.held.registry) in
-            subst (λ (k : ℕ). is_some (path_of p.paths k) ≡ true) same has
+            subst (λ (k : ℕ). was_taken p.paths p.broken k ≡ true) same has
       ]
 ]
 
@@ -248,13 +254,17 @@ new_path : (ps : List Path) (n : ℕ) (log : List (List ℕ)) → path_of (recor
 new_path ps n log = rw (eq_same n n refl) refl
 
 -- the line of a broker that leads
-led_paths : (paths : List Path) (line : List (ℕ × ℕ)) (log : List (List ℕ)) (n end : ℕ) → line ≡ line_of log ++ (n, end) ∷ [] → HavePaths paths (line_of log)
-    → is_some (path_of paths n) ≡ true → HavePaths paths line
-led_paths paths line log n end is all one = subst (HavePaths paths) (sym is) (All-from_recursion _ (line_of log ++ (n, end) ∷ []) (more (line_of log) (recursion_from_All _ (line_of log) all)))
+led_taken : (paths : List Path) (broken : List ℕ) (line : List (ℕ × ℕ)) (log : List (List ℕ)) (n end : ℕ) → line ≡ line_of log ++ (n, end) ∷ [] → AreTaken paths broken (line_of log)
+    → was_taken paths broken n ≡ true → AreTaken paths broken line
+led_taken paths broken line log n end is all one = subst (AreTaken paths broken) (sym is) (All-from_recursion _ (line_of log ++ (n, end) ∷ []) (more (line_of log) (recursion_from_All _ (line_of log) all)))
   where
-    more : (xs : List (ℕ × ℕ)) → AllByRecursion (λ entry. is_some (path_of paths entry.0) ≡ true) xs → AllByRecursion (λ entry. is_some (path_of paths entry.0) ≡ true) (xs ++ (n, end) ∷ [])
+    more : (xs : List (ℕ × ℕ)) → AllByRecursion (λ entry. was_taken paths broken entry.0 ≡ true) xs → AllByRecursion (λ entry. was_taken paths broken entry.0 ≡ true) (xs ++ (n, end) ∷ [])
     more [] a = (one, tt)
     more (x ∷ xs) a = (a.0, more xs a.1)
+
+-- the registry's epoch is one that a line can have
+small : (e old limit : ℕ) → e ≤ limit → e ≡ old → limit ≡ 2147483647 → old < 2 ^ 31
+small e old limit le is l = omega (arith, is, le, l)
 
 last_pushed : (line : List (ℕ × ℕ)) (entry : ℕ × ℕ) → last_entry (line ++ entry ∷ []) ≡ Some entry
 last_pushed [] entry = refl
@@ -277,10 +287,10 @@ learn_leads h p b x s n h' st w =
     ap (λ (k : Registry). end_of (up_to k.mark x.log.batches)) (sym reg) ∙ up_to_end p.registry.mark x.log.batches l.sound.log.consecutive z.known in
     let epoch : h.registry.epoch < 2 ^ 31 = small p.registry.epoch h.registry.epoch epoch_limit st.safe.marks.epoch (ap (λ (k : Registry). k.epoch) reg) refl in
     let line = assign_line x.log.line x.log.batches n l.sound.log.consecutive l.sound.log.line_is in
-    let paths : LogsSafe q → HavePaths q.paths (led h x n).log.line = λ safe.
-    led_paths q.paths (led h x n).log.line x.log.batches n (end_of x.log.batches) line
-    (log_paths q.paths x.log.batches (safe b _ (get_put p.brokers b (broker_of x) (record (broker_of x) { role = LeadsIn n; stable = end_of x.log.batches; known = p.registry.mark }) bx)))
-    (rw (new_path p.paths n x.log.batches) refl) in
+    let paths : LogsSafe q → AreTaken q.paths p.broken (led h x n).log.line = λ safe.
+    led_taken q.paths p.broken (led h x n).log.line x.log.batches n (end_of x.log.batches) line
+    (log_taken q.paths p.broken x.log.batches (safe b _ (get_put p.brokers b (broker_of x) (record (broker_of x) { role = LeadsIn n; stable = end_of x.log.batches; known = p.registry.mark }) bx)))
+    (path_taken q.paths p.broken n (rw (new_path p.paths n x.log.batches) refl)) in
     let last : last_entry (led h x n).log.line ≡ Some (h.registry.epoch, end_of x.log.batches) =
     ap last_entry line ∙ (last_pushed (line_of x.log.batches) (n, end_of x.log.batches) ∙ ap (λ (k : ℕ). Some (k, end_of x.log.batches)) w.3) in
     put h p q b x (led h x n) s None Learn (Leads n) h' st is (record {
@@ -288,17 +298,66 @@ learn_leads h p b x s n h' st w =
       brokers = ap (λ (m : ℕ). slice_set p.brokers b (record (broker_of x) { role = LeadsIn n; stable = end_of x.log.batches; known = m })) (sym mark);
       actors = refl;
       paths = path_new p n x.log.batches free;
+      broken = keeps_self p.broken;
       keys = λ other. absurd (other w.2);
       sound = node_led h x n l.sound w.0 w.4 (subst (λ (k : ℕ). k < 2 ^ 31) (sym w.3) epoch);
       paths_are = paths;
       saved_are = paths;
+      back_are = λ safe back b. absurd (none_back x back l.sound w.0 b);
       joined = λ e j. absurd cc;
-      leader = λ it has. (end_of x.log.batches, last, last, omega arith);
+      leader = λ it has. (end_of x.log.batches, last, last, omega arith, λ back b. absurd (none_back x back l.sound w.0 b));
       followers = λ f. absurd cc;
     }) w.5
+
+-- the taking of a lead that broke off
+learn_breaks : (h : Held) (p : State) (b : ℕ) (x : Node) (s : Replica) (h' : Held) → Standing h p b x s → LearnRow h b x DiskFault h' → Allowed p b x s None Learn DiskFault h'
+learn_breaks h p b x s h' st w =
+    let l = st.lines.each b x st.at in
+    let bx = broker_at h p b x st.held st.at in
+    let reg = st.held.registry in
+    let n = h.registry.epoch in
+    let m = p.registry.epoch in
+    let same : m ≡ n = ap (λ (k : Registry). k.epoch) reg in
+    let free = not_led h p b x s m st w.2 same (new_at x n m (sym same) w.3) in
+    let end = end_of x.log.batches in
+    let line = assign x.log.line n end in
+    let q : State = record (breaks p b (broker_of x)) { broken = m ∷ p.broken } in
+    let leader : (p.registry.leader.0 == b) ≡ true = eq_same _ _ (ap (λ (k : Registry). k.leader.0) reg ∙ w.2) in
+    let is : row p b (broker_of x) s None Learn DiskFault ≡ Some q =
+    when_true _ q (and_true _ _ (and_true _ _ (learns_true h p x m st.held w.0 w.1 same) leader) (not_false _ free)) in
+    let keeps : Keeps p.broken (m ∷ p.broken) = keeps_more m p.broken in
+    let fits : n < 2 ^ 31 = small m n epoch_limit st.safe.marks.epoch same refl in
+    let line_is = assign_line x.log.line x.log.batches n l.sound.log.consecutive l.sound.log.line_is in
+    let now : was_taken p.paths (m ∷ p.broken) n ≡ true = broken_taken p.paths (m ∷ p.broken) n (rw (eq_same m n same) refl) in
+    let taken : AreTaken p.paths (m ∷ p.broken) line =
+    led_taken p.paths (m ∷ p.broken) line x.log.batches n end line_is (log_taken p.paths (m ∷ p.broken) x.log.batches (st.safe.brokers b (broker_of x) bx).log) now in
+    put h p q b x (broken x end line) s None Learn DiskFault h' st is (record {
+      registry = refl;
+      brokers = refl;
+      actors = refl;
+      paths = wider_self p.paths;
+      broken = keeps;
+      keys = λ other has. has;
+      sound = node_broken x end line l.sound (lead_back x n l.sound w.3 fits);
+      paths_are = λ safe. line_wide p.paths p.paths p.broken (m ∷ p.broken) x.log.line (wider_self p.paths) keeps l.paths_are;
+      saved_are = λ safe. line_wide p.paths p.paths p.broken (m ∷ p.broken) x.saved (wider_self p.paths) keeps l.saved_are;
+      back_are = λ safe back e. (let one : (end, line) ≡ back = cc (e) in subst (λ (k : ℕ × List (ℕ × ℕ)). AreTaken p.paths (m ∷ p.broken) k.1) one taken);
+      joined = λ e j. absurd cc;
+      leader = λ it has.
+          let had : is_some (path_of p.paths m) ≡ true = subst (λ (k : ℕ). is_some (path_of p.paths k) ≡ true) (sym same) has in
+          absurd (let no : true ≡ false = sym had ∙ free in cc);
+      followers = λ f. absurd cc;
+    }) w.4
   where
-    small : (e old limit : ℕ) → e ≤ limit → e ≡ old → limit ≡ 2147483647 → old < 2 ^ 31
-    small e old limit le is l = omega (arith, is, le, l)
+    new_at : (x : Node) (n m : ℕ) → n ≡ m → IsNew x n → IsNew x m
+    new_at x n m e new = subst (λ (k : ℕ). IsNew x k) e new
+
+    keeps_more : (m : ℕ) (bs : List ℕ) → Keeps bs (m ∷ bs)
+    keeps_more m bs e is = go (m == e)
+      where
+        go : (t : Bool) → (if t then true else is_in e bs) ≡ true
+        go true = refl
+        go false = is
 
 learn_follows : (h : Held) (p : State) (b : ℕ) (x : Node) (s : Replica) (n : ℕ) (h' : Held) → Standing h p b x s → LearnRow h b x (Follows n) h' → Allowed p b x s None Learn (Follows n) h'
 learn_follows h p b x s n h' st w =
@@ -310,10 +369,12 @@ learn_follows h p b x s n h' st w =
       brokers = refl;
       actors = refl;
       paths = wider_self p.paths;
+      broken = keeps_self p.broken;
       keys = λ other has. has;
       sound = node_follows x n l.sound w.0;
       paths_are = λ safe. l.paths_are;
       saved_are = λ safe. l.saved_are;
+      back_are = λ safe. l.back_are;
       joined = λ e j. absurd cc;
       leader = λ it. absurd (w.2 it);
       followers = λ f. w.2;
@@ -326,6 +387,7 @@ learn_allowed h p b x s (Follows n) h' st w = learn_follows h p b x s n h' st w
 learn_allowed h p b x s (NeedsElection n) h' st w =
     let leader : (p.registry.leader.0 == b) ≡ true = eq_same _ _ (ap (λ (k : Registry). k.leader.0) st.held.registry ∙ w.2) in
     let had = was_led h p b x s n st w.3 w.4 in
-    silent h p b x s None Learn (NeedsElection n) h' st (when_true _ p (and_true _ _ (and_true _ _ (learns_true h p x n st.held w.0 w.1 w.3) leader) (rw had refl))) w.5
+    silent h p b x s None Learn (NeedsElection n) h' st (when_true _ p (and_true _ _ (and_true _ _ (learns_true h p x n st.held w.0 w.1 w.3) leader) had)) w.5
+learn_allowed h p b x s DiskFault h' st w = learn_breaks h p b x s h' st w
 learn_allowed h p b x s (Leads n) h' st w = learn_leads h p b x s n h' st w
 learn_allowed h p b x s other h' st w = elim w [ ]

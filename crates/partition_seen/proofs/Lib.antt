@@ -15,6 +15,7 @@ pub mod WorldSound
 pub mod LaterLaw
 pub mod Chains
 pub mod Standing
+mod BreakRows
 mod OwnRows
 mod ElectionRows
 mod LearnRows

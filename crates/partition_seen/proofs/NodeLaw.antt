@@ -1,25 +1,26 @@
 -- What a node keeps, after each change of it.
-use Rattle.std.proofs.Common.{◌≡◌, ◌∙◌, inl, inr, sym, ap, subst, refl, ℕ, ◌+◌, ◌^◌, ◌<◌, ◌≤◌, List, [], ◌∷◌, ◌++◌, length, Some, Bool, true, false, min, arith}
+use Rattle.std.proofs.Common.{◌≡◌, ◌∙◌, inl, inr, sym, ap, subst, refl, ℕ, ◌+◌, ◌^◌, ◌<◌, ◌≤◌, nat_lt, List, [], ◌∷◌, ◌++◌, length, Option, None, Some, Bool, true, false, min, arith}
 use Rattle.std.specs.Prelude.{IsSome}
 use Rattle.std.specs.List.{All, AllByRecursion}
-use Rattle.std.proofs.lemmas.Bool.{cases_lt}
+use Rattle.std.proofs.lemmas.Bool.{cases_lt, lt-ltb, le-ltb}
 use Rattle.std.proofs.lemmas.List.Elements.{All-from_recursion, recursion_from_All}
 use Rattle.log_terms.specs.Batch.{base_of, epoch_of, last_of}
 use Rattle.log_terms.specs.Line.{line_of}
 use Rattle.log_terms.specs.Log.{IsConsecutive, end_from, end_of, up_to, EndsAt}
 use Rattle.log_terms.proofs.Lists.{prefix_self, prefix_trans}
-use Rattle.log_terms.proofs.Logs.{end_above, end_append, consecutive_prefix, consecutive_snoc, nested, prefix_end, up_to_is, up_to_prefix, ends_more, ends_at_zero, ends_at_end}
-use Rattle.epoch_line.specs.Line.{IsLine, last_epoch, cut_end}
+use Rattle.log_terms.proofs.Logs.{end_above, end_append, consecutive_prefix, consecutive_snoc, nested, prefix_end, up_to_is, up_to_prefix, ends_more, ends_at_zero, ends_at_end, ends_below}
+use Rattle.epoch_line.specs.Line.{IsLine, last_epoch, assign, cut_end}
 use Rattle.plain_log.specs.declared.state.Role.{Role}
 use Rattle.plain_log.specs.declared.state.Role.TheVariants.{Idle, Leads, Follows, Joined}
 use Rattle.plain_log.specs.State.{joined}
 use Rattle.partition_seen.specs.declared.begun.Begun.{Begun}
 use Rattle.partition_seen.specs.Seen.{Node, Held}
-use Rattle.partition_seen.specs.Log.{IsLineFor, MayTake, with_batch, epoch_in}
+use Rattle.partition_seen.specs.Held.{stopped, broken, torn}
+use Rattle.partition_seen.specs.Log.{IsLineFor, MayTake, cut_at, with_batch, epoch_in}
 use Rattle.partition_seen.specs.RowsOfElections.{IsNew, led}
 use Rattle.partition_seen.specs.RowsOfFollowers.{cut_node, CanExtend, extended}
-use Rattle.partition_seen.specs.Rows.{stopped, opened}
-use Rattle.partition_seen.specs.Sound.{NodeSound}
+use Rattle.partition_seen.specs.Rows.{MayComeBack, opened}
+use Rattle.partition_seen.specs.Sound.{IsBack, NodeSound}
 use Rattle.partition_seen.proofs.Lines.{consecutive_back, cut_at_line, lead_line, with_batch_line, with_batches_line, last_of_push, entered_same}
 
 -- what a role says of itself
@@ -40,6 +41,30 @@ joined_only (Joined m) f j is = absurd cc
 up_down : {A : Type 0} (b : Bool) → b ≡ true → b ≡ false → A
 up_down true u d = absurd cc
 up_down false u d = absurd cc
+
+-- a node with a role is up
+pub role_up : (x : Node) → NodeSound x → (x.role ≡ Idle → ⊥) → x.up ≡ true
+role_up x s busy = go x.up refl
+  where
+    go : (t : Bool) → x.up ≡ t → x.up ≡ true
+    go true is = is
+    go false is = absurd (busy (s.down is).0)
+
+leads_up : (x : Node) (e : ℕ) → NodeSound x → x.role ≡ Leads e → x.up ≡ true
+leads_up x e s is = role_up x s (λ idle. (let no : Idle ≡ Leads e = sym idle ∙ is in absurd cc))
+
+pub joined_up : (x : Node) → NodeSound x → IsSome (joined x.role) → x.up ≡ true
+joined_up x s j = role_up x s (λ idle. idle_joined x.role idle j)
+  where
+    idle_joined : (r : Role) → r ≡ Idle → IsSome (joined r) → ⊥
+    idle_joined Idle is j = absurd cc
+    idle_joined (Leads f) is j = absurd cc
+    idle_joined (Follows f) is j = absurd cc
+    idle_joined (Joined f) is j = absurd cc
+
+-- no other end may come back of a node that is up
+pub none_back : (x : Node) (back : ℕ × List (ℕ × ℕ)) → NodeSound x → x.up ≡ true → x.loose ≡ Some back → ⊥
+none_back x back s up is = let no : ◌≡◌ {A = Option (ℕ × List (ℕ × ℕ))} None (Some back) = sym (s.tight up) ∙ is in absurd cc
 
 -- the last epoch of a line fits
 pub last_fits : (line : List (ℕ × ℕ)) (e : ℕ) → IsLine line → last_epoch line ≡ Some e → e < 2 ^ 31
@@ -100,6 +125,8 @@ node_appended x placed e s leads base epoch small =
         known = ends_more x.known x.log.batches (x.log.batches ++ placed ∷ []) s.known (placed ∷ [], refl);
         saved = saved_more x (placed ∷ []) s follow;
         saved_rises = s.saved_rises;
+        back = λ back is. absurd (none_back x back s (leads_up x e s leads) is);
+        tight = s.tight;
         leads = λ f is.
             let one : e ≡ f = cc (leads, is) in
             ap last_epoch (entered_same x.log.line (epoch_of placed) (end_of x.log.batches) e last (sym epoch)) ∙ (last ∙ ap (λ (k : ℕ). Some k) one);
@@ -109,13 +136,15 @@ node_appended x placed e s leads base epoch small =
     )
 
 -- a flush
-pub node_flushed : (x : Node) (n : ℕ) → NodeSound x → n ≡ end_of x.log.batches → NodeSound (record x { stable = n; saved = x.log.line })
-node_flushed x n s is = record {
+pub node_flushed : (x : Node) (n : ℕ) → NodeSound x → x.up ≡ true → n ≡ end_of x.log.batches → NodeSound (record x { stable = n; saved = x.log.line })
+node_flushed x n s up is = record {
   log = s.log;
   stable = subst (λ (m : ℕ). EndsAt m x.log.batches) (sym is) (ends_at_end x.log.batches);
   known = s.known;
   saved = subst (λ (m : ℕ). IsLineFor x.log.line (up_to m x.log.batches)) (sym is) (saved_all x.log.line x.log.batches s.log.consecutive s.log.line_is);
   saved_rises = s.log.rises;
+  back = λ back b. absurd (none_back x back s up b);
+  tight = s.tight;
   leads = s.leads;
   down = s.down;
 }
@@ -128,6 +157,8 @@ node_told x mark s up = record {
   known = (up_to mark x.log.batches, up_to_prefix mark x.log.batches, refl);
   saved = s.saved;
   saved_rises = s.saved_rises;
+  back = λ back is. absurd (none_back x back s up is);
+  tight = s.tight;
   leads = s.leads;
   down = λ d. up_down x.up up d;
 }
@@ -140,6 +171,8 @@ node_follows x n s up = record {
   known = s.known;
   saved = s.saved;
   saved_rises = s.saved_rises;
+  back = λ back is. absurd (none_back x back s up is);
+  tight = s.tight;
   leads = λ e is. absurd cc;
   down = λ d. up_down x.up up d;
 }
@@ -154,6 +187,8 @@ node_led h x n s up new fits =
       known = (up_to h.registry.mark x.log.batches, up_to_prefix h.registry.mark x.log.batches, refl);
       saved = saved_all (led h x n).saved x.log.batches s.log.consecutive k.0;
       saved_rises = k.1;
+      back = λ back is. absurd (none_back x back s up is);
+      tight = s.tight;
       leads = λ e is. last_of_push (cut_end x.log.line (end_of x.log.batches)) (n, end_of x.log.batches) ∙ ap (λ (m : ℕ). Some m) (cc (is));
       down = λ d. up_down x.up up d;
     }
@@ -176,6 +211,8 @@ node_cut x e n s up =
         known = ends_cut x.known n x.log.batches s.log.consecutive s.known;
         saved = saved_all (cut_node x e n).saved (up_to n x.log.batches) follow (inl k.0);
         saved_rises = k.1;
+        back = λ back is. absurd (none_back x back s up is);
+        tight = s.tight;
         leads = λ f is. absurd cc;
         down = λ d. up_down x.up up d;
       },
@@ -230,6 +267,8 @@ node_extended x g (b ∷ more) rest e s w first parts some =
         known = ends_more x.known x.log.batches (x.log.batches ++ b ∷ more) s.known (b ∷ more, refl);
         saved = saved_more x (b ∷ more) s follow;
         saved_rises = s.saved_rises;
+        back = λ back is. absurd (none_back x back s (joined_up x s w.joined) is);
+        tight = s.tight;
         leads = λ n is. absurd (joined_only x.role n w.joined is);
         down = s.down;
       },
@@ -244,22 +283,119 @@ node_stopped x s = record {
   known = ends_at_zero x.log.batches;
   saved = s.saved;
   saved_rises = s.saved_rises;
+  back = λ back is. (let k = s.back back is in record { above = k.above; ends = k.ends; line = k.line; rises = k.rises });
+  tight = λ up. absurd cc;
   leads = λ e is. absurd cc;
   down = λ d. (refl, refl);
 }
 
+-- what a write that fails was to leave
+
+-- what is stable
+pub stable_back : (x : Node) → NodeSound x → IsBack x (x.stable, x.saved)
+stable_back x s = record { above = omega arith; ends = s.stable; line = s.saved; rises = s.saved_rises }
+
+-- all of the log
+pub flush_back : (x : Node) → NodeSound x → IsBack x (end_of x.log.batches, x.log.line)
+flush_back x s = record {
+  above = ends_below x.stable x.log.batches s.log.consecutive s.stable;
+  ends = ends_at_end x.log.batches;
+  line = saved_all x.log.line x.log.batches s.log.consecutive s.log.line_is;
+  rises = s.log.rises;
+}
+
+-- all of the log, with an epoch to lead
+pub lead_back : (x : Node) (n : ℕ) → NodeSound x → IsNew x n → n < 2 ^ 31 → IsBack x (end_of x.log.batches, assign x.log.line n (end_of x.log.batches))
+lead_back x n s new fits =
+    let k = lead_line x.log.line x.log.batches n s.log.consecutive s.log.line_is s.log.rises fits (omega (arith, s.log.small)) new in
+    record {
+      above = ends_below x.stable x.log.batches s.log.consecutive s.stable;
+      ends = ends_at_end x.log.batches;
+      line = saved_all (assign x.log.line n (end_of x.log.batches)) x.log.batches s.log.consecutive k.0;
+      rises = k.1;
+    }
+
+-- a write that failed
+pub node_broken : (x : Node) (end : ℕ) (line : List (ℕ × ℕ)) → NodeSound x → IsBack x (end, line) → NodeSound (broken x end line)
+node_broken x end line s k = record {
+  log = s.log;
+  stable = s.stable;
+  known = ends_at_zero x.log.batches;
+  saved = s.saved;
+  saved_rises = s.saved_rises;
+  back = λ back is.
+      let same : (end, line) ≡ back = cc (is) in
+      subst (λ (b : ℕ × List (ℕ × ℕ)). IsBack (broken x end line) b) same (record { above = k.above; ends = k.ends; line = k.line; rises = k.rises });
+  tight = λ up. absurd cc;
+  leads = λ e is. absurd cc;
+  down = λ d. (refl, refl);
+}
+
+-- a node after a cut that failed, where the cut was below the stable end
+abbrev pub torn_low : Node → ℕ → List (ℕ × ℕ) → Node
+torn_low x end line = record (stopped x) { stable = end; saved = line; loose = Some (x.stable, x.saved) }
+
+pub torn_below : (x : Node) (end : ℕ) (line : List (ℕ × ℕ)) → nat_lt end x.stable ≡ true → torn x end line ≡ torn_low x end line
+torn_below x end line t = rw t refl
+
+pub torn_above : (x : Node) (end : ℕ) (line : List (ℕ × ℕ)) → nat_lt end x.stable ≡ false → torn x end line ≡ broken x end line
+torn_above x end line t = rw t refl
+
+-- the log up to an offset is the log up to where that ends
+up_to_end_of : (m n : ℕ) (log : List (List ℕ)) → IsConsecutive 0 log → n ≡ end_of (up_to m log) → up_to n log ≡ up_to m log
+up_to_end_of m n log c is = up_to_is 0 n (up_to m log) log c (up_to_prefix m log) (sym is)
+
+-- a cut that failed
+pub node_torn : (x : Node) (m n : ℕ) → NodeSound x → n ≡ end_of (up_to m x.log.batches) → NodeSound (torn x n (cut_at x.log m).line)
+node_torn x m n s is = elim (cases_lt n x.stable) [
+  | inl less ↦ subst NodeSound (sym (torn_below x n line (lt-ltb n x.stable less))) (record {
+    log = s.log;
+    stable = ends;
+    known = ends_at_zero x.log.batches;
+    saved = line_is;
+    saved_rises = k.1;
+    back = λ back b.
+        let same : (x.stable, x.saved) ≡ back = cc (b) in
+        subst (λ (b : ℕ × List (ℕ × ℕ)). IsBack (torn_low x n line) b) same (record { above = omega (arith, less); ends = s.stable; line = s.saved; rises = s.saved_rises });
+    tight = λ up. absurd cc;
+    leads = λ e is. absurd cc;
+    down = λ d. (refl, refl);
+  })
+  | inr more ↦ subst NodeSound (sym (torn_above x n line (le-ltb n x.stable more))) (node_broken x n line s (record { above = more; ends = ends; line = line_is; rises = k.1 }))
+]
+  where
+    line : List (ℕ × ℕ)
+    line = (cut_at x.log m).line
+
+    k : (line ≡ line_of (up_to m x.log.batches)) × IsLine line
+    k = cut_at_line x.log.line x.log.batches m s.log.consecutive s.log.line_is s.log.rises
+
+    ends : EndsAt n x.log.batches
+    ends = (up_to m x.log.batches, up_to_prefix m x.log.batches, sym is)
+
+    line_is : IsLineFor line (up_to n x.log.batches)
+    line_is = inl (k.0 ∙ ap line_of (sym (up_to_end_of m n x.log.batches s.log.consecutive is)))
+
+-- what may come back is an end of the log, with a line of what ends there
+pub may_back : (x : Node) (back : ℕ × List (ℕ × ℕ)) → NodeSound x → MayComeBack x back → IsBack x back
+may_back x back s (inl is) = subst (λ (b : ℕ × List (ℕ × ℕ)). IsBack x b) (sym is) (stable_back x s)
+may_back x back s (inr is) = s.back back is
+
 -- a node that comes up
-pub node_opened : (x : Node) → NodeSound x → x.up ≡ false → NodeSound (opened x)
-node_opened x s off =
-    let low = prefix_end (up_to x.stable x.log.batches) x.log.batches s.log.consecutive (up_to_prefix x.stable x.log.batches) in
-    let follow = consecutive_prefix 0 (up_to x.stable x.log.batches) x.log.batches (up_to_prefix x.stable x.log.batches) s.log.consecutive in
+pub node_opened : (x : Node) (back : ℕ × List (ℕ × ℕ)) → NodeSound x → x.up ≡ false → MayComeBack x back → NodeSound (opened x back)
+node_opened x back s off may =
+    let k = may_back x back s may in
+    let low = prefix_end (up_to back.0 x.log.batches) x.log.batches s.log.consecutive (up_to_prefix back.0 x.log.batches) in
+    let follow = consecutive_prefix 0 (up_to back.0 x.log.batches) x.log.batches (up_to_prefix back.0 x.log.batches) s.log.consecutive in
     let none = s.down off in
     record {
-      log = record { consecutive = follow; line_is = s.saved; rises = s.saved_rises; ends = refl; small = omega (arith, low, s.log.small) };
-      stable = ends_at_end (up_to x.stable x.log.batches);
-      known = subst (λ (n : ℕ). EndsAt n (up_to x.stable x.log.batches)) (sym none.1) (ends_at_zero (up_to x.stable x.log.batches));
-      saved = saved_all x.saved (up_to x.stable x.log.batches) follow s.saved;
-      saved_rises = s.saved_rises;
+      log = record { consecutive = follow; line_is = k.line; rises = k.rises; ends = refl; small = omega (arith, low, s.log.small) };
+      stable = ends_at_end (up_to back.0 x.log.batches);
+      known = subst (λ (n : ℕ). EndsAt n (up_to back.0 x.log.batches)) (sym none.1) (ends_at_zero (up_to back.0 x.log.batches));
+      saved = saved_all back.1 (up_to back.0 x.log.batches) follow k.line;
+      saved_rises = k.rises;
+      back = λ other is. absurd cc;
+      tight = λ up. refl;
       leads = λ e is. (let idle : Idle ≡ Leads e = sym none.0 ∙ is in absurd cc);
       down = λ d. absurd cc;
     }

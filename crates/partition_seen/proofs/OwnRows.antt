@@ -7,7 +7,7 @@ use Rattle.epoch_line.proofs.Parts.{filter-all}
 use Rattle.tier_base.specs.declared.plain.Stop.{Stop}
 use Rattle.tier_base.specs.declared.plain.Stop.TheVariants.{Mark, Piece, Limit}
 use Rattle.log_terms.specs.Batch.{epoch_of}
-use Rattle.log_terms.specs.Log.{end_of, joined, from_offset, up_to}
+use Rattle.log_terms.specs.Log.{EndsAt, end_of, joined, from_offset, up_to}
 use Rattle.log_terms.proofs.Logs.{up_to_end, ends_below}
 use Rattle.epoch_line.specs.Line.{last_entry, cut_end}
 use Rattle.record_batch.specs.declared.refusal.BatchRefusal.{BatchRefusal}
@@ -17,7 +17,7 @@ use Rattle.record_batch.specs.Stamp.{stamped}
 use Rattle.registry.specs.declared.registry.Replica.{Replica}
 use Rattle.registry.specs.declared.registry.Registry.{Registry}
 use Rattle.plain_log.specs.declared.answer.Answer.{Answer}
-use Rattle.plain_log.specs.declared.answer.Answer.TheVariants.{Ok, OkAt, OkSpan, Down, NotLeader, Refused, LastOffset, TooManySegments, EmptySegment, OutOfRange, Empty, Run, IsUp, LastIncarnation, Up}
+use Rattle.plain_log.specs.declared.answer.Answer.TheVariants.{Ok, OkAt, OkSpan, Down, NotLeader, Refused, LastOffset, TooManySegments, EmptySegment, DiskFault, OutOfRange, Empty, Run, IsUp, LastIncarnation, Up}
 use Rattle.plain_log.specs.declared.command.Command.{Command}
 use Rattle.plain_log.specs.declared.command.Command.TheVariants.{Raw, Flush, Roll, Stop as StopCommand, Up as UpCommand, Fetch}
 use Rattle.plain_log.specs.declared.state.State.{State}
@@ -25,24 +25,26 @@ use Rattle.plain_log.specs.declared.state.Path.{Path}
 use Rattle.plain_log.specs.declared.state.Broker.{Broker}
 use Rattle.plain_log.specs.declared.state.Role.{Role}
 use Rattle.plain_log.specs.declared.state.Role.TheVariants.{Idle, Leads, Joined}
-use Rattle.plain_log.specs.State.{leads_in, path_of, longer, put_broker, followed, stopped as stopped_broker}
+use Rattle.plain_log.specs.State.{leads_in, path_of, longer, put_broker, breaks, followed, stopped as stopped_broker}
 use Rattle.plain_log.specs.Causes.{same_cause}
 use Rattle.plain_log.specs.Fetch.{in_range, fitting, run_of, stops_rightly, is_run}
-use Rattle.plain_log.specs.RowsOfLog.{offset_limit, gained, append_row, raw_row, opened as opened_broker}
+use Rattle.plain_log.specs.RowsOfLog.{offset_limit, gained, append_row, raw_row, may_open_at, opened as opened_broker}
 use Rattle.plain_log.specs.Rows.{row}
 use Rattle.plain_log.proofs.AppendRow.{longer_wider, longer_other}
 use Rattle.partition_seen.specs.Seen.{Node, Held}
-use Rattle.partition_seen.specs.Held.{broker_of}
+use Rattle.partition_seen.specs.Held.{broker_of, stopped}
 use Rattle.partition_seen.specs.Log.{HasBytes, StopIs, with_batch}
-use Rattle.partition_seen.specs.Central.{HeldStands}
+use Rattle.partition_seen.specs.Central.{HeldStands, was_taken, AreTaken}
 use Rattle.partition_seen.specs.RowsOfLog.{end_with, AppendRow, RawRow, FlushRow, RollRow, IsInLog, GivesRun, FetchRow}
-use Rattle.partition_seen.specs.Rows.{stopped, opened, StopRow, UpRow}
+use Rattle.partition_seen.specs.Rows.{MayComeBack, opened, StopRow, UpRow}
+use Rattle.partition_seen.specs.Sound.{IsBack, NodeSound}
 use Rattle.partition_seen.proofs.Lines.{entered_same, cases_eq}
 use Rattle.partition_seen.proofs.BoolTests.{and_true, not_false, when_true, eq_same, eq_differs, le_true, le_false, lt_true}
 use Rattle.partition_seen.proofs.Parts.{joined_append}
-use Rattle.partition_seen.proofs.NodeLaw.{node_appended, node_flushed, node_stopped, node_opened}
+use Rattle.partition_seen.proofs.NodeLaw.{none_back, node_appended, node_flushed, node_stopped, flush_back, may_back, node_opened}
 use Rattle.partition_seen.proofs.SoundLaw.{placed_of, checked_long}
-use Rattle.partition_seen.proofs.Standing.{Standing, Allowed, Puts, HavePaths, silent, put, get_put, broker_at, wider_self, line_paths, paths_wide}
+use Rattle.partition_seen.proofs.Standing.{Standing, Allowed, Puts, silent, put, get_put, broker_at, wider_self, keeps_self, line_taken, line_wide}
+use Rattle.partition_seen.proofs.BreakRows.{IsTold, break_allowed, stable_breaks}
 
 -- a path that gains a batch is a path still, and no other is new
 longer_keys : (ps : List Path) (e : ℕ) (v : List ℕ) (f : ℕ) → is_some (path_of (longer ps e v) f) ≡ true → is_some (path_of ps f) ≡ true
@@ -77,10 +79,10 @@ leader_joined r e f is h = let one : Leads e ≡ Joined f = sym is ∙ h in absu
 
 -- append
 
-append_puts : (h : Held) (p : State) (b : ℕ) (x : Node) (s : Replica) (batch : List ℕ) (base e : ℕ) → Standing h p b x s → 61 ≤ length batch → x.role ≡ Leads e
+append_puts : (h : Held) (p : State) (b : ℕ) (x : Node) (s : Replica) (batch : List ℕ) (base e : ℕ) → Standing h p b x s → 61 ≤ length batch → x.up ≡ true → x.role ≡ Leads e
     → end_with x batch ≤ offset_limit → base ≡ end_of x.log.batches
     → Puts h p (gained p b (broker_of x) e (stamped batch base e)) b (record x { log = with_batch x.log (stamped batch base e) })
-append_puts h p b x s batch base e st long leads fits is =
+append_puts h p b x s batch base e st long up leads fits is =
     let placed = stamped batch base e in
     let l = st.lines.each b x st.at in
     let t = placed_of x batch base e long l.sound leads is fits in
@@ -92,15 +94,17 @@ append_puts h p b x s batch base e st long leads fits is =
       brokers = refl;
       actors = refl;
       paths = longer_wider p.paths e placed;
+      broken = keeps_self p.broken;
       keys = λ other has. longer_keys p.paths e placed h.registry.epoch has;
       sound = n.0;
-      paths_are = λ safe. line_paths (longer p.paths e placed) (with_batch x.log placed).line (x.log.batches ++ placed ∷ []) n.1
+      paths_are = λ safe. line_taken (longer p.paths e placed) p.broken (with_batch x.log placed).line (x.log.batches ++ placed ∷ []) n.1
           (safe b (record (broker_of x) { log = x.log.batches ++ placed ∷ [] }) (get_put p.brokers b (broker_of x) _ bx));
-      saved_are = λ safe. paths_wide p.paths (longer p.paths e placed) x.saved (longer_wider p.paths e placed) l.saved_are;
+      saved_are = λ safe. line_wide p.paths (longer p.paths e placed) p.broken p.broken x.saved (longer_wider p.paths e placed) (keeps_self p.broken) l.saved_are;
+      back_are = λ safe back is. absurd (none_back x back l.sound up is);
       joined = λ f j. absurd (leader_joined x.role e f leads j);
       leader = λ it has.
           let k = st.lines.leader x (ap (λ (c : ℕ). slice_get h.nodes c) it ∙ st.at) (longer_keys p.paths e placed h.registry.epoch has) in
-          (k.0, ap last_entry same ∙ k.1, k.2, k.3);
+          (k.0, ap last_entry same ∙ k.1, k.2, k.3, k.4);
       followers = λ f. absurd (leader_follows x.role e h.registry.epoch leads f);
     }
 
@@ -113,11 +117,14 @@ append_allowed h p b x s command batch LastOffset h' st long to w =
     silent h p b x s None command LastOffset h' st (to ∙ when_true _ p (and_true _ _ (and_true _ _ w.0 w.1) (rw (le_false (end_with x batch) offset_limit w.2) refl))) w.3
 append_allowed h p b x s command batch TooManySegments h' st long to w =
     silent h p b x s None command TooManySegments h' st (to ∙ when_true _ p (and_true _ _ (and_true _ _ w.0 w.1) (le_true (end_with x batch) offset_limit w.2))) w.3
+append_allowed h p b x s command batch DiskFault h' st long to w =
+    stable_breaks h p b x s None command DiskFault h' st
+    (to ∙ when_true _ (breaks p b (broker_of x)) (and_true _ _ (and_true _ _ w.0 w.1) (le_true (end_with x batch) offset_limit w.2))) w.3
 append_allowed h p b x s command batch (OkSpan base last e) h' st long to w =
     put h p (gained p b (broker_of x) e (stamped batch base e)) b x (record x { log = with_batch x.log (stamped batch base e) }) s None command (OkSpan base last e) h' st
     (to ∙ when_true _ (gained p b (broker_of x) e (stamped batch base e))
     (and_true _ _ (and_true _ _ (and_true _ _ (and_true _ _ w.0 (leads_in_of e x.role w.1)) (le_true (end_with x batch) offset_limit w.2)) (eq_same _ _ w.3)) (eq_same _ _ w.4)))
-    (append_puts h p b x s batch base e st long w.1 w.2 w.3) w.5
+    (append_puts h p b x s batch base e st long w.0 w.1 w.2 w.3) w.5
 append_allowed h p b x s command batch other h' st long to w = elim w [ ]
 
 -- raw
@@ -159,45 +166,58 @@ raw_allowed h p b x s bytes LastOffset h' st w =
     append_allowed h p b x s (Raw bytes) bytes LastOffset h' st (checked_long bytes w.0) (read_row p b (broker_of x) bytes (checked bytes) LastOffset w.0) w.1
 raw_allowed h p b x s bytes TooManySegments h' st w =
     append_allowed h p b x s (Raw bytes) bytes TooManySegments h' st (checked_long bytes w.0) (read_row p b (broker_of x) bytes (checked bytes) TooManySegments w.0) w.1
+raw_allowed h p b x s bytes DiskFault h' st w =
+    append_allowed h p b x s (Raw bytes) bytes DiskFault h' st (checked_long bytes w.0) (read_row p b (broker_of x) bytes (checked bytes) DiskFault w.0) w.1
 raw_allowed h p b x s bytes (OkSpan base last e) h' st w =
     append_allowed h p b x s (Raw bytes) bytes (OkSpan base last e) h' st (checked_long bytes w.0) (read_row p b (broker_of x) bytes (checked bytes) (OkSpan base last e) w.0) w.1
 raw_allowed h p b x s bytes other h' st w = elim w [ ]
 
 -- flush
 
-flush_puts : (h : Held) (p : State) (b : ℕ) (x : Node) (s : Replica) (n : ℕ) → Standing h p b x s → n ≡ end_of x.log.batches
+flush_puts : (h : Held) (p : State) (b : ℕ) (x : Node) (s : Replica) (n : ℕ) → Standing h p b x s → x.up ≡ true → n ≡ end_of x.log.batches
     → Puts h p (put_broker p b (record (broker_of x) { stable = n })) b (record x { stable = n; saved = x.log.line })
-flush_puts h p b x s n st is =
+flush_puts h p b x s n st up is =
     let l = st.lines.each b x st.at in
     record {
       registry = refl;
       brokers = refl;
       actors = refl;
       paths = wider_self p.paths;
+      broken = keeps_self p.broken;
       keys = λ other has. has;
-      sound = node_flushed x n l.sound is;
+      sound = node_flushed x n l.sound up is;
       paths_are = λ safe. l.paths_are;
       saved_are = λ safe. l.paths_are;
+      back_are = λ safe. l.back_are;
       joined = l.joined;
       leader = λ it has.
           let k = st.lines.leader x (ap (λ (c : ℕ). slice_get h.nodes c) it ∙ st.at) has in
-          (k.0, k.1, k.1, omega (arith, k.3, is, ends_below x.stable x.log.batches l.sound.log.consecutive l.sound.stable));
+          (k.0, k.1, k.1, omega (arith, k.3, is, ends_below x.stable x.log.batches l.sound.log.consecutive l.sound.stable), k.4);
       followers = λ f. st.lines.followers b x st.at f;
     }
 
+-- a flush that fails may have left all of the log stable
+flush_told : (h : Held) (p : State) (b : ℕ) (x : Node) (s : Replica) → Standing h p b x s → IsTold p x (end_of x.log.batches) x.log.line
+flush_told h p b x s st =
+    let l = st.lines.each b x st.at in
+    record { is = flush_back x l.sound; taken = l.paths_are; last = λ entry one two. one }
+
 pub flush_allowed : (h : Held) (p : State) (b : ℕ) (x : Node) (s : Replica) (answer : Answer) (h' : Held) → Standing h p b x s → FlushRow h b x answer h' → Allowed p b x s None Flush answer h'
 flush_allowed h p b x s Down h' st w = silent h p b x s None Flush Down h' st (rw w.0 refl) w.1
+flush_allowed h p b x s DiskFault h' st w =
+    break_allowed h p b x s (end_of x.log.batches) x.log.line None Flush DiskFault h' st (flush_told h p b x s st) (when_true _ (breaks p b (broker_of x)) w.0) w.1
 flush_allowed h p b x s (OkAt n) h' st w =
     put h p (put_broker p b (record (broker_of x) { stable = n })) b x (record x { stable = n; saved = x.log.line }) s None Flush (OkAt n) h' st
-    (when_true _ (put_broker p b (record (broker_of x) { stable = n })) (and_true _ _ w.0 (eq_same _ _ w.1))) (flush_puts h p b x s n st w.1) w.2
+    (when_true _ (put_broker p b (record (broker_of x) { stable = n })) (and_true _ _ w.0 (eq_same _ _ w.1))) (flush_puts h p b x s n st w.0 w.1) w.2
 flush_allowed h p b x s other h' st w = elim w [ ]
 
 -- roll
 
-pub roll_allowed : (h : Held) (p : State) (b : ℕ) (x : Node) (s : Replica) (answer : Answer) (h' : Held) → Standing h p b x s → RollRow h x answer h' → Allowed p b x s None Roll answer h'
+pub roll_allowed : (h : Held) (p : State) (b : ℕ) (x : Node) (s : Replica) (answer : Answer) (h' : Held) → Standing h p b x s → RollRow h b x answer h' → Allowed p b x s None Roll answer h'
 roll_allowed h p b x s Down h' st w = silent h p b x s None Roll Down h' st (rw w.0 refl) w.1
 roll_allowed h p b x s EmptySegment h' st w = silent h p b x s None Roll EmptySegment h' st (rw w.0 refl) w.1
 roll_allowed h p b x s TooManySegments h' st w = silent h p b x s None Roll TooManySegments h' st (rw w.0 refl) w.1
+roll_allowed h p b x s DiskFault h' st w = stable_breaks h p b x s None Roll DiskFault h' st (when_true _ (breaks p b (broker_of x)) w.0) w.1
 roll_allowed h p b x s (OkAt n) h' st w = silent h p b x s None Roll (OkAt n) h' st (when_true _ p (and_true _ _ w.0 (eq_same _ _ w.1))) w.2
 roll_allowed h p b x s other h' st w = elim w [ ]
 
@@ -211,10 +231,12 @@ stop_puts h p b x s st =
       brokers = refl;
       actors = refl;
       paths = wider_self p.paths;
+      broken = keeps_self p.broken;
       keys = λ other has. has;
       sound = node_stopped x l.sound;
       paths_are = λ safe. l.paths_are;
       saved_are = λ safe. l.saved_are;
+      back_are = λ safe. l.back_are;
       joined = λ e j. absurd cc;
       leader = λ it has. st.lines.leader x (ap (λ (c : ℕ). slice_get h.nodes c) it ∙ st.at) has;
       followers = λ f. absurd cc;
@@ -228,44 +250,79 @@ stop_allowed h p b x s other h' st w = elim w [ ]
 
 -- up
 
-pub filter_paths : (ps : List Path) (line : List (ℕ × ℕ)) (end : ℕ) → HavePaths ps line → HavePaths ps (cut_end line end)
-filter_paths ps line end h =
+pub filter_taken : (ps : List Path) (bs : List ℕ) (line : List (ℕ × ℕ)) (end : ℕ) → AreTaken ps bs line → AreTaken ps bs (cut_end line end)
+filter_taken ps bs line end h =
     All-from_recursion _ (cut_end line end) (
-    filter-all (λ (entry : ℕ × ℕ). nat_lt entry.1 end) (λ (entry : ℕ × ℕ). is_some (path_of ps entry.0) ≡ true) (λ (entry : ℕ × ℕ). is_some (path_of ps entry.0) ≡ true)
+    filter-all (λ (entry : ℕ × ℕ). nat_lt entry.1 end) (λ (entry : ℕ × ℕ). was_taken ps bs entry.0 ≡ true) (λ (entry : ℕ × ℕ). was_taken ps bs entry.0 ≡ true)
     (λ entry t a. a) line (recursion_from_All _ line h)
     )
 
-up_puts : (h : Held) (p : State) (b : ℕ) (x : Node) (s : Replica) (n : ℕ) → Standing h p b x s → x.up ≡ false → n ≡ end_of (up_to x.stable x.log.batches)
-    → Puts h p (put_broker p b (opened_broker (broker_of x) n)) b (opened x)
-up_puts h p b x s n st off is =
+-- the lead of each epoch of the line that comes back was taken
+back_taken : (h : Held) (p : State) (b : ℕ) (x : Node) (s : Replica) (back : ℕ × List (ℕ × ℕ)) → Standing h p b x s → MayComeBack x back → AreTaken p.paths p.broken back.1
+back_taken h p b x s back st (inl is) = subst (λ (k : ℕ × List (ℕ × ℕ)). AreTaken p.paths p.broken k.1) (sym is) (st.lines.each b x st.at).saved_are
+back_taken h p b x s back st (inr is) = (st.lines.each b x st.at).back_are back is
+
+-- and a leader's ends with its epoch
+back_last : (x : Node) (back : ℕ × List (ℕ × ℕ)) (entry : ℕ × ℕ) → MayComeBack x back → last_entry x.saved ≡ Some entry
+    → ((back : ℕ × List (ℕ × ℕ)) → x.loose ≡ Some back → last_entry back.1 ≡ Some entry) → last_entry back.1 ≡ Some entry
+back_last x back entry (inl is) one other = subst (λ (k : ℕ × List (ℕ × ℕ)). last_entry k.1 ≡ Some entry) (sym is) one
+back_last x back entry (inr is) one other = other back is
+
+-- the log may end there
+may_open : (x : Node) (back : ℕ × List (ℕ × ℕ)) (n : ℕ) → NodeSound x → MayComeBack x back → n ≡ back.0 → may_open_at (broker_of x) n ≡ true
+may_open x back n s may is = go x.loose refl may
+  where
+    k : IsBack x back
+    k = may_back x back s may
+
+    go : (o : Option (ℕ × List (ℕ × ℕ))) → x.loose ≡ o → MayComeBack x back → may_open_at (broker_of x) n ≡ true
+    go None none (inl same) = rw none (eq_same n x.stable (is ∙ ap (λ (b : ℕ × List (ℕ × ℕ)). b.0) same))
+    go None none (inr some) = absurd (let no : ◌≡◌ {A = Option (ℕ × List (ℕ × ℕ))} None (Some back) = sym none ∙ some in cc)
+    go (Some other) some _ =
+        let ends : EndsAt n x.log.batches = subst (λ (m : ℕ). EndsAt m x.log.batches) (sym is) k.ends in
+        let at = up_to_end n x.log.batches s.log.consecutive ends in
+        let low = ends_below n x.log.batches s.log.consecutive ends in
+        rw some (and_true _ _ (and_true _ _ (eq_same _ _ at) (le_true x.stable n (omega (arith, is, k.above)))) (le_true n (end_of x.log.batches) low))
+
+up_puts : (h : Held) (p : State) (b : ℕ) (x : Node) (s : Replica) (back : ℕ × List (ℕ × ℕ)) (n : ℕ) → Standing h p b x s → x.up ≡ false → MayComeBack x back
+    → n ≡ end_of (up_to back.0 x.log.batches) → n ≡ back.0 → Puts h p (put_broker p b (opened_broker (broker_of x) n)) b (opened x back)
+up_puts h p b x s back n st off may is at =
     let l = st.lines.each b x st.at in
-    let ends : end_of (up_to x.stable x.log.batches) ≡ x.stable = up_to_end x.stable x.log.batches l.sound.log.consecutive l.sound.stable in
-    let stable : n ≡ x.stable = is ∙ ends in
+    let above = (may_back x back l.sound may).above in
     let idle = (l.sound.down off).0 in
+    let taken = back_taken h p b x s back st may in
     record {
       registry = refl;
-      brokers = ap (λ (y : Broker). slice_set p.brokers b y) (ap (λ (m : ℕ). opened_broker (broker_of x) m) stable ∙ ap (λ (m : ℕ). record (opened_broker (broker_of x) x.stable) { stable = m }) (sym ends));
+      brokers = ap (λ (y : Broker). slice_set p.brokers b y) (ap (λ (m : ℕ). opened_broker (broker_of x) m) at
+          ∙ ap (λ (m : ℕ). record (opened_broker (broker_of x) back.0) { stable = m }) (sym at ∙ is));
       actors = refl;
       paths = wider_self p.paths;
+      broken = keeps_self p.broken;
       keys = λ other has. has;
-      sound = node_opened x l.sound off;
-      paths_are = λ safe. l.saved_are;
-      saved_are = λ safe. l.saved_are;
+      sound = node_opened x back l.sound off may;
+      paths_are = λ safe. taken;
+      saved_are = λ safe. taken;
+      back_are = λ safe other b. absurd cc;
       joined = λ e j. absurd (let no : Idle ≡ Joined e = sym idle ∙ j in cc);
       leader = λ it has.
           let k = st.lines.leader x (ap (λ (c : ℕ). slice_get h.nodes c) it ∙ st.at) has in
-          (k.0, k.2, k.2, omega (arith, k.3, ends));
+          let last = back_last x back (h.registry.epoch, k.0) may k.2 k.4 in
+          (k.0, last, last, omega (arith, k.3, above, is, at), λ other b. absurd cc);
       followers = λ f. absurd (let no : ◌≡◌ {A = Option ℕ} None (Some h.registry.epoch) = ap followed (sym idle) ∙ f in cc);
     }
 
 pub up_allowed : (h : Held) (p : State) (b : ℕ) (x : Node) (s : Replica) (answer : Answer) (h' : Held) → Standing h p b x s → UpRow h b x answer h' → Allowed p b x s None UpCommand answer h'
 up_allowed h p b x s IsUp h' st w = silent h p b x s None UpCommand IsUp h' st (rw w.0 refl) w.1
+up_allowed h p b x s DiskFault h' st w = silent h p b x s None UpCommand DiskFault h' st (rw w.0 refl) w.1
 up_allowed h p b x s LastIncarnation h' st w = silent h p b x s None UpCommand LastIncarnation h' st (rw w.0 refl) w.1
 up_allowed h p b x s (Up n) h' st w =
-    let l = st.lines.each b x st.at in
-    let stable : n ≡ x.stable = w.1 ∙ up_to_end x.stable x.log.batches l.sound.log.consecutive l.sound.stable in
-    put h p (put_broker p b (opened_broker (broker_of x) n)) b x (opened x) s None UpCommand (Up n) h' st
-    (when_true _ (put_broker p b (opened_broker (broker_of x) n)) (and_true _ _ (not_false x.up w.0) (eq_same _ _ stable))) (up_puts h p b x s n st w.0 w.1) w.2
+    let sound = (st.lines.each b x st.at).sound in
+    let back = w.1.0 in
+    let k = may_back x back sound w.1.1 in
+    let at : n ≡ back.0 = w.1.2 ∙ up_to_end back.0 x.log.batches sound.log.consecutive k.ends in
+    put h p (put_broker p b (opened_broker (broker_of x) n)) b x (opened x back) s None UpCommand (Up n) h' st
+    (when_true _ (put_broker p b (opened_broker (broker_of x) n)) (and_true _ _ (not_false x.up w.0) (may_open x back n sound w.1.1 at)))
+    (up_puts h p b x s back n st w.0 w.1.1 w.1.2 at) w.1.3
 up_allowed h p b x s other h' st w = elim w [ ]
 
 -- fetch
@@ -333,6 +390,9 @@ fetch_allowed h p b x s offset limit (OutOfRange start end) h' st w =
 fetch_allowed h p b x s offset limit Empty h' st w =
     silent h p b x s None (Fetch offset limit) Empty h' st
     (when_true _ p (and_true _ _ (and_true _ _ (and_true _ _ w.0 w.1) (in_range_of h p x offset st.held w.2)) (le_true x.known offset w.3))) w.4
+fetch_allowed h p b x s offset limit DiskFault h' st w =
+    silent h p b x s None (Fetch offset limit) DiskFault h' st
+    (when_true _ p (and_true _ _ (and_true _ _ (and_true _ _ w.0 w.1) (in_range_of h p x offset st.held w.2)) (lt_true offset x.known w.3))) w.4
 fetch_allowed h p b x s offset limit (Run tier size stop bytes) h' st w =
     silent h p b x s None (Fetch offset limit) (Run tier size stop bytes) h' st
     (when_true _ p (and_true _ _ (and_true _ _ (and_true _ _ (and_true _ _ w.0 w.1) (in_range_of h p x offset st.held w.2)) (lt_true offset x.known w.3))

@@ -3,6 +3,7 @@ use Rattle.std.proofs.Common.{◌≡◌, ◌∙◌, inl, inr, sym, subst, refl, 
 use Rattle.log_terms.specs.Batch.{base_of, epoch_of, last_of, last_offset_delta_of}
 use Rattle.log_terms.specs.Log.{end_of, up_to}
 use Rattle.log_terms.proofs.Lists.{each-set, length-slice_set}
+use Rattle.epoch_line.specs.Line.{assign}
 use Rattle.record_batch.specs.Build.{built}
 use Rattle.record_batch.specs.Check.{Batch, checked}
 use Rattle.record_batch.specs.Stamp.{stamped}
@@ -15,7 +16,7 @@ use Rattle.registry.specs.declared.refusal.RegRefusal.TheVariants as Reg
 use Rattle.registry.specs.Registry.{epoch_limit}
 use Rattle.registry.specs.Calls.{after_ack}
 use Rattle.plain_log.specs.declared.answer.Answer.{Answer}
-use Rattle.plain_log.specs.declared.answer.Answer.TheVariants.{Ok, OkAt, OkSpan, Down, NotLeader, Refused, LastOffset, TooManySegments, EmptySegment, OutOfRange, Empty, Run, LastEpoch, NotInSync, DownBroker, BehindStart, Known, Follows, NeedsElection, Leads, NotJoined, StaleEpoch, IsLeader, Behind, NotAbove, AboveMark, NotFollower, NoLeader, Cut, Level, Stopped, Passed, Copied, IsUp, LastIncarnation, Up}
+use Rattle.plain_log.specs.declared.answer.Answer.TheVariants.{Ok, OkAt, OkSpan, Down, NotLeader, Refused, LastOffset, TooManySegments, EmptySegment, DiskFault, DiskFaultAt, OutOfRange, Empty, Run, LastEpoch, NotInSync, DownBroker, BehindStart, Known, Follows, NeedsElection, Leads, NotJoined, StaleEpoch, IsLeader, Behind, NotAbove, AboveMark, NotFollower, NoLeader, Cut, Level, Stopped, Passed, Copied, IsUp, LastIncarnation, Up}
 use Rattle.plain_log.specs.declared.command.Command.{Command}
 use Rattle.plain_log.specs.declared.command.Command.TheVariants.{Append, Raw, Flush, Roll, Elect, Unclean, Learn, Join, Follow, Ack, Shrink, Expand, Raise, Clock, Stop as StopCommand, Up as UpCommand, Fetch}
 use Rattle.plain_log.specs.declared.state.Role.TheVariants.{Leads as LeadsIn}
@@ -25,7 +26,7 @@ use Rattle.partition_seen.specs.declared.begun.Begun.{Begun}
 use Rattle.partition_seen.specs.declared.begun.Turned.{Turned}
 use Rattle.partition_seen.specs.declared.begun.Turned.TheVariants.{Answers, Begins}
 use Rattle.partition_seen.specs.Seen.{Node, Held}
-use Rattle.partition_seen.specs.Held.{AtNode, put_node, the_leader}
+use Rattle.partition_seen.specs.Held.{AtNode, put_node, broken, the_leader}
 use Rattle.partition_seen.specs.Log.{epoch_in}
 use Rattle.partition_seen.specs.RowsOfLog.{end_with, AppendRow, RawRow, FlushRow, RollRow, FetchRow}
 use Rattle.partition_seen.specs.RowsOfElections.{Leaves, ElectRow, UncleanRow, LearnRow, AckRow, ShrinkRow, ExpandRow, RaiseRow}
@@ -33,7 +34,7 @@ use Rattle.partition_seen.specs.RowsOfFollowers.{JoinRow, FollowRow, FollowOnRow
 use Rattle.partition_seen.specs.Rows.{StopRow, UpRow, AnswerRow, FirstRow, LaterRow, Row}
 use Rattle.partition_seen.specs.Sound.{NodeSound, HeldSound}
 use Rattle.partition_seen.proofs.BoolTests.{some_of}
-use Rattle.partition_seen.proofs.NodeLaw.{last_fits, node_appended, node_flushed, node_told, node_follows, node_led, node_cut, node_extended, node_stopped, node_opened}
+use Rattle.partition_seen.proofs.NodeLaw.{last_fits, node_appended, node_flushed, node_told, node_follows, node_led, node_cut, node_extended, node_stopped, stable_back, flush_back, lead_back, node_broken, node_torn, node_opened}
 use Rattle.partition_seen.proofs.RegistryLaw.{Moves, elect_moves, unclean_moves, ack_moves, shrink_moves, expand_moves, raise_moves}
 
 -- a partition that hasn't changed
@@ -95,12 +96,17 @@ placed_of x batch base e long s leads is fits =
 
 -- append, raw, flush, roll, fetch
 
+-- a write that fails and leaves nothing else to come back
+stable_sound : (n : ℕ) (h : Held) (b : ℕ) (x : Node) (h' : Held) → slice_get h.nodes b ≡ Some x → HeldSound n h → h' ≡ put_node h b (broken x x.stable x.saved) → HeldSound n h'
+stable_sound n h b x h' at s w = let k = s.nodes b x at in put_is n h b _ h' w s (node_broken x x.stable x.saved k (stable_back x k))
+
 append_sound : (n : ℕ) (h : Held) (b : ℕ) (x : Node) (batch : List ℕ) (answer : Answer) (h' : Held) → slice_get h.nodes b ≡ Some x → 61 ≤ length batch → HeldSound n h
     → AppendRow h b x batch answer h' → HeldSound n h'
 append_sound n h b x batch Down h' at long s w = kept n h h' w.1 s
 append_sound n h b x batch NotLeader h' at long s w = kept n h h' w.2 s
 append_sound n h b x batch LastOffset h' at long s w = kept n h h' w.3 s
 append_sound n h b x batch TooManySegments h' at long s w = kept n h h' w.3 s
+append_sound n h b x batch DiskFault h' at long s w = stable_sound n h b x h' at s w.3
 append_sound n h b x batch (OkSpan base last e) h' at long s w =
     let k = s.nodes b x at in
     let t = placed_of x batch base e long k w.1 w.3 w.2 in
@@ -122,26 +128,32 @@ raw_sound n h b x bytes NotLeader h' at s w = kept n h h' w.2 s
 raw_sound n h b x bytes (Refused cause) h' at s w = kept n h h' w.3 s
 raw_sound n h b x bytes LastOffset h' at s w = kept n h h' w.1.3 s
 raw_sound n h b x bytes TooManySegments h' at s w = kept n h h' w.1.3 s
+raw_sound n h b x bytes DiskFault h' at s w = stable_sound n h b x h' at s w.1.3
 raw_sound n h b x bytes (OkSpan base last e) h' at s w = append_sound n h b x bytes (OkSpan base last e) h' at (checked_long bytes w.0) s w.1
 raw_sound n h b x bytes other h' at s w = elim w [ ]
 
 flush_sound : (n : ℕ) (h : Held) (b : ℕ) (x : Node) (answer : Answer) (h' : Held) → slice_get h.nodes b ≡ Some x → HeldSound n h → FlushRow h b x answer h' → HeldSound n h'
 flush_sound n h b x Down h' at s w = kept n h h' w.1 s
-flush_sound n h b x (OkAt m) h' at s w = put_is n h b _ h' w.2 s (node_flushed x m (s.nodes b x at) w.1)
+flush_sound n h b x DiskFault h' at s w =
+    let k = s.nodes b x at in
+    put_is n h b _ h' w.1 s (node_broken x (end_of x.log.batches) x.log.line k (flush_back x k))
+flush_sound n h b x (OkAt m) h' at s w = put_is n h b _ h' w.2 s (node_flushed x m (s.nodes b x at) w.0 w.1)
 flush_sound n h b x other h' at s w = elim w [ ]
 
-roll_sound : (n : ℕ) (h : Held) (x : Node) (answer : Answer) (h' : Held) → HeldSound n h → RollRow h x answer h' → HeldSound n h'
-roll_sound n h x Down h' s w = kept n h h' w.1 s
-roll_sound n h x EmptySegment h' s w = kept n h h' w.1 s
-roll_sound n h x TooManySegments h' s w = kept n h h' w.1 s
-roll_sound n h x (OkAt m) h' s w = kept n h h' w.2 s
-roll_sound n h x other h' s w = elim w [ ]
+roll_sound : (n : ℕ) (h : Held) (b : ℕ) (x : Node) (answer : Answer) (h' : Held) → slice_get h.nodes b ≡ Some x → HeldSound n h → RollRow h b x answer h' → HeldSound n h'
+roll_sound n h b x Down h' at s w = kept n h h' w.1 s
+roll_sound n h b x EmptySegment h' at s w = kept n h h' w.1 s
+roll_sound n h b x TooManySegments h' at s w = kept n h h' w.1 s
+roll_sound n h b x DiskFault h' at s w = stable_sound n h b x h' at s w.1
+roll_sound n h b x (OkAt m) h' at s w = kept n h h' w.2 s
+roll_sound n h b x other h' at s w = elim w [ ]
 
 fetch_sound : (n : ℕ) (h : Held) (x : Node) (offset limit : ℕ) (answer : Answer) (h' : Held) → HeldSound n h → FetchRow h x offset limit answer h' → HeldSound n h'
 fetch_sound n h x offset limit Down h' s w = kept n h h' w.1 s
 fetch_sound n h x offset limit NotLeader h' s w = kept n h h' w.2 s
 fetch_sound n h x offset limit (OutOfRange start end) h' s w = kept n h h' w.5 s
 fetch_sound n h x offset limit Empty h' s w = kept n h h' w.4 s
+fetch_sound n h x offset limit DiskFault h' s w = kept n h h' w.4 s
 fetch_sound n h x offset limit (Run tier size stop bytes) h' s w = kept n h h' w.6 s
 fetch_sound n h x offset limit other h' s w = elim w [ ]
 
@@ -168,6 +180,10 @@ learn_sound n h b x (Follows e) h' at s w = put_is n h b _ h' w.4 s (node_follow
 learn_sound n h b x (NeedsElection e) h' at s w = kept n h h' w.5 s
 learn_sound n h b x (Leads e) h' at s w =
     put_is n h b _ h' w.5 s (node_led h x e (s.nodes b x at) w.0 w.4 (subst (λ (k : ℕ). k < 2 ^ 31) (sym w.3) s.epoch))
+learn_sound n h b x DiskFault h' at s w =
+    let k = s.nodes b x at in
+    let e = h.registry.epoch in
+    put_is n h b _ h' w.4 s (node_broken x (end_of x.log.batches) (assign x.log.line e (end_of x.log.batches)) k (lead_back x e k w.3 s.epoch))
 learn_sound n h b x other h' at s w = elim w [ ]
 
 ack_sound : (n : ℕ) (h : Held) (b : ℕ) (x : Node) (answer : Answer) (h' : Held) → slice_get h.nodes b ≡ Some x → HeldSound n h → AckRow h b x answer h' → HeldSound n h'
@@ -220,6 +236,9 @@ join_sound n h b x NoLeader h' at s w = kept n h h' w.3 s
 join_sound n h b x (Cut m) h' at s w =
     let y = some_of _ (the_leader h) w.2 in
     put_is n h b _ h' y.2.5 s (node_cut x y.2.0 y.2.1 (s.nodes b x at) w.0).0
+join_sound n h b x (DiskFaultAt m) h' at s w =
+    let y = some_of _ (the_leader h) w.2 in
+    put_is n h b _ h' y.2.5 s (node_torn x y.2.1 m (s.nodes b x at) y.2.4)
 join_sound n h b x other h' at s w = elim w [ ]
 
 follow_sound : (n : ℕ) (h : Held) (b : ℕ) (x : Node) (limit : ℕ) (turned : Turned) (h' : Held) → HeldSound n h → FollowRow h b x limit turned h' → HeldSound n h'
@@ -228,6 +247,7 @@ follow_sound n h b x limit (Answers NotJoined) h' s w = kept n h h' w.2 s
 follow_sound n h b x limit (Answers (StaleEpoch e)) h' s w = kept n h h' w.3 s
 follow_sound n h b x limit (Answers NoLeader) h' s w = kept n h h' w.3 s
 follow_sound n h b x limit (Answers Level) h' s w = kept n h h' w.3 s
+follow_sound n h b x limit (Answers DiskFault) h' s w = kept n h h' w.3 s
 follow_sound n h b x limit (Begins g) h' s w = kept n h h' w.3 s
 follow_sound n h b x limit other h' s w = elim w [ ]
 
@@ -236,6 +256,7 @@ follow_on_sound n h b x g Stopped h' at s w = kept n h h' w.1 s
 follow_on_sound n h b x g (StaleEpoch e) h' at s w = kept n h h' w.3 s
 follow_on_sound n h b x g (Passed m) h' at s w = kept n h h' w.3 s
 follow_on_sound n h b x g TooManySegments h' at s w = kept n h h' w.2 s
+follow_on_sound n h b x g DiskFault h' at s w = stable_sound n h b x h' at s w.2
 follow_on_sound n h b x g (Copied m) h' at s w =
     let e = some_of _ (epoch_in g.batches) w.2 in
     put_is n h b _ h' e.2.after s (node_extended x g e.2.front e.2.rest e.0 (s.nodes b x at) w.1 e.1 e.2.parts e.2.some).0
@@ -250,8 +271,9 @@ stop_sound n h b x other h' at s w = elim w [ ]
 
 up_sound : (n : ℕ) (h : Held) (b : ℕ) (x : Node) (answer : Answer) (h' : Held) → slice_get h.nodes b ≡ Some x → HeldSound n h → UpRow h b x answer h' → HeldSound n h'
 up_sound n h b x IsUp h' at s w = kept n h h' w.1 s
+up_sound n h b x DiskFault h' at s w = kept n h h' w.1 s
 up_sound n h b x LastIncarnation h' at s w = kept n h h' w.1 s
-up_sound n h b x (Up m) h' at s w = put_is n h b _ h' w.2 s (node_opened x (s.nodes b x at) w.0)
+up_sound n h b x (Up m) h' at s w = put_is n h b _ h' w.1.3 s (node_opened x w.1.0 (s.nodes b x at) w.0 w.1.1)
 up_sound n h b x other h' at s w = elim w [ ]
 
 -- a row of one turn
@@ -259,7 +281,7 @@ answer_sound : (n : ℕ) (h : Held) (b : ℕ) (x : Node) (command : Command) (an
 answer_sound n h b x (Append recs) answer h' at s w = append_sound n h b x (built recs) answer h' at (built_long recs) s w
 answer_sound n h b x (Raw bytes) answer h' at s w = raw_sound n h b x bytes answer h' at s w
 answer_sound n h b x Flush answer h' at s w = flush_sound n h b x answer h' at s w
-answer_sound n h b x Roll answer h' at s w = roll_sound n h x answer h' s w
+answer_sound n h b x Roll answer h' at s w = roll_sound n h b x answer h' at s w
 answer_sound n h b x Elect answer h' at s w = elect_sound n h b x answer h' s w
 answer_sound n h b x Unclean answer h' at s w = unclean_sound n h b x answer h' s w
 answer_sound n h b x Learn answer h' at s w = learn_sound n h b x answer h' at s w

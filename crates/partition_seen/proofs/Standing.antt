@@ -1,7 +1,7 @@
 -- A turn against the plain log: what it starts from, what is to be shown, and how the lines of the nodes stand after it.
-use Rattle.std.proofs.Common.{◌≡◌, ◌≢◌, inl, inr, ◌∙◌, sym, ap, subst, refl, ℕ, zero, suc, ◌<◌, ◌≤◌, ◌==◌, List, [], ◌∷◌, ◌++◌, slice_get, slice_set, Some, None, Option, Bool, true, false, arith, append_assoc}
-use Rattle.std.specs.Prelude.{map, is_some}
-use Rattle.std.specs.List.{All, AllByRecursion}
+use Rattle.std.proofs.Common.{◌≡◌, ◌≢◌, ◌⊎◌, inl, inr, ◌∙◌, sym, ap, subst, refl, ℕ, zero, suc, ◌<◌, ◌≤◌, ◌==◌, List, [], ◌∷◌, ◌++◌, slice_get, slice_set, Some, None, Option, Bool, true, false, arith, append_assoc}
+use Rattle.std.specs.Prelude.{map, is_some, ◌||◌}
+use Rattle.std.specs.List.{AllByRecursion}
 use Rattle.std.proofs.lemmas.List.Elements.{All-from_recursion}
 use Rattle.log_terms.specs.Batch.{epoch_of}
 use Rattle.log_terms.specs.Line.{line_of, line_after}
@@ -16,13 +16,13 @@ use Rattle.plain_log.specs.declared.state.Path.{Path}
 use Rattle.plain_log.specs.declared.state.Role.{Role}
 use Rattle.plain_log.specs.declared.state.Role.TheVariants.{Idle, Leads, Follows, Joined}
 use Rattle.plain_log.specs.declared.state.State.{State}
-use Rattle.plain_log.specs.State.{path_of, followed}
+use Rattle.plain_log.specs.State.{path_of, followed, is_in}
 use Rattle.plain_log.specs.Rows.{row}
 use Rattle.plain_log.specs.Safe.{LogSafe, RoleSafe, PlainSafe}
 use Rattle.plain_log.proofs.Wider.{Wider}
 use Rattle.partition_seen.specs.Seen.{Node, Held}
 use Rattle.partition_seen.specs.Held.{broker_of, put_node}
-use Rattle.partition_seen.specs.Central.{HeldStands, LineStands, LeaderStands, LinesStand}
+use Rattle.partition_seen.specs.Central.{HeldStands, was_taken, AreTaken, LineStands, LeaderStands, LinesStand}
 use Rattle.partition_seen.specs.Sound.{NodeSound}
 use Rattle.partition_seen.proofs.RegistryLaw.{IsNext, IsSameEpoch, Moves}
 
@@ -30,7 +30,7 @@ use Rattle.partition_seen.proofs.RegistryLaw.{IsNext, IsSameEpoch, Moves}
 pub record Standing (h : Held) (p : State) (b : ℕ) (x : Node) (s : Replica) : Type 0 where
   pub safe : PlainSafe p
   pub held : HeldStands h p
-  pub lines : LinesStand h p.paths
+  pub lines : LinesStand h p.paths p.broken
   pub at : slice_get h.nodes b ≡ Some x
   pub replica : slice_get p.registry.replicas b ≡ Some s
 
@@ -46,7 +46,7 @@ pub record Allowed (p : State) (b : ℕ) (x : Node) (s : Replica) (noted : Optio
   pub brokers : state.brokers ≡ map broker_of h'.nodes
   pub actors : state.actors ≡ p.actors
   pub paths : Wider p.paths state.paths
-  pub lines : LogsSafe state → LinesStand h' state.paths
+  pub lines : LogsSafe state → LinesStand h' state.paths state.broken
 
 -- the nodes as brokers
 
@@ -81,41 +81,69 @@ has_wide ps qs e w h = go (path_of ps e) refl h
     go None is t = absurd cc
     go (Some log) is t = let k = w e log is in rw k.1 refl
 
--- each epoch of a line has a path
-abbrev pub HavePaths : List Path → List (ℕ × ℕ) → Type 0
-HavePaths paths line = All (λ entry. is_some (path_of paths entry.0) ≡ true) line
+-- the epochs whose taking broke off stay so
+abbrev pub Keeps : List ℕ → List ℕ → Type 0
+Keeps bs cs = (e : ℕ) → is_in e bs ≡ true → is_in e cs ≡ true
 
-pub paths_wide : (ps qs : List Path) (line : List (ℕ × ℕ)) → Wider ps qs → HavePaths ps line → HavePaths qs line
-paths_wide ps qs line w h = λ k d lt. has_wide ps qs _ w (h k d lt)
+pub keeps_self : (bs : List ℕ) → Keeps bs bs
+keeps_self bs = λ e is. is
 
-after_paths : (paths : List Path) (front : List (List ℕ)) (e : ℕ) (log whole : List (List ℕ)) → front ++ log ≡ whole → LogSafe paths whole
-    → AllByRecursion (λ entry. is_some (path_of paths entry.0) ≡ true) (line_after e log)
-after_paths paths front e [] whole is s = tt
-after_paths paths front e (batch ∷ log) whole is s =
+-- the lead of an epoch was taken
+pub path_taken : (paths : List Path) (broken : List ℕ) (e : ℕ) → is_some (path_of paths e) ≡ true → was_taken paths broken e ≡ true
+path_taken paths broken e is = rw is refl
+
+pub broken_taken : (paths : List Path) (broken : List ℕ) (e : ℕ) → is_in e broken ≡ true → was_taken paths broken e ≡ true
+broken_taken paths broken e is = go (is_some (path_of paths e))
+  where
+    go : (t : Bool) → t || is_in e broken ≡ true
+    go true = refl
+    go false = is
+
+-- a path, or one of those that broke off
+pub by_taken : (paths : List Path) (broken : List ℕ) (e : ℕ) → was_taken paths broken e ≡ true → (is_some (path_of paths e) ≡ true) ⊎ (is_in e broken ≡ true)
+by_taken paths broken e h = go (is_some (path_of paths e)) refl h
+  where
+    go : (t : Bool) → is_some (path_of paths e) ≡ t → t || is_in e broken ≡ true → (is_some (path_of paths e) ≡ true) ⊎ (is_in e broken ≡ true)
+    go true is t = inl is
+    go false is t = inr t
+
+taken_wide : (ps qs : List Path) (bs cs : List ℕ) (e : ℕ) → Wider ps qs → Keeps bs cs → was_taken ps bs e ≡ true → was_taken qs cs e ≡ true
+taken_wide ps qs bs cs e w k h = elim (by_taken ps bs e h) [
+  | inl path ↦ path_taken qs cs e (has_wide ps qs e w path)
+  | inr off ↦ broken_taken qs cs e (k e off)
+]
+
+pub line_wide : (ps qs : List Path) (bs cs : List ℕ) (line : List (ℕ × ℕ)) → Wider ps qs → Keeps bs cs → AreTaken ps bs line → AreTaken qs cs line
+line_wide ps qs bs cs line w k h = λ i d lt. taken_wide ps qs bs cs _ w k (h i d lt)
+
+after_taken : (paths : List Path) (broken : List ℕ) (front : List (List ℕ)) (e : ℕ) (log whole : List (List ℕ)) → front ++ log ≡ whole → LogSafe paths whole
+    → AllByRecursion (λ entry. was_taken paths broken entry.0 ≡ true) (line_after e log)
+after_taken paths broken front e [] whole is s = tt
+after_taken paths broken front e (batch ∷ log) whole is s =
     let is2 : (front ++ batch ∷ []) ++ log ≡ whole = append_assoc front (batch ∷ []) log ∙ is in
     let has = s.matching front batch (log, is2) in
-    let one : is_some (path_of paths (epoch_of batch)) ≡ true = rw has.1 refl in
-    go (epoch_of batch == e) refl one (after_paths paths (front ++ batch ∷ []) e log whole is2 s) (after_paths paths (front ++ batch ∷ []) (epoch_of batch) log whole is2 s)
+    let one : was_taken paths broken (epoch_of batch) ≡ true = path_taken paths broken (epoch_of batch) (rw has.1 refl) in
+    go (epoch_of batch == e) refl one (after_taken paths broken (front ++ batch ∷ []) e log whole is2 s) (after_taken paths broken (front ++ batch ∷ []) (epoch_of batch) log whole is2 s)
   where
-    go : (t : Bool) → (epoch_of batch == e) ≡ t → is_some (path_of paths (epoch_of batch)) ≡ true
-        → AllByRecursion (λ entry. is_some (path_of paths entry.0) ≡ true) (line_after e log)
-        → AllByRecursion (λ entry. is_some (path_of paths entry.0) ≡ true) (line_after (epoch_of batch) log)
-        → AllByRecursion (λ entry. is_some (path_of paths entry.0) ≡ true) (line_after e (batch ∷ log))
+    go : (t : Bool) → (epoch_of batch == e) ≡ t → was_taken paths broken (epoch_of batch) ≡ true
+        → AllByRecursion (λ entry. was_taken paths broken entry.0 ≡ true) (line_after e log)
+        → AllByRecursion (λ entry. was_taken paths broken entry.0 ≡ true) (line_after (epoch_of batch) log)
+        → AllByRecursion (λ entry. was_taken paths broken entry.0 ≡ true) (line_after e (batch ∷ log))
     go true t one same other = rw t same
     go false t one same other = rw t (one, other)
 
--- each epoch of a log has a path
-own_paths : (paths : List Path) (log : List (List ℕ)) → LogSafe paths log → AllByRecursion (λ entry. is_some (path_of paths entry.0) ≡ true) (line_of log)
-own_paths paths [] s = tt
-own_paths paths (batch ∷ log) s =
+-- the lead of each epoch of a log was taken
+own_taken : (paths : List Path) (broken : List ℕ) (log : List (List ℕ)) → LogSafe paths log → AllByRecursion (λ entry. was_taken paths broken entry.0 ≡ true) (line_of log)
+own_taken paths broken [] s = tt
+own_taken paths broken (batch ∷ log) s =
     let has = s.matching [] batch (log, refl) in
-    (rw has.1 refl, after_paths paths (batch ∷ []) (epoch_of batch) log (batch ∷ log) refl s)
+    (path_taken paths broken (epoch_of batch) (rw has.1 refl), after_taken paths broken (batch ∷ []) (epoch_of batch) log (batch ∷ log) refl s)
 
-pub log_paths : (paths : List Path) (log : List (List ℕ)) → LogSafe paths log → HavePaths paths (line_of log)
-log_paths paths log s = All-from_recursion _ (line_of log) (own_paths paths log s)
+pub log_taken : (paths : List Path) (broken : List ℕ) (log : List (List ℕ)) → LogSafe paths log → AreTaken paths broken (line_of log)
+log_taken paths broken log s = All-from_recursion _ (line_of log) (own_taken paths broken log s)
 
-pub line_paths : (paths : List Path) (line : List (ℕ × ℕ)) (log : List (List ℕ)) → line ≡ line_of log → LogSafe paths log → HavePaths paths line
-line_paths paths line log is s = subst (HavePaths paths) (sym is) (log_paths paths log s)
+pub line_taken : (paths : List Path) (broken : List ℕ) (line : List (ℕ × ℕ)) (log : List (List ℕ)) → line ≡ line_of log → LogSafe paths log → AreTaken paths broken line
+line_taken paths broken line log is s = subst (AreTaken paths broken) (sym is) (log_taken paths broken log s)
 
 -- the lines of the nodes, after a node has changed
 pub record Puts (h : Held) (p q : State) (b : ℕ) (y : Node) : Type 0 where
@@ -123,23 +151,31 @@ pub record Puts (h : Held) (p q : State) (b : ℕ) (y : Node) : Type 0 where
   pub brokers : q.brokers ≡ slice_set p.brokers b (broker_of y)
   pub actors : q.actors ≡ p.actors
   pub paths : Wider p.paths q.paths
+  pub broken : Keeps p.broken q.broken
   pub keys : h.registry.leader.0 ≢ b → is_some (path_of q.paths h.registry.epoch) ≡ true → is_some (path_of p.paths h.registry.epoch) ≡ true
   pub sound : NodeSound y
-  pub paths_are : LogsSafe q → HavePaths q.paths y.log.line
-  pub saved_are : LogsSafe q → HavePaths q.paths y.saved
+  pub paths_are : LogsSafe q → AreTaken q.paths q.broken y.log.line
+  pub saved_are : LogsSafe q → AreTaken q.paths q.broken y.saved
+  pub back_are : LogsSafe q → (back : ℕ × List (ℕ × ℕ)) → y.loose ≡ Some back → AreTaken q.paths q.broken back.1
   pub joined : (e : ℕ) → y.role ≡ Joined e → y.log.line ≡ line_of y.log.batches
   pub leader : h.registry.leader.0 ≡ b → LeaderStands q.paths h.registry.epoch y
   pub followers : followed y.role ≡ Some h.registry.epoch → h.registry.leader.0 ≢ b
 
-pub lines_put : (h : Held) (ps qs : List Path) (b : ℕ) (y : Node) → LinesStand h ps → Wider ps qs
-    → (h.registry.leader.0 ≢ b → is_some (path_of qs h.registry.epoch) ≡ true → is_some (path_of ps h.registry.epoch) ≡ true) → LineStands qs y
-    → (h.registry.leader.0 ≡ b → LeaderStands qs h.registry.epoch y) → (followed y.role ≡ Some h.registry.epoch → h.registry.leader.0 ≢ b) → LinesStand (put_node h b y) qs
-lines_put h ps qs b y s wide keys line leader followers = record {
+pub lines_put : (h : Held) (ps qs : List Path) (bs cs : List ℕ) (b : ℕ) (y : Node) → LinesStand h ps bs → Wider ps qs → Keeps bs cs
+    → (h.registry.leader.0 ≢ b → is_some (path_of qs h.registry.epoch) ≡ true → is_some (path_of ps h.registry.epoch) ≡ true) → LineStands qs cs y
+    → (h.registry.leader.0 ≡ b → LeaderStands qs h.registry.epoch y) → (followed y.role ≡ Some h.registry.epoch → h.registry.leader.0 ≢ b) → LinesStand (put_node h b y) qs cs
+lines_put h ps qs bs cs b y s wide keeps keys line leader followers = record {
   each = λ c z at. elim (get-set h.nodes b y c z at) [
-    | inl one ↦ subst (LineStands qs) (sym one.1) line
+    | inl one ↦ subst (LineStands qs cs) (sym one.1) line
     | inr other ↦
         let k = s.each c z other.1 in
-        record { sound = k.sound; paths_are = paths_wide ps qs z.log.line wide k.paths_are; saved_are = paths_wide ps qs z.saved wide k.saved_are; joined = k.joined }
+        record {
+          sound = k.sound;
+          paths_are = line_wide ps qs bs cs z.log.line wide keeps k.paths_are;
+          saved_are = line_wide ps qs bs cs z.saved wide keeps k.saved_are;
+          back_are = λ back is. line_wide ps qs bs cs back.1 wide keeps (k.back_are back is);
+          joined = k.joined;
+        }
   ];
   leader = λ z at. elim (get-set h.nodes b y h.registry.leader.0 z at) [
     | inl one ↦ subst (LeaderStands qs h.registry.epoch) (sym one.1) (leader one.0)
@@ -151,13 +187,14 @@ lines_put h ps qs b y s wide keys line leader followers = record {
   ];
 }
 
-pub put_lines : (h : Held) (p q : State) (b : ℕ) (y : Node) → LinesStand h p.paths → Puts h p q b y → LogsSafe q → LinesStand (put_node h b y) q.paths
+pub put_lines : (h : Held) (p q : State) (b : ℕ) (y : Node) → LinesStand h p.paths p.broken → Puts h p q b y → LogsSafe q → LinesStand (put_node h b y) q.paths q.broken
 put_lines h p q b y s w safe =
-    lines_put h p.paths q.paths b y s w.paths w.keys (record { sound = w.sound; paths_are = w.paths_are safe; saved_are = w.saved_are safe; joined = w.joined }) w.leader w.followers
+    lines_put h p.paths q.paths p.broken q.broken b y s w.paths w.broken w.keys
+    (record { sound = w.sound; paths_are = w.paths_are safe; saved_are = w.saved_are safe; back_are = w.back_are safe; joined = w.joined }) w.leader w.followers
 
 -- after the registry has changed
-pub lines_same : (h : Held) (ps : List Path) (r : Registry) → LinesStand h ps → IsSameEpoch h.registry r → LinesStand (record h { registry = r }) ps
-lines_same h ps r s e = record {
+pub lines_same : (h : Held) (ps : List Path) (bs : List ℕ) (r : Registry) → LinesStand h ps bs → IsSameEpoch h.registry r → LinesStand (record h { registry = r }) ps bs
+lines_same h ps bs r s e = record {
   each = s.each;
   leader = λ z at. subst (λ (n : ℕ). LeaderStands ps n z) (sym e.epoch) (s.leader z (ap (λ (k : ℕ). slice_get h.nodes k) (ap (λ l. l.0) (sym e.leader)) ∙ at));
   followers = λ c z at f same. s.followers c z at (f ∙ ap (λ (n : ℕ). Some n) e.epoch) (ap (λ l. l.0) (sym e.leader) ∙ same);
@@ -177,7 +214,7 @@ no_path p e s lt h = go (path_of p.paths e) refl h
     go None is t = absurd cc
     go (Some log) is t = let k = s.paths e log is in omega (arith, k.below, lt)
 
-lines_next : (h : Held) (p : State) (r : Registry) → PlainSafe p → HeldStands h p → LinesStand h p.paths → IsNext h.registry r → LinesStand (record h { registry = r }) p.paths
+lines_next : (h : Held) (p : State) (r : Registry) → PlainSafe p → HeldStands h p → LinesStand h p.paths p.broken → IsNext h.registry r → LinesStand (record h { registry = r }) p.paths p.broken
 lines_next h p r safe st s n =
     let above : p.registry.epoch < r.epoch = omega (arith, n.epoch, ap (λ (k : Registry). k.epoch) st.registry) in
     record {
@@ -189,9 +226,9 @@ lines_next h p r safe st s n =
           omega (arith, low, above);
     }
 
-pub lines_moved : (h : Held) (p : State) (r : Registry) → PlainSafe p → HeldStands h p → LinesStand h p.paths → Moves h.registry r → LinesStand (record h { registry = r }) p.paths
+pub lines_moved : (h : Held) (p : State) (r : Registry) → PlainSafe p → HeldStands h p → LinesStand h p.paths p.broken → Moves h.registry r → LinesStand (record h { registry = r }) p.paths p.broken
 lines_moved h p r safe st s m = elim m.epoch [
-  | inl k ↦ lines_same h p.paths r s k
+  | inl k ↦ lines_same h p.paths p.broken r s k
   | inr k ↦ lines_next h p r safe st s k
 ]
 
@@ -205,7 +242,7 @@ silent h p b x s noted command answer h' st is same = record {
   brokers = st.held.brokers ∙ ap (λ (k : Held). map broker_of k.nodes) (sym same);
   actors = refl;
   paths = wider_self p.paths;
-  lines = λ safe. subst (λ (k : Held). LinesStand k p.paths) (sym same) st.lines;
+  lines = λ safe. subst (λ (k : Held). LinesStand k p.paths p.broken) (sym same) st.lines;
 }
 
 -- a row that changes the broker
@@ -219,19 +256,23 @@ put h p q b x y s noted command answer h' st is w same = record {
       ∙ (sym (map_set broker_of h.nodes b y) ∙ ap (λ (k : Held). map broker_of k.nodes) (sym same)));
   actors = w.actors;
   paths = w.paths;
-  lines = λ safe. subst (λ (k : Held). LinesStand k q.paths) (sym same) (put_lines h p q b y st.lines w safe);
+  lines = λ safe. subst (λ (k : Held). LinesStand k q.paths q.broken) (sym same) (put_lines h p q b y st.lines w safe);
 }
 
 -- a row that changes the registry
 pub leaves : (h : Held) (p q : State) (b : ℕ) (x : Node) (s : Replica) (r : Registry) (noted : Option Noted) (command : Command) (answer : Answer) (h' : Held) → Standing h p b x s
-    → row p b (broker_of x) s noted command answer ≡ Some q → q.registry ≡ r → q.brokers ≡ p.brokers → q.actors ≡ p.actors → q.paths ≡ p.paths → Moves h.registry r
+    → row p b (broker_of x) s noted command answer ≡ Some q → q.registry ≡ r → q.brokers ≡ p.brokers → q.actors ≡ p.actors → q.paths ≡ p.paths → q.broken ≡ p.broken → Moves h.registry r
     → h' ≡ record h { registry = r } → Allowed p b x s noted command answer h'
-leaves h p q b x s r noted command answer h' st is registry brokers actors paths moves same = record {
+leaves h p q b x s r noted command answer h' st is registry brokers actors paths broken moves same = record {
   state = q;
   is = is;
   registry = registry ∙ ap (λ (k : Held). k.registry) (sym same);
   brokers = brokers ∙ (st.held.brokers ∙ ap (λ (k : Held). map broker_of k.nodes) (sym same));
   actors = actors;
   paths = subst (λ (k : List Path). Wider p.paths k) (sym paths) (wider_self p.paths);
-  lines = λ safe. subst (λ (k : Held). LinesStand k q.paths) (sym same) (subst (λ (k : List Path). LinesStand (record h { registry = r }) k) (sym paths) (lines_moved h p r st.safe st.held st.lines moves));
+  lines = λ safe.
+      let moved = lines_moved h p r st.safe st.held st.lines moves in
+      subst (λ (k : Held). LinesStand k q.paths q.broken) (sym same)
+      (subst (λ (k : List Path). LinesStand (record h { registry = r }) k q.broken) (sym paths)
+      (subst (λ (k : List ℕ). LinesStand (record h { registry = r }) p.paths k) (sym broken) moved));
 }

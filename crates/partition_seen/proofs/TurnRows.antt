@@ -34,7 +34,7 @@ clock_allowed h p b x s ms Ok h' st w = record {
   brokers = st.held.brokers ∙ ap (λ (k : Held). map broker_of k.nodes) (sym w);
   actors = refl;
   paths = wider_self p.paths;
-  lines = λ safe. subst (λ (k : Held). LinesStand k p.paths) (sym w) (record { each = st.lines.each; leader = st.lines.leader; followers = st.lines.followers });
+  lines = λ safe. subst (λ (k : Held). LinesStand k p.paths p.broken) (sym w) (record { each = st.lines.each; leader = st.lines.leader; followers = st.lines.followers });
 }
 clock_allowed h p b x s ms other h' st w = elim w [ ]
 

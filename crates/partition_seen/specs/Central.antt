@@ -1,5 +1,5 @@
 -- The central fact, which holds between any two turns: the world is the plain log after the world's own journal.
-use Rattle.std.specs.Prelude.{◌≡◌, ◌≢◌, ℕ, ◌≤◌, Option, Some, List, ◌++◌, length, map, slice_get, option_map, is_some, true, IsOk, All}
+use Rattle.std.specs.Prelude.{◌≡◌, ◌≢◌, ℕ, ◌≤◌, Option, Some, List, ◌++◌, length, map, slice_get, option_map, is_some, Bool, ◌||◌, true, IsOk, All}
 use Rattle.std.specs.Option.{option_and_then}
 use mathlib.Core.List.{IsPrefix}
 use Rattle.log_terms.specs.Line.{line_of}
@@ -14,7 +14,7 @@ use Rattle.plain_log.specs.declared.state.Noted.{Noted}
 use Rattle.plain_log.specs.declared.state.Path.{Path}
 use Rattle.plain_log.specs.declared.state.Role.TheVariants.{Joined}
 use Rattle.plain_log.specs.declared.state.State.{State}
-use Rattle.plain_log.specs.State.{actor_at, path_of, followed}
+use Rattle.plain_log.specs.State.{actor_at, path_of, followed, is_in}
 use Rattle.plain_log.specs.Fetch.{is_within}
 use Rattle.plain_log.specs.Orders.{AreRising}
 use Rattle.plain_log.specs.Runs.{replay}
@@ -36,24 +36,33 @@ pub record HeldStands (h : Held) (p : State) : Type 0 where
   pub registry : p.registry ≡ h.registry
   pub brokers : p.brokers ≡ map broker_of h.nodes
 
--- a node's line is its log's; against the paths: each of its epochs has one, also of the line that was saved, and that
--- of a follower that has joined has none beyond its log's
-pub record LineStands (paths : List Path) (x : Node) : Type 0 where
+-- the lead of the epoch was taken, or the taking broke off
+abbrev pub was_taken : List Path → List ℕ → ℕ → Bool
+was_taken paths broken e = is_some (path_of paths e) || is_in e broken
+
+-- the lead of each epoch of the line was
+abbrev pub AreTaken : List Path → List ℕ → List (ℕ × ℕ) → Type 0
+AreTaken paths broken line = All (λ entry. was_taken paths broken entry.0 ≡ true) line
+
+-- a node's line is its log's; the lead of each of its epochs was taken, also of the lines that may come back; and that of
+-- a follower that has joined has none beyond its log's
+pub record LineStands (paths : List Path) (broken : List ℕ) (x : Node) : Type 0 where
   pub sound : NodeSound x
-  pub paths_are : All (λ entry. is_some (path_of paths entry.0) ≡ true) x.log.line
-  pub saved_are : All (λ entry. is_some (path_of paths entry.0) ≡ true) x.saved
+  pub paths_are : AreTaken paths broken x.log.line
+  pub saved_are : AreTaken paths broken x.saved
+  pub back_are : (back : ℕ × List (ℕ × ℕ)) → x.loose ≡ Some back → AreTaken paths broken back.1
   pub joined : (e : ℕ) → x.role ≡ Joined e → x.log.line ≡ line_of x.log.batches
 
 -- the leader of the registry's epoch, once it has led it: its line ends with that epoch, from a stable offset on, and
--- so does the line that was saved
+-- so do the lines that may come back
 abbrev pub LeaderStands : List Path → ℕ → Node → Type 0
 LeaderStands paths epoch x = is_some (path_of paths epoch) ≡ true
     → (start : ℕ) × (last_entry x.log.line ≡ Some (epoch, start)) × (last_entry x.saved ≡ Some (epoch, start))
-    × (start ≤ x.stable)
+    × (start ≤ x.stable) × ((back : ℕ × List (ℕ × ℕ)) → x.loose ≡ Some back → last_entry back.1 ≡ Some (epoch, start))
 
 -- the lines of the nodes; and no follower of the registry's epoch is its leader
-pub record LinesStand (h : Held) (paths : List Path) : Type 0 where
-  pub each : (b : ℕ) (x : Node) → slice_get h.nodes b ≡ Some x → LineStands paths x
+pub record LinesStand (h : Held) (paths : List Path) (broken : List ℕ) : Type 0 where
+  pub each : (b : ℕ) (x : Node) → slice_get h.nodes b ≡ Some x → LineStands paths broken x
   pub leader : (x : Node) → slice_get h.nodes h.registry.leader.0 ≡ Some x → LeaderStands paths h.registry.epoch x
   pub followers : (b : ℕ) (x : Node) → slice_get h.nodes b ≡ Some x → followed x.role ≡ Some h.registry.epoch
       → h.registry.leader.0 ≢ b
@@ -83,7 +92,7 @@ pub record SeatStands (p : State) (l : ActorList) (seat : Seat) : Type 0 where
 -- the world's registry, nodes and desk are those of a state of the plain log
 pub record Stands (w : Whole) (p : State) : Type 0 where
   pub held : HeldStands w.held p
-  pub lines : LinesStand w.held p.paths
+  pub lines : LinesStand w.held p.paths p.broken
   pub desk : (place : ℕ) (l : ActorList) (seat : Seat) → slice_get w.lists place ≡ Some l → slice_get w.desk place ≡ Some seat
       → SeatStands p l seat
   pub rising : AreRising w.lists

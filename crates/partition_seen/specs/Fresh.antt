@@ -20,6 +20,7 @@ fresh_node role line = record {
   stable = 0;
   known = 0;
   saved = line;
+  loose = None;
 }
 
 -- broker 0 leads epoch 0, the others have joined it, and all are in sync

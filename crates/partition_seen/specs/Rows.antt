@@ -2,26 +2,21 @@
 --
 -- A row says for each answer exactly when it is given, the tests in their order, and the partition afterwards. Follow
 -- is the one command of two turns.
-use Rattle.std.specs.Prelude.{◌≡◌, ◌+◌, ℕ, ℤ, true, false, Option, None, Some}
+use Rattle.std.specs.Prelude.{◌≡◌, ◌⊎◌, ℕ, ℤ, true, false, List, Option, None, Some}
 use Rattle.log_terms.specs.Log.{end_of, up_to}
 use Rattle.record_batch.specs.Build.{built}
 use Rattle.plain_log.specs.declared.answer.Answer.{Answer}
-use Rattle.plain_log.specs.declared.answer.Answer.TheVariants.{Ok, Down, IsUp, LastIncarnation, Up}
+use Rattle.plain_log.specs.declared.answer.Answer.TheVariants.{Ok, Down, IsUp, DiskFault, LastIncarnation, Up}
 use Rattle.plain_log.specs.declared.command.Command.{Command}
 use Rattle.plain_log.specs.declared.command.Command.TheVariants.{Append, Raw, Flush, Roll, Elect, Unclean, Learn, Join, Follow, Ack, Shrink, Expand, Raise, Clock, Stop as StopCommand, Up as UpCommand, Fetch}
-use Rattle.plain_log.specs.declared.state.Role.TheVariants.{Idle}
 use Rattle.partition_seen.specs.declared.begun.Begun.{Begun}
 use Rattle.partition_seen.specs.declared.begun.Turned.{Turned}
 use Rattle.partition_seen.specs.declared.begun.Turned.TheVariants.{Answers, Begins}
 use Rattle.partition_seen.specs.Seen.{Node, Held}
-use Rattle.partition_seen.specs.Held.{put_node}
+use Rattle.partition_seen.specs.Held.{put_node, stopped}
 use Rattle.partition_seen.specs.RowsOfLog.{AppendRow, RawRow, FlushRow, RollRow, FetchRow}
 use Rattle.partition_seen.specs.RowsOfElections.{ElectRow, UncleanRow, LearnRow, AckRow, ShrinkRow, ExpandRow, RaiseRow}
 use Rattle.partition_seen.specs.RowsOfFollowers.{JoinRow, FollowRow, FollowOnRow}
-
--- a node after a stop
-abbrev pub stopped : Node → Node
-stopped x = record x { up = false; stops = x.stops + 1; role = Idle; known = 0 }
 
 -- stop
 abbrev pub StopRow : Held → ℕ → Node → Answer → Held → Type 0
@@ -29,19 +24,27 @@ StopRow h b x Down h' = (x.up ≡ false) × (h' ≡ h)
 StopRow h b x Ok h' = (x.up ≡ true) × (h' ≡ put_node h b (stopped x))
 StopRow h b x other h' = ⊥
 
--- a node that comes up: what wasn't stable is gone, and the line is the one that was saved
-abbrev pub opened : Node → Node
-opened x = record x {
+-- what comes back of a node's log: what is stable, or after a write that failed the other end and line
+abbrev pub MayComeBack : Node → ℕ × List (ℕ × ℕ) → Type 0
+MayComeBack x back = (back ≡ (x.stable, x.saved)) ⊎ (x.loose ≡ Some back)
+
+-- a node that comes up with this end and this line
+abbrev pub opened : Node → ℕ × List (ℕ × ℕ) → Node
+opened x back = record x {
   up = true;
-  log = record { batches = up_to x.stable x.log.batches; line = x.saved };
-  stable = end_of (up_to x.stable x.log.batches);
+  log = record { batches = up_to back.0 x.log.batches; line = back.1 };
+  stable = end_of (up_to back.0 x.log.batches);
+  saved = back.1;
+  loose = None;
 }
 
 -- up; how often a log has been opened isn't seen, so that this can't be counted further is answered as it comes
 abbrev pub UpRow : Held → ℕ → Node → Answer → Held → Type 0
 UpRow h b x IsUp h' = (x.up ≡ true) × (h' ≡ h)
+UpRow h b x DiskFault h' = (x.up ≡ false) × (h' ≡ h)
 UpRow h b x LastIncarnation h' = (x.up ≡ false) × (h' ≡ h)
-UpRow h b x (Up n) h' = (x.up ≡ false) × (n ≡ end_of (up_to x.stable x.log.batches)) × (h' ≡ put_node h b (opened x))
+UpRow h b x (Up n) h' = (x.up ≡ false) × ((back : ℕ × List (ℕ × ℕ)) × MayComeBack x back
+    × (n ≡ end_of (up_to back.0 x.log.batches)) × (h' ≡ put_node h b (opened x back)))
 UpRow h b x other h' = ⊥
 
 -- clock
@@ -54,7 +57,7 @@ abbrev pub AnswerRow : Held → ℕ → Node → Command → Answer → Held →
 AnswerRow h b x (Append recs) answer h' = AppendRow h b x (built recs) answer h'
 AnswerRow h b x (Raw bytes) answer h' = RawRow h b x bytes answer h'
 AnswerRow h b x Flush answer h' = FlushRow h b x answer h'
-AnswerRow h b x Roll answer h' = RollRow h x answer h'
+AnswerRow h b x Roll answer h' = RollRow h b x answer h'
 AnswerRow h b x Elect answer h' = ElectRow h b x answer h'
 AnswerRow h b x Unclean answer h' = UncleanRow h b x answer h'
 AnswerRow h b x Learn answer h' = LearnRow h b x answer h'

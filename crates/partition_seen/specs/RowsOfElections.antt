@@ -12,11 +12,11 @@ use Rattle.registry.specs.declared.refusal.RegRefusal.TheVariants as Reg
 use Rattle.registry.specs.Replicas.{AtReplica}
 use Rattle.registry.specs.Calls.{after_elect, after_unclean, after_ack, after_shrink, after_expand, after_raise}
 use Rattle.plain_log.specs.declared.answer.Answer.{Answer}
-use Rattle.plain_log.specs.declared.answer.Answer.TheVariants.{Ok, OkAt, Down, NotLeader, LastEpoch, NotInSync, DownBroker, BehindStart, Known, Follows, NeedsElection, Leads, NotJoined, StaleEpoch, IsLeader, Behind, NotAbove, AboveMark}
+use Rattle.plain_log.specs.declared.answer.Answer.TheVariants.{Ok, OkAt, Down, NotLeader, LastEpoch, NotInSync, DownBroker, BehindStart, Known, Follows, NeedsElection, DiskFault, Leads, NotJoined, StaleEpoch, IsLeader, Behind, NotAbove, AboveMark}
 use Rattle.plain_log.specs.declared.state.Role.TheVariants.{Leads as LeadsIn, Follows as FollowsIn}
 use Rattle.plain_log.specs.State.{leads, acking, epoch_in}
 use Rattle.partition_seen.specs.Seen.{Node, Held}
-use Rattle.partition_seen.specs.Held.{put_node}
+use Rattle.partition_seen.specs.Held.{put_node, broken}
 
 -- the registry is left so, and nothing else changes
 abbrev pub Leaves : Held → Option Registry → Held → Type 0
@@ -81,6 +81,9 @@ LearnRow h b x (NeedsElection n) h' =
 LearnRow h b x (Leads n) h' =
     (x.up ≡ true) × ¬ IsKnown h x × (h.registry.leader.0 ≡ b) × (n ≡ h.registry.epoch) × IsNew x n
     × (h' ≡ put_node h b (led h x n))
+LearnRow h b x DiskFault h' =
+    (x.up ≡ true) × ¬ IsKnown h x × (h.registry.leader.0 ≡ b) × IsNew x h.registry.epoch
+    × (h' ≡ put_node h b (broken x (end_of x.log.batches) (assign x.log.line h.registry.epoch (end_of x.log.batches))))
 LearnRow h b x other h' = ⊥
 
 -- the partition after an acknowledgement, which leaves this registry: the broker knows the high watermark, as far as its log goes

@@ -10,12 +10,12 @@ use Rattle.log_terms.specs.Log.{IsConsecutive, end_of, end_from, up_to}
 use Rattle.epoch_line.specs.Meet.{IsMeetBelow}
 use Rattle.record_batch.specs.Check.{checked}
 use Rattle.plain_log.specs.declared.answer.Answer.{Answer}
-use Rattle.plain_log.specs.declared.answer.Answer.TheVariants.{Down, NotFollower, StaleEpoch, NoLeader, Cut, NotJoined, Level, Stopped, Passed, TooManySegments, Copied}
+use Rattle.plain_log.specs.declared.answer.Answer.TheVariants.{Down, NotFollower, StaleEpoch, NoLeader, Cut, DiskFault, DiskFaultAt, NotJoined, Level, Stopped, Passed, TooManySegments, Copied}
 use Rattle.plain_log.specs.declared.state.Role.TheVariants.{Joined}
 use Rattle.plain_log.specs.State.{followed, joined}
 use Rattle.partition_seen.specs.declared.begun.Begun.{Begun}
 use Rattle.partition_seen.specs.Seen.{Node, Held}
-use Rattle.partition_seen.specs.Held.{put_node, the_leader}
+use Rattle.partition_seen.specs.Held.{put_node, the_leader, broken, torn}
 use Rattle.partition_seen.specs.Log.{IsRunOf, MayTake, cut_at, with_batches, epoch_in}
 use Rattle.partition_seen.specs.declared.begun.Turned.{Turned}
 use Rattle.partition_seen.specs.declared.begun.Turned.TheVariants.{Answers, Begins}
@@ -51,6 +51,9 @@ JoinRow h b x NoLeader h' = (x.up ≡ true) × IsFresh h (followed x.role) × (t
 JoinRow h b x (Cut n) h' = (x.up ≡ true) × IsFresh h (followed x.role) × IsSomeAnd (the_leader h) (λ y.
     (e m : ℕ) × (followed x.role ≡ Some e) × IsMeet x y m × (n ≡ end_of (up_to m x.log.batches))
     × (h' ≡ put_node h b (cut_node x e m)))
+JoinRow h b x (DiskFaultAt n) h' = (x.up ≡ true) × IsFresh h (followed x.role) × IsSomeAnd (the_leader h) (λ y.
+    (e m : ℕ) × (followed x.role ≡ Some e) × IsMeet x y m × (n ≡ end_of (up_to m x.log.batches))
+    × (h' ≡ put_node h b (torn x n (cut_at x.log m).line)))
 JoinRow h b x other h' = ⊥
 
 -- what a follow's seat keeps after its first turn: what was noted, and a run of the leader's log from the follower's end on
@@ -101,6 +104,8 @@ FollowRow h b x limit (Answers (StaleEpoch n)) h' = (x.up ≡ true) × IsStale h
 FollowRow h b x limit (Answers NoLeader) h' = (x.up ≡ true) × IsFresh h (joined x.role) × (the_leader h ≡ None) × (h' ≡ h)
 FollowRow h b x limit (Answers Level) h' = (x.up ≡ true) × IsFresh h (joined x.role)
     × IsSomeAnd (the_leader h) (λ y. end_of y.log.batches ≤ end_of x.log.batches) × (h' ≡ h)
+FollowRow h b x limit (Answers DiskFault) h' = (x.up ≡ true) × IsFresh h (joined x.role)
+    × IsSomeAnd (the_leader h) (λ y. end_of x.log.batches < end_of y.log.batches) × (h' ≡ h)
 FollowRow h b x limit (Begins g) h' = (x.up ≡ true) × IsFresh h (joined x.role)
     × IsSomeAnd (the_leader h) (λ y. (end_of x.log.batches < end_of y.log.batches) × Takes h x y limit g) × (h' ≡ h)
 FollowRow h b x limit other h' = ⊥
@@ -111,6 +116,7 @@ FollowOnRow h b x g Stopped h' = (g.stops ≢ x.stops) × (h' ≡ h)
 FollowOnRow h b x g (StaleEpoch n) h' = (g.stops ≡ x.stops) × IsStale h (followed g.role) × (n ≡ h.registry.epoch) × (h' ≡ h)
 FollowOnRow h b x g (Passed n) h' = GoesOn h x g × (n ≡ end_of x.log.batches) × (CanExtend x g → ⊥) × (h' ≡ h)
 FollowOnRow h b x g TooManySegments h' = GoesOn h x g × CanExtend x g × (h' ≡ h)
+FollowOnRow h b x g DiskFault h' = GoesOn h x g × CanExtend x g × (h' ≡ put_node h b (broken x x.stable x.saved))
 FollowOnRow h b x g (Copied n) h' =
     GoesOn h x g × CanExtend x g × IsSomeAnd (epoch_in g.batches) (λ e. Extends h b x g n e h')
 FollowOnRow h b x g other h' = ⊥

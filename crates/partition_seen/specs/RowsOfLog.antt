@@ -2,7 +2,7 @@
 --
 -- A row says for each answer exactly when it is given, the tests in their order, and the partition afterwards. Of a
 -- log's segments nothing is seen: that there are too many, that the open one is empty, or which one a run lies in, is
--- answered as it comes.
+-- answered as it comes. So is a fault of the disk, which stops the broker where it failed in a write.
 use Rattle.std.specs.Prelude.{◌≡◌, ◌+◌, ℕ, ◌<◌, ◌≤◌, ◌⊎◌, true, false, List, length, Err, IsOk}
 use Rattle.tier_base.specs.declared.plain.Stop.{Stop}
 use Rattle.log_terms.specs.Batch.{last_offset_delta_of}
@@ -10,13 +10,13 @@ use Rattle.log_terms.specs.Log.{end_of, joined}
 use Rattle.record_batch.specs.Check.{checked}
 use Rattle.record_batch.specs.Stamp.{stamped}
 use Rattle.plain_log.specs.declared.answer.Answer.{Answer}
-use Rattle.plain_log.specs.declared.answer.Answer.TheVariants.{OkAt, OkSpan, Down, NotLeader, Refused, LastOffset, TooManySegments, EmptySegment, OutOfRange, Empty, Run}
+use Rattle.plain_log.specs.declared.answer.Answer.TheVariants.{OkAt, OkSpan, Down, NotLeader, Refused, LastOffset, TooManySegments, EmptySegment, DiskFault, OutOfRange, Empty, Run}
 use Rattle.plain_log.specs.declared.answer.Tier.TheVariants.{Local}
 use Rattle.plain_log.specs.declared.state.Role.TheVariants.{Leads}
 use Rattle.plain_log.specs.State.{leads}
 use Rattle.plain_log.specs.RowsOfLog.{offset_limit}
 use Rattle.partition_seen.specs.Seen.{Node, Held}
-use Rattle.partition_seen.specs.Held.{put_node}
+use Rattle.partition_seen.specs.Held.{put_node, broken}
 use Rattle.partition_seen.specs.Log.{with_batch, IsRunOf}
 
 -- where the log would end with the batch
@@ -30,6 +30,8 @@ AppendRow h b x batch NotLeader h' = (x.up ≡ true) × (leads x.role ≡ false)
 AppendRow h b x batch LastOffset h' = (x.up ≡ true) × (leads x.role ≡ true) × (offset_limit < end_with x batch) × (h' ≡ h)
 AppendRow h b x batch TooManySegments h' =
     (x.up ≡ true) × (leads x.role ≡ true) × (end_with x batch ≤ offset_limit) × (h' ≡ h)
+AppendRow h b x batch DiskFault h' =
+    (x.up ≡ true) × (leads x.role ≡ true) × (end_with x batch ≤ offset_limit) × (h' ≡ put_node h b (broken x x.stable x.saved))
 AppendRow h b x batch (OkSpan base last e) h' =
     (x.up ≡ true) × (x.role ≡ Leads e) × (end_with x batch ≤ offset_limit) × (base ≡ end_of x.log.batches)
     × (last ≡ base + last_offset_delta_of batch)
@@ -41,23 +43,27 @@ abbrev pub RawRow : Held → ℕ → Node → List ℕ → Answer → Held → T
 RawRow h b x bytes (Refused cause) h' = (x.up ≡ true) × (leads x.role ≡ true) × (checked bytes ≡ Err cause) × (h' ≡ h)
 RawRow h b x bytes LastOffset h' = IsOk (checked bytes) × AppendRow h b x bytes LastOffset h'
 RawRow h b x bytes TooManySegments h' = IsOk (checked bytes) × AppendRow h b x bytes TooManySegments h'
+RawRow h b x bytes DiskFault h' = IsOk (checked bytes) × AppendRow h b x bytes DiskFault h'
 RawRow h b x bytes (OkSpan base last e) h' = IsOk (checked bytes) × AppendRow h b x bytes (OkSpan base last e) h'
 RawRow h b x bytes answer h' = AppendRow h b x bytes answer h'
 
 -- flush: all of the log is stable, and its line is saved
 abbrev pub FlushRow : Held → ℕ → Node → Answer → Held → Type 0
 FlushRow h b x Down h' = (x.up ≡ false) × (h' ≡ h)
+FlushRow h b x DiskFault h' =
+    (x.up ≡ true) × (h' ≡ put_node h b (broken x (end_of x.log.batches) x.log.line))
 FlushRow h b x (OkAt n) h' =
     (x.up ≡ true) × (n ≡ end_of x.log.batches) × (h' ≡ put_node h b (record x { stable = n; saved = x.log.line }))
 FlushRow h b x other h' = ⊥
 
 -- roll: the open segment is closed, and nothing that is seen changes
-abbrev pub RollRow : Held → Node → Answer → Held → Type 0
-RollRow h x Down h' = (x.up ≡ false) × (h' ≡ h)
-RollRow h x EmptySegment h' = (x.up ≡ true) × (h' ≡ h)
-RollRow h x TooManySegments h' = (x.up ≡ true) × (h' ≡ h)
-RollRow h x (OkAt n) h' = (x.up ≡ true) × (n ≡ end_of x.log.batches) × (h' ≡ h)
-RollRow h x other h' = ⊥
+abbrev pub RollRow : Held → ℕ → Node → Answer → Held → Type 0
+RollRow h b x Down h' = (x.up ≡ false) × (h' ≡ h)
+RollRow h b x EmptySegment h' = (x.up ≡ true) × (h' ≡ h)
+RollRow h b x TooManySegments h' = (x.up ≡ true) × (h' ≡ h)
+RollRow h b x DiskFault h' = (x.up ≡ true) × (h' ≡ put_node h b (broken x x.stable x.saved))
+RollRow h b x (OkAt n) h' = (x.up ≡ true) × (n ≡ end_of x.log.batches) × (h' ≡ h)
+RollRow h b x other h' = ⊥
 
 -- the offset lies between the log start offset and the log end offset
 abbrev pub IsInLog : Held → Node → ℕ → Type 0
@@ -78,6 +84,8 @@ FetchRow h x offset limit (OutOfRange start end) h' =
     (x.up ≡ true) × (leads x.role ≡ true) × ((offset < start) ⊎ (end < offset)) × (start ≡ h.registry.start)
     × (end ≡ end_of x.log.batches) × (h' ≡ h)
 FetchRow h x offset limit Empty h' = (x.up ≡ true) × (leads x.role ≡ true) × IsInLog h x offset × (x.known ≤ offset) × (h' ≡ h)
+FetchRow h x offset limit DiskFault h' =
+    (x.up ≡ true) × (leads x.role ≡ true) × IsInLog h x offset × (offset < x.known) × (h' ≡ h)
 FetchRow h x offset limit (Run tier size stop bytes) h' =
     (x.up ≡ true) × (leads x.role ≡ true) × IsInLog h x offset × (offset < x.known)
     × ((segment : ℕ) × (tier ≡ Local segment)) × GivesRun x offset limit size stop bytes × (h' ≡ h)

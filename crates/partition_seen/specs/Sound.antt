@@ -1,5 +1,5 @@
 -- What a world keeps, whatever its journal: what its turns need to be carried out.
-use Rattle.std.specs.Prelude.{◌≡◌, ℕ, ◌+◌, ◌-◌, ◌*◌, ◌^◌, ◌<◌, ◌≤◌, Some, false, List, [], ◌∷◌, length, slice_get, is_some, if◌then◌else◌}
+use Rattle.std.specs.Prelude.{◌≡◌, ℕ, ◌+◌, ◌-◌, ◌*◌, ◌^◌, ◌<◌, ◌≤◌, Some, None, true, false, List, [], ◌∷◌, length, slice_get, is_some, if◌then◌else◌}
 use Rattle.log_terms.specs.Log.{EndsAt, end_of, up_to}
 use Rattle.epoch_line.specs.Line.{IsLine, last_epoch}
 use Rattle.plain_log.specs.declared.command.ActorList.{ActorList}
@@ -11,15 +11,24 @@ use Rattle.partition_seen.specs.Seen.{Node, Held}
 use Rattle.partition_seen.specs.declared.seat.Seat.{Seat}
 use Rattle.partition_seen.specs.Log.{IsLog, IsLineFor}
 
+-- the other end that may come back is an end of the log at or past the stable one, and the line is that of what ends there
+pub record IsBack (x : Node) (back : ℕ × List (ℕ × ℕ)) : Type 0 where
+  pub above : x.stable ≤ back.0
+  pub ends : EndsAt back.0 x.log.batches
+  pub line : IsLineFor back.1 (up_to back.0 x.log.batches)
+  pub rises : IsLine back.1
+
 -- a node's log is one, its stable end and the high watermark that it knows are 0 or ends of its batches, the saved line
 -- is that of what is stable, a leader's line ends with its epoch, and a node that is down is idle and knows no high
--- watermark
+-- watermark; more than one end may come back only while it is down
 pub record NodeSound (x : Node) : Type 0 where
   pub log : IsLog (end_of x.log.batches) x.log
   pub stable : EndsAt x.stable x.log.batches
   pub known : EndsAt x.known x.log.batches
   pub saved : IsLineFor x.saved (up_to x.stable x.log.batches)
   pub saved_rises : IsLine x.saved
+  pub back : (back : ℕ × List (ℕ × ℕ)) → x.loose ≡ Some back → IsBack x back
+  pub tight : x.up ≡ true → x.loose ≡ None
   pub leads : (e : ℕ) → x.role ≡ Leads e → last_epoch x.log.line ≡ Some e
   pub down : x.up ≡ false → (x.role ≡ Idle) × (x.known ≡ 0)
 

@@ -1,8 +1,9 @@
 //! A partition as it is seen: its registry, its brokers' logs, the lists of commands and the journal of what they came
 //! to.
 //!
-//! A log is seen as its batches and its line of leader epochs, with how much of them comes back after a stop. What it
-//! stands on is no matter here.
+//! A log is seen as its batches and its line of leader epochs, with how much of them comes back after a stop. A write
+//! that fails stops its broker, and one of two ends comes back after it, each with its line. What a log stands on is no
+//! matter here.
 //!
 //! A turn of an actor carries out its next command, or goes on with one that has begun, and enters what it came to.
 //! `specs/Rows.antt` says for each command which answer it is given and what that does. `specs/Central.antt` has the
