@@ -9,8 +9,9 @@
 --   5. TooMany, BatchTooLarge, FetchSum, CopySum, TurnSum     the limits (Limits)
 --   6. Unbuilt                            a form that isn't built yet
 --
--- Built are blank lines and comments, the options `brokers` and `partitions`, later, turn, and all commands but roll,
--- copy, trim, expire, pack, copying and offset. Not built yet are these, the other options, and fault.
+-- Built are blank lines and comments, the options `brokers`, `partitions`, `segment_bytes` and `index_interval_bytes`,
+-- later, turn, fault of a disk, and all commands but copy, trim, expire, pack, copying and offset. Not built yet are these,
+-- the options on retention, and fault of the store and of the metadata log.
 --
 -- Behind the last line each partition's schedule steps its actors in rising order, each to the end of its list.
 use Rattle.std.specs.Prelude.{◌≡◌, ℕ, zero, suc, ◌+◌, ◌==◌, ◌&&◌, Bool, true, false, if◌then◌else◌, is_some, ℤ, pos, negsuc, List, [], ◌∷◌, ◌++◌, length, replicate, take, Option, Some, None, Result, Ok, Err}
@@ -29,6 +30,8 @@ use Rattle.plain_log.specs.declared.command.Pace.TheVariants.{Until, Times}
 use Rattle.script_lang.specs.declared.actors.Slot.{Slot}
 use Rattle.script_lang.specs.declared.counting.Counts.{Counts}
 use Rattle.script_lang.specs.declared.fault.Fault.{Fault}
+use Rattle.script_lang.specs.declared.fault.FaultDevice.{FaultDevice}
+use Rattle.script_lang.specs.declared.fault.FaultDevice.TheVariants.{Disk}
 use Rattle.script_lang.specs.declared.form.Form.{Form}
 use Rattle.script_lang.specs.declared.form.Form.TheVariants.{Blank, Given, Placed, Turn, Faulty}
 use Rattle.script_lang.specs.declared.options.Options.{Options}
@@ -168,13 +171,18 @@ is_built_option (SegmentBytes n) = true
 is_built_option (IndexIntervalBytes n) = true
 is_built_option other = false
 
+-- the devices whose faults are built
+abbrev pub is_built_device : FaultDevice → Bool
+is_built_device (Disk broker) = true
+is_built_device other = false
+
 -- the forms that are built
 abbrev pub is_built : Form → Bool
 is_built Blank = true
 is_built (Given option) = is_built_option option
 is_built (Placed actor partition order at_once) = is_built_command order.command
 is_built (Turn actor turns) = true
-is_built (Faulty partition fault) = false
+is_built (Faulty partition fault) = is_built_device fault.device
 
 -- a form that is built
 abbrev pub built_form : Form → Result (Unit {0}) Why

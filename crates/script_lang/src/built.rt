@@ -1,8 +1,9 @@
 //! Which forms a program runs so far.
 
 ghost use Rattle.std.specs.Prelude.{◌≡◌, OnOk, IsTrue};
-ghost use Rattle.script_lang.specs.Script.{is_built_command, is_built_option, is_built, built_form};
+ghost use Rattle.script_lang.specs.Script.{is_built_command, is_built_option, is_built_device, is_built, built_form};
 
+use crate::fault::FaultDevice;
 use crate::form::Form;
 use crate::options::OptionLine;
 use crate::refusal::Why;
@@ -34,6 +35,12 @@ fn is_built_option(option: &OptionLine) -> bool
     }
 }
 
+fn is_built_device(device: FaultDevice) -> bool
+    ensures { result ≡ is_built_device device }
+{
+    matches!(device, FaultDevice::Disk(_))
+}
+
 fn is_built(form: &Form) -> bool
     ensures { result ≡ is_built form.now }
 {
@@ -42,7 +49,7 @@ fn is_built(form: &Form) -> bool
         Form::Given(option) => is_built_option(option),
         Form::Placed { order, .. } => is_built_command(&order.command),
         Form::Turn { .. } => true,
-        Form::Faulty { .. } => false,
+        Form::Faulty { fault, .. } => is_built_device(fault.device),
     }
 }
 

@@ -281,7 +281,7 @@ fn fetches_past_the_sum(rt: HostRuntime) -> Result<(), Fail> {
 fn forms_that_are_not_built(rt: HostRuntime) -> Result<(), Fail> {
     let alloc = rt.alloc();
     let why = Why::Unbuilt;
-    let bad: [(&[u8], u32); 23] = [
+    let bad: [(&[u8], u32); 22] = [
         (b"retention_ms -1\n".as_slice(), 1),
         (b"retention_ms 9223372036854775807\n".as_slice(), 1),
         (b"retention_bytes -1\n".as_slice(), 1),
@@ -293,7 +293,6 @@ fn forms_that_are_not_built(rt: HostRuntime) -> Result<(), Fail> {
         (b"local_retention_bytes 0\n".as_slice(), 1),
         (b"fault 0 store put 1 before\n".as_slice(), 1),
         (b"fault 0 meta append 4294967295 after\n".as_slice(), 1),
-        (b"fault 0 disk 0 sync 1 before\n".as_slice(), 1),
         (b"0 0 0 copy\n".as_slice(), 1),
         (b"0 0 0 trim\n".as_slice(), 1),
         (b"0 0 0 expire\n".as_slice(), 1),

@@ -8,7 +8,7 @@ use crate::{Fault, FaultCall, FaultDevice, Script, ScriptRefusal, Why, parse};
 use plain_log::{Command, Pace};
 use std::alloc::{AllocError, Global};
 use std::test::Fail;
-use tier_base::{ActorId, PartitionId};
+use tier_base::{ActorId, BrokerId, PartitionId};
 
 /// Reads a script that is short enough to be read.
 fn read(alloc: Global, text: &[u8]) -> Result<Script, ScriptRefusal> {
@@ -247,6 +247,35 @@ fn later_orders_and_turns_are_scheduled(rt: HostRuntime) -> Result<(), Fail> {
         let turn = Pace::Times { actor, turns: 1 };
         let end = Pace::Until { actor, number: 1 };
         assert!(rt; part.schedule.as_slice() == [until(1), turn, until(1), end].as_slice());
+    }
+    Ok(())
+}
+
+#[test]
+fn faults_of_disks_are_kept_in_their_order(rt: HostRuntime) -> Result<(), Fail> {
+    let script = read(
+        rt.alloc(),
+        b"partitions 2\nfault 1 disk 0 sync 2 before\nfault 1 disk 0 cut 1 after\n".as_slice(),
+    )?;
+    assert_eq!(rt; script.parts.len(), 2);
+    let first = Fault {
+        device: FaultDevice::Disk(BrokerId(0)),
+        call: FaultCall::Sync,
+        number: 2,
+        after: false,
+    };
+    let second = Fault {
+        call: FaultCall::Cut,
+        number: 1,
+        after: true,
+        ..first
+    };
+    for part in script.parts.as_slice() {
+        if part.partition == PartitionId(1) {
+            assert!(rt; part.faults.as_slice() == [first, second].as_slice());
+        } else {
+            assert_eq!(rt; part.faults.len(), 0);
+        }
     }
     Ok(())
 }
