@@ -46,11 +46,11 @@ module _ {D : Type 0} (content : D → Content) (control : D → Control call_co
       record { noted = k.up; are = run.are; epochs = run.epochs; small = run.small }
 
   -- a turn keeps the central fact
-  pub turn_central : (opening : State) (w : Whole D) (a : ℕ) (turned : Turned) (w' : Whole D) → IsTurn content control w a turned w' → IsCentral content control opening w → IsCentral content control opening w'
+  pub turn_central : (opening : State) (w : Whole D) (a : ℕ) (turned : Turned) (w' : Whole D) → IsTurn content control w a turned w' → IsCentral content opening w → IsCentral content opening w'
   turn_central opening w a turned w' t c =
       let b = t.order.broker.0 in
       let x = some_of (λ x. Row content control w.held b x t.seat.begun t.order.command turned w'.held) (slice_get w.held.nodes b) t.row in
-      let v = sees_at content control w.held c.partition b x.0 c.shows c.calm x.1 in
+      let v = sees_at content control w.held c.partition b x.0 c.shows x.1 in
       let y = node_of x.0 v.0 in
       let r = row_refined content control w.held c.partition b x.0 v.0 t.seat.begun t.order.command turned w'.held v.1 (λ n z at. (c.central.stands.lines.each n z at).sound)
       (kept_at opening w a turned w' c.partition y t c.central v.1.there) x.2 in
@@ -68,21 +68,20 @@ module _ {D : Type 0} (content : D → Content) (control : D → Control call_co
         config = t.config;
         lists = t.lists;
       } in
-      record { partition = r.after; shows = r.held; calm = r.calm; central = seen_law.turn_central opening (seen_as w c.partition) a turned (seen_as w' r.after) turn c.central }
+      record { partition = r.after; shows = r.held; central = seen_law.turn_central opening (seen_as w c.partition) a turned (seen_as w' r.after) turn c.central }
 
   -- and so does want of memory
-  whole_central : (opening : State) (w w' : Whole D) → StaysWhole content control w w' → IsCentral content control opening w → IsCentral content control opening w'
+  whole_central : (opening : State) (w w' : Whole D) → StaysWhole content control w w' → IsCentral content opening w → IsCentral content opening w'
   whole_central opening w w' s c =
-      let k = held_stays content control w.held c.partition w'.held c.shows c.calm s.held in
-      subst (IsCentral content control opening) (sym s.fields) (record { partition = c.partition; shows = k.0; calm = k.1; central = c.central })
+      subst (IsCentral content opening) (sym s.fields) (record { partition = c.partition; shows = held_stays content control w.held c.partition w'.held c.shows s.held; central = c.central })
 
-  pub step_central : (w : Whole D) (a : ℕ) (stepped : Stepped) (w' : Whole D) → Steps content control w a stepped w' → KeepsCentral content control w w'
+  pub step_central : (w : Whole D) (a : ℕ) (stepped : Stepped) (w' : Whole D) → Steps content control w a stepped w' → KeepsCentral content w w'
   step_central w a Ran w' s = λ opening c. turn_central opening w a (Begins s.0) w' s.1 c
   step_central w a Done w' s = λ opening c. turn_central opening w a (Answers s.0) w' s.1 c
-  step_central w a Nothing w' s = λ opening c. subst (IsCentral content control opening) (sym s.1) c
+  step_central w a Nothing w' s = λ opening c. subst (IsCentral content opening) (sym s.1) c
   step_central w a NoMemory w' s = λ opening c. whole_central opening w w' s c
 
-  pub complete : (w : Whole D) → IsCentral content control (fresh w.config) w → ((a : ℕ) → IsAtEnd w a) → IsCompleteRun w
+  pub complete : (w : Whole D) → IsCentral content (fresh w.config) w → ((a : ℕ) → IsAtEnd w a) → IsCompleteRun w
   complete w c ends =
       let k = ends_complete (seen_as w c.partition) c.central (λ a place l seat at. ends a place l seat (record { list = at.list; actor = at.actor; seat_is = at.seat_is })) in
       record { run = k.run; complete = k.complete }

@@ -2,7 +2,6 @@
 use Rattle.std.proofs.Common.{◌≡◌, ◌∙◌, sym, ap, subst, refl, ℕ, ◌<◌, List, Some, Option, Result, Ok as Done, Err, IsSomeAnd, Bool, true, false, not, ◌&&◌, slice_get}
 use Rattle.std.specs.Option.{ForSome}
 use Rattle.tier_base.specs.Device.{Control}
-use Rattle.tier_base.proofs.Lasting.{lasts_same}
 use Rattle.disk_model.specs.Call.{call_code}
 use Rattle.disk_model.specs.Content.{Content}
 use Rattle.log_terms.specs.Log.{up_to, end_of as end_of_log}
@@ -17,17 +16,18 @@ use Rattle.plain_log.specs.declared.answer.Answer.{Answer}
 use Rattle.plain_log.specs.declared.answer.Answer.TheVariants.{Ok, OkAt, Down, NotLeader, DiskFault, LastEpoch, NotInSync, DownBroker, BehindStart, Known, Follows, NeedsElection, Leads, NotJoined, StaleEpoch, IsLeader, Behind, NotAbove, AboveMark}
 use Rattle.plain_log.specs.declared.state.Role.TheVariants.{Leads as LeadsIn, Follows as FollowsIn}
 use Rattle.plain_log.specs.State.{acking}
-use Rattle.broker_log.specs.Seen.{Kept, Up, Down as Closed, Away, Shows, Lasting, OnDisk, is_up as is_open}
+use Rattle.broker_log.specs.Seen.{Kept, Shows, is_up as is_open}
 use Rattle.broker_log.specs.Seen as log
-use Rattle.broker_log.specs.Turns.{settled}
+use Rattle.broker_log.specs.Turns.{settled, loosened}
 use Rattle.partition_seen.specs.Seen as seen
+use Rattle.partition_seen.specs.Held as seen_held
 use Rattle.partition_seen.specs.RowsOfElections as seen_rows
 use Rattle.partition_seen.proofs.BoolTests.{some_of}
 use Rattle.partition_world.specs.declared.held.Node.{Node}
 use Rattle.partition_world.specs.declared.held.Held.{Held}
-use Rattle.partition_world.specs.Held.{is_up, stable_of, node_of, ShowsHeld, IsCalm, AreCalm}
+use Rattle.partition_world.specs.Held.{is_up, stable_of, node_of, ShowsHeld}
 use Rattle.partition_world.specs.TurnsOfElections.{Leaves, ElectRow, UncleanRow, IsKnown, IsNew, ShrinkRow, ExpandRow, RaiseRow, LearnRow, Acks, AckRow}
-use Rattle.partition_world.proofs.Shown.{Sees, Refines, refines_more, some_at, shown_set, calm_set, disk_calm, stays, puts, leaves, unbroken, stable_shown, line_shown, up_of_end}
+use Rattle.partition_world.proofs.Shown.{Sees, Refines, refines_more, some_at, shown_set, stays, puts, leaves, breaks, broken_node, stable_shown, line_shown, up_of_end}
 
 -- a broker that is down has no stable end that counts
 unclean_stable : (r : Registry) (b : ℕ) (up : Bool) (one two : ℕ) (answer : Result ℕ RegRefusal) → (up ≡ true → one ≡ two) → after_unclean r b up one answer ≡ after_unclean r b up two answer
@@ -56,43 +56,36 @@ module _ {D : Type 0} where
       } ≡ node_of (record x { role = LeadsIn epoch; log = kept; known = known }) s'
   learned_node x kept s s' n epoch known mark up is same end = rw (up, is, same, end) refl
 
-module _ {D : Type 0} (control : D → Control call_code) where
-  -- a disk that isn't asked
-  pub lasting_same : (k : Kept D) → OnDisk k (λ d. IsCalm (control d)) → Lasting control k k
-  lasting_same (Up l) c = lasts_same (control l.disk)
-  lasting_same (Closed d) c = lasts_same (control d)
-  lasting_same Away c = absurd c
-
 module _ {D : Type 0} (content : D → Content) (control : D → Control call_code) where
   -- the registry's calls
 
-  left_refined : (h : Held D) (a : seen.Held) (h' : Held D) (f : Registry → Option Registry) → ShowsHeld content h a → AreCalm control h.nodes → Leaves h (f h.registry) h'
+  left_refined : (h : Held D) (a : seen.Held) (h' : Held D) (f : Registry → Option Registry) → ShowsHeld content h a → Leaves h (f h.registry) h'
       → Refines content control h' (λ c. seen_rows.Leaves a (f a.registry) c)
-  left_refined h a h' f held calm w =
+  left_refined h a h' f held w =
       let r = some_of (λ (r : Registry). h' ≡ record h { registry = r }) (f h.registry) w in
-      leaves content control h a h' _ r.0 held calm r.2 (some_at (λ (k : Registry). record a { registry = r.0 } ≡ record a { registry = k }) (f a.registry) r.0 (ap f held.registry ∙ r.1) refl)
+      leaves content control h a h' _ r.0 held r.2 (some_at (λ (k : Registry). record a { registry = r.0 } ≡ record a { registry = k }) (f a.registry) r.0 (ap f held.registry ∙ r.1) refl)
 
-  replica_refined : (h : Held D) (a : seen.Held) (h' : Held D) (b : ℕ) (f : Registry → Replica → Option Registry) → ShowsHeld content h a → AreCalm control h.nodes
+  replica_refined : (h : Held D) (a : seen.Held) (h' : Held D) (b : ℕ) (f : Registry → Replica → Option Registry) → ShowsHeld content h a
       → AtReplica h.registry b (λ s. Leaves h (f h.registry s) h') → Refines content control h' (λ c. AtReplica a.registry b (λ s. seen_rows.Leaves a (f a.registry s) c))
-  replica_refined h a h' b f held calm w =
+  replica_refined h a h' b f held w =
       let s = some_of (λ (s : Replica). Leaves h (f h.registry s) h') (slice_get h.registry.replicas b) w in
       refines_more content control h' (λ c. seen_rows.Leaves a (f a.registry s.0) c) _
       (λ c row. some_at (λ (s : Replica). seen_rows.Leaves a (f a.registry s) c) (slice_get a.registry.replicas b) s.0 (ap (λ (r : Registry). slice_get r.replicas b) held.registry ∙ s.1) row)
-      (left_refined h a h' (λ r. f r s.0) held calm s.2)
+      (left_refined h a h' (λ r. f r s.0) held s.2)
 
   pub elect_refined : (h : Held D) (a : seen.Held) (b : ℕ) (x : Node D) (s : log.Seen) (answer : Answer) (h' : Held D) → Sees content control h a b x s → ElectRow h b x answer h'
       → Refines content control h' (λ c. seen_rows.ElectRow a b (node_of x s) answer c)
-  elect_refined h a b x s LastEpoch h' v w = replica_refined h a h' b (λ r t. after_elect r b t (is_up x) (Err Reg.LastEpoch)) v.held v.calm w
-  elect_refined h a b x s NotInSync h' v w = replica_refined h a h' b (λ r t. after_elect r b t (is_up x) (Err Reg.NotInSync)) v.held v.calm w
-  elect_refined h a b x s DownBroker h' v w = replica_refined h a h' b (λ r t. after_elect r b t (is_up x) (Err Reg.DownBroker)) v.held v.calm w
-  elect_refined h a b x s (OkAt n) h' v w = replica_refined h a h' b (λ r t. after_elect r b t (is_up x) (Done n)) v.held v.calm w
+  elect_refined h a b x s LastEpoch h' v w = replica_refined h a h' b (λ r t. after_elect r b t (is_up x) (Err Reg.LastEpoch)) v.held w
+  elect_refined h a b x s NotInSync h' v w = replica_refined h a h' b (λ r t. after_elect r b t (is_up x) (Err Reg.NotInSync)) v.held w
+  elect_refined h a b x s DownBroker h' v w = replica_refined h a h' b (λ r t. after_elect r b t (is_up x) (Err Reg.DownBroker)) v.held w
+  elect_refined h a b x s (OkAt n) h' v w = replica_refined h a h' b (λ r t. after_elect r b t (is_up x) (Done n)) v.held w
   elect_refined h a b x s other h' v w = elim w [ ]
 
   unclean_by : (h : Held D) (a : seen.Held) (b : ℕ) (x : Node D) (s : log.Seen) (answer : Result ℕ RegRefusal) (h' : Held D) → Sees content control h a b x s
       → Leaves h (after_unclean h.registry b (is_up x) (stable_of x) answer) h' → Refines content control h' (λ c. seen_rows.Leaves a (after_unclean a.registry b (is_up x) s.stable answer) c)
   unclean_by h a b x s answer h' v w =
       let same = unclean_stable h.registry b (is_up x) (stable_of x) s.stable answer (λ up. stable_shown content x s up v.shows) in
-      left_refined h a h' (λ r. after_unclean r b (is_up x) s.stable answer) v.held v.calm (subst (λ (o : Option Registry). Leaves h o h') same w)
+      left_refined h a h' (λ r. after_unclean r b (is_up x) s.stable answer) v.held (subst (λ (o : Option Registry). Leaves h o h') same w)
 
   pub unclean_refined : (h : Held D) (a : seen.Held) (b : ℕ) (x : Node D) (s : log.Seen) (answer : Answer) (h' : Held D) → Sees content control h a b x s → UncleanRow h b x answer h'
       → Refines content control h' (λ c. seen_rows.UncleanRow a b (node_of x s) answer c)
@@ -104,16 +97,16 @@ module _ {D : Type 0} (content : D → Content) (control : D → Control call_co
 
   pub shrink_refined : (h : Held D) (a : seen.Held) (b : ℕ) (x : Node D) (s : log.Seen) (answer : Answer) (h' : Held D) → Sees content control h a b x s → ShrinkRow h b answer h'
       → Refines content control h' (λ c. seen_rows.ShrinkRow a b answer c)
-  shrink_refined h a b x s NotInSync h' v w = replica_refined h a h' b (λ r t. after_shrink r b t (Err Reg.NotInSync)) v.held v.calm w
-  shrink_refined h a b x s IsLeader h' v w = replica_refined h a h' b (λ r t. after_shrink r b t (Err Reg.IsLeader)) v.held v.calm w
-  shrink_refined h a b x s Ok h' v w = replica_refined h a h' b (λ r t. after_shrink r b t (Done tt)) v.held v.calm w
+  shrink_refined h a b x s NotInSync h' v w = replica_refined h a h' b (λ r t. after_shrink r b t (Err Reg.NotInSync)) v.held w
+  shrink_refined h a b x s IsLeader h' v w = replica_refined h a h' b (λ r t. after_shrink r b t (Err Reg.IsLeader)) v.held w
+  shrink_refined h a b x s Ok h' v w = replica_refined h a h' b (λ r t. after_shrink r b t (Done tt)) v.held w
   shrink_refined h a b x s other h' v w = elim w [ ]
 
   pub expand_refined : (h : Held D) (a : seen.Held) (b : ℕ) (x : Node D) (s : log.Seen) (answer : Answer) (h' : Held D) → Sees content control h a b x s → ExpandRow h b x answer h'
       → Refines content control h' (λ c. seen_rows.ExpandRow a b (node_of x s) answer c)
-  expand_refined h a b x s DownBroker h' v w = replica_refined h a h' b (λ r t. after_expand r b t (is_up x) (Err Reg.DownBroker)) v.held v.calm w
-  expand_refined h a b x s (Behind ack mark) h' v w = replica_refined h a h' b (λ r t. after_expand r b t (is_up x) (Err (Reg.Behind ack mark))) v.held v.calm w
-  expand_refined h a b x s Ok h' v w = replica_refined h a h' b (λ r t. after_expand r b t (is_up x) (Done tt)) v.held v.calm w
+  expand_refined h a b x s DownBroker h' v w = replica_refined h a h' b (λ r t. after_expand r b t (is_up x) (Err Reg.DownBroker)) v.held w
+  expand_refined h a b x s (Behind ack mark) h' v w = replica_refined h a h' b (λ r t. after_expand r b t (is_up x) (Err (Reg.Behind ack mark))) v.held w
+  expand_refined h a b x s Ok h' v w = replica_refined h a h' b (λ r t. after_expand r b t (is_up x) (Done tt)) v.held w
   expand_refined h a b x s other h' v w = elim w [ ]
 
   raise_by : (h : Held D) (a : seen.Held) (b : ℕ) (x : Node D) (s : log.Seen) (wanted : ℕ) (answer : Result ℕ RegRefusal) (h' : Held D) → Sees content control h a b x s
@@ -121,12 +114,12 @@ module _ {D : Type 0} (content : D → Content) (control : D → Control call_co
       → Refines content control h' (λ c. (is_up x ≡ true) × ((e : ℕ) × (x.role ≡ LeadsIn e) × seen_rows.Leaves a (after_raise a.registry e wanted answer) c))
   raise_by h a b x s wanted answer h' v w =
       refines_more content control h' (λ c. seen_rows.Leaves a (after_raise a.registry w.1.0 wanted answer) c) _ (λ c row. (w.0, (w.1.0, w.1.1, row)))
-      (left_refined h a h' (λ r. after_raise r w.1.0 wanted answer) v.held v.calm w.1.2)
+      (left_refined h a h' (λ r. after_raise r w.1.0 wanted answer) v.held w.1.2)
 
   pub raise_refined : (h : Held D) (a : seen.Held) (b : ℕ) (x : Node D) (s : log.Seen) (wanted : ℕ) (answer : Answer) (h' : Held D) → Sees content control h a b x s → RaiseRow h b x wanted answer h'
       → Refines content control h' (λ c. seen_rows.RaiseRow a b (node_of x s) wanted answer c)
-  raise_refined h a b x s wanted Down h' v w = stays content control h a h' _ v.held v.calm w.1 (w.0, refl)
-  raise_refined h a b x s wanted NotLeader h' v w = stays content control h a h' _ v.held v.calm w.2 (w.0, w.1, refl)
+  raise_refined h a b x s wanted Down h' v w = stays content control h a h' _ v.held w.1 (w.0, refl)
+  raise_refined h a b x s wanted NotLeader h' v w = stays content control h a h' _ v.held w.2 (w.0, w.1, refl)
   raise_refined h a b x s wanted (StaleEpoch n) h' v w = raise_by h a b x s wanted (Err (Reg.StaleEpoch n)) h' v w
   raise_refined h a b x s wanted (NotAbove start) h' v w = raise_by h a b x s wanted (Err (Reg.NotAbove start)) h' v w
   raise_refined h a b x s wanted (AboveMark mark) h' v w = raise_by h a b x s wanted (Err (Reg.AboveMark mark)) h' v w
@@ -149,13 +142,13 @@ module _ {D : Type 0} (content : D → Content) (control : D → Control call_co
 
   pub learn_refined : (h : Held D) (a : seen.Held) (b : ℕ) (x : Node D) (s : log.Seen) (answer : Answer) (h' : Held D) → Sees content control h a b x s → LearnRow content control h b x answer h'
       → Refines content control h' (λ c. seen_rows.LearnRow a b (node_of x s) answer c)
-  learn_refined h a b x s Down h' v w = stays content control h a h' _ v.held v.calm w.1 (w.0, refl)
-  learn_refined h a b x s Known h' v w = stays content control h a h' _ v.held v.calm w.2 (w.0, known_shown h a x s v.held w.1, refl)
+  learn_refined h a b x s Down h' v w = stays content control h a h' _ v.held w.1 (w.0, refl)
+  learn_refined h a b x s Known h' v w = stays content control h a h' _ v.held w.2 (w.0, known_shown h a x s v.held w.1, refl)
   learn_refined h a b x s (Follows n) h' v w =
-      puts content control h a b x s h' _ (record x { role = FollowsIn n }) s (record (node_of x s) { role = FollowsIn n }) v (lasting_same control x.log (disk_calm content control h a b x s v)) v.shows refl w.4
+      puts content control h a b x s h' _ (record x { role = FollowsIn n }) s (record (node_of x s) { role = FollowsIn n }) v v.shows refl w.4
       (w.0, unknown_shown h a x s v.held w.1, λ e. w.2 (ap (λ (r : Registry). r.leader.0) (sym v.held.registry) ∙ e), w.3 ∙ ap (λ (r : Registry). r.epoch) (sym v.held.registry), refl)
   learn_refined h a b x s (NeedsElection n) h' v w =
-      stays content control h a h' _ v.held v.calm w.5 (
+      stays content control h a h' _ v.held w.5 (
         w.0,
         unknown_shown h a x s v.held w.1,
         ap (λ (r : Registry). r.leader.0) v.held.registry ∙ w.2,
@@ -168,7 +161,7 @@ module _ {D : Type 0} (content : D → Content) (control : D → Control call_co
       let t = g.settles.seen s v.shows in
       let known : g.known ≡ end_of_log (up_to a.registry.mark s.batches) =
       g.known_is.is t.0 t.1 ∙ (ap (λ (k : log.Seen). end_of_log (up_to h.registry.mark k.batches)) t.2 ∙ ap (λ (r : Registry). end_of_log (up_to r.mark s.batches)) (sym v.held.registry)) in
-      puts content control h a b x s h' _ (record x { role = LeadsIn h.registry.epoch; log = g.kept; known = g.known }) t.0 (seen_rows.led a (node_of x s) n) v g.lasts t.1
+      puts content control h a b x s h' _ (record x { role = LeadsIn h.registry.epoch; log = g.kept; known = g.known }) t.0 (seen_rows.led a (node_of x s) n) v t.1
       (learned_node x g.kept s t.0 n h.registry.epoch g.known a.registry.mark (up_of_end content g.kept g.end g.settles.end_is ∙ sym w.0) t.2 w.4.0 known) g.after (
         w.0,
         unknown_shown h a x s v.held w.1,
@@ -177,7 +170,17 @@ module _ {D : Type 0} (content : D → Content) (control : D → Control call_co
         subst (λ (k : ℕ). seen_rows.IsNew (node_of x s) k) (sym w.4.0) (new_shown h x s h.registry.epoch w.0 v.shows w.3),
         refl,
       )
-  learn_refined h a b x s DiskFault h' v w = absurd (unbroken content control h a b x s h' v w.4)
+  learn_refined h a b x s DiskFault h' v w =
+      let epoch : h.registry.epoch ≡ a.registry.epoch = ap (λ (r : Registry). r.epoch) (sym v.held.registry) in
+      breaks content control h a b x s (λ s. loosened s (end_of_log s.batches) (assign s.line h.registry.epoch (end_of_log s.batches))) h' _
+      (seen_held.broken (node_of x s) (end_of_log s.batches) (assign s.line a.registry.epoch (end_of_log s.batches))) v w.4
+      (λ kept down. rw (sym epoch) (broken_node x kept s (end_of_log s.batches) (assign s.line h.registry.epoch (end_of_log s.batches)) down)) (
+        w.0,
+        unknown_shown h a x s v.held w.1,
+        ap (λ (r : Registry). r.leader.0) v.held.registry ∙ w.2,
+        subst (seen_rows.IsNew (node_of x s)) epoch (new_shown h x s h.registry.epoch w.0 v.shows w.3),
+        refl,
+      )
   learn_refined h a b x s other h' v w = elim w [ ]
 
   -- ack
@@ -194,7 +197,6 @@ module _ {D : Type 0} (content : D → Content) (control : D → Control call_co
               (s, v.shows, ap (λ (n : ℕ). record (node_of x s) { known = n }) (sym known));
           clock = v.held.clock;
         };
-        calm = calm_set control h.nodes b (record x { known = k.0 }) v.calm (disk_calm content control h a b x s v);
         row = refl;
       })
 
@@ -206,13 +208,13 @@ module _ {D : Type 0} (content : D → Content) (control : D → Control call_co
       let same = stable_shown content x s up v.shows in
       refines_more content control h' (λ c. AtReplica a.registry b (λ t. seen_rows.Leaves a (after_ack a.registry b t e.0 s.stable (Err (Reg.StaleEpoch n))) c)) _
       (λ c row. some_at (λ e. AtReplica a.registry b (λ t. seen_rows.Leaves a (after_ack a.registry b t e s.stable (Err (Reg.StaleEpoch n))) c)) (acking x.role) e.0 e.1 row)
-      (replica_refined h a h' b (λ r t. after_ack r b t e.0 s.stable (Err (Reg.StaleEpoch n))) v.held v.calm
+      (replica_refined h a h' b (λ r t. after_ack r b t e.0 s.stable (Err (Reg.StaleEpoch n))) v.held
       (subst (λ (k : ℕ). AtReplica h.registry b (λ t. Leaves h (after_ack h.registry b t e.0 k (Err (Reg.StaleEpoch n))) h')) same e.2))
 
   pub ack_refined : (h : Held D) (a : seen.Held) (b : ℕ) (x : Node D) (s : log.Seen) (answer : Answer) (h' : Held D) → Sees content control h a b x s → AckRow content control h b x answer h'
       → Refines content control h' (λ c. seen_rows.AckRow a b (node_of x s) answer c)
-  ack_refined h a b x s Down h' v w = stays content control h a h' _ v.held v.calm w.1 (w.0, refl)
-  ack_refined h a b x s NotJoined h' v w = stays content control h a h' _ v.held v.calm w.2 (w.0, w.1, refl)
+  ack_refined h a b x s Down h' v w = stays content control h a h' _ v.held w.1 (w.0, refl)
+  ack_refined h a b x s NotJoined h' v w = stays content control h a h' _ v.held w.2 (w.0, w.1, refl)
   ack_refined h a b x s (StaleEpoch n) h' v w = refines_more content control h' _ _ (λ c row. (w.0, row)) (stale_ack h a b x s n h' v w.0 w.1)
   ack_refined h a b x s (OkAt mark) h' v w =
       let e = some_of _ (acking x.role) w.1 in

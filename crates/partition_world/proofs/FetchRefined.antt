@@ -20,7 +20,7 @@ use Rattle.partition_world.specs.Held.{is_up, node_of}
 use Rattle.partition_world.specs.TurnsOfLog.{IsInLog}
 use Rattle.partition_world.specs.TurnsOfFetch.{FetchRow}
 use Rattle.partition_world.proofs.RunsShown.{run_shown}
-use Rattle.partition_world.proofs.Shown.{Sees, Refines, stays, rests, unfailing, end_shown}
+use Rattle.partition_world.proofs.Shown.{Sees, Refines, stays, rests, fails, end_shown}
 
 module _ {D : Type 0} (content : D → Content) (control : D → Control call_code) where
   in_log : (h : Held D) (a : seen.Held) (b : ℕ) (x : Node D) (s : log.Seen) (offset : ℕ) → Sees content control h a b x s → is_up x ≡ true → IsInLog h x offset → seen_log.IsInLog a (node_of x s) offset
@@ -29,13 +29,13 @@ module _ {D : Type 0} (content : D → Content) (control : D → Control call_co
 
   pub fetch_refined : (h : Held D) (a : seen.Held) (b : ℕ) (x : Node D) (s : log.Seen) (offset limit : ℕ) (answer : Answer) (h' : Held D) → Sees content control h a b x s
       → seen_sound.NodeSound (node_of x s) → FetchRow content control h b x offset limit answer h' → Refines content control h' (λ c. seen_log.FetchRow a (node_of x s) offset limit answer c)
-  fetch_refined h a b x s offset limit Down h' v k w = stays content control h a h' _ v.held v.calm w.1 (w.0, refl)
-  fetch_refined h a b x s offset limit NotLeader h' v k w = stays content control h a h' _ v.held v.calm w.2 (w.0, w.1, refl)
+  fetch_refined h a b x s offset limit Down h' v k w = stays content control h a h' _ v.held w.1 (w.0, refl)
+  fetch_refined h a b x s offset limit NotLeader h' v k w = stays content control h a h' _ v.held w.2 (w.0, w.1, refl)
   fetch_refined h a b x s offset limit (OutOfRange start end) h' v k w =
-      stays content control h a h' _ v.held v.calm w.5
+      stays content control h a h' _ v.held w.5
       (w.0, w.1, w.2, w.3 ∙ ap (λ (r : Registry). r.start) (sym v.held.registry), w.4 ∙ end_shown content x s w.0 v.shows, refl)
   fetch_refined h a b x s offset limit Empty h' v k w =
-      stays content control h a h' _ v.held v.calm w.4 (w.0, w.1, in_log h a b x s offset v w.0 w.2, w.3, refl)
+      stays content control h a h' _ v.held w.4 (w.0, w.1, in_log h a b x s offset v w.0 w.2, w.3, refl)
   fetch_refined h a b x s offset limit (Run tier size stop bytes) h' v k w =
       let g = w.4 in
       let r = g.reads.run s v.shows k.known in
@@ -53,6 +53,6 @@ module _ {D : Type 0} (content : D → Content) (control : D → Control call_co
         },
         refl,
       )
-  fetch_refined h a b x s offset limit DiskFault h' v k w = absurd (unfailing content control h a b x s h' v w.4)
+  fetch_refined h a b x s offset limit DiskFault h' v k w = fails content control h a b x s h' _ v w.4 (w.0, w.1, in_log h a b x s offset v w.0 w.2, w.3, refl)
   fetch_refined h a b x s offset limit (Damaged (File name) at) h' v k w = absurd (w.4 s v.shows k.known)
   fetch_refined h a b x s offset limit other h' v k w = elim w [ ]

@@ -14,7 +14,7 @@ use Rattle.broker_log.specs.Seen.{WhileUp}
 use Rattle.partition_seen.specs.declared.begun.Begun.{Begun}
 use Rattle.partition_world.specs.declared.held.Node.{Node}
 use Rattle.partition_world.specs.declared.held.Held.{Held}
-use Rattle.partition_world.specs.Held.{end_of, line_of}
+use Rattle.partition_world.specs.Held.{end_of, line_of, IsFull}
 use Rattle.partition_world.specs.TurnsOfFollowers.{CanExtend, GoesOn, Extends, ExtendRow, FollowOnRow}
 use Rattle.partition_world.proofs.Open.{of_while, while_map}
 
@@ -28,7 +28,7 @@ module _ {D : Type 0} where
 module _ {D : Type 0} (content : D → Content) (control : D → Control call_code) where
   pub extend_follows : (h : Held D) (b : ℕ) (x : Node D) (g : Begun) (run : List ℕ) (answer : Answer) (h' : Held D) → GoesOn h x g → g.end ≡ end_of x → IsSome (joined x.role) → IsRun (end_of x) (line_of x) (joined_bytes g.batches)
       → run ≡ joined_bytes g.batches → ExtendRow content control h b x run answer h' → FollowOnRow content control h b x g answer h'
-  extend_follows h b x g run TooManySegments h' on end some is same w = (on, record { end = end; joined = some; run = is; low = subst (λ (r : List ℕ). last_of r < 2 ^ 62) same w.0 }, w.1)
+  extend_follows h b x g run TooManySegments h' on end some is same w = (on, record { end = end; joined = some; run = is; low = subst (λ (r : List ℕ). last_of r < 2 ^ 62) same w.0 }, subst (IsFull x) same w.1, w.2)
   extend_follows h b x g run DiskFault h' on end some is same w = (on, record { end = end; joined = some; run = is; low = subst (λ (r : List ℕ). last_of r < 2 ^ 62) same w.0 }, w.1)
   extend_follows h b x g run (Passed n) h' on end some is same w =
       (on, w.1, (λ can. absurd (let low = can.low in let high : 2 ^ 62 ≤ last_of (joined_bytes g.batches) = subst (λ (r : List ℕ). 2 ^ 62 ≤ last_of r) same w.0 in omega (arith, low, high))), w.2)

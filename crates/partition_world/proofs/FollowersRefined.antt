@@ -29,7 +29,7 @@ use Rattle.plain_log.specs.State.{followed, joined as joined_role, leads_in}
 use Rattle.plain_log.proofs.Options.{when_some, both}
 use Rattle.broker_log.specs.Seen.{Kept, Shows, is_up as is_open}
 use Rattle.broker_log.specs.Seen as log
-use Rattle.broker_log.specs.Turns.{with_batches, cut_to}
+use Rattle.broker_log.specs.Turns.{with_batches, cut_to, torn}
 use Rattle.partition_seen.specs.declared.begun.Begun.{Begun}
 use Rattle.partition_seen.specs.declared.begun.Turned.{Turned}
 use Rattle.partition_seen.specs.declared.begun.Turned.TheVariants.{Answers, Begins}
@@ -43,11 +43,12 @@ use Rattle.partition_seen.proofs.BoolTests.{some_of, when_true}
 use Rattle.partition_seen.proofs.Parts.{parts_joined}
 use Rattle.partition_world.specs.declared.held.Node.{Node}
 use Rattle.partition_world.specs.declared.held.Held.{Held}
-use Rattle.partition_world.specs.Held.{is_up, end_of, line_of, the_leader, node_of, ShowsHeld, AreCalm}
+use Rattle.partition_world.specs.Held.{is_up, end_of, line_of, the_leader, node_of, ShowsHeld}
 use Rattle.partition_world.specs.TurnsOfFollowers.{IsStale, IsCurrent, CanExtend, JoinRow, FollowRow, Extends, FollowOnRow}
 use Rattle.partition_world.proofs.Fronts.{each_all, all_each, come_apart, lined_entered}
 use Rattle.partition_world.proofs.RunsShown.{run_shown}
-use Rattle.partition_world.proofs.Shown.{Sees, Refines, some_at, sees_at, shown_none, shown_leader, stays, puts, rests, unbroken, unfailing, end_shown, end_told, line_shown, up_of_end}
+use Rattle.partition_world.proofs.OwnRefined.{unsaved}
+use Rattle.partition_world.proofs.Shown.{Sees, Refines, some_at, sees_at, shown_none, shown_leader, stays, puts, rests, fails, breaks, torn_node, end_shown, end_told, line_shown, up_of_end}
 
 -- the nodes that are seen keep what nodes keep
 abbrev pub AreSound : seen.Held → Type 0
@@ -124,13 +125,13 @@ module _ {D : Type 0} (content : D → Content) (control : D → Control call_co
     up : is_up y ≡ true
     is : seen_held.the_leader a ≡ Some (node_of y log_seen)
 
-  sees_leader : (h : Held D) (a : seen.Held) (y : Node D) → ShowsHeld content h a → AreCalm control h.nodes → the_leader h ≡ Some y → SeesLeader h a y
-  sees_leader h a y held calm is =
+  sees_leader : (h : Held D) (a : seen.Held) (y : Node D) → ShowsHeld content h a → the_leader h ≡ Some y → SeesLeader h a y
+  sees_leader h a y held is =
       let one = and_then_some (λ y. when (is_up y && leads_in h.registry.epoch y.role) y) (slice_get h.nodes h.registry.leader.0) y is in
       let w = when_some (is_up one.0 && leads_in h.registry.epoch one.0.role) one.0 y one.2 in
       let test : is_up y && leads_in h.registry.epoch y.role ≡ true = subst (λ (z : Node D). is_up z && leads_in h.registry.epoch z.role ≡ true) w.1 w.0 in
       let at : slice_get h.nodes h.registry.leader.0 ≡ Some y = one.1 ∙ ap (λ (z : Node D). Some z) w.1 in
-      let v = sees_at content control h a h.registry.leader.0 y held calm at in
+      let v = sees_at content control h a h.registry.leader.0 y held at in
       record {
         log_seen = v.0;
         sees = v.1;
@@ -159,15 +160,15 @@ module _ {D : Type 0} (content : D → Content) (control : D → Control call_co
 
   pub join_refined : (h : Held D) (a : seen.Held) (b : ℕ) (x : Node D) (s : log.Seen) (answer : Answer) (h' : Held D) → Sees content control h a b x s → AreSound a
       → JoinRow content control h b x answer h' → Refines content control h' (λ c. seen_rows.JoinRow a b (node_of x s) answer c)
-  join_refined h a b x s Down h' v k w = stays content control h a h' _ v.held v.calm w.1 (w.0, refl)
-  join_refined h a b x s NotFollower h' v k w = stays content control h a h' _ v.held v.calm w.2 (w.0, w.1, refl)
+  join_refined h a b x s Down h' v k w = stays content control h a h' _ v.held w.1 (w.0, refl)
+  join_refined h a b x s NotFollower h' v k w = stays content control h a h' _ v.held w.2 (w.0, w.1, refl)
   join_refined h a b x s (StaleEpoch n) h' v k w =
-      stays content control h a h' _ v.held v.calm w.3 (w.0, stale_shown h a (followed x.role) v.held w.1, epoch_shown h a n v.held w.2, refl)
+      stays content control h a h' _ v.held w.3 (w.0, stale_shown h a (followed x.role) v.held w.1, epoch_shown h a n v.held w.2, refl)
   join_refined h a b x s NoLeader h' v k w =
-      stays content control h a h' _ v.held v.calm w.3 (w.0, current_shown h a (followed x.role) v.held w.1, leaderless h a v.held w.2, refl)
+      stays content control h a h' _ v.held w.3 (w.0, current_shown h a (followed x.role) v.held w.1, leaderless h a v.held w.2, refl)
   join_refined h a b x s (Cut n) h' v k w =
       let y = some_of _ (the_leader h) w.2 in
-      let l = sees_leader h a y.0 v.held v.calm y.1 in
+      let l = sees_leader h a y.0 v.held y.1 in
       let e = y.2.0 in
       let met = y.2.1 in
       let g = y.2.4 in
@@ -175,7 +176,7 @@ module _ {D : Type 0} (content : D → Content) (control : D → Control call_co
       let end : n ≡ end_of_log (up_to met s.batches) = t.2.1 in
       let meet = meet_same (line_of x) s.line (line_of y.0) l.log_seen.line (end_of x) (end_of_log s.batches) (end_of y.0) (end_of_log l.log_seen.batches) met (line_shown content x s w.0 v.shows)
       (line_shown content y.0 l.log_seen l.up l.sees.shows) (end_shown content x s w.0 v.shows) (end_shown content y.0 l.log_seen l.up l.sees.shows) y.2.3 in
-      puts content control h a b x s h' _ (record x { role = Joined e; log = g.kept; known = min x.known n }) t.0 (seen_rows.cut_node (node_of x s) e met) v g.lasts t.1
+      puts content control h a b x s h' _ (record x { role = Joined e; log = g.kept; known = min x.known n }) t.0 (seen_rows.cut_node (node_of x s) e met) v t.1
       (joined_node x g.kept s t.0 e n met (up_of_end content g.kept n g.cuts.end_is ∙ sym w.0) t.2.0 end) g.after (
         w.0,
         current_shown h a (followed x.role) v.held w.1,
@@ -185,7 +186,22 @@ module _ {D : Type 0} (content : D → Content) (control : D → Control call_co
       )
   join_refined h a b x s (DiskFaultAt n) h' v k w =
       let y = some_of _ (the_leader h) w.2 in
-      absurd (unbroken content control h a b x s h' v y.2.4.1)
+      let l = sees_leader h a y.0 v.held y.1 in
+      let e = y.2.0 in
+      let met = y.2.1 in
+      let end : n ≡ end_of_log (up_to met s.batches) = y.2.4.0.is s v.shows in
+      let meet = meet_same (line_of x) s.line (line_of y.0) l.log_seen.line (end_of x) (end_of_log s.batches) (end_of y.0) (end_of_log l.log_seen.batches) met (line_shown content x s w.0 v.shows)
+      (line_shown content y.0 l.log_seen l.up l.sees.shows) (end_shown content x s w.0 v.shows) (end_shown content y.0 l.log_seen l.up l.sees.shows) y.2.3 in
+      let line = cut_end s.line (end_of_log (up_to met s.batches)) in
+      breaks content control h a b x s (λ s. torn s (end_of_log (up_to met s.batches)) (cut_end s.line (end_of_log (up_to met s.batches)))) h' _ (seen_held.torn (node_of x s) n line) v y.2.4.1
+      (λ kept down. ap (λ (m : ℕ). seen_held.torn (node_of x s) m line) end ∙ torn_node x kept s (end_of_log (up_to met s.batches)) line down) (
+        w.0,
+        current_shown h a (followed x.role) v.held w.1,
+        some_at (λ (z : seen.Node). (e m : ℕ) × (followed x.role ≡ Some e) × seen_rows.IsMeet (node_of x s) z m × (n ≡ end_of_log (up_to m s.batches))
+            × (seen_held.put_node a b (seen_held.torn (node_of x s) n (cut_end s.line (end_of_log (up_to met s.batches))))
+            ≡ seen_held.put_node a b (seen_held.torn (node_of x s) n (cut_end s.line (end_of_log (up_to m s.batches))))))
+            (seen_held.the_leader a) (node_of y.0 l.log_seen) l.is (e, met, y.2.2, meet, end, refl),
+      )
   join_refined h a b x s other h' v k w = elim w [ ]
 
   -- follow
@@ -202,18 +218,18 @@ module _ {D : Type 0} (content : D → Content) (control : D → Control call_co
 
   pub follow_refined : (h : Held D) (a : seen.Held) (b : ℕ) (x : Node D) (s : log.Seen) (limit : ℕ) (turned : Turned) (h' : Held D) → Sees content control h a b x s → AreSound a
       → FollowRow content control h b x limit turned h' → Refines content control h' (λ c. seen_rows.FollowRow a b (node_of x s) limit turned c)
-  follow_refined h a b x s limit (Answers Down) h' v k w = stays content control h a h' _ v.held v.calm w.1 (w.0, refl)
-  follow_refined h a b x s limit (Answers NotJoined) h' v k w = stays content control h a h' _ v.held v.calm w.2 (w.0, w.1, refl)
+  follow_refined h a b x s limit (Answers Down) h' v k w = stays content control h a h' _ v.held w.1 (w.0, refl)
+  follow_refined h a b x s limit (Answers NotJoined) h' v k w = stays content control h a h' _ v.held w.2 (w.0, w.1, refl)
   follow_refined h a b x s limit (Answers (StaleEpoch n)) h' v k w =
-      stays content control h a h' _ v.held v.calm w.3 (w.0, stale_shown h a (joined_role x.role) v.held w.1, epoch_shown h a n v.held w.2, refl)
+      stays content control h a h' _ v.held w.3 (w.0, stale_shown h a (joined_role x.role) v.held w.1, epoch_shown h a n v.held w.2, refl)
   follow_refined h a b x s limit (Answers NoLeader) h' v k w =
-      stays content control h a h' _ v.held v.calm w.3 (w.0, current_shown h a (joined_role x.role) v.held w.1, leaderless h a v.held w.2, refl)
+      stays content control h a h' _ v.held w.3 (w.0, current_shown h a (joined_role x.role) v.held w.1, leaderless h a v.held w.2, refl)
   follow_refined h a b x s limit (Answers Level) h' v k w =
       let y = some_of _ (the_leader h) w.2 in
-      let l = sees_leader h a y.0 v.held v.calm y.1 in
+      let l = sees_leader h a y.0 v.held y.1 in
       let level : end_of_log l.log_seen.batches ≤ end_of_log s.batches =
       (let low = y.2 in omega (arith, low, end_shown content x s w.0 v.shows, end_shown content y.0 l.log_seen l.up l.sees.shows)) in
-      stays content control h a h' _ v.held v.calm w.3 (
+      stays content control h a h' _ v.held w.3 (
         w.0,
         current_shown h a (joined_role x.role) v.held w.1,
         some_at (λ (z : seen.Node). end_of_log z.log.batches ≤ end_of_log s.batches) (seen_held.the_leader a) (node_of y.0 l.log_seen) l.is level,
@@ -221,15 +237,23 @@ module _ {D : Type 0} (content : D → Content) (control : D → Control call_co
       )
   follow_refined h a b x s limit (Answers DiskFault) h' v k w =
       let y = some_of _ (the_leader h) w.2 in
-      let l = sees_leader h a y.0 v.held v.calm y.1 in
-      absurd (unfailing content control h a h.registry.leader.0 y.0 l.log_seen h' l.sees y.2.1)
+      let l = sees_leader h a y.0 v.held y.1 in
+      let own = end_shown content x s w.0 v.shows in
+      let end = end_shown content y.0 l.log_seen l.up l.sees.shows in
+      let over : end_of_log s.batches < end_of_log l.log_seen.batches = (let low = y.2.0 in omega (arith, low, own, end)) in
+      fails content control h a h.registry.leader.0 y.0 l.log_seen h' _ l.sees y.2.1 (
+        w.0,
+        current_shown h a (joined_role x.role) v.held w.1,
+        some_at (λ (z : seen.Node). end_of_log s.batches < end_of_log z.log.batches) (seen_held.the_leader a) (node_of y.0 l.log_seen) l.is over,
+        refl,
+      )
   follow_refined h a b x s limit (Answers (Damaged (File name) at)) h' v k w =
       let y = some_of _ (the_leader h) w.2 in
-      let l = sees_leader h a y.0 v.held v.calm y.1 in
+      let l = sees_leader h a y.0 v.held y.1 in
       absurd (y.2.1 l.log_seen l.sees.shows (subst (λ (n : ℕ). EndsAt n l.log_seen.batches) (sym (end_shown content y.0 l.log_seen l.up l.sees.shows)) (ends_at_end l.log_seen.batches)))
   follow_refined h a b x s limit (Begins g) h' v k w =
       let y = some_of _ (the_leader h) w.2 in
-      let l = sees_leader h a y.0 v.held v.calm y.1 in
+      let l = sees_leader h a y.0 v.held y.1 in
       let q = y.2.1 in
       let own = end_shown content x s w.0 v.shows in
       let end = end_shown content y.0 l.log_seen l.up l.sees.shows in
@@ -331,7 +355,7 @@ module _ {D : Type 0} (content : D → Content) (control : D → Control call_co
       (subst (λ (batches : List (List ℕ)). All (λ (batch : List ℕ). Some (epoch_of batch) ≡ Some can.epoch) batches) (sym same)
       (subst (λ (o : Option ℕ). All (λ (batch : List ℕ). Some (epoch_of batch) ≡ o) g.batches) can.first can.same)) in
       let line = line_after_front s.line can.epoch (end_of_log s.batches) q.front q.rest q.some (front_epochs can.epoch q.front q.rest all) (subst (λ (m : ℕ). IsConsecutive m (q.front ++ q.rest)) base q.consecutive) in
-      puts content control h a b x s h' _ (record x { log = k.kept }) t.0 (seen_rows.extended (node_of x s) q.front can.epoch) v k.lasts t.1
+      puts content control h a b x s h' _ (record x { log = k.kept }) t.0 (seen_rows.extended (node_of x s) q.front can.epoch) v t.1
       (extended_node x k.kept s t.0 q.front can.epoch (up_of_end content k.kept (k.span.1 + 1) q.end_is ∙ sym up) t.2 line) k.after
       (record {
         front = q.front;
@@ -344,30 +368,30 @@ module _ {D : Type 0} (content : D → Content) (control : D → Control call_co
 
   pub follow_on_refined : (h : Held D) (a : seen.Held) (b : ℕ) (x : Node D) (s : log.Seen) (g : Begun) (answer : Answer) (h' : Held D) → Sees content control h a b x s → IsKept (node_of x s) g
       → FollowOnRow content control h b x g answer h' → Refines content control h' (λ c. seen_rows.FollowOnRow a b (node_of x s) g answer c)
-  follow_on_refined h a b x s g Stopped h' v k w = stays content control h a h' _ v.held v.calm w.1 (stopped w.0, refl)
+  follow_on_refined h a b x s g Stopped h' v k w = stays content control h a h' _ v.held w.1 (stopped w.0, refl)
     where
       stopped : (g.stops ≢ x.stops) ⊎ (is_up x ≡ false) → g.stops ≢ x.stops
       stopped (inl differs) = differs
       stopped (inr down) = λ same. (let up = k.noted same in absurd cc)
   follow_on_refined h a b x s g (StaleEpoch n) h' v k w =
-      stays content control h a h' _ v.held v.calm w.3 (w.0, stale_shown h a (followed g.role) v.held w.1, epoch_shown h a n v.held w.2, refl)
+      stays content control h a h' _ v.held w.3 (w.0, stale_shown h a (followed g.role) v.held w.1, epoch_shown h a n v.held w.2, refl)
   follow_on_refined h a b x s g (Passed n) h' v k w =
-      stays content control h a h' _ v.held v.calm w.3 (
+      stays content control h a h' _ v.held w.3 (
         (w.0.0, unstale_shown h a (followed g.role) v.held w.0.2),
         w.1 ∙ end_shown content x s w.0.1 v.shows,
         λ can. w.2 (extend_told x s g w.0.1 v.shows can),
         refl,
       )
   follow_on_refined h a b x s g TooManySegments h' v k w =
-      stays content control h a h' _ v.held v.calm w.2 ((w.0.0, unstale_shown h a (followed g.role) v.held w.0.2), extend_shown x s g w.0.1 v.shows k w.1, refl)
-  follow_on_refined h a b x s g DiskFault h' v k w = absurd (unbroken content control h a b x s h' v w.2)
+      stays content control h a h' _ v.held w.3 ((w.0.0, unstale_shown h a (followed g.role) v.held w.0.2), extend_shown x s g w.0.1 v.shows k w.1, refl)
+  follow_on_refined h a b x s g DiskFault h' v k w =
+      unsaved content control h a b x s h' _ v w.2 ((w.0.0, unstale_shown h a (followed g.role) v.held w.0.2), extend_shown x s g w.0.1 v.shows k w.1, refl)
   follow_on_refined h a b x s g (Copied n) h' v k w =
       let can = extend_shown x s g w.0.1 v.shows k w.1 in
       let r = extends_refined h a b x s g n h' v w.0.1 k can w.2 in
       record {
         after = r.after;
         held = r.held;
-        calm = r.calm;
         row = (
           (w.0.0, unstale_shown h a (followed g.role) v.held w.0.2),
           can,

@@ -27,10 +27,10 @@ use Rattle.partition_world.specs.Central.{KeepsCentral}
 use Rattle.partition_world.specs.Later.{IsLater}
 
 module _ {D : Type 0} (content : D → Content) (control : D → Control call_code) where
-  pub later_same : (w : Whole D) → IsLater content control w w
+  pub later_same : (w : Whole D) → IsLater content w w
   later_same w = record { partition = refl; config = refl; lists = refl; central = λ opening c. c; ends = λ a e. e }
 
-  pub later_more : (w v u : Whole D) → IsLater content control w v → IsLater content control v u → IsLater content control w u
+  pub later_more : (w v u : Whole D) → IsLater content w v → IsLater content v u → IsLater content w u
   later_more w v u a b = record {
     partition = b.partition ∙ a.partition;
     config = b.config ∙ a.config;
@@ -57,7 +57,7 @@ module _ {D : Type 0} (content : D → Content) (control : D → Control call_co
         | inr other ↦ e place l seat (record { list = old; actor = s.actor; seat_is = other.1 })
       ]
 
-  pub turn_later : (w : Whole D) (a : ℕ) (turned : Turned) (w' : Whole D) → IsTurn content control w a turned w' → KeepsCentral content control w w' → IsLater content control w w'
+  pub turn_later : (w : Whole D) (a : ℕ) (turned : Turned) (w' : Whole D) → IsTurn content control w a turned w' → KeepsCentral content w w' → IsLater content w w'
   turn_later w a turned w' t keeps = record {
     partition = t.partition;
     config = t.config;
@@ -66,10 +66,10 @@ module _ {D : Type 0} (content : D → Content) (control : D → Control call_co
     ends = turn_ends w a turned w' t;
   }
 
-  pub same_later : (w w' : Whole D) → w' ≡ w → IsLater content control w w'
-  same_later w w' e = subst (λ (k : Whole D). IsLater content control w k) (sym e) (later_same w)
+  pub same_later : (w w' : Whole D) → w' ≡ w → IsLater content w w'
+  same_later w w' e = subst (λ (k : Whole D). IsLater content w k) (sym e) (later_same w)
 
-  whole_later : (w w' : Whole D) → StaysWhole content control w w' → KeepsCentral content control w w' → IsLater content control w w'
+  whole_later : (w w' : Whole D) → StaysWhole content control w w' → KeepsCentral content w w' → IsLater content w w'
   whole_later w w' s keeps = record {
     partition = ap (λ (k : Whole D). k.partition) s.fields;
     config = ap (λ (k : Whole D). k.config) s.fields;
@@ -78,7 +78,7 @@ module _ {D : Type 0} (content : D → Content) (control : D → Control call_co
     ends = λ a e. subst (λ (k : Whole D). IsAtEnd k a) (sym s.fields) (λ place l seat at. e place l seat (record { list = at.list; actor = at.actor; seat_is = at.seat_is }));
   }
 
-  pub step_later : (w : Whole D) (a : ℕ) (stepped : Stepped) (w' : Whole D) → Steps content control w a stepped w' → KeepsCentral content control w w' → IsLater content control w w'
+  pub step_later : (w : Whole D) (a : ℕ) (stepped : Stepped) (w' : Whole D) → Steps content control w a stepped w' → KeepsCentral content w w' → IsLater content w w'
   step_later w a Ran w' s keeps = turn_later w a (Begins s.0) w' s.1 keeps
   step_later w a Done w' s keeps = turn_later w a (Answers s.0) w' s.1 keeps
   step_later w a Nothing w' s keeps = same_later w w' s.1
@@ -121,7 +121,7 @@ module _ {D : Type 0} (content : D → Content) (control : D → Control call_co
   all_ended w h a = λ place l seat s. h place l s.list place l seat (record { list = s.list; actor = refl; seat_is = s.seat_is })
 
   -- one list more is at its end
-  pub place_ended : (w w' : Whole D) (place : ℕ) (list : ActorList) → IsLater content control w w' → slice_get w.lists place ≡ Some list → IsAtEnd w' list.actor.0
+  pub place_ended : (w w' : Whole D) (place : ℕ) (list : ActorList) → IsLater content w w' → slice_get w.lists place ≡ Some list → IsAtEnd w' list.actor.0
       → ((i : ℕ) (l : ActorList) → i < place → slice_get w.lists i ≡ Some l → IsAtEnd w l.actor.0)
       → (i : ℕ) (l : ActorList) → i < place + 1 → slice_get w'.lists i ≡ Some l → IsAtEnd w' l.actor.0
   place_ended w w' place list later at ended h i l lt is = go (i == place) refl

@@ -14,6 +14,7 @@ pub mod Refinement
 pub mod CentralLaw
 pub mod LaterLaw
 pub mod ReachesLaw
+pub mod CalmLaw
 pub mod Chains
 pub mod SoundLaw
 pub mod FreshLaw

@@ -1,5 +1,5 @@
 -- The turns of a broker's own log, and its stops, are rows of what is seen.
-use Rattle.std.proofs.Common.{◌≡◌, ◌∙◌, sym, ap, subst, refl, ℕ, ◌+◌, ◌<◌, ◌≤◌, List, [], ◌∷◌, ◌++◌, true, false}
+use Rattle.std.proofs.Common.{◌≡◌, ◌∙◌, inl, inr, sym, ap, subst, refl, ℕ, ◌+◌, ◌<◌, ◌≤◌, List, [], ◌∷◌, ◌++◌, true, false}
 use Rattle.tier_base.specs.Device.{Control}
 use Rattle.disk_model.specs.Call.{call_code}
 use Rattle.disk_model.specs.Content.{Content}
@@ -13,8 +13,9 @@ use Rattle.plain_log.specs.RowsOfLog.{offset_limit}
 use Rattle.local_log.specs.Run.{lined}
 use Rattle.broker_log.specs.Seen.{Kept, Shows, is_up as is_open}
 use Rattle.broker_log.specs.Seen as log
-use Rattle.broker_log.specs.Turns.{with_batches, settled, opened as opened_log}
+use Rattle.broker_log.specs.Turns.{with_batches, settled, opened as opened_log, Opens, OpensAt, loosened}
 use Rattle.partition_seen.specs.Seen as seen
+use Rattle.partition_seen.proofs.BoolTests.{some_of}
 use Rattle.partition_seen.specs.Held as seen_held
 use Rattle.partition_seen.specs.Log.{entered, with_batch}
 use Rattle.partition_seen.specs.Rows as seen_rows
@@ -22,10 +23,10 @@ use Rattle.partition_seen.specs.RowsOfLog as seen_log
 use Rattle.partition_world.specs.declared.held.Node.{Node}
 use Rattle.partition_world.specs.declared.held.Held.{Held}
 use Rattle.partition_world.specs.Held.{is_up, stopped, node_of}
-use Rattle.partition_world.specs.TurnsOfLog.{end_with, Gains, AppendRow, RawRow, FlushRow, RollRow}
+use Rattle.partition_world.specs.TurnsOfLog.{end_with, BreaksUnsaved, Gains, AppendRow, RawRow, FlushRow, RollRow}
 use Rattle.partition_world.specs.Turns.{StopRow, UpRow}
 use Rattle.partition_world.proofs.Fronts.{whole_batch, front_one, lined_entered}
-use Rattle.partition_world.proofs.Shown.{Sees, Refines, refines_more, stays, puts, rests, unbroken, unfailing, end_shown, end_told, up_of_end}
+use Rattle.partition_world.proofs.Shown.{Sees, Refines, refines_more, stays, puts, rests, fails, breaks, broken_node, end_shown, end_told, up_of_end}
 
 module _ {D : Type 0} where
   -- a node as it is seen, whose log has changed
@@ -37,16 +38,27 @@ module _ {D : Type 0} where
       → record (node_of x s) { stable = n; saved = s.line } ≡ node_of (record x { log = kept }) s'
   flushed_node x kept s s' n up is end = rw (up, is, end) refl
 
-  stopped_node : (x : Node D) (kept : Kept D) (s s' : log.Seen) → is_open kept ≡ false → s' ≡ s → seen_rows.stopped (node_of x s) ≡ node_of (record (stopped x) { log = kept }) s'
+  stopped_node : (x : Node D) (kept : Kept D) (s s' : log.Seen) → is_open kept ≡ false → s' ≡ s → seen_held.stopped (node_of x s) ≡ node_of (record (stopped x) { log = kept }) s'
   stopped_node x kept s s' down is = rw (down, is) refl
 
-  opened_node : (x : Node D) (kept : Kept D) (s s' : log.Seen) → is_open kept ≡ true → s' ≡ opened_log s → seen_rows.opened (node_of x s) ≡ node_of (record x { log = kept }) s'
-  opened_node x kept s s' up is = rw (up, is) refl
+  opened_node : (x : Node D) (kept : Kept D) (s s' : log.Seen) (back : ℕ × List (ℕ × ℕ)) → is_open kept ≡ true → s' ≡ opened_log s back.0 back.1 → seen_rows.opened (node_of x s) back ≡ node_of (record x { log = kept }) s'
+  opened_node x kept s s' back up is = rw (up, is) refl
+
+-- what comes back of a log is what is seen to
+comes_back : {D : Type 0} (x : Node D) (s s' : log.Seen) (n : ℕ) → Opens n s s' → (back : ℕ × List (ℕ × ℕ)) × seen_rows.MayComeBack (node_of x s) back × OpensAt n s s' back.0 back.1
+comes_back x s s' n (inl at) = ((s.stable, s.saved), inl refl, at)
+comes_back x s s' n (inr other) = let back = some_of _ s.loose other in (back.0, inr back.1, back.2)
 
 module _ {D : Type 0} (content : D → Content) (control : D → Control call_code) where
   -- where the log would end
   with_shown : (x : Node D) (s : log.Seen) (batch : List ℕ) → is_up x ≡ true → Shows content x.log s → end_with x batch ≡ seen_log.end_with (node_of x s) batch
   with_shown x s batch up h = ap (λ (n : ℕ). n + last_offset_delta_of batch + 1) (end_shown content x s up h)
+
+  -- a write of what isn't stable yet failed
+  pub unsaved : (h : Held D) (a : seen.Held) (b : ℕ) (x : Node D) (s : log.Seen) (h' : Held D) (R : seen.Held → Type 0) → Sees content control h a b x s → BreaksUnsaved content control h b x h'
+      → R (seen_held.put_node a b (seen_held.broken (node_of x s) s.stable s.saved)) → Refines content control h' R
+  unsaved h a b x s h' R v k row =
+      breaks content control h a b x s (λ s. loosened s s.stable s.saved) h' R (seen_held.broken (node_of x s) s.stable s.saved) v k (λ kept down. broken_node x kept s s.stable s.saved down) row
 
   -- a batch at the log's end
   gains_refined : (h : Held D) (a : seen.Held) (b : ℕ) (x : Node D) (s : log.Seen) (placed : List ℕ) (h' : Held D) (R : seen.Held → Type 0) → Sees content control h a b x s → is_up x ≡ true
@@ -60,19 +72,20 @@ module _ {D : Type 0} (content : D → Content) (control : D → Control call_co
       let base : base_of placed ≡ k.1.0 = (subst (λ (l : List (List ℕ)). IsConsecutive k.1.0 l) whole g.consecutive).0 in
       let end : k.1.0 ≡ end_of_log s.batches = sym (end_told content x k.1.0 g.base_is) ∙ end_shown content x s up v.shows in
       let line : lined s.line (placed ∷ []) ≡ entered s.line (epoch_of placed) (end_of_log s.batches) = lined_entered s.line (epoch_of placed) (end_of_log s.batches) placed [] (refl, tt) (base ∙ end) in
-      puts content control h a b x s h' R (record x { log = kept }) t.0 (record (node_of x s) { log = with_batch (node_of x s).log placed }) v k.4 t.1
+      puts content control h a b x s h' R (record x { log = kept }) t.0 (record (node_of x s) { log = with_batch (node_of x s).log placed }) v t.1
       (appended_node x kept s t.0 (placed ∷ []) (entered s.line (epoch_of placed) (end_of_log s.batches)) (up_of_end content kept (k.1.1 + 1) g.end_is ∙ sym up) (t.2 ∙ ap (with_batches s) front) line)
       k.5 row
 
   pub append_refined : (h : Held D) (a : seen.Held) (b : ℕ) (x : Node D) (s : log.Seen) (batch : List ℕ) (answer : Answer) (h' : Held D) → Sees content control h a b x s
       → AppendRow content control h b x batch answer h' → Refines content control h' (λ c. seen_log.AppendRow a b (node_of x s) batch answer c)
-  append_refined h a b x s batch Down h' v w = stays content control h a h' _ v.held v.calm w.1 (w.0, refl)
-  append_refined h a b x s batch NotLeader h' v w = stays content control h a h' _ v.held v.calm w.2 (w.0, w.1, refl)
+  append_refined h a b x s batch Down h' v w = stays content control h a h' _ v.held w.1 (w.0, refl)
+  append_refined h a b x s batch NotLeader h' v w = stays content control h a h' _ v.held w.2 (w.0, w.1, refl)
   append_refined h a b x s batch LastOffset h' v w =
-      stays content control h a h' _ v.held v.calm w.3 (w.0, w.1, subst (λ (n : ℕ). offset_limit < n) (with_shown x s batch w.0 v.shows) w.2, refl)
+      stays content control h a h' _ v.held w.3 (w.0, w.1, subst (λ (n : ℕ). offset_limit < n) (with_shown x s batch w.0 v.shows) w.2, refl)
   append_refined h a b x s batch TooManySegments h' v w =
-      stays content control h a h' _ v.held v.calm w.3 (w.0, w.1, subst (λ (n : ℕ). n ≤ offset_limit) (with_shown x s batch w.0 v.shows) w.2, refl)
-  append_refined h a b x s batch DiskFault h' v w = absurd (unbroken content control h a b x s h' v w.3)
+      stays content control h a h' _ v.held w.4 (w.0, w.1, subst (λ (n : ℕ). n ≤ offset_limit) (with_shown x s batch w.0 v.shows) w.2, refl)
+  append_refined h a b x s batch DiskFault h' v w =
+      unsaved h a b x s h' _ v w.3 (w.0, w.1, subst (λ (n : ℕ). n ≤ offset_limit) (with_shown x s batch w.0 v.shows) w.2, refl)
   append_refined h a b x s batch (OkSpan base last e) h' v w =
       gains_refined h a b x s (stamped batch base e) h' _ v w.0 w.5
       (w.0, w.1, subst (λ (n : ℕ). n ≤ offset_limit) (with_shown x s batch w.0 v.shows) w.2, w.3 ∙ end_shown content x s w.0 v.shows, w.4, refl)
@@ -82,56 +95,60 @@ module _ {D : Type 0} (content : D → Content) (control : D → Control call_co
       → RawRow content control h b x bytes answer h' → Refines content control h' (λ c. seen_log.RawRow a b (node_of x s) bytes answer c)
   raw_refined h a b x s bytes Down h' v w = append_refined h a b x s bytes Down h' v w
   raw_refined h a b x s bytes NotLeader h' v w = append_refined h a b x s bytes NotLeader h' v w
-  raw_refined h a b x s bytes (Refused cause) h' v w = stays content control h a h' _ v.held v.calm w.3 (w.0, w.1, w.2, refl)
+  raw_refined h a b x s bytes (Refused cause) h' v w = stays content control h a h' _ v.held w.3 (w.0, w.1, w.2, refl)
   raw_refined h a b x s bytes LastOffset h' v w =
       refines_more content control h' (λ c. seen_log.AppendRow a b (node_of x s) bytes LastOffset c) _ (λ c r. (w.0, r)) (append_refined h a b x s bytes LastOffset h' v w.1)
   raw_refined h a b x s bytes TooManySegments h' v w =
       refines_more content control h' (λ c. seen_log.AppendRow a b (node_of x s) bytes TooManySegments c) _ (λ c r. (w.0, r)) (append_refined h a b x s bytes TooManySegments h' v w.1)
-  raw_refined h a b x s bytes DiskFault h' v w = absurd (unbroken content control h a b x s h' v w.1.3)
+  raw_refined h a b x s bytes DiskFault h' v w =
+      refines_more content control h' (λ c. seen_log.AppendRow a b (node_of x s) bytes DiskFault c) _ (λ c r. (w.0, r)) (append_refined h a b x s bytes DiskFault h' v w.1)
   raw_refined h a b x s bytes (OkSpan base last e) h' v w =
       refines_more content control h' (λ c. seen_log.AppendRow a b (node_of x s) bytes (OkSpan base last e) c) _ (λ c r. (w.0, r)) (append_refined h a b x s bytes (OkSpan base last e) h' v w.1)
   raw_refined h a b x s bytes other h' v w = elim w [ ]
 
   pub flush_refined : (h : Held D) (a : seen.Held) (b : ℕ) (x : Node D) (s : log.Seen) (answer : Answer) (h' : Held D) → Sees content control h a b x s
       → FlushRow content control h b x answer h' → Refines content control h' (λ c. seen_log.FlushRow a b (node_of x s) answer c)
-  flush_refined h a b x s Down h' v w = stays content control h a h' _ v.held v.calm w.1 (w.0, refl)
-  flush_refined h a b x s DiskFault h' v w = absurd (unbroken content control h a b x s h' v w.1)
+  flush_refined h a b x s Down h' v w = stays content control h a h' _ v.held w.1 (w.0, refl)
+  flush_refined h a b x s DiskFault h' v w =
+      breaks content control h a b x s (λ s. loosened s (end_of_log s.batches) s.line) h' _ (seen_held.broken (node_of x s) (end_of_log s.batches) s.line) v w.1
+      (λ kept down. broken_node x kept s (end_of_log s.batches) s.line down) (w.0, refl)
   flush_refined h a b x s (OkAt n) h' v w =
       let kept = w.1.0 in
       let g = w.1.1 in
       let t = g.seen s v.shows in
       let end : n ≡ end_of_log s.batches = sym (end_told content x n g.base_is) ∙ end_shown content x s w.0 v.shows in
-      puts content control h a b x s h' _ (record x { log = kept }) t.0 (record (node_of x s) { stable = n; saved = s.line }) v w.1.2 t.1
+      puts content control h a b x s h' _ (record x { log = kept }) t.0 (record (node_of x s) { stable = n; saved = s.line }) v t.1
       (flushed_node x kept s t.0 n (up_of_end content kept n g.end_is ∙ sym w.0) t.2 end) w.1.3 (w.0, end, refl)
   flush_refined h a b x s other h' v w = elim w [ ]
 
   pub roll_refined : (h : Held D) (a : seen.Held) (b : ℕ) (x : Node D) (s : log.Seen) (answer : Answer) (h' : Held D) → Sees content control h a b x s
-      → RollRow content control h b x answer h' → Refines content control h' (λ c. seen_log.RollRow a (node_of x s) answer c)
-  roll_refined h a b x s Down h' v w = stays content control h a h' _ v.held v.calm w.1 (w.0, refl)
-  roll_refined h a b x s EmptySegment h' v w = stays content control h a h' _ v.held v.calm w.1 (w.0, refl)
-  roll_refined h a b x s TooManySegments h' v w = stays content control h a h' _ v.held v.calm w.1 (w.0, refl)
-  roll_refined h a b x s DiskFault h' v w = absurd (unbroken content control h a b x s h' v w.1)
+      → RollRow content control h b x answer h' → Refines content control h' (λ c. seen_log.RollRow a b (node_of x s) answer c)
+  roll_refined h a b x s Down h' v w = stays content control h a h' _ v.held w.1 (w.0, refl)
+  roll_refined h a b x s EmptySegment h' v w = stays content control h a h' _ v.held w.2 (w.0, refl)
+  roll_refined h a b x s TooManySegments h' v w = stays content control h a h' _ v.held w.2 (w.0, refl)
+  roll_refined h a b x s DiskFault h' v w = unsaved h a b x s h' _ v w.1 (w.0, refl)
   roll_refined h a b x s (OkAt n) h' v w = rests content control h a b x s h' _ v w.2 (w.0, w.1 ∙ end_shown content x s w.0 v.shows, refl)
   roll_refined h a b x s other h' v w = elim w [ ]
 
   pub stop_refined : (h : Held D) (a : seen.Held) (b : ℕ) (x : Node D) (s : log.Seen) (answer : Answer) (h' : Held D) → Sees content control h a b x s
       → StopRow content control h b x answer h' → Refines content control h' (λ c. seen_rows.StopRow a b (node_of x s) answer c)
-  stop_refined h a b x s Down h' v w = stays content control h a h' _ v.held v.calm w.1 (w.0, refl)
+  stop_refined h a b x s Down h' v w = stays content control h a h' _ v.held w.1 (w.0, refl)
   stop_refined h a b x s Ok h' v w =
       let kept = w.1.0 in
       let t = w.1.1.seen s v.shows in
-      puts content control h a b x s h' _ (record (stopped x) { log = kept }) t.0 (seen_rows.stopped (node_of x s)) v w.1.2 t.1 (stopped_node x kept s t.0 w.1.1.down t.2) w.1.3 (w.0, refl)
+      puts content control h a b x s h' _ (record (stopped x) { log = kept }) t.0 (seen_held.stopped (node_of x s)) v t.1 (stopped_node x kept s t.0 w.1.1.down t.2) w.1.3 (w.0, refl)
   stop_refined h a b x s other h' v w = elim w [ ]
 
   pub up_refined : (h : Held D) (a : seen.Held) (b : ℕ) (x : Node D) (s : log.Seen) (answer : Answer) (h' : Held D) → Sees content control h a b x s
       → UpRow content control h b x answer h' → Refines content control h' (λ c. seen_rows.UpRow a b (node_of x s) answer c)
-  up_refined h a b x s IsUp h' v w = stays content control h a h' _ v.held v.calm w.1 (w.0, refl)
+  up_refined h a b x s IsUp h' v w = stays content control h a h' _ v.held w.1 (w.0, refl)
   up_refined h a b x s (IsOpen n) h' v w =
       let kept = w.1.0 in
       let t = w.1.1.seen s v.shows in
-      let end : n ≡ end_of_log (up_to s.stable s.batches) = t.2.1 in
-      puts content control h a b x s h' _ (record x { log = kept }) t.0 (seen_rows.opened (node_of x s)) v w.1.2 t.1 (opened_node x kept s t.0 (up_of_end content kept n w.1.1.end_is) t.2.0) w.1.3 (w.0, end, refl)
-  up_refined h a b x s DiskFault h' v w = absurd (unfailing content control h a b x s h' v w.1)
+      let k = comes_back x s t.0 n t.2 in
+      puts content control h a b x s h' _ (record x { log = kept }) t.0 (seen_rows.opened (node_of x s) k.0) v t.1 (opened_node x kept s t.0 k.0 (up_of_end content kept n w.1.1.end_is) k.2.0) w.1.3
+      (w.0, (k.0, k.1, k.2.1, refl))
+  up_refined h a b x s DiskFault h' v w = fails content control h a b x s h' _ v w.1 (w.0, refl)
   up_refined h a b x s (Damaged (File name) at) h' v w = absurd (w.1 s v.shows)
-  up_refined h a b x s LastIncarnation h' v w = rests content control h a b x s h' _ v w.1 (w.0, refl)
+  up_refined h a b x s LastIncarnation h' v w = rests content control h a b x s h' _ v w.2 (w.0, refl)
   up_refined h a b x s other h' v w = elim w [ ]

@@ -1,6 +1,9 @@
 -- A batch that the leader puts at the end of its log is a run of it.
 use Rattle.std.proofs.Common.{◌≡◌, ◌∙◌, ap, sym, subst, refl, ℕ, ◌+◌, ◌-◌, ◌^◌, ◌≤◌, ◌<◌, List, [], ◌∷◌, Option, Some, None, Ok, Err, arith, append-nil}
-use Rattle.std.specs.Prelude.{IsOk, unwrap_or, slice_get, IsSomeAnd}
+use Rattle.std.specs.Prelude.{IsOk, unwrap_or, slice_get, IsSomeAnd, true}
+use Rattle.tier_base.specs.Device.{Control}
+use Rattle.disk_model.specs.Call.{call_code}
+use Rattle.disk_model.specs.Content.{Content}
 use Rattle.log_terms.specs.Batch.{base_of, last_of, epoch_of, last_offset_delta_of}
 use Rattle.epoch_line.specs.Line.{last_epoch}
 use Rattle.std.specs.declared.result.Result.{Result}
@@ -10,15 +13,18 @@ use Rattle.record_batch.specs.Check.{Batch, checked}
 use Rattle.record_batch.specs.Stamp.{stamped}
 use Rattle.segment_file.specs.Segment.{EpochsRise}
 use Rattle.local_log.specs.Run.{IsRun}
+use Rattle.plain_log.specs.RowsOfLog.{offset_limit}
+use Rattle.plain_log.specs.declared.answer.Answer.{Answer}
+use Rattle.plain_log.specs.declared.answer.Answer.TheVariants.{OkSpan, TooManySegments, DiskFault}
 use Rattle.plain_log.specs.declared.state.Role.{Role}
 use Rattle.plain_log.specs.declared.state.Role.TheVariants.{Idle, Leads, Follows, Joined}
 use Rattle.plain_log.specs.State.{leading}
 use Rattle.broker_log.specs.Seen.{WhileUp}
 use Rattle.partition_world.specs.declared.held.Node.{Node}
 use Rattle.partition_world.specs.declared.held.Held.{Held}
-use Rattle.partition_world.specs.Held.{AtNode, end_of, line_of}
+use Rattle.partition_world.specs.Held.{AtNode, is_up, end_of, line_of, IsFull}
 use Rattle.partition_world.specs.Sound.{NodeSound}
-use Rattle.partition_world.specs.TurnsOfLog.{MayPut}
+use Rattle.partition_world.specs.TurnsOfLog.{end_with, MayPut, Gains, PutRow, AppendRow}
 use Rattle.partition_world.proofs.Open.{while_of}
 
 -- the epoch that a role leads
@@ -77,3 +83,20 @@ module _ {D : Type 0} where
       tt,
     );
   })
+
+module _ {D : Type 0} (content : D → Content) (control : D → Control call_code) where
+  -- what comes of a batch that was placed comes of its append
+  pub put_append : (h : Held D) (b : ℕ) (x : Node D) (batch placed : List ℕ) (base last epoch : ℕ) (answer : Answer) (h' : Held D) → is_up x ≡ true → x.role ≡ Leads epoch → end_with x batch ≤ offset_limit → base ≡ end_of x
+      → last ≡ base + last_offset_delta_of batch → placed ≡ stamped batch base epoch → PutRow content control h b x placed base last epoch answer h' → AppendRow content control h b x batch answer h'
+  put_append h b x batch placed base last epoch TooManySegments h' up role fits at ends is w =
+      (up, rw role refl, fits, (epoch, role, subst (IsFull x) (is ∙ ap (λ (n : ℕ). stamped batch n epoch) at) w.0), w.1)
+  put_append h b x batch placed base last epoch DiskFault h' up role fits at ends is w = (up, rw role refl, fits, w)
+  put_append h b x batch placed base last epoch (OkSpan from to e) h' up role fits at ends is w = (
+    up,
+    role ∙ ap Leads (sym w.2),
+    fits,
+    w.0 ∙ at,
+    w.1 ∙ (ends ∙ ap (λ (n : ℕ). n + last_offset_delta_of batch) (sym w.0)),
+    subst (λ (l : List ℕ). Gains content control h b x l h') (is ∙ (ap (λ (n : ℕ). stamped batch n epoch) (sym w.0) ∙ ap (λ (n : ℕ). stamped batch from n) (sym w.2))) w.3,
+  )
+  put_append h b x batch placed base last epoch other h' up role fits at ends is w = elim w [ ]

@@ -1,4 +1,4 @@
--- A turn of any command over disks that tell and are calm is a row of what is seen.
+-- A turn of any command over disks that tell is a row of what is seen.
 use Rattle.std.proofs.Common.{◌≡◌, sym, subst, refl, ℕ, ℤ, Some, None, Option}
 use Rattle.tier_base.specs.Device.{Control}
 use Rattle.disk_model.specs.Call.{call_code}
@@ -31,7 +31,6 @@ module _ {D : Type 0} (content : D → Content) (control : D → Control call_co
       subst (λ (k : Held D). Refines content control k (λ c. seen_rows.ClockRow a ms Ok c)) (sym w) (record {
         after = record a { clock = ms };
         held = record { registry = v.held.registry; nodes = v.held.nodes; clock = refl };
-        calm = v.calm;
         row = refl;
       })
   clock_refined h a b x s ms other h' v w = elim w [ ]

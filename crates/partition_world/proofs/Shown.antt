@@ -1,9 +1,8 @@
 -- How a partition over disks is seen, node by node, and how it is seen after a turn.
 use Rattle.std.proofs.Common.{◌≡◌, inl, inr, ◌∙◌, sym, ap, subst, refl, ℕ, zero, suc, ◌+◌, ◌<◌, ◌≤◌, List, [], ◌∷◌, length, slice_get, slice_set, Some, None, Option, IsSomeAnd, Bool, true, false, ◌&&◌, arith}
-use Rattle.std.specs.Prelude.{unwrap_or, ◌-◌, ◌^◌, min}
+use Rattle.std.specs.Prelude.{unwrap_or, nat_lt}
 use Rattle.std.specs.Option.{option_and_then}
-use Rattle.tier_base.specs.Counts.{Rose}
-use Rattle.tier_base.specs.Device.{Control, Lasts}
+use Rattle.tier_base.specs.Device.{Control}
 use Rattle.disk_model.specs.Call.{call_code}
 use Rattle.disk_model.specs.Content.{Content}
 use Rattle.log_terms.specs.Log.{end_of as end_of_log}
@@ -11,14 +10,15 @@ use Rattle.log_terms.proofs.Lists.{set-same}
 use Rattle.registry.specs.Calls.{when}
 use Rattle.registry.specs.declared.registry.Registry.{Registry}
 use Rattle.plain_log.specs.State.{leads_in}
-use Rattle.broker_log.specs.Seen.{Kept, Up, Down, Away, Shows, Stays, Lasting, Faulted, OnDisk, is_up as is_open, end_in, stable_in, line_in}
+use Rattle.broker_log.specs.Seen.{Kept, Up, Down, Away, Shows, Stays, is_up as is_open, end_in, stable_in, line_in}
 use Rattle.broker_log.specs.Seen as log
+use Rattle.broker_log.specs.Turns.{loosened, torn}
 use Rattle.partition_seen.specs.Seen as seen
 use Rattle.partition_seen.specs.Held as seen_held
 use Rattle.partition_seen.proofs.BoolTests.{some_of}
 use Rattle.partition_world.specs.declared.held.Node.{Node}
 use Rattle.partition_world.specs.declared.held.Held.{Held}
-use Rattle.partition_world.specs.Held.{is_up, end_of, stable_of, line_of, put_node, the_leader, node_of, ShowsNode, ShowNodes, ShowsHeld, Rests, StaysHeld, Breaks, Fails, IsCalm, AreCalm}
+use Rattle.partition_world.specs.Held.{is_up, end_of, stable_of, line_of, put_node, the_leader, stopped, node_of, ShowsNode, ShowNodes, ShowsHeld, Rests, StaysHeld, Breaks, Fails}
 
 -- what is there is had
 pub some_at : {A : Type 0} (P : A → Type 0) (o : Option A) (x : A) → o ≡ Some x → P x → IsSomeAnd o P
@@ -27,6 +27,20 @@ some_at P o x is p = subst (λ (k : Option _). IsSomeAnd k P) (sym is) p
 -- what is put of a record's field leaves a node
 pub node_as : {D : Type 0} (x : Node D) (kept : Kept D) (s : log.Seen) → is_open kept ≡ is_up x → node_of (record x { log = kept }) s ≡ record (node_of x s) { up = is_up x }
 node_as x kept s up = ap (λ (t : Bool). record (node_of x s) { up = t }) up
+
+-- a node whose disk failed in a write
+pub broken_node : {D : Type 0} (x : Node D) (kept : Kept D) (s : log.Seen) (end : ℕ) (line : List (ℕ × ℕ)) → is_open kept ≡ false
+    → seen_held.broken (node_of x s) end line ≡ node_of (record (stopped x) { log = kept }) (loosened s end line)
+broken_node x kept s end line down = rw down refl
+
+-- and in a cut
+pub torn_node : {D : Type 0} (x : Node D) (kept : Kept D) (s : log.Seen) (end : ℕ) (line : List (ℕ × ℕ)) → is_open kept ≡ false
+    → seen_held.torn (node_of x s) end line ≡ node_of (record (stopped x) { log = kept }) (torn s end line)
+torn_node x kept s end line down = go (nat_lt end s.stable) refl
+  where
+    go : (t : Bool) → nat_lt end s.stable ≡ t → seen_held.torn (node_of x s) end line ≡ node_of (record (stopped x) { log = kept }) (torn s end line)
+    go true t = rw (t, down) refl
+    go false t = rw (t, down) refl
 
 module _ {D : Type 0} (content : D → Content) where
   -- an option of a node is seen so
@@ -124,57 +138,10 @@ module _ {D : Type 0} (content : D → Content) where
   pub end_told : (x : Node D) (n : ℕ) → end_in x.log ≡ Some n → end_of x ≡ n
   end_told x n is = ap (λ (o : Option ℕ). unwrap_or o 0) is
 
-module _ {D : Type 0} (control : D → Control call_code) where
-  -- calm lasts
-  pub lasting_calm : (old new : Kept D) → Lasting control old new → OnDisk old (λ d. IsCalm (control d)) → OnDisk new (λ d. IsCalm (control d))
-  lasting_calm old new l c = go old new l c
-    where
-      one : (d e : D) → Lasts (control d) (control e) → IsCalm (control d) → IsCalm (control e)
-      one d e l c = let same = l.no_fault c.calm in record { calm = l.stays_calm c.calm; few = omega (arith, c.few, same) }
-
-      go : (old new : Kept D) → Lasting control old new → OnDisk old (λ d. IsCalm (control d)) → OnDisk new (λ d. IsCalm (control d))
-      go (Up m) (Up n) l c = one m.disk n.disk l c
-      go (Up m) (Down e) l c = one m.disk e l c
-      go (Up m) Away l c = absurd l
-      go (Down d) (Up n) l c = one d n.disk l c
-      go (Down d) (Down e) l c = one d e l c
-      go (Down d) Away l c = absurd l
-      go Away new l c = absurd c
-
-  -- while a disk is calm nothing fails
-  pub calm_fault : (old new : Kept D) → Lasting control old new → Faulted control old new → OnDisk old (λ d. IsCalm (control d)) → ⊥
-  calm_fault old new l f c = go old new l f c
-    where
-      rose : (before now : ℕ) → now ≡ before → before < 2 ^ 64 - 1 → min (before + 1) (2 ^ 64 - 1) ≤ now → ⊥
-      rose before now same few up = omega (arith, same, few, up)
-
-      one : (d e : D) → Lasts (control d) (control e) → Rose (control d).faults (control e).faults → IsCalm (control d) → ⊥
-      one d e l f c = rose (control d).faults (control e).faults (l.no_fault c.calm) c.few f
-
-      go : (old new : Kept D) → Lasting control old new → Faulted control old new → OnDisk old (λ d. IsCalm (control d)) → ⊥
-      go (Up m) (Up n) l f c = one m.disk n.disk l f c
-      go (Up m) (Down e) l f c = one m.disk e l f c
-      go (Up m) Away l f c = absurd l
-      go (Down d) (Up n) l f c = one d n.disk l f c
-      go (Down d) (Down e) l f c = one d e l f c
-      go (Down d) Away l f c = absurd l
-      go Away new l f c = absurd c
-
-  pub calm_get : (xs : List (Node D)) (i : ℕ) (x : Node D) → AreCalm control xs → slice_get xs i ≡ Some x → OnDisk x.log (λ d. IsCalm (control d))
-  calm_get [] i x c at = absurd cc
-  calm_get (z ∷ xs) zero x c at = let same : z ≡ x = cc in subst (λ (k : Node D). OnDisk k.log (λ d. IsCalm (control d))) same c.0
-  calm_get (z ∷ xs) (suc i) x c at = calm_get xs i x c.1 at
-
-  pub calm_set : (xs : List (Node D)) (i : ℕ) (x : Node D) → AreCalm control xs → OnDisk x.log (λ d. IsCalm (control d)) → AreCalm control (slice_set xs i x)
-  calm_set [] i x c n = tt
-  calm_set (z ∷ xs) zero x c n = (n, c.1)
-  calm_set (z ∷ xs) (suc i) x c n = (c.0, calm_set xs i x c.1 n)
-
 module _ {D : Type 0} (content : D → Content) (control : D → Control call_code) where
-  -- a node of a partition whose disks tell and are calm, and how both are seen
+  -- a node of a partition whose disks tell, and how both are seen
   pub record Sees (h : Held D) (a : seen.Held) (b : ℕ) (x : Node D) (s : log.Seen) : Type 0 where
     pub held : ShowsHeld content h a
-    pub calm : AreCalm control h.nodes
     pub at : slice_get h.nodes b ≡ Some x
     pub there : slice_get a.nodes b ≡ Some (node_of x s)
     pub shows : Shows content x.log s
@@ -183,34 +150,29 @@ module _ {D : Type 0} (content : D → Content) (control : D → Control call_co
   pub record Refines (h' : Held D) (R : seen.Held → Type 0) : Type 0 where
     pub after : seen.Held
     pub held : ShowsHeld content h' after
-    pub calm : AreCalm control h'.nodes
     pub row : R after
 
   -- how a node is seen
-  pub sees_at : (h : Held D) (a : seen.Held) (b : ℕ) (x : Node D) → ShowsHeld content h a → AreCalm control h.nodes → slice_get h.nodes b ≡ Some x → (s : log.Seen) × Sees h a b x s
-  sees_at h a b x held calm at =
+  pub sees_at : (h : Held D) (a : seen.Held) (b : ℕ) (x : Node D) → ShowsHeld content h a → slice_get h.nodes b ≡ Some x → (s : log.Seen) × Sees h a b x s
+  sees_at h a b x held at =
       let k = shown_some content (slice_get h.nodes b) (slice_get a.nodes b) x (shown_get content h.nodes a.nodes b held.nodes) at in
-      (k.2.0, record { held = held; calm = calm; at = at; there = k.1 ∙ ap (λ (y : seen.Node). Some y) k.2.2; shows = k.2.1 })
-
-  pub disk_calm : (h : Held D) (a : seen.Held) (b : ℕ) (x : Node D) (s : log.Seen) → Sees h a b x s → OnDisk x.log (λ d. IsCalm (control d))
-  disk_calm h a b x s v = calm_get control h.nodes b x v.calm v.at
+      (k.2.0, record { held = held; at = at; there = k.1 ∙ ap (λ (y : seen.Node). Some y) k.2.2; shows = k.2.1 })
 
   -- what follows from what holds of it
   pub refines_more : (h' : Held D) (R Q : seen.Held → Type 0) → ((a : seen.Held) → R a → Q a) → Refines h' R → Refines h' Q
-  refines_more h' R Q f r = record { after = r.after; held = r.held; calm = r.calm; row = f r.after r.row }
+  refines_more h' R Q f r = record { after = r.after; held = r.held; row = f r.after r.row }
 
   -- nothing has changed
-  pub stays : (h : Held D) (a : seen.Held) (h' : Held D) (R : seen.Held → Type 0) → ShowsHeld content h a → AreCalm control h.nodes → h' ≡ h → R a → Refines h' R
-  stays h a h' R held calm is row = subst (λ (k : Held D). Refines k R) (sym is) (record { after = a; held = held; calm = calm; row = row })
+  pub stays : (h : Held D) (a : seen.Held) (h' : Held D) (R : seen.Held → Type 0) → ShowsHeld content h a → h' ≡ h → R a → Refines h' R
+  stays h a h' R held is row = subst (λ (k : Held D). Refines k R) (sym is) (record { after = a; held = held; row = row })
 
   -- a node has
   pub puts : (h : Held D) (a : seen.Held) (b : ℕ) (x : Node D) (s : log.Seen) (h' : Held D) (R : seen.Held → Type 0) (x' : Node D) (s' : log.Seen) (y : seen.Node) → Sees h a b x s
-      → Lasting control x.log x'.log → Shows content x'.log s' → y ≡ node_of x' s' → h' ≡ put_node h b x' → R (seen_held.put_node a b y) → Refines h' R
-  puts h a b x s h' R x' s' y v lasts shows same is row =
+      → Shows content x'.log s' → y ≡ node_of x' s' → h' ≡ put_node h b x' → R (seen_held.put_node a b y) → Refines h' R
+  puts h a b x s h' R x' s' y v shows same is row =
       subst (λ (k : Held D). Refines k R) (sym is) (record {
         after = seen_held.put_node a b y;
         held = record { registry = v.held.registry; nodes = shown_set content h.nodes a.nodes b x' y v.held.nodes (s', shows, same); clock = v.held.clock };
-        calm = calm_set control h.nodes b x' v.calm (lasting_calm control x.log x'.log lasts (disk_calm h a b x s v));
         row = row;
       })
 
@@ -221,32 +183,34 @@ module _ {D : Type 0} (content : D → Content) (control : D → Control call_co
       let t = r.1.seen s v.shows in
       let same : node_of x s ≡ node_of (record x { log = kept }) t.0 = rw (r.1.up, t.2) refl in
       let put : a ≡ seen_held.put_node a b (node_of x s) = ap (λ (ys : List seen.Node). record a { nodes = ys }) (sym (set-same a.nodes b (node_of x s) v.there)) in
-      puts h a b x s h' R (record x { log = kept }) t.0 (node_of x s) v r.2 t.1 same r.3 (subst R put row)
+      puts h a b x s h' R (record x { log = kept }) t.0 (node_of x s) v t.1 same r.3 (subst R put row)
 
   -- the registry has
-  pub leaves : (h : Held D) (a : seen.Held) (h' : Held D) (R : seen.Held → Type 0) (r : Registry) → ShowsHeld content h a → AreCalm control h.nodes → h' ≡ record h { registry = r }
+  pub leaves : (h : Held D) (a : seen.Held) (h' : Held D) (R : seen.Held → Type 0) (r : Registry) → ShowsHeld content h a → h' ≡ record h { registry = r }
       → R (record a { registry = r }) → Refines h' R
-  leaves h a h' R r held calm is row =
+  leaves h a h' R r held is row =
       subst (λ (k : Held D). Refines k R) (sym is) (record {
         after = record a { registry = r };
         held = record { registry = refl; nodes = held.nodes; clock = held.clock };
-        calm = calm;
         row = row;
       })
 
-  -- no disk breaks
-  pub unbroken : (h : Held D) (a : seen.Held) (b : ℕ) (x : Node D) (s : log.Seen) (h' : Held D) → Sees h a b x s → Breaks content control h b x h' → ⊥
-  unbroken h a b x s h' v k = calm_fault control x.log k.kept k.lasts k.cause (disk_calm h a b x s v)
+  -- a read failed, and nothing that is seen has changed
+  pub fails : (h : Held D) (a : seen.Held) (b : ℕ) (x : Node D) (s : log.Seen) (h' : Held D) (R : seen.Held → Type 0) → Sees h a b x s → Fails content control h b x h' → R a → Refines h' R
+  fails h a b x s h' R v r row = rests h a b x s h' R v (r.0, r.1, r.2, r.4) row
 
-  -- no read fails
-  pub unfailing : (h : Held D) (a : seen.Held) (b : ℕ) (x : Node D) (s : log.Seen) (h' : Held D) → Sees h a b x s → Fails content control h b x h' → ⊥
-  unfailing h a b x s h' v k = calm_fault control x.log k.0 k.2 k.3 (disk_calm h a b x s v)
+  -- a write failed, and the broker has stopped
+  pub breaks : (h : Held D) (a : seen.Held) (b : ℕ) (x : Node D) (s : log.Seen) (makes : log.Seen → log.Seen) (h' : Held D) (R : seen.Held → Type 0) (y : seen.Node) → Sees h a b x s → Breaks content control h b x makes h'
+      → ((kept : Kept D) → is_open kept ≡ false → y ≡ node_of (record (stopped x) { log = kept }) (makes s)) → R (seen_held.put_node a b y) → Refines h' R
+  breaks h a b x s makes h' R y v k same row =
+      let t = k.breaks.seen s v.shows in
+      puts h a b x s h' R (record (stopped x) { log = k.kept }) t.0 y v t.1 (same k.kept k.breaks.down ∙ ap (node_of (record (stopped x) { log = k.kept })) (sym t.2)) k.after row
 
   -- nothing that is seen has changed
-  pub held_stays : (h : Held D) (a : seen.Held) (h' : Held D) → ShowsHeld content h a → AreCalm control h.nodes → StaysHeld content control h h' → ShowsHeld content h' a × AreCalm control h'.nodes
-  held_stays h a h' held calm (inl is) = subst (λ (k : Held D). ShowsHeld content k a × AreCalm control k.nodes) (sym is) (held, calm)
-  held_stays h a h' held calm (inr k) =
+  pub held_stays : (h : Held D) (a : seen.Held) (h' : Held D) → ShowsHeld content h a → StaysHeld content control h h' → ShowsHeld content h' a
+  held_stays h a h' held (inl is) = subst (λ (k : Held D). ShowsHeld content k a) (sym is) held
+  held_stays h a h' held (inr k) =
       let x = some_of (λ x. Rests content control h k.0 x h') (slice_get h.nodes k.0) k.1 in
-      let v = sees_at h a k.0 x.0 held calm x.1 in
+      let v = sees_at h a k.0 x.0 held x.1 in
       let r = rests h a k.0 x.0 v.0 h' (λ b. b ≡ a) v.1 x.2 refl in
-      (subst (ShowsHeld content h') r.row r.held, r.calm)
+      subst (ShowsHeld content h') r.row r.held

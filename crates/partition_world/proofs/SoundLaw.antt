@@ -27,7 +27,7 @@ use Rattle.plain_log.specs.State.{acking, joined, leads_in}
 use Rattle.plain_log.specs.RowsOfLog.{offset_limit}
 use Rattle.plain_log.proofs.Options.{when_some}
 use Rattle.local_log.specs.Run.{lined}
-use Rattle.broker_log.specs.Seen.{Kept, Up, Down as Closed, Away, WhileUp, Stays, is_up as is_open, end_in, line_in}
+use Rattle.broker_log.specs.Seen.{Seen, Kept, Up, Down as Closed, Away, WhileUp, Stays, is_up as is_open, end_in, line_in}
 use Rattle.partition_seen.specs.declared.begun.Begun.{Begun}
 use Rattle.partition_seen.specs.declared.begun.Turned.{Turned}
 use Rattle.partition_seen.specs.declared.begun.Turned.TheVariants.{Answers, Begins}
@@ -118,7 +118,7 @@ module _ {D : Type 0} where
     down = λ down. (refl, refl);
   }
 
-  leader_at : (h : Held D) (y : Node D) → the_leader h ≡ Some y → slice_get h.nodes h.registry.leader.0 ≡ Some y
+  pub leader_at : (h : Held D) (y : Node D) → the_leader h ≡ Some y → slice_get h.nodes h.registry.leader.0 ≡ Some y
   leader_at h y is =
       let one = and_then_some (λ y. when (is_up y && leads_in h.registry.epoch y.role) y) (slice_get h.nodes h.registry.leader.0) y is in
       one.1 ∙ ap (λ (z : Node D). Some z) (when_some (is_up one.0 && leads_in h.registry.epoch one.0.role) one.0 y one.2).1
@@ -142,8 +142,8 @@ module _ {D : Type 0} (content : D → Content) (control : D → Control call_co
   fails_sound : (n : ℕ) (h : Held D) (b : ℕ) (x : Node D) (h' : Held D) → slice_get h.nodes b ≡ Some x → HeldSound n h → Fails content control h b x h' → HeldSound n h'
   fails_sound n h b x h' at s k = stays_sound n h b x k.0 h' at s k.1 k.4
 
-  breaks_sound : (n : ℕ) (h : Held D) (b : ℕ) (x : Node D) (h' : Held D) → HeldSound n h → Breaks content control h b x h' → HeldSound n h'
-  breaks_sound n h b x h' s k = put_is n h b _ h' k.after s (stopped_sound x k.kept)
+  breaks_sound : (n : ℕ) (h : Held D) (b : ℕ) (x : Node D) (makes : Seen → Seen) (h' : Held D) → HeldSound n h → Breaks content control h b x makes h' → HeldSound n h'
+  breaks_sound n h b x makes h' s k = put_is n h b _ h' k.after s (stopped_sound x k.kept)
 
   -- append, raw, flush, roll, fetch
 
@@ -174,8 +174,8 @@ module _ {D : Type 0} (content : D → Content) (control : D → Control call_co
   append_sound n h b x batch Down h' at long s w = same n h h' w.1 s
   append_sound n h b x batch NotLeader h' at long s w = same n h h' w.2 s
   append_sound n h b x batch LastOffset h' at long s w = same n h h' w.3 s
-  append_sound n h b x batch TooManySegments h' at long s w = same n h h' w.3 s
-  append_sound n h b x batch DiskFault h' at long s w = breaks_sound n h b x h' s w.3
+  append_sound n h b x batch TooManySegments h' at long s w = same n h h' w.4 s
+  append_sound n h b x batch DiskFault h' at long s w = breaks_sound n h b x _ h' s w.3
   append_sound n h b x batch (OkSpan base last e) h' at long s w =
       gains_sound n h b x (stamped batch base e) e h' at s w.0 w.1 (placed_epoch x batch base e long w.3 w.2 ((s.nodes b x at).fits e w.1)) w.5
   append_sound n h b x batch other h' at long s w = elim w [ ]
@@ -186,14 +186,14 @@ module _ {D : Type 0} (content : D → Content) (control : D → Control call_co
   raw_sound n h b x bytes NotLeader h' at s w = same n h h' w.2 s
   raw_sound n h b x bytes (Refused cause) h' at s w = same n h h' w.3 s
   raw_sound n h b x bytes LastOffset h' at s w = same n h h' w.1.3 s
-  raw_sound n h b x bytes TooManySegments h' at s w = same n h h' w.1.3 s
-  raw_sound n h b x bytes DiskFault h' at s w = breaks_sound n h b x h' s w.1.3
+  raw_sound n h b x bytes TooManySegments h' at s w = same n h h' w.1.4 s
+  raw_sound n h b x bytes DiskFault h' at s w = breaks_sound n h b x _ h' s w.1.3
   raw_sound n h b x bytes (OkSpan base last e) h' at s w = append_sound n h b x bytes (OkSpan base last e) h' at (checked_long bytes w.0) s w.1
   raw_sound n h b x bytes other h' at s w = elim w [ ]
 
   flush_sound : (n : ℕ) (h : Held D) (b : ℕ) (x : Node D) (answer : Answer) (h' : Held D) → slice_get h.nodes b ≡ Some x → HeldSound n h → FlushRow content control h b x answer h' → HeldSound n h'
   flush_sound n h b x Down h' at s w = same n h h' w.1 s
-  flush_sound n h b x DiskFault h' at s w = breaks_sound n h b x h' s w.1
+  flush_sound n h b x DiskFault h' at s w = breaks_sound n h b x _ h' s w.1
   flush_sound n h b x (OkAt m) h' at s w =
       let kept = w.1.0 in
       let g = w.1.1 in
@@ -204,9 +204,9 @@ module _ {D : Type 0} (content : D → Content) (control : D → Control call_co
 
   roll_sound : (n : ℕ) (h : Held D) (b : ℕ) (x : Node D) (answer : Answer) (h' : Held D) → slice_get h.nodes b ≡ Some x → HeldSound n h → RollRow content control h b x answer h' → HeldSound n h'
   roll_sound n h b x Down h' at s w = same n h h' w.1 s
-  roll_sound n h b x EmptySegment h' at s w = same n h h' w.1 s
-  roll_sound n h b x TooManySegments h' at s w = same n h h' w.1 s
-  roll_sound n h b x DiskFault h' at s w = breaks_sound n h b x h' s w.1
+  roll_sound n h b x EmptySegment h' at s w = same n h h' w.2 s
+  roll_sound n h b x TooManySegments h' at s w = same n h h' w.2 s
+  roll_sound n h b x DiskFault h' at s w = breaks_sound n h b x _ h' s w.1
   roll_sound n h b x (OkAt m) h' at s w = rests_sound n h b x h' at s w.2
   roll_sound n h b x other h' at s w = elim w [ ]
 
@@ -260,7 +260,7 @@ module _ {D : Type 0} (content : D → Content) (control : D → Control call_co
     where
       one : (e f : ℕ) → LeadsIn e ≡ LeadsIn f → e ≡ f
       one e f is = cc (is)
-  learn_sound n h b x DiskFault h' at s w = breaks_sound n h b x h' s w.4
+  learn_sound n h b x DiskFault h' at s w = breaks_sound n h b x _ h' s w.4
   learn_sound n h b x other h' at s w = elim w [ ]
 
   ack_sound : (n : ℕ) (h : Held D) (b : ℕ) (x : Node D) (answer : Answer) (h' : Held D) → slice_get h.nodes b ≡ Some x → HeldSound n h → AckRow content control h b x answer h' → HeldSound n h'
@@ -316,7 +316,7 @@ module _ {D : Type 0} (content : D → Content) (control : D → Control call_co
     where
       differ : (e f : ℕ) → JoinedIn e ≡ LeadsIn f → ⊥
       differ e f is = absurd cc
-  join_sound n h b x (DiskFaultAt m) h' s w = let y = some_of _ (the_leader h) w.2 in breaks_sound n h b x h' s y.2.4.1
+  join_sound n h b x (DiskFaultAt m) h' s w = let y = some_of _ (the_leader h) w.2 in breaks_sound n h b x _ h' s y.2.4.1
   join_sound n h b x other h' s w = elim w [ ]
 
   follow_sound : (n : ℕ) (h : Held D) (b : ℕ) (x : Node D) (limit : ℕ) (turned : Turned) (h' : Held D) → HeldSound n h → FollowRow content control h b x limit turned h' → HeldSound n h'
@@ -336,8 +336,8 @@ module _ {D : Type 0} (content : D → Content) (control : D → Control call_co
   follow_on_sound n h b x g Stopped h' s w = same n h h' w.1 s
   follow_on_sound n h b x g (StaleEpoch e) h' s w = same n h h' w.3 s
   follow_on_sound n h b x g (Passed m) h' s w = same n h h' w.3 s
-  follow_on_sound n h b x g TooManySegments h' s w = same n h h' w.2 s
-  follow_on_sound n h b x g DiskFault h' s w = breaks_sound n h b x h' s w.2
+  follow_on_sound n h b x g TooManySegments h' s w = same n h h' w.3 s
+  follow_on_sound n h b x g DiskFault h' s w = breaks_sound n h b x _ h' s w.2
   follow_on_sound n h b x g (Copied m) h' s w =
       let k = w.2 in
       put_is n h b (record x { log = k.kept }) h' k.after s
@@ -359,7 +359,7 @@ module _ {D : Type 0} (content : D → Content) (control : D → Control call_co
       put_is n h b (record x { log = kept }) h' w.1.3 s (follows_sound (record x { log = kept }) (up_of_end content kept m w.1.1.end_is) (λ e is. idle_leads x.role e idle is))
   up_sound n h b x DiskFault h' at s w = fails_sound n h b x h' at s w.1
   up_sound n h b x (Damaged (File name) from) h' at s w = rests_sound n h b x h' at s w.2
-  up_sound n h b x LastIncarnation h' at s w = rests_sound n h b x h' at s w.1
+  up_sound n h b x LastIncarnation h' at s w = rests_sound n h b x h' at s w.2
   up_sound n h b x other h' at s w = elim w [ ]
 
   -- a row of one turn

@@ -1,5 +1,5 @@
--- A world where nothing has happened yet.
-use Rattle.std.specs.Prelude.{◌≡◌, ℕ, List, [], ◌∷◌, None, Some, true, pos, replicate, length, IsTrue}
+-- A world where nothing has happened yet, over disks whose plans are in force.
+use Rattle.std.specs.Prelude.{◌≡◌, ℕ, Bool, List, [], ◌∷◌, None, Some, true, false, pos, replicate, length, IsTrue}
 use Rattle.tier_base.specs.declared.names.PartitionId.{PartitionId}
 use Rattle.tier_base.specs.declared.plain.FileName.{FileName}
 use Rattle.tier_base.specs.Device.{Control}
@@ -28,7 +28,7 @@ DisksTell content (disk ∷ disks) = IsTrue (content disk).tells × DisksTell co
 
 -- an empty log with this line, as it is seen
 abbrev pub empty_seen : List (ℕ × ℕ) → Seen
-empty_seen line = record { batches = []; line = line; stable = 0; saved = line }
+empty_seen line = record { batches = []; line = line; stable = 0; saved = line; loose = None }
 
 -- the brokers' logs are seen, and empty
 abbrev pub AllSeen : {D : Type 0} → (D → Content) → List (Node D) → Type 0
@@ -45,40 +45,59 @@ module _ {D : Type 0} (content : D → Content) (control : D → Control call_co
   AreFreshDisks [] = Unit {0}
   AreFreshDisks (disk ∷ disks) = IsFreshDisk disk × AreFreshDisks disks
 
-module _ {D : Type 0} (control : D → Control call_code) where
-  -- a node that is up, with an empty log and this line
-  pub record IsFreshNode (role : Role) (line : List (ℕ × ℕ)) (x : Node D) : Type 0 where
+-- the given disk's plan is in force, and no call has failed; a disk whose plan rules it and is empty fails no call
+pub record IsArmed (given now : Control call_code) : Type 0 where
+  pub plan : now.plan ≡ given.plan
+  pub armed : IsTrue now.armed
+  pub ruled : now.ruled ≡ given.ruled
+  pub faults : now.faults ≡ given.faults
+  pub calm : IsTrue given.ruled → given.plan ≡ [] → IsTrue now.calm
+
+-- the leader's role and line, and a follower's
+abbrev pub fresh_role : Bool → Role
+fresh_role true = Leads 0
+fresh_role false = Joined 0
+
+abbrev pub fresh_line : Bool → List (ℕ × ℕ)
+fresh_line true = (0, 0) ∷ []
+fresh_line false = []
+
+module _ {D : Type 0} where
+  -- a node that is up, with an empty log, and leads epoch 0 or has joined it
+  pub record IsFreshNode (leads : Bool) (x : Node D) : Type 0 where
     pub stops : x.stops ≡ 0
-    pub role_is : x.role ≡ role
+    pub role_is : x.role ≡ fresh_role leads
     pub known : x.known ≡ 0
     pub up : is_up x ≡ true
     pub end : end_in x.log ≡ Some 0
     pub stable : stable_in x.log ≡ Some 0
-    pub line_is : line_in x.log ≡ Some line
-    pub calm : OnDisk x.log (λ d. IsCalm (control d))
+    pub line_is : line_in x.log ≡ Some (fresh_line leads)
 
-  -- followers of epoch 0 that have joined
-  abbrev pub AreFreshFollowers : List (Node D) → Type 0
-  AreFreshFollowers [] = Unit {0}
-  AreFreshFollowers (x ∷ xs) = IsFreshNode (Joined 0) [] x × AreFreshFollowers xs
+module _ {D : Type 0} (control : D → Control call_code) where
+  -- one over this disk
+  pub record IsFreshOver (leads : Bool) (disk : D) (x : Node D) : Type 0 where
+    pub node : IsFreshNode leads x
+    pub armed : OnDisk x.log (λ d. IsArmed (control disk) (control d))
 
-  -- broker 0 leads epoch 0, and the others have joined it
-  abbrev pub AreFreshNodes : List (Node D) → Type 0
-  AreFreshNodes [] = ⊥
-  AreFreshNodes (x ∷ xs) = IsFreshNode (Leads 0) ((0, 0) ∷ []) x × AreFreshFollowers xs
+  -- nodes over these disks, of which the first one leads or not, and no other does
+  abbrev pub AreFreshFrom : Bool → List D → List (Node D) → Type 0
+  AreFreshFrom leads [] [] = Unit {0}
+  AreFreshFrom leads (disk ∷ disks) (x ∷ xs) = IsFreshOver leads disk x × AreFreshFrom false disks xs
+  AreFreshFrom leads [] (x ∷ xs) = ⊥
+  AreFreshFrom leads (disk ∷ disks) [] = ⊥
 
-  -- so many brokers, all of them in sync
-  pub record IsFreshHeld (brokers : ℕ) (h : Held D) : Type 0 where
-    pub registry : h.registry ≡ fresh_registry brokers
-    pub count : length h.nodes ≡ brokers
-    pub nodes : AreFreshNodes h.nodes
+  -- brokers over these disks: broker 0 leads epoch 0, the others have joined it, and all are in sync
+  pub record IsFreshHeld (disks : List D) (h : Held D) : Type 0 where
+    pub registry : h.registry ≡ fresh_registry (length disks)
+    pub nodes : AreFreshFrom true disks h.nodes
     pub clock : h.clock ≡ pos 0
 
   -- nothing has happened
-  pub record IsFresh (partition : PartitionId) (config : Config) (lists : List ActorList) (w : Whole D) : Type 0 where
+  pub record IsFresh (partition : PartitionId) (config : Config) (lists : List ActorList) (disks : List D) (w : Whole D) : Type 0 where
     pub partition_is : w.partition ≡ partition
     pub config_is : w.config ≡ config
     pub lists_are : w.lists ≡ lists
-    pub held : IsFreshHeld config.brokers w.held
+    pub count : length disks ≡ config.brokers
+    pub held : IsFreshHeld disks w.held
     pub desk : w.desk ≡ replicate (length lists) fresh_seat
     pub journal : w.journal.items ≡ []

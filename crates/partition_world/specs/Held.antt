@@ -1,18 +1,20 @@
 -- What the turns of commands work on where each broker's log stands on a disk, and how it is seen.
 --
 -- The rows over disks say what a turn does to the logs by the words of a broker's log; where the disks tell, it is a row of
--- the partition as it is seen. The disks' plans and calm last over every turn.
-use Rattle.std.specs.Prelude.{◌≡◌, ℕ, ◌+◌, ◌-◌, ◌^◌, ◌<◌, ◌&&◌, ◌⊎◌, Bool, false, List, [], ◌∷◌, Option, unwrap_or, slice_get, slice_set, IsSomeAnd, IsTrue}
+-- the partition as it is seen. The disks' plans last over every turn, and so does their calm.
+use Rattle.std.specs.Prelude.{◌≡◌, ℕ, ◌+◌, ◌-◌, ◌^◌, ◌<◌, ◌≤◌, ◌&&◌, ◌⊎◌, Bool, List, [], ◌∷◌, length, Option, unwrap_or, slice_get, slice_set, IsSomeAnd, IsTrue}
 use Rattle.std.specs.Option.{option_and_then}
 use Rattle.tier_base.specs.Device.{Control}
 use Rattle.disk_model.specs.Call.{call_code}
 use Rattle.disk_model.specs.Content.{Content}
 use Rattle.log_terms.specs.Log.{EndsAt}
+use Rattle.local_log.specs.Run.{is_due}
 use Rattle.registry.specs.Calls.{when}
 use Rattle.plain_log.specs.declared.state.Role.TheVariants.{Idle}
 use Rattle.plain_log.specs.State.{leads_in}
-use Rattle.broker_log.specs.Seen.{Kept, Shows, Stays, Lasting, Faulted, OnDisk, is_up as is_open, end_in, stable_in, line_in}
+use Rattle.broker_log.specs.Seen.{Kept, Shows, Stays, WhileUp, Lasting, Faulted, is_up as is_open, end_in, stable_in, line_in}
 use Rattle.broker_log.specs.Seen as log
+use Rattle.broker_log.specs.Turns as turns
 use Rattle.partition_seen.specs.Seen as seen
 use Rattle.partition_world.specs.declared.held.Node.{Node}
 use Rattle.partition_world.specs.declared.held.Held.{Held}
@@ -48,6 +50,10 @@ module _ {D : Type 0} where
   abbrev pub the_leader : Held D → Option (Node D)
   the_leader h = option_and_then (λ y. when (is_up y && leads_in h.registry.epoch y.role) y) (slice_get h.nodes h.registry.leader.0)
 
+  -- the log has as many segments as it may, and the run begins another
+  abbrev pub IsFull : Node D → List ℕ → Type 0
+  IsFull x run = WhileUp x.log (λ log. IsTrue (is_due log run) × (4095 ≤ length log.closed))
+
   -- a node that has stopped, but for its log
   abbrev pub stopped : Node D → Node D
   stopped x = record x { stops = x.stops + 1; role = Idle; known = 0 }
@@ -62,6 +68,7 @@ module _ {D : Type 0} where
     stable = s.stable;
     known = x.known;
     saved = s.saved;
+    loose = s.loose;
   }
 
 module _ {D : Type 0} (content : D → Content) where
@@ -103,10 +110,10 @@ module _ {D : Type 0} (content : D → Content) (control : D → Control call_co
   abbrev pub StaysHeld : Held D → Held D → Type 0
   StaysHeld h h' = (h' ≡ h) ⊎ ((b : ℕ) × AtNode h b (λ x. Rests h b x h'))
 
-  -- a broker's disk failed in a write, and the broker has stopped
-  pub record Breaks (h : Held D) (b : ℕ) (x : Node D) (h' : Held D) : Type 0 where
+  -- a broker's disk failed in a write, which makes this of its log, and the broker has stopped
+  pub record Breaks (h : Held D) (b : ℕ) (x : Node D) (makes : log.Seen → log.Seen) (h' : Held D) : Type 0 where
     pub kept : Kept D
-    pub down : is_open kept ≡ false
+    pub breaks : turns.Breaks content x.log kept makes
     pub cause : Faulted control x.log kept
     pub lasts : Lasting control x.log kept
     pub after : h' ≡ put_node h b (record (stopped x) { log = kept })
@@ -115,8 +122,3 @@ module _ {D : Type 0} (content : D → Content) (control : D → Control call_co
 pub record IsCalm (c : Control call_code) : Type 0 where
   pub calm : IsTrue c.calm
   pub few : c.faults < 2 ^ 64 - 1
-
--- no call of these brokers' disks can fail yet
-abbrev pub AreCalm : {D : Type 0} → (D → Control call_code) → List (Node D) → Type 0
-AreCalm control [] = Unit {0}
-AreCalm control (x ∷ xs) = OnDisk x.log (λ d. IsCalm (control d)) × AreCalm control xs

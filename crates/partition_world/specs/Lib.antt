@@ -8,6 +8,7 @@ pub mod Sound
 pub mod Whole
 pub mod Turn
 pub mod Central
+pub mod Calm
 pub mod Fresh
 pub mod Later
 pub mod Reaches

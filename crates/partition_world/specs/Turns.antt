@@ -1,20 +1,20 @@
 -- What a turn of each command comes to over disks: its answer's cause, or what its seat keeps, and what it does to the
 -- partition.
 --
--- A row says for each answer the tests before it, in their order, its own, and the partition afterwards. When a segment is
--- empty, when no further one fits and when a manifest can't be opened is said by the broker's log alone. Follow
+-- A row says for each answer the tests before it, in their order, its own, and the partition afterwards. Follow
 -- is the one command of two turns. A fault of a broker's disk in a write stops the broker.
-use Rattle.std.specs.Prelude.{◌≡◌, ◌+◌, ℕ, ℤ, true, false, Option, None, Some}
+use Rattle.std.specs.Prelude.{◌≡◌, ◌+◌, ℕ, ℤ, true, false, Option, None, Some, IsTrue}
 use Rattle.tier_base.specs.Device.{Control}
 use Rattle.disk_model.specs.Call.{call_code}
 use Rattle.disk_model.specs.Content.{Content}
 use Rattle.record_batch.specs.Build.{built}
+use Rattle.local_log.specs.Opening.{HoldsLast}
 use Rattle.plain_log.specs.declared.answer.Answer.{Answer}
 use Rattle.plain_log.specs.declared.answer.Answer.TheVariants.{Ok, Down, IsUp, DiskFault, Damaged, LastIncarnation, Up}
 use Rattle.plain_log.specs.declared.answer.Place.TheVariants.{File}
 use Rattle.plain_log.specs.declared.command.Command.{Command}
 use Rattle.plain_log.specs.declared.command.Command.TheVariants.{Append, Raw, Flush, Roll, Elect, Unclean, Learn, Join, Follow, Ack, Shrink, Expand, Raise, Clock, Stop as StopCommand, Up as UpCommand, Fetch}
-use Rattle.broker_log.specs.Seen.{Kept, Lasting}
+use Rattle.broker_log.specs.Seen.{Kept, OnDisk, Lasting}
 use Rattle.broker_log.specs.Turns.{Stops, ComesUp}
 use Rattle.partition_seen.specs.declared.begun.Begun.{Begun}
 use Rattle.partition_seen.specs.declared.begun.Turned.{Turned}
@@ -41,14 +41,15 @@ module _ {D : Type 0} (content : D → Content) (control : D → Control call_co
       × (h' ≡ put_node h b (record (stopped x) { log = kept })))
   StopRow h b x other h' = ⊥
 
-  -- up: what wasn't stable is gone
+  -- up: what wasn't stable is gone; after a write that failed, what it was to make stable may be there
   abbrev pub UpRow : Held D → ℕ → Node D → Answer → Held D → Type 0
   UpRow h b x IsUp h' = (is_up x ≡ true) × (h' ≡ h)
   UpRow h b x (Up n) h' = (is_up x ≡ false) × ((kept : Kept D) × ComesUp content x.log kept n × Lasting control x.log kept
       × (h' ≡ put_node h b (record x { log = kept })))
   UpRow h b x DiskFault h' = (is_up x ≡ false) × Fails content control h b x h'
   UpRow h b x (Damaged (File name) at) h' = (is_up x ≡ false) × Unseen content x.log × Rests content control h b x h'
-  UpRow h b x LastIncarnation h' = (is_up x ≡ false) × Rests content control h b x h'
+  UpRow h b x LastIncarnation h' =
+      (is_up x ≡ false) × OnDisk x.log (λ d. IsTrue (content d).tells → HoldsLast (content d).files) × Rests content control h b x h'
   UpRow h b x other h' = ⊥
 
   -- a command of one turn

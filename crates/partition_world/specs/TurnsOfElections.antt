@@ -7,6 +7,7 @@ use Rattle.std.specs.Option.{ForSome}
 use Rattle.tier_base.specs.Device.{Control}
 use Rattle.disk_model.specs.Call.{call_code}
 use Rattle.disk_model.specs.Content.{Content}
+use Rattle.log_terms.specs.Log.{end_of as end_of_log}
 use Rattle.epoch_line.specs.Line.{last_epoch, assign}
 use Rattle.registry.specs.declared.registry.Registry.{Registry}
 use Rattle.registry.specs.declared.refusal.RegRefusal.TheVariants as Reg
@@ -17,7 +18,7 @@ use Rattle.plain_log.specs.declared.answer.Answer.TheVariants.{Ok, OkAt, Down, N
 use Rattle.plain_log.specs.declared.state.Role.TheVariants.{Leads as LeadsIn, Follows as FollowsIn}
 use Rattle.plain_log.specs.State.{leads, acking, epoch_in}
 use Rattle.broker_log.specs.Seen.{Kept, WhileUp, Lasting}
-use Rattle.broker_log.specs.Turns.{Settles, IsEndUpTo}
+use Rattle.broker_log.specs.Turns.{Settles, IsEndUpTo, loosened}
 use Rattle.partition_world.specs.declared.held.Node.{Node}
 use Rattle.partition_world.specs.declared.held.Held.{Held}
 use Rattle.partition_world.specs.Held.{is_up, stable_of, line_of, put_node, Breaks}
@@ -100,7 +101,8 @@ module _ {D : Type 0} (content : D → Content) (control : D → Control call_co
   -- an epoch that the node's line doesn't have
   abbrev pub LeadRow : Held D → ℕ → Node D → ℕ → Answer → Held D → Type 0
   LeadRow h b x epoch (Leads n) h' = (n ≡ epoch) × Leading h b x epoch h'
-  LeadRow h b x epoch DiskFault h' = Breaks content control h b x h'
+  LeadRow h b x epoch DiskFault h' = Breaks content control h b x
+      (λ s. loosened s (end_of_log s.batches) (assign s.line epoch (end_of_log s.batches))) h'
   LeadRow h b x epoch other h' = ⊥
 
   -- learn

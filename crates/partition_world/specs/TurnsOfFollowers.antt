@@ -8,7 +8,8 @@ use Rattle.tier_base.specs.Device.{Control}
 use Rattle.disk_model.specs.Call.{call_code}
 use Rattle.disk_model.specs.Content.{Content}
 use Rattle.log_terms.specs.Batch.{last_of}
-use Rattle.log_terms.specs.Log.{joined as joined_bytes}
+use Rattle.log_terms.specs.Log.{up_to, joined as joined_bytes, end_of as end_of_log}
+use Rattle.epoch_line.specs.Line.{cut_end}
 use Rattle.epoch_line.specs.Meet.{IsMeetBelow}
 use Rattle.local_log.specs.Run.{IsRun}
 use Rattle.local_log.specs.declared.reading.RunOut.{RunOut}
@@ -17,15 +18,16 @@ use Rattle.plain_log.specs.declared.answer.Answer.TheVariants.{Down, NotFollower
 use Rattle.plain_log.specs.declared.answer.Place.TheVariants.{File}
 use Rattle.plain_log.specs.declared.state.Role.TheVariants.{Joined}
 use Rattle.plain_log.specs.State.{followed, joined}
-use Rattle.broker_log.specs.Seen.{Kept, WhileUp, Stays, Lasting, Faulted}
-use Rattle.broker_log.specs.Turns.{Appends, Cuts, Reads, IsEndUpTo}
+use Rattle.broker_log.specs.Seen.{Kept, WhileUp, Lasting}
+use Rattle.broker_log.specs.Turns.{Appends, Cuts, Reads, IsEndUpTo, torn}
 use Rattle.partition_seen.specs.declared.begun.Begun.{Begun}
 use Rattle.partition_seen.specs.declared.begun.Turned.{Turned}
 use Rattle.partition_seen.specs.declared.begun.Turned.TheVariants.{Answers, Begins}
 use Rattle.partition_world.specs.declared.held.Node.{Node}
 use Rattle.partition_world.specs.declared.held.Held.{Held}
 use Rattle.partition_seen.specs.Taken.{parts}
-use Rattle.partition_world.specs.Held.{is_up, end_of, line_of, put_node, the_leader, Misses, Rests, Fails, Breaks}
+use Rattle.partition_world.specs.Held.{is_up, end_of, line_of, put_node, the_leader, IsFull, Misses, Rests, Fails, Breaks}
+use Rattle.partition_world.specs.TurnsOfLog.{BreaksUnsaved}
 
 module _ {D : Type 0} where
   -- the registry's epoch is above this one
@@ -74,7 +76,8 @@ module _ {D : Type 0} (content : D → Content) (control : D → Control call_co
   -- a cut to where the logs meet
   abbrev pub CutRow : Held D → ℕ → Node D → ℕ → ℕ → Answer → Held D → Type 0
   CutRow h b x epoch met (Cut n) h' = CutsNode h b x epoch met n h'
-  CutRow h b x epoch met (DiskFaultAt n) h' = IsEndUpTo content x.log met n × Breaks content control h b x h'
+  CutRow h b x epoch met (DiskFaultAt n) h' = IsEndUpTo content x.log met n
+      × Breaks content control h b x (λ s. torn s (end_of_log (up_to met s.batches)) (cut_end s.line (end_of_log (up_to met s.batches)))) h'
   CutRow h b x epoch met other h' = ⊥
 
   -- join: the log is cut to where it meets the leader's, durably
@@ -149,8 +152,8 @@ module _ {D : Type 0} (content : D → Content) (control : D → Control call_co
 
   -- a run that can be put there
   abbrev pub ExtendRow : Held D → ℕ → Node D → List ℕ → Answer → Held D → Type 0
-  ExtendRow h b x run TooManySegments h' = (last_of run < 2 ^ 62) × (h' ≡ h)
-  ExtendRow h b x run DiskFault h' = (last_of run < 2 ^ 62) × Breaks content control h b x h'
+  ExtendRow h b x run TooManySegments h' = (last_of run < 2 ^ 62) × IsFull x run × (h' ≡ h)
+  ExtendRow h b x run DiskFault h' = (last_of run < 2 ^ 62) × BreaksUnsaved content control h b x h'
   ExtendRow h b x run (Passed n) h' = (2 ^ 62 ≤ last_of run) × (n ≡ end_of x) × (h' ≡ h)
   ExtendRow h b x run (Copied n) h' = (last_of run < 2 ^ 62) × Extends h b x run n h'
   ExtendRow h b x run other h' = ⊥
@@ -160,7 +163,7 @@ module _ {D : Type 0} (content : D → Content) (control : D → Control call_co
   FollowOnRow h b x g Stopped h' = ((g.stops ≢ x.stops) ⊎ (is_up x ≡ false)) × (h' ≡ h)
   FollowOnRow h b x g (StaleEpoch n) h' = (g.stops ≡ x.stops) × IsStale h (followed g.role) × (n ≡ h.registry.epoch) × (h' ≡ h)
   FollowOnRow h b x g (Passed n) h' = GoesOn h x g × (n ≡ end_of x) × (CanExtend x g → ⊥) × (h' ≡ h)
-  FollowOnRow h b x g TooManySegments h' = GoesOn h x g × CanExtend x g × (h' ≡ h)
-  FollowOnRow h b x g DiskFault h' = GoesOn h x g × CanExtend x g × Breaks content control h b x h'
+  FollowOnRow h b x g TooManySegments h' = GoesOn h x g × CanExtend x g × IsFull x (joined_bytes g.batches) × (h' ≡ h)
+  FollowOnRow h b x g DiskFault h' = GoesOn h x g × CanExtend x g × BreaksUnsaved content control h b x h'
   FollowOnRow h b x g (Copied n) h' = GoesOn h x g × CanExtend x g × Extends h b x (joined_bytes g.batches) n h'
   FollowOnRow h b x g other h' = ⊥

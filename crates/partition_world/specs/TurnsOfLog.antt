@@ -1,13 +1,13 @@
 -- What a turn of a command on a broker's own log comes to over disks: append, raw, flush, roll, fetch.
 --
--- A row says for each answer which tests come before it, in their order, its own, and the partition afterwards. When a
--- segment is empty and when no further one fits is said by the clauses of the broker's log alone.
+-- A row says for each answer which tests come before it, in their order, its own, and the partition afterwards.
 use Rattle.std.specs.Prelude.{◌≡◌, ◌+◌, ◌^◌, ℕ, ◌<◌, ◌≤◌, ◌⊎◌, true, false, List, length, Some, Err, IsOk}
 use Rattle.tier_base.specs.Device.{Control}
 use Rattle.tier_base.specs.declared.plain.FileName.{FileName}
 use Rattle.disk_model.specs.Call.{call_code}
 use Rattle.disk_model.specs.Content.{Content}
 use Rattle.log_terms.specs.Batch.{base_of, last_of, epoch_of, last_offset_delta_of}
+use Rattle.log_terms.specs.Log.{end_of as end_of_log}
 use Rattle.epoch_line.specs.Line.{last_epoch}
 use Rattle.record_batch.specs.Check.{checked}
 use Rattle.record_batch.specs.Stamp.{stamped}
@@ -18,11 +18,12 @@ use Rattle.plain_log.specs.declared.answer.Tier.TheVariants.{Local}
 use Rattle.plain_log.specs.declared.state.Role.TheVariants.{Leads}
 use Rattle.plain_log.specs.State.{leads}
 use Rattle.plain_log.specs.RowsOfLog.{offset_limit}
-use Rattle.broker_log.specs.Seen.{Kept, Stays, Lasting, Faulted}
-use Rattle.broker_log.specs.Turns.{Appends, Settles}
+use Rattle.local_log.specs.Stored.{size_of}
+use Rattle.broker_log.specs.Seen.{Kept, WhileUp, Lasting}
+use Rattle.broker_log.specs.Turns.{Appends, Settles, loosened}
 use Rattle.partition_world.specs.declared.held.Node.{Node}
 use Rattle.partition_world.specs.declared.held.Held.{Held}
-use Rattle.partition_world.specs.Held.{is_up, end_of, line_of, put_node, Rests, Breaks}
+use Rattle.partition_world.specs.Held.{is_up, end_of, line_of, put_node, IsFull, Rests, Breaks}
 
 module _ {D : Type 0} where
   -- where the log would end with the batch
@@ -41,11 +42,23 @@ module _ {D : Type 0} where
     pub few : epoch < 2 ^ 31
     pub leads : last_epoch (line_of x) ≡ Some epoch
 
+  -- the batch, placed at the end of the leader's log, finds no segment
+  abbrev pub FindsNone : Node D → List ℕ → Type 0
+  FindsNone x batch = (e : ℕ) × (x.role ≡ Leads e) × IsFull x (stamped batch (end_of x) e)
+
+  -- the open segment has bytes, and the log as many segments as it may
+  abbrev pub IsLast : Node D → Type 0
+  IsLast x = WhileUp x.log (λ log. (0 < size_of log.active) × (4095 ≤ length log.closed))
+
   -- the offset lies between the log start offset and the log end offset
   abbrev pub IsInLog : Held D → Node D → ℕ → Type 0
   IsInLog h x offset = (h.registry.start ≤ offset) × (offset ≤ end_of x)
 
 module _ {D : Type 0} (content : D → Content) (control : D → Control call_code) where
+  -- a write of what isn't stable yet fails
+  abbrev pub BreaksUnsaved : Held D → ℕ → Node D → Held D → Type 0
+  BreaksUnsaved h b x h' = Breaks content control h b x (λ s. loosened s s.stable s.saved) h'
+
   -- the batch stands at the end of the broker's log
   abbrev pub Gains : Held D → ℕ → Node D → List ℕ → Held D → Type 0
   Gains h b x batch h' = (kept : Kept D) × (span : ℕ × ℕ) × IsOk (checked batch) × Appends content x.log kept batch span
@@ -53,8 +66,8 @@ module _ {D : Type 0} (content : D → Content) (control : D → Control call_co
 
   -- a batch that may be put
   abbrev pub PutRow : Held D → ℕ → Node D → List ℕ → ℕ → ℕ → ℕ → Answer → Held D → Type 0
-  PutRow h b x batch base last epoch TooManySegments h' = h' ≡ h
-  PutRow h b x batch base last epoch DiskFault h' = Breaks content control h b x h'
+  PutRow h b x batch base last epoch TooManySegments h' = IsFull x batch × (h' ≡ h)
+  PutRow h b x batch base last epoch DiskFault h' = BreaksUnsaved h b x h'
   PutRow h b x batch base last epoch (OkSpan from to e) h' = (from ≡ base) × (to ≡ last) × (e ≡ epoch) × Gains h b x batch h'
   PutRow h b x batch base last epoch other h' = ⊥
 
@@ -63,9 +76,10 @@ module _ {D : Type 0} (content : D → Content) (control : D → Control call_co
   AppendRow h b x batch Down h' = (is_up x ≡ false) × (h' ≡ h)
   AppendRow h b x batch NotLeader h' = (is_up x ≡ true) × (leads x.role ≡ false) × (h' ≡ h)
   AppendRow h b x batch LastOffset h' = (is_up x ≡ true) × (leads x.role ≡ true) × (offset_limit < end_with x batch) × (h' ≡ h)
-  AppendRow h b x batch TooManySegments h' = (is_up x ≡ true) × (leads x.role ≡ true) × (end_with x batch ≤ offset_limit) × (h' ≡ h)
+  AppendRow h b x batch TooManySegments h' =
+      (is_up x ≡ true) × (leads x.role ≡ true) × (end_with x batch ≤ offset_limit) × FindsNone x batch × (h' ≡ h)
   AppendRow h b x batch DiskFault h' =
-      (is_up x ≡ true) × (leads x.role ≡ true) × (end_with x batch ≤ offset_limit) × Breaks content control h b x h'
+      (is_up x ≡ true) × (leads x.role ≡ true) × (end_with x batch ≤ offset_limit) × BreaksUnsaved h b x h'
   AppendRow h b x batch (OkSpan base last e) h' =
       (is_up x ≡ true) × (x.role ≡ Leads e) × (end_with x batch ≤ offset_limit) × (base ≡ end_of x)
       × (last ≡ base + last_offset_delta_of batch) × Gains h b x (stamped batch base e) h'
@@ -85,7 +99,7 @@ module _ {D : Type 0} (content : D → Content) (control : D → Control call_co
   -- flush: all of the log is stable
   abbrev pub FlushRow : Held D → ℕ → Node D → Answer → Held D → Type 0
   FlushRow h b x Down h' = (is_up x ≡ false) × (h' ≡ h)
-  FlushRow h b x DiskFault h' = (is_up x ≡ true) × Breaks content control h b x h'
+  FlushRow h b x DiskFault h' = (is_up x ≡ true) × Breaks content control h b x (λ s. loosened s (end_of_log s.batches) s.line) h'
   FlushRow h b x (OkAt n) h' = (is_up x ≡ true) × ((kept : Kept D) × Settles content x.log kept (λ line end. line) n
       × Lasting control x.log kept × (h' ≡ put_node h b (record x { log = kept })))
   FlushRow h b x other h' = ⊥
@@ -93,8 +107,8 @@ module _ {D : Type 0} (content : D → Content) (control : D → Control call_co
   -- roll: the open segment is closed, and the next begins at the log's end
   abbrev pub RollRow : Held D → ℕ → Node D → Answer → Held D → Type 0
   RollRow h b x Down h' = (is_up x ≡ false) × (h' ≡ h)
-  RollRow h b x EmptySegment h' = (is_up x ≡ true) × (h' ≡ h)
-  RollRow h b x TooManySegments h' = (is_up x ≡ true) × (h' ≡ h)
-  RollRow h b x DiskFault h' = (is_up x ≡ true) × Breaks content control h b x h'
+  RollRow h b x EmptySegment h' = (is_up x ≡ true) × WhileUp x.log (λ log. size_of log.active ≡ 0) × (h' ≡ h)
+  RollRow h b x TooManySegments h' = (is_up x ≡ true) × IsLast x × (h' ≡ h)
+  RollRow h b x DiskFault h' = (is_up x ≡ true) × BreaksUnsaved h b x h'
   RollRow h b x (OkAt n) h' = (is_up x ≡ true) × (n ≡ end_of x) × Rests content control h b x h'
   RollRow h b x other h' = ⊥

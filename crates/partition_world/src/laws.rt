@@ -1,6 +1,6 @@
 //! Laws of worlds. Each is the contract of a function that does nothing: calling it cites the law.
 
-ghost use Rattle.partition_world.specs.Laws.{StepsKeepCentral, FreshIsCentral, ReachesLater, EndsAreComplete};
+ghost use Rattle.partition_world.specs.Laws.{StepsKeepCentral, FreshIsCentral, ReachesLater, EndsAreComplete, ReachesUnfailing, FreshIsUnfailing};
 
 use disk_model::Disk;
 
@@ -21,5 +21,15 @@ pub fn reaches_later<D: Disk>()
 
 /// Where each actor is at its end, the journal is a complete run of the plain log.
 pub fn ends_are_complete<D: Disk>()
-    ensures { EndsAreComplete D.content D.control }
+    ensures { EndsAreComplete D.content }
+{}
+
+/// Over disks of which no call can fail, no turn that a schedule leads through is answered a fault.
+pub fn reaches_unfailing<D: Disk>()
+    ensures { ReachesUnfailing D.content D.control }
+{}
+
+/// A fresh world stands on such disks where no call is planned to fail.
+pub fn fresh_is_unfailing<D: Disk>()
+    ensures { FreshIsUnfailing D.control }
 {}

@@ -26,7 +26,10 @@ mod stops;
 mod world;
 
 pub use held::{Held, Node};
-pub use laws::{ends_are_complete, fresh_is_central, reaches_later, steps_keep_central};
+pub use laws::{
+    ends_are_complete, fresh_is_central, fresh_is_unfailing, reaches_later, reaches_unfailing,
+    steps_keep_central,
+};
 pub use refusal::WorldRefusal;
 pub use runs::{run_in_order, run_to_end};
 pub use world::World;

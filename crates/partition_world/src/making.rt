@@ -1,11 +1,11 @@
-//! A partition's brokers over fresh disks.
+//! A partition's brokers over fresh disks. A disk's planned calls fail from the moment on at which its broker's log is made.
 
-ghost use Rattle.std.specs.Prelude.{◌≡◌, ◌∷◌, [], ◌≤◌, length, IfOk, OnOk, IsTrue};
+ghost use Rattle.std.specs.Prelude.{◌≤◌, true, false, length, IfOk, OnOk, IsTrue};
+ghost use Rattle.tier_base.specs.Device.{Lasts};
 ghost use Rattle.local_log.specs.Log.{AreSettings};
-ghost use Rattle.broker_log.specs.Seen.{Shows};
-ghost use Rattle.plain_log.specs.declared.state.Role.TheVariants.{Leads, Joined};
+ghost use Rattle.broker_log.specs.Seen.{Shows, OnDisk, Lasting};
 ghost use Rattle.partition_world.specs.Held.{line_of};
-ghost use Rattle.partition_world.specs.Fresh.{IsFreshDisk, AreFreshDisks, DisksTell, IsFreshNode, AreFreshFollowers, IsFreshHeld, AllSeen, empty_seen};
+ghost use Rattle.partition_world.specs.Fresh.{IsFreshDisk, AreFreshDisks, DisksTell, IsFreshNode, IsFreshOver, AreFreshFrom, IsFreshHeld, AllSeen, empty_seen};
 
 use crate::held::{Held, Node};
 use crate::refusal::WorldRefusal;
@@ -20,7 +20,8 @@ use tier_base::{Row, Settings};
 fn follower<D: Disk>(alloc: Global, disk: D, settings: Settings) -> Result<Node<D>, WorldRefusal>
     requires settings { AreSettings settings }
     requires disk { IsFreshDisk D.content D.control disk }
-    ensures node { IfOk result (IsFreshNode D.control (Joined 0) []) }
+    ensures node { IfOk result (IsFreshNode false) }
+    ensures control { IfOk result (λ node. OnDisk node.log (λ d. Lasts (D.control disk) (D.control d))) }
     ensures seen { IfOk result (λ node. IsTrue (D.content disk).tells → Shows D.content node.log (empty_seen (line_of node))) }
 {
     match BrokerLog::create(alloc, disk, settings) {
@@ -35,21 +36,41 @@ fn follower<D: Disk>(alloc: Global, disk: D, settings: Settings) -> Result<Node<
     }
 }
 
-/// Brokers over these disks, in their order.
-fn followers<D: Disk>(
+/// A broker over a fresh disk, whose plan is in force once its log is made.
+fn broker<D: Disk>(
+    alloc: Global,
+    disk: D,
+    settings: Settings,
+    leads: bool,
+) -> Result<Node<D>, WorldRefusal>
+    requires settings { AreSettings settings }
+    requires disk { IsFreshDisk D.content D.control disk }
+    ensures node { IfOk result (IsFreshOver D.control leads disk) }
+    ensures seen { IfOk result (λ node. IsTrue (D.content disk).tells → Shows D.content node.log (empty_seen (line_of node))) }
+{
+    let mut node = follower(alloc, disk, settings)?;
+    if leads {
+        node.begin()?;
+    }
+    node.log.arm();
+    Ok(node)
+}
+
+/// Brokers over these disks, in their order. The first leads.
+fn brokers<D: Disk>(
     alloc: Global,
     disks: Vec<D>,
     settings: Settings,
 ) -> Result<Row<Node<D>>, WorldRefusal>
     requires settings { AreSettings settings }
     requires disks { AreFreshDisks D.content D.control disks.items }
-    ensures count { IfOk result (λ nodes. length nodes ≡ length disks.items) }
-    ensures nodes { IfOk result (AreFreshFollowers D.control) }
+    ensures nodes { IfOk result (AreFreshFrom D.control true disks.items) }
     ensures seen { IfOk result (λ nodes. DisksTell D.content disks.items → AllSeen D.content nodes) }
 {
     let mut nodes = Row::new(alloc);
     for disk in disks {
-        nodes.push(follower(alloc, disk, settings)?)?;
+        let leads = nodes.is_empty();
+        nodes.push(broker(alloc, disk, settings, leads)?)?;
     }
     Ok(nodes)
 }
@@ -57,8 +78,9 @@ fn followers<D: Disk>(
 impl<D: Disk> Node<D> {
     /// Lets it lead epoch 0.
     fn begin(&mut self) -> Result<(), WorldRefusal>
-        requires { IsFreshNode D.control (Joined 0) [] self.old }
-        ensures node { OnOk result (IsFreshNode D.control (Leads 0) ((0, 0) ∷ []) self.new) }
+        requires { IsFreshNode false self.old }
+        ensures node { OnOk result (IsFreshNode true self.new) }
+        ensures control { Lasting D.control self.old.log self.new.log }
         ensures seen { OnOk result (Shows D.content self.old.log (empty_seen (line_of self.old))
             → Shows D.content self.new.log (empty_seen (line_of self.new))) }
     {
@@ -85,13 +107,12 @@ impl<D: Disk> Held<D> {
         requires few { length disks.items ≤ 8 }
         requires settings { AreSettings settings }
         requires disks { AreFreshDisks D.content D.control disks.items }
-        ensures held { IfOk result (IsFreshHeld D.control (length disks.items)) }
+        ensures held { IfOk result (IsFreshHeld D.control disks.items) }
         ensures seen { IfOk result (λ held. DisksTell D.content disks.items → AllSeen D.content held.nodes) }
     {
-        let brokers = disks.len() as u16;
-        let registry = Registry::fresh(alloc, brokers)?;
-        let mut nodes = followers(alloc, disks, settings)?;
-        nodes.at_mut(0).begin()?;
+        let count = disks.len() as u16;
+        let registry = Registry::fresh(alloc, count)?;
+        let nodes = brokers(alloc, disks, settings)?;
         Ok(Held {
             registry,
             nodes,

@@ -19,7 +19,7 @@ fn run_until<D: Disk>(
     actor: ActorId,
     number: u32,
 ) -> Result<(), AllocError>
-    ensures later { IsLater D.content D.control world.old world.new }
+    ensures later { IsLater D.content world.old world.new }
     ensures reaches { OnOk result ((turns : ℕ) × GoesUntil D.content D.control world.old actor.0 number turns world.new) }
 {
     while !world.has_answered(actor, number) {
@@ -38,7 +38,7 @@ fn run_times<D: Disk>(
     actor: ActorId,
     turns: u32,
 ) -> Result<(), AllocError>
-    ensures later { IsLater D.content D.control world.old world.new }
+    ensures later { IsLater D.content world.old world.new }
     ensures reaches { OnOk result (GoesTimes D.content D.control world.old actor.0 turns world.new) }
 {
     for _i in 0..turns {
@@ -53,7 +53,7 @@ fn run_times<D: Disk>(
 
 /// Steps an actor as one item of a schedule says.
 fn run_pace<D: Disk>(alloc: Global, world: &mut World<D>, pace: Pace) -> Result<(), AllocError>
-    ensures later { IsLater D.content D.control world.old world.new }
+    ensures later { IsLater D.content world.old world.new }
     ensures reaches { OnOk result (Paces D.content D.control world.old pace world.new) }
 {
     match pace {
@@ -68,7 +68,7 @@ pub fn run_in_order<D: Disk>(
     world: &mut World<D>,
     schedule: &[Pace],
 ) -> Result<(), AllocError>
-    ensures later { IsLater D.content D.control world.old world.new }
+    ensures later { IsLater D.content world.old world.new }
     ensures reaches { OnOk result (Reaches D.content D.control world.old schedule.now world.new) }
 {
     for pace in schedule {
@@ -79,7 +79,7 @@ pub fn run_in_order<D: Disk>(
 
 /// Steps an actor to the end of its list.
 fn run_actor<D: Disk>(alloc: Global, world: &mut World<D>, actor: ActorId) -> Result<(), AllocError>
-    ensures later { IsLater D.content D.control world.old world.new }
+    ensures later { IsLater D.content world.old world.new }
     ensures ended { OnOk result (IsAtEnd world.new actor.0) }
 {
     loop {
@@ -93,7 +93,7 @@ fn run_actor<D: Disk>(alloc: Global, world: &mut World<D>, actor: ActorId) -> Re
 
 /// Steps the actors, in the order of their lists, each to the end of its list.
 pub fn run_to_end<D: Disk>(alloc: Global, world: &mut World<D>) -> Result<(), AllocError>
-    ensures later { IsLater D.content D.control world.old world.new }
+    ensures later { IsLater D.content world.old world.new }
     ensures ended { OnOk result ((a : ℕ) → IsAtEnd world.new a) }
 {
     let count = world.lists().len();

@@ -52,7 +52,7 @@ impl<D: Disk> Model for World<D> {
 
 impl<D: Disk> World<D> {
     /// Makes a world where nothing has happened, whose brokers have these disks, in their order. The first broker leads
-    /// epoch 0.
+    /// epoch 0. From then on the disks' planned calls fail.
     pub fn fresh(
         alloc: Global,
         partition: PartitionId,
@@ -64,10 +64,10 @@ impl<D: Disk> World<D> {
         requires fit { AreListsFor config lists }
         requires count { length disks.items ≡ config.brokers }
         requires disks { AreFreshDisks D.content D.control disks.items }
-        ensures fresh { IfOk result (IsFresh D.control partition config lists) }
+        ensures fresh { IfOk result (IsFresh D.control partition config lists disks.items) }
         ensures told { IfOk result (λ w. DisksTell D.content disks.items → AllSeen D.content w.held.nodes) }
         ensures central { IfOk result (λ w. AllSeen D.content w.held.nodes
-            → IsCentral D.content D.control (fresh_plain config) w) }
+            → IsCentral D.content (fresh_plain config) w) }
     {
         fresh_is_central::<D>();
         Self::made(alloc, partition, config, lists, disks)
@@ -84,7 +84,7 @@ impl<D: Disk> World<D> {
         requires fit { AreListsFor config lists }
         requires count { length disks.items ≡ config.brokers }
         requires disks { AreFreshDisks D.content D.control disks.items }
-        ensures fresh { IfOk result (IsFresh D.control partition config lists) }
+        ensures fresh { IfOk result (IsFresh D.control partition config lists disks.items) }
         ensures told { IfOk result (λ w. DisksTell D.content disks.items → AllSeen D.content w.held.nodes) }
     {
         let Some(count) = count_turns(lists.as_slice()) else {
@@ -140,7 +140,7 @@ impl<D: Disk> World<D> {
     /// Takes the next turn of an actor's commands.
     pub fn step(&mut self, alloc: Global, actor: ActorId) -> Stepped
         ensures steps { Steps D.content D.control self.old actor.0 result self.new }
-        ensures central { KeepsCentral D.content D.control self.old self.new }
+        ensures central { KeepsCentral D.content self.old self.new }
     {
         steps_keep_central::<D>();
         self.take_turn(alloc, actor)

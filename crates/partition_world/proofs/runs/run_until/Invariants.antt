@@ -5,7 +5,7 @@ use Rattle.partition_world.proofs.runs.run_until.Given as goal
 
 abbrev pub invariant-loop-alloc : goal.invariant-loop-alloc
 invariant-loop-alloc g l = record {
-  later : IsLater g.D.Disk.content g.D.Disk.control l.initial.world l.world;
+  later : IsLater g.D.Disk.content l.initial.world l.world;
   leads : LeadsOn g.D.Disk.content g.D.Disk.control l.initial.world l.actor.0 l.number l.world;
 }
 

@@ -3,4 +3,4 @@ use Rattle.partition_world.proofs.world.World.fresh.Goals as goal
 
 pub returns-clause-central : goal.returns-clause-central
 returns-clause-central g c =
-    ok_more _ _ c.made.result (λ w f seen. c.fresh_is_central.ensures c.args.partition c.args.config c.args.lists w c.requires.brokers c.requires.fit f seen) c.made.ensures.fresh
+    ok_more _ _ c.made.result (λ w f seen. c.fresh_is_central.ensures c.args.partition c.args.config c.args.lists c.args.disks.items w c.requires.brokers c.requires.fit f seen) c.made.ensures.fresh
