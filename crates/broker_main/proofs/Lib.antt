@@ -1,3 +1,4 @@
-mod Disks
+mod MemoryDisks
 mod OneWord
+mod Planning
 mod Running

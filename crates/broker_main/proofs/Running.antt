@@ -1,5 +1,5 @@
 -- What worlds that were run to their ends say of the text of their journals.
-use Rattle.std.proofs.Common.{◌≡◌, inl, inr, ◌∙◌, sym, ap, subst, refl, ℕ, zero, suc, ◌≤◌, List, [], ◌∷◌, ◌++◌, length, slice_get, Some, arith, append_assoc, append-nil}
+use Rattle.std.proofs.Common.{◌≡◌, inl, inr, ◌∙◌, sym, ap, subst, refl, ℕ, zero, suc, ◌+◌, ◌≤◌, List, [], ◌∷◌, ◌++◌, length, slice_get, Some, arith, append_assoc, append-nil}
 use Rattle.std.specs.Prelude.{All}
 use Rattle.std.proofs.lemmas.Option.{get_or_from_slice_get, slice_get_within}
 use Rattle.tier_base.specs.Device.{Control}
@@ -18,15 +18,17 @@ use Rattle.partition_world.specs.Whole.{Whole}
 use Rattle.partition_seen.specs.declared.seat.Seat.{Seat}
 use Rattle.partition_world.specs.Turn.{IsSeat, IsAtEnd}
 use Rattle.partition_world.specs.Central.{IsCentral}
-use Rattle.partition_world.specs.Fresh.{IsFresh, AllSeen}
-use Rattle.partition_world.specs.Laws.{EndsAreComplete, ReachesLater}
+use Rattle.partition_world.specs.Calm.{AreUnplanned}
+use Rattle.partition_world.specs.Laws.{EndsAreComplete, ReachesLater, ReachesUnfailing, FreshIsUnfailing}
 use Rattle.partition_world.specs.Reaches.{GoesUntil, HasAnswered, Reaches}
 use Rattle.partition_seen.proofs.Lists.{one_list}
 use Rattle.partition_world.proofs.LaterLaw.{all_ended}
 use Rattle.script_lang.specs.Fit.{StepsTo, StepsToEnds}
+use Rattle.script_lang.specs.declared.fault.Fault.{Fault}
 use Rattle.script_lang.specs.declared.script.PartScript.{PartScript}
 use Rattle.trace_text.specs.Trace.{journal_text, trace_of}
-use Rattle.broker_main.specs.Headline.{IsRunOf, AreRunsOf}
+use Rattle.broker_main.specs.Plans.{plan_of, ArePlanned}
+use Rattle.broker_main.specs.Headline.{StartsWith, IsRunOf, AreRunsOf}
 use Rattle.broker_main.specs.Running.{AddsRun, IsRunText, IsSoFar}
 
 -- what holds of all holds of the one that stands at a place
@@ -65,15 +67,26 @@ module _ {D : Type 0} (content : D → Content) (control : D → Control call_co
         | inr many ↦ many
       ])
 
+  -- where there are no fault lines no call of the disks is planned to fail
+  unplanned : (faults : List Fault) (broker : ℕ) (disks : List D) → faults ≡ [] → ArePlanned control faults broker disks → AreUnplanned control disks
+  unplanned faults broker [] none p = tt
+  unplanned faults broker (disk ∷ disks) none p = (
+    p.0.ruled,
+    p.0.plan_is ∙ ap (λ (l : List Fault). plan_of broker l) none,
+    (let zero_is = p.0.unfailed in omega (arith, zero_is)),
+    unplanned faults (broker + 1) disks none p.1,
+  )
+
   -- the journal of a world that was run by its schedule is a run of its partition
-  pub is_run_of : (config : Config) (part : PartScript) (w w' : Whole D) → EndsAreComplete content control → ReachesLater content control → RunsAreLed → RunsAreCommitted → AreListsFor config part.lists → StepsToEnds part
-      → IsFresh control part.partition config part.lists w → AllSeen content w.held.nodes → IsCentral content control (fresh config) w → Reaches content control w part.schedule w' → IsRunOf content control config part (part.partition.0, w'.journal.items)
-  is_run_of config part w w' law goes led runs fit ends f empty c reaches =
+  pub is_run_of : (config : Config) (part : PartScript) (w w' : Whole D) → EndsAreComplete content → ReachesLater content control → RunsAreLed → RunsAreCommitted → ReachesUnfailing content control → FreshIsUnfailing control → AreListsFor config part.lists → StepsToEnds part
+      → StartsWith content control part.partition config part.lists part.faults w → IsCentral content (fresh config) w → Reaches content control w part.schedule w' → IsRunOf content control config part (part.partition.0, w'.journal.items)
+  is_run_of config part w w' law goes led runs calm unfailing fit ends starts c reaches =
+      let f = starts.fresh in
       let lists = part.lists in
       let later = goes w part.schedule w' reaches in
       let same : w'.config ≡ config = later.config ∙ f.config_is in
       let its : w'.lists ≡ lists = later.lists ∙ f.lists_are in
-      let central : IsCentral content control (fresh (w'.config)) w' = subst (λ (k : Config). IsCentral content control (fresh k) w') (sym same) (later.central (fresh config) c) in
+      let central : IsCentral content (fresh (w'.config)) w' = subst (λ (k : Config). IsCentral content (fresh k) w') (sym same) (later.central (fresh config) c) in
       let ended : (a : ℕ) → IsAtEnd w' a = all_ended content control w' (λ place l at.
       let old : slice_get w.lists place ≡ Some l = ap (λ (k : List ActorList). slice_get k place) (sym later.lists) ∙ at in
       let here : slice_get lists place ≡ Some l = ap (λ (k : List ActorList). slice_get k place) (sym f.lists_are) ∙ old in
@@ -88,7 +101,8 @@ module _ {D : Type 0} (content : D → Content) (control : D → Control call_co
         complete = subst (λ (k : List ActorList). IsComplete k w'.journal.items) its whole.complete;
         led = led config lists w'.journal.items run;
         committed = runs config lists w'.journal.items run;
-        reached = record { first = w; last = w'; fresh = f; empty = empty; reaches = reaches; its = refl };
+        faultless = λ none. (calm w part.schedule w' reaches (unfailing part.partition config lists starts.disks w f (unplanned part.faults 0 starts.disks none starts.planned))).journal;
+        reached = record { first = w; last = w'; starts = starts; reaches = reaches; its = refl };
       }
 
   -- one partition more

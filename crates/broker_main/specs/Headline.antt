@@ -4,42 +4,54 @@
 use Rattle.std.specs.Prelude.{◌≡◌, ℕ, false, List, [], ◌∷◌, Ok, Err}
 use Rattle.std.specs.declared.option.Option.{Option}
 use Rattle.std.specs.Io.KnownBytes.{Appends}
+use Rattle.tier_base.specs.declared.names.PartitionId.{PartitionId}
 use Rattle.tier_base.specs.Stream.{ReadsWhole, AppendsFront}
 use Rattle.tier_base.specs.Device.{Control}
 use Rattle.disk_model.specs.Call.{call_code}
 use Rattle.disk_model.specs.Content.{Content}
+use Rattle.plain_log.specs.declared.command.ActorList.{ActorList}
 use Rattle.plain_log.specs.declared.command.Config.{Config}
 use Rattle.plain_log.specs.declared.journal.JournalEntry.{JournalEntry}
 use Rattle.plain_log.specs.Runs.{IsPlainRun, IsComplete}
 use Rattle.plain_log.specs.Committed.{IsCommitted, IsLed}
 use Rattle.partition_world.specs.Whole.{Whole}
+use Rattle.partition_world.specs.Calm.{AreFaultless}
 use Rattle.partition_world.specs.Fresh.{IsFresh, AllSeen}
 use Rattle.partition_world.specs.Reaches.{Reaches}
+use Rattle.script_lang.specs.declared.fault.Fault.{Fault}
 use Rattle.script_lang.specs.declared.refusal.Why.{Why}
 use Rattle.script_lang.specs.declared.script.PartScript.{PartScript}
 use Rattle.script_lang.specs.declared.script.Script.{Script}
 use Rattle.script_lang.specs.Script.{script_in}
 use Rattle.trace_text.specs.Trace.{trace_of}
+use Rattle.broker_main.specs.Plans.{ArePlanned}
 
 module _ {D : Type 0} (content : D → Content) (control : D → Control call_code) where
-  -- the journal is that of a world which the partition's schedule reaches from the fresh one, whose logs are empty
+  -- a fresh world whose logs are empty, on disks of which those calls fail that the faults name
+  pub record StartsWith (partition : PartitionId) (config : Config) (lists : List ActorList) (faults : List Fault) (w : Whole D) : Type 0 where
+    pub disks : List D
+    pub planned : ArePlanned control faults 0 disks
+    pub fresh : IsFresh control partition config lists disks w
+    pub empty : AllSeen content w.held.nodes
+
+  -- the journal is that of a world which the partition's schedule reaches from the fresh one over its faults
   pub record IsReached (config : Config) (part : PartScript) (journal : List JournalEntry) : Type 0 where
     pub first : Whole D
     pub last : Whole D
-    pub fresh : IsFresh control part.partition config part.lists first
-    pub empty : AllSeen content first.held.nodes
+    pub starts : StartsWith part.partition config part.lists part.faults first
     pub reaches : Reaches content control first part.schedule last
     pub its : last.journal.items ≡ journal
 
   -- a partition's number and journal: a run of the plain log over the partition's lists, by its schedule, each command
   -- answered once and in order, each fetch out of the log of one leader epoch, and while elections are clean out of one
-  -- committed list
+  -- committed list; no disk fails unasked
   pub record IsRunOf (config : Config) (part : PartScript) (run : ℕ × List JournalEntry) : Type 0 where
     pub partition : run.0 ≡ part.partition.0
     pub plain : IsPlainRun config part.lists run.1
     pub complete : IsComplete part.lists run.1
     pub led : IsLed part.lists run.1
     pub committed : plain.last.unclean ≡ false → IsCommitted part.lists run.1
+    pub faultless : part.faults ≡ [] → AreFaultless run.1
     pub reached : IsReached config part run.1
 
   -- each partition has its run

@@ -1,4 +1,5 @@
 pub mod Words
+pub mod Plans
 pub mod Headline
 pub mod Running
 pub mod Endings

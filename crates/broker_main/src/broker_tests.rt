@@ -1,4 +1,4 @@
-//! Scripts of several brokers, actors and partitions, and their traces.
+//! Scripts of several brokers, actors and partitions, and of disks that fail, with their traces.
 //!
 //! The batches' bytes come from a writer of record batches that was made apart from this repository.
 
@@ -71,11 +71,70 @@ const ROWS: [(&str, &str, &str); 12] = [
     ),
 ];
 
+/// Scripts whose disks fail, and the traces that they give.
+const FAULTS: [(&str, &str, &str); 11] = [
+    (
+        "a failed append that was done is gone",
+        "fault 0 disk 0 append 1 after\n0 0 0 append 1000,-,:a\n0 0 0 up\n0 0 0 learn\n0 0 0 elect\n0 0 0 learn\n0 0 0 append 1000,-,:b\n0 0 0 flush\n",
+        "0 0 0 = DiskFault\n0 0 1 = Up 0\n0 0 2 = NeedsElection 0\n0 0 3 = Ok 1\n0 0 4 = Leads 1\n0 0 5 = Ok 0 0 1\n0 0 6 = Ok 1\n",
+    ),
+    (
+        "a failed flush that was done is there",
+        "fault 0 disk 0 replace 1 after\n0 0 0 append 1000,-,:a\n0 0 0 flush\n0 0 0 up\n",
+        "0 0 0 = Ok 0 0 0\n0 0 1 = DiskFault\n0 0 2 = Up 1\n",
+    ),
+    (
+        "a failed flush that wasn't done",
+        "fault 0 disk 0 replace 1 before\n0 0 0 append 1000,-,:a\n0 0 0 flush\n0 0 0 up\n",
+        "0 0 0 = Ok 0 0 0\n0 0 1 = DiskFault\n0 0 2 = Up 0\n",
+    ),
+    (
+        "a flush whose sync fails stops the broker",
+        "fault 0 disk 0 sync 1 before\n0 0 0 append 1000,-,:a\n0 0 0 flush\n0 0 0 fetch 0 1\n0 0 0 up\n0 0 0 learn\n",
+        "0 0 0 = Ok 0 0 0\n0 0 1 = DiskFault\n0 0 2 = Down\n0 0 3 = Up 0\n0 0 4 = NeedsElection 0\n",
+    ),
+    (
+        "a roll whose sync fails stops the broker",
+        "fault 0 disk 0 sync 2 after\n0 0 0 append 1000,-,:a\n0 0 0 flush\n0 0 0 append 1000,-,:b\n0 0 0 roll\n0 0 0 up\n",
+        "0 0 0 = Ok 0 0 0\n0 0 1 = Ok 1\n0 0 2 = Ok 1 1 0\n0 0 3 = DiskFault\n0 0 4 = Up 1\n",
+    ),
+    (
+        "a lead that was taken, but not told, needs another election",
+        "fault 0 disk 0 replace 1 after\n0 0 0 elect\n0 0 0 learn\n0 0 0 up\n0 0 0 learn\n",
+        "0 0 0 = Ok 1\n0 0 1 = DiskFault\n0 0 2 = Up 0\n0 0 3 = NeedsElection 1\n",
+    ),
+    (
+        "a lead that wasn't taken is taken later",
+        "fault 0 disk 0 replace 1 before\n0 0 0 elect\n0 0 0 learn\n0 0 0 up\n0 0 0 learn\n",
+        "0 0 0 = Ok 1\n0 0 1 = DiskFault\n0 0 2 = Up 0\n0 0 3 = Leads 1\n",
+    ),
+    (
+        "a follower's cut that was done, but not told",
+        "brokers 2\nfault 0 disk 1 replace 1 after\n0 0 0 append 1000,-,:a\n1 0 1 follow 1000\n0 0 0 elect\n0 0 0 learn\n1 0 1 learn\n1 0 1 join\n1 0 1 up\n1 0 1 learn\n1 0 1 join\n",
+        "0 0 0 = Ok 0 0 0\n0 1 0 begin\n0 1 0 = Copied 1\n0 0 1 = Ok 1\n0 0 2 = Leads 1\n0 1 1 = Follows 1\n0 1 2 = DiskFault 1\n0 1 3 = Up 1\n0 1 4 = Follows 1\n0 1 5 = Cut 1\n",
+    ),
+    (
+        "a follower whose append fails, and one whose leader's read fails",
+        "brokers 2\nfault 0 disk 1 append 1 before\nfault 0 disk 0 read 1 before\n0 0 0 append 1000,-,:a\n1 0 1 follow 1000\n1 0 1 follow 1000\n1 0 1 follow 1000\n1 0 1 up\n1 0 1 learn\n1 0 1 join\n1 0 1 follow 1000\n",
+        "0 0 0 = Ok 0 0 0\n0 1 0 = DiskFault\n0 1 1 begin\n0 1 1 = DiskFault\n0 1 2 = Down\n0 1 3 = Up 0\n0 1 4 = Follows 0\n0 1 5 = Cut 0\n0 1 6 begin\n0 1 6 = Copied 1\n",
+    ),
+    (
+        "a fetch whose read fails leaves all as it was",
+        "fault 0 disk 0 read 1 after\n0 0 0 append 1000,-,:a\n0 0 0 flush\n0 0 0 ack\n0 0 0 fetch 0 1000\n0 0 0 fetch 0 1000\n",
+        "0 0 0 = Ok 0 0 0\n0 0 1 = Ok 1\n0 0 2 = Ok 1\n0 0 3 = DiskFault\n0 0 4 = Run local 0 69 Mark 0000000000000000000000390000000002ebf1884b00000000000000000000000003e800000000000003e8ffffffffffffffffffffffffffff000000010e00000001026100\n",
+    ),
+    (
+        "a broker comes up at the second time; of two lines that name one call the first counts",
+        "fault 0 disk 0 list 1 before\nfault 0 disk 0 replace 1 before\nfault 0 disk 0 replace 1 after\n0 0 0 append 1000,-,:a\n0 0 0 stop\n0 0 0 up\n0 0 0 up\n0 0 0 up\n0 0 0 up\n",
+        "0 0 0 = Ok 0 0 0\n0 0 1 = Ok\n0 0 2 = DiskFault\n0 0 3 = DiskFault\n0 0 4 = Up 0\n0 0 5 = IsUp\n",
+    ),
+];
+
 #[test]
 fn scripts_of_several_brokers_give_their_traces(rt: HostRuntime) -> Result<(), Fail> {
     let alloc = rt.alloc();
     let words = words_of(alloc, &["sim"])?;
-    for (name, script, trace) in ROWS {
+    for (name, script, trace) in ROWS.iter().chain(FAULTS.iter()) {
         let mut source = source_of(alloc, script.as_bytes(), &[])?;
         let mut sink = MemorySink::new(alloc, 10_000, 7, Vec::new(alloc))?;
         let status = tiered(&rt, words.as_slice(), &mut source, &mut sink);

@@ -4,6 +4,7 @@
 //! prints the status's line to standard error, and ends with its number.
 #![tactic(auto)]
 
+mod disks;
 mod status;
 mod top;
 

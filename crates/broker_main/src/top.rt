@@ -9,20 +9,22 @@ ghost use Rattle.tier_base.specs.Stream.{Gave};
 ghost use Rattle.plain_log.specs.Fresh.{fresh};
 ghost use Rattle.plain_log.specs.Orders.{AreListsFor, IsConfig};
 ghost use Rattle.partition_world.specs.Central.{IsCentral};
-ghost use Rattle.partition_world.specs.Fresh.{IsFresh, AllSeen, AreFreshDisks, DisksTell};
 ghost use Rattle.script_lang.specs.declared.refusal.Why.{Why};
 ghost use Rattle.script_lang.specs.Fit.{StepsToEnds};
 ghost use Rattle.script_lang.specs.Script.{script_in};
 ghost use Rattle.broker_main.specs.Words.{IsSim};
-ghost use Rattle.broker_main.specs.Headline.{IsTrace, WritesTrace, WritesFront, ReadsBad};
+ghost use Rattle.broker_main.specs.Headline.{StartsWith, IsTrace, WritesTrace, WritesFront, ReadsBad};
 ghost use Rattle.broker_main.specs.Running.{AddsRun, IsRunText};
 ghost use Rattle.broker_main.specs.Endings.{IsDoneOrNoMemory, IsRefusedOrNoMemory};
 
+use crate::disks::disks;
 use crate::status::Status;
 use disk_model::{Disk, MemoryDisk};
-use partition_world::{World, ends_are_complete, reaches_later, run_in_order};
+use partition_world::{
+    World, ends_are_complete, fresh_is_unfailing, reaches_later, reaches_unfailing, run_in_order,
+};
 use plain_log::{ActorList, Config, runs_are_committed, runs_are_led};
-use script_lang::{PartScript, ScriptRefusal, Why, parse};
+use script_lang::{Fault, PartScript, ScriptRefusal, Why, parse};
 use std::alloc::{AllocError, Global};
 use tier_base::{PartitionId, ReadRefusal, Row, Sink, Source, read_all, write_all};
 use trace_text::print;
@@ -30,37 +32,24 @@ use trace_text::print;
 /// The most bytes that a script may have.
 pub const SCRIPT_LIMIT: usize = 16_777_216;
 
-/// Makes so many disks in memory, without files.
-fn disks(alloc: Global, count: u16) -> Result<Vec<MemoryDisk>, AllocError>
-    ensures count { IfOk result (λ disks. length disks.items ≡ count) }
-    ensures fresh { IfOk result (λ disks. AreFreshDisks ⟦<MemoryDisk as Disk>⟧.content ⟦<MemoryDisk as Disk>⟧.control disks.items) }
-    ensures told { IfOk result (λ disks. DisksTell ⟦<MemoryDisk as Disk>⟧.content disks.items) }
-{
-    let mut disks = Vec::new(alloc);
-    for _ in 0..count {
-        disks.push(MemoryDisk::new(alloc, Vec::new(alloc)))?;
-    }
-    Ok(disks)
-}
-
-/// Makes a partition's world, whose brokers have empty disks in memory.
+/// Makes a partition's world, whose brokers have empty disks in memory with these faults.
 fn fresh_world(
     alloc: Global,
     partition: PartitionId,
     config: Config,
     lists: Row<ActorList>,
+    faults: &[Fault],
 ) -> Result<World<MemoryDisk>, AllocError>
     requires config { IsConfig config }
     requires fit { AreListsFor config lists }
-    ensures fresh { IfOk result (IsFresh ⟦<MemoryDisk as Disk>⟧.control partition config lists) }
-    ensures empty { IfOk result (λ world. AllSeen ⟦<MemoryDisk as Disk>⟧.content world.held.nodes) }
-    ensures central { IfOk result (IsCentral ⟦<MemoryDisk as Disk>⟧.content ⟦<MemoryDisk as Disk>⟧.control
-        (fresh config)) }
+    ensures fresh { IfOk result (StartsWith ⟦<MemoryDisk as Disk>⟧.content ⟦<MemoryDisk as Disk>⟧.control
+        partition config lists faults.now) }
+    ensures central { IfOk result (IsCentral ⟦<MemoryDisk as Disk>⟧.content (fresh config)) }
 {
-    let disks = disks(alloc, config.brokers)?;
+    let disks = disks(alloc, config.brokers, faults)?;
     match World::fresh(alloc, partition, config, lists, disks) {
         Ok(world) => Ok(world),
-        // A disk in memory without a plan fails no call, so it was memory.
+        // No disk fails a call before the world is made, so it was memory.
         Err(_) => Err(AllocError),
     }
 }
@@ -81,15 +70,17 @@ fn run_part(
 {
     ends_are_complete::<MemoryDisk>();
     reaches_later::<MemoryDisk>();
+    reaches_unfailing::<MemoryDisk>();
+    fresh_is_unfailing::<MemoryDisk>();
     runs_are_led();
     runs_are_committed();
     let PartScript {
         partition,
         lists,
         schedule,
-        ..
+        faults,
     } = part;
-    let mut world = fresh_world(alloc, partition, config, lists)?;
+    let mut world = fresh_world(alloc, partition, config, lists, faults.as_slice())?;
     run_in_order(alloc, &mut world, schedule.as_slice())?;
     let printed = print(alloc, partition, world.journal())?;
     joined(text, printed)

@@ -3,7 +3,7 @@ use Rattle.plain_log.specs.Orders.{AreListsFor}
 use Rattle.script_lang.specs.Fit.{StepsToEnds}
 use Rattle.script_lang.specs.declared.script.PartScript.{PartScript}
 use Rattle.broker_main.proofs.Running.{goes_on}
-use Rattle.broker_main.proofs.Disks.{content, control}
+use Rattle.broker_main.proofs.MemoryDisks.{content, control}
 use Rattle.broker_main.proofs.top.run_parts.Goals as goal
 
 pub loop-part-preserved : goal.loop-part-preserved

@@ -1,5 +1,5 @@
 use Rattle.broker_main.specs.Running.{IsSoFar}
-use Rattle.broker_main.proofs.Disks.{content, control}
+use Rattle.broker_main.proofs.MemoryDisks.{content, control}
 use Rattle.broker_main.proofs.top.run_parts.Given as goal
 
 abbrev pub invariant-loop-part : goal.invariant-loop-part

@@ -1,0 +1,13 @@
+use Rattle.std.proofs.Common.{◌≡◌, length}
+use Rattle.partition_world.specs.Fresh.{AreFreshDisks, DisksTell}
+use Rattle.broker_main.specs.Plans.{ArePlanned}
+use Rattle.broker_main.proofs.MemoryDisks.{content, control}
+use Rattle.broker_main.proofs.disks.disks.Given as goal
+
+abbrev pub invariant-loop-broker : goal.invariant-loop-broker
+invariant-loop-broker l = record {
+  count : length l.disks.items ≡ l.broker;
+  fresh : AreFreshDisks content control l.disks.items;
+  told : DisksTell content l.disks.items;
+  planned : ArePlanned control l.fn.faults 0 l.disks.items;
+}
