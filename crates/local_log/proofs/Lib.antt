@@ -40,3 +40,4 @@ pub mod Halving
 pub mod Admitted
 pub mod Settled
 pub mod OneWay
+pub mod Crashed

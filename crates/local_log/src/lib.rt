@@ -9,6 +9,8 @@
 
 mod admitting;
 mod cuts;
+#[cfg(test)]
+mod damage_tests;
 mod dropping;
 mod laws;
 mod listing;
@@ -21,7 +23,13 @@ mod refusal;
 mod restarting;
 mod run;
 mod seeking;
+#[cfg(test)]
+mod tests;
+#[cfg(test)]
+mod trial;
 mod trimming;
+#[cfg(test)]
+mod vectors;
 
 pub use laws::an_image_opens_in_one_way;
 pub use log::LocalLog;
