@@ -20,7 +20,7 @@ use Rattle.local_log.specs.Log.{Log, Becomes, committed, stable_log}
 use Rattle.local_log.specs.Coheres.{Coheres}
 use Rattle.local_log.specs.Cutting.{OpensAs}
 use Rattle.broker_log.specs.Seen.{Seen, Up, Stays, returns, ShowsOpen}
-use Rattle.broker_log.specs.Turns.{Appends, Settles, settled, with_batches}
+use Rattle.broker_log.specs.Turns.{Appends, Settles, settled, with_batches, first_in}
 
 -- an epoch that starts at the end is within it
 pub assigned_within : (line : List (ℕ × ℕ)) (epoch end : ℕ) → cut_end (assign line epoch end) (end + 1) ≡ assign line epoch end
@@ -204,11 +204,12 @@ module _ {D : Type 0} (content : D → Content) where
               );
         }
 
-    pub appends_to : Appends content (Up old) (Up new) run answer
-    appends_to = record {
+    pub appends_to : base ≡ open_for old run → Appends content (Up old) (Up new) run answer
+    appends_to opened = record {
       front = front;
       rest = rest;
       some = some;
+      most = subst (λ (log : Log D). front ≡ first_in log (front ++ rest)) opened (ap (first_in base) parts);
       bytes = a.is.bytes ∙ ap joined parts;
       are = subst (Each (λ (b : List ℕ). IsOk (checked b))) parts a.is.are;
       those = λ bs ok is. same_batches bs (front ++ rest) ok (subst (Each (λ (b : List ℕ). IsOk (checked b))) parts a.is.are) (sym is ∙ (a.is.bytes ∙ ap joined parts));
@@ -224,7 +225,7 @@ module _ {D : Type 0} (content : D → Content) where
   pub appends_by : (old new : Log D) → Lawful (content new.disk) → (old.local_start ≡ 0) → (IsTrue (content old.disk).tells → Coheres old) → (run : List ℕ) (answer : ℕ × ℕ) → IsAppended content old new run answer → answer.0 ≤ answer.1
       → LeavesOnly (content old.disk) (content new.disk) (OpensAs (content old.disk)) → Appends content (Up old) (Up new) run answer
   appends_by old new laws start coheres run answer a up opens =
-      appends_to old (open_for old run) new (perhaps_rolled (is_due old run) old) laws start coheres run answer a up opens
+      appends_to old (open_for old run) new (perhaps_rolled (is_due old run) old) laws start coheres run answer a up opens refl
 
   -- it can be appended to as before
   pub appended_whole : (old new : Log D) (run : List ℕ) (answer : ℕ × ℕ) → IsAppended content old new run answer → (new.broken ≡ old.broken) × (new.local_start ≡ old.local_start)

@@ -15,7 +15,9 @@ use Rattle.log_terms.specs.Log.{joined, IsConsecutive, EndsAt, end_of, end_from,
 use Rattle.record_batch.specs.Check.{checked}
 use Rattle.epoch_line.specs.Line.{assign, cut_end}
 use Rattle.log_steps.specs.Fronts.{Each}
-use Rattle.local_log.specs.Run.{lined}
+use Rattle.local_log.specs.Run.{lined, taking, open_for}
+use Rattle.local_log.specs.Stored.{size_of}
+use Rattle.local_log.specs.Log.{Log}
 use Rattle.broker_log.specs.Seen.{Seen, Kept, Shows, Goes, Stays, WhileUp, end_in, stable_in, line_in, is_up}
 
 -- the log with batches more
@@ -93,11 +95,16 @@ IsUnread (Open (Damaged name at)) = Unit {0}
 IsUnread (Open LastIncarnation) = ⊥
 IsUnread (Open NoMemory) = ⊥
 
--- some first batches of a run stand at the log's end: at least one, all of the run where it is one
+-- the first of these batches that stand in the log's open segment, behind what it holds
+abbrev pub first_in : {D : Type 0} → Log D → List (List ℕ) → List (List ℕ)
+first_in log batches = taking log.settings.segment_bytes log.active.base (size_of log.active) batches
+
+-- the first batches of a run stand at the log's end: at least one, and as many as one segment takes, a new one where it is due
 pub record Appends {D : Type 0} (content : D → Content) (old new : Kept D) (run : List ℕ) (answer : ℕ × ℕ) : Type 0 where
   pub front : List (List ℕ)
   pub rest : List (List ℕ)
   pub some : front ≢ []
+  pub most : WhileUp old (λ log. front ≡ first_in (open_for log run) (front ++ rest))
   pub bytes : run ≡ joined (front ++ rest)
   pub are : Each (λ (batch : List ℕ). IsOk (checked batch)) (front ++ rest)
   pub consecutive : IsConsecutive answer.0 (front ++ rest)
