@@ -1,5 +1,5 @@
 -- An id has one text, and so has a key.
-use Rattle.std.proofs.Common.{◌≡◌, ◌≢◌, ◌∙◌, sym, ap, refl, inl, inr, ℕ, ◌≤◌, ◌<◌, ◌^◌, List, ◌∷◌, ◌++◌, Some, Result, Ok, IsOk, IfOk, ◌↔◌, length, take, drop, subst, All, arith, length-append}
+use Rattle.std.proofs.Common.{◌≡◌, ◌∙◌, sym, ap, refl, inl, ℕ, ◌≤◌, ◌<◌, List, ◌++◌, Some, Result, Ok, IsOk, IfOk, ◌↔◌, length, take, drop, subst, All, arith, length-append}
 use Rattle.std.proofs.lemmas.List.{take_at, drop_at}
 use Rattle.uuid.specs.Text.{lower, parsed}
 use Rattle.uuid.proofs.TextLemmas.{by_index_length}

@@ -1,5 +1,5 @@
 -- The faults of a device in memory: those that its plan and its fuse have in store, and those it had.
-use Rattle.std.specs.Prelude.{ℕ, ◌==◌, Bool, true, false, not, ◌&&◌, ◌||◌, if◌then◌else◌, List, [], ◌∷◌, Option, Some, None}
+use Rattle.std.specs.Prelude.{ℕ, ◌-◌, ◌==◌, Bool, true, false, not, ◌&&◌, ◌||◌, if◌then◌else◌, List, [], ◌∷◌, Option, Some, None}
 use Rattle.std.proofs.Math.ListN.{get_or}
 use Rattle.tier_base.specs.declared.planned.Planned.{Planned}
 use Rattle.tier_base.specs.declared.ending.Ending.{Ending}
@@ -31,6 +31,11 @@ is_empty (x ∷ xs) = false
 abbrev pub is_blown : Option ℕ → Bool
 is_blown None = false
 is_blown (Some n) = n == 0
+
+-- a fuse that has one call less to pass
+abbrev pub shorter : Option ℕ → Option ℕ
+shorter None = None
+shorter (Some n) = Some (n - 1)
 
 -- how a call ends of which the plan says this
 abbrev pub ending_from : Option Bool → Ending

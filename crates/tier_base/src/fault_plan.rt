@@ -2,15 +2,18 @@
 //!
 //! A device asks how a call is going to end, does as much of it as is to be done, and counts it
 //! last: so a call that finds no memory is never counted, and nothing has to be undone.
+//!
+//! Where the numbers of a kind's calls don't fall along the plan, the next one of them is known, and no
+//! call looks through the plan.
 
-ghost use Rattle.std.specs.Prelude.{◌≡◌, ◌↔◌, ◌<◌, [], List, ℕ, true, None, is_some, IsTrue, OnOk};
-ghost use Rattle.std.proofs.Math.ListN.{set, get_or};
+ghost use Rattle.std.specs.Prelude.{◌≡◌, ◌≤◌, ◌↔◌, [], List, ℕ, true, None, is_some, IsTrue, OnOk};
 ghost use Rattle.tier_base.specs.Counts.{counted};
-ghost use Rattle.tier_base.specs.Device.{planned, Ran, MayBeDone, Arms, IsFresh, failing};
-ghost use Rattle.tier_base.specs.Faults.{Faults, is_done, count_of, ending_at, control_of};
+ghost use Rattle.tier_base.specs.Device.{Went, made_after, Ran, MayBeDone, Arms, IsFresh, failing};
+ghost use Rattle.tier_base.specs.Faults.{Faults, is_done, count_of, ending_at, has_none, shorter, control_of};
 
 use crate::ending::Ending;
 use crate::fault::Failed;
+use crate::nexts::{all_nexts, count, said};
 use crate::planned::{CallKind, Planned};
 use std::marker::Model;
 
@@ -20,12 +23,14 @@ pub struct FaultPlan<K: CallKind> {
     plan: Vec<Planned<K>>,
     armed: bool,
     counts: [u64; 8],
+    nexts: [Option<usize>; 8],
     fuse: Option<u64>,
     faults: u64,
 }
 
 impl<K: CallKind> Model for FaultPlan<K> {
     ghost use Rattle.tier_base.specs.Faults.{Faults};
+    ghost use Rattle.tier_base.specs.Nexts.{AreNext};
 
     ghost Value = { Faults K };
 
@@ -36,6 +41,8 @@ impl<K: CallKind> Model for FaultPlan<K> {
       fuse = f.fuse;
       faults = f.faults;
     } };
+
+    ghost invariant = { λ f. AreNext K.code f.plan.items f.counts f.nexts };
 }
 
 impl<K: CallKind> FaultPlan<K> {
@@ -45,10 +52,12 @@ impl<K: CallKind> FaultPlan<K> {
         ensures fuse { result.fuse ≡ None }
         ensures fresh { IsFresh (control_of K.code result []) }
     {
+        let nexts = all_nexts(plan.as_slice());
         FaultPlan {
             plan,
             armed: false,
             counts: [0; 8],
+            nexts,
             fuse: None,
             faults: 0,
         }
@@ -115,12 +124,40 @@ impl<K: CallKind> FaultPlan<K> {
         if !self.armed {
             return Ending::Done;
         }
-        let number = self.made(call).saturating_add(1);
-        match find(&self.plan, call, number) {
+        let next = self.nexts[call.to_code()];
+        match said(self.plan.as_slice(), call, self.made(call), next) {
             None => Ending::Done,
             Some(true) => Ending::DoneAndFailed,
             Some(false) => Ending::Undone,
         }
+    }
+
+    /// Counts a call of a kind, and lets the fuse burn down.
+    fn tally(&mut self, call: K)
+        ensures plan { self.new.plan ≡ self.old.plan }
+        ensures armed { self.new.armed ≡ self.old.armed }
+        ensures faults { self.new.faults ≡ self.old.faults }
+        ensures fuse { has_none self.new.fuse ≡ has_none self.old.fuse }
+        ensures made { (kind : K) → count_of K.code self.new kind
+            ≡ made_after K.code call Went self.old.armed kind (count_of K.code self.old kind) }
+    {
+        if self.armed {
+            count(
+                self.plan.as_slice(),
+                call.to_code(),
+                &mut self.counts,
+                &mut self.nexts,
+            );
+        }
+        self.fuse = burnt(self.fuse);
+    }
+
+    /// Counts a call that failed.
+    fn miss(&mut self)
+        ensures is { self.new ≡ record self.old { faults = counted self.old.faults 1 } }
+        ensures later { self.old.faults ≤ self.new.faults }
+    {
+        self.faults = self.faults.saturating_add(1);
     }
 
     /// Counts a call that ends so, and answers for it.
@@ -132,39 +169,21 @@ impl<K: CallKind> FaultPlan<K> {
             (control_of K.code self.old handed) (is_done ending) }
         ensures ok { OnOk result (ending ≡ Ending.Done) }
     {
-        if self.armed {
-            raise(&mut self.counts, call.to_code());
-        }
-        if let Some(left) = self.fuse {
-            self.fuse = Some(left.saturating_sub(1));
-        }
+        self.tally(call);
         match ending {
             Ending::Done => Ok(()),
             Ending::DoneAndFailed | Ending::Undone => {
-                self.faults = self.faults.saturating_add(1);
+                self.miss();
                 Err(Failed)
             }
         }
     }
 }
 
-/// Raises one of the counts.
-fn raise(counts: &mut [u64; 8], at: usize)
-    requires { at < 8 }
-    ensures { counts.new ≡ set counts.old at (counted (get_or counts.old at 0) 1) }
+/// A fuse that has one call less to pass.
+fn burnt(fuse: Option<u64>) -> Option<u64>
+    ensures { result ≡ shorter fuse }
 {
-    counts[at] = counts[at].saturating_add(1);
-}
-
-/// Answers what a plan says of the call with this number.
-fn find<K: CallKind>(plan: &[Planned<K>], call: K, number: u64) -> Option<bool>
-    ensures { result ≡ planned K.code call number plan.now }
-{
-    let code = call.to_code();
-    for item in plan {
-        if item.call.to_code() == code && u64::from(item.number) == number {
-            return Some(item.after);
-        }
-    }
-    None
+    let left = fuse?;
+    Some(left.saturating_sub(1))
 }

@@ -19,6 +19,7 @@ mod laws;
 mod memory_sink;
 mod memory_source;
 mod names;
+mod nexts;
 mod numeral;
 mod object_key;
 mod plain;

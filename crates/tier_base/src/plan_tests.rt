@@ -77,6 +77,56 @@ fn planned_calls_fail_once_armed(rt: HostRuntime) -> Result<(), Fail> {
     Ok(())
 }
 
+/// A plan whose numbers rise for each kind, the kinds mixed; or the same plan turned around.
+fn rising(alloc: Global, turned: bool) -> Result<Vec<Planned<Call>>, AllocError> {
+    let mut plan = Vec::new(alloc);
+    plan.push(item(Call::Get, 1, false))?;
+    plan.push(item(Call::Put, 2, true))?;
+    plan.push(item(Call::Get, 2, false))?;
+    plan.push(item(Call::Put, 5, false))?;
+    plan.push(item(Call::Get, 9, true))?;
+    if turned {
+        plan.reverse();
+    }
+    Ok(plan)
+}
+
+#[test]
+fn planned_calls_fail_in_whatever_order_a_plan_names_them(rt: HostRuntime) -> Result<(), Fail> {
+    for turned in [false, true] {
+        let mut faults = FaultPlan::new(rising(rt.alloc(), turned)?);
+        faults.arm();
+        for number in 1..12u32 {
+            let put = match number {
+                2 => Ending::DoneAndFailed,
+                5 => Ending::Undone,
+                _ => Ending::Done,
+            };
+            let get = match number {
+                1 | 2 => Ending::Undone,
+                9 => Ending::DoneAndFailed,
+                _ => Ending::Done,
+            };
+            assert_eq!(rt;
+                make(&mut faults, Call::Put),
+                put,
+                "turned {} put {}",
+                turned,
+                number
+            );
+            assert_eq!(rt;
+                make(&mut faults, Call::Get),
+                get,
+                "turned {} get {}",
+                turned,
+                number
+            );
+        }
+        assert_eq!(rt; faults.faults(), 5);
+    }
+    Ok(())
+}
+
 #[test]
 fn a_fuse_fails_every_call_from_a_number_on(rt: HostRuntime) {
     let mut faults: FaultPlan<Call> = FaultPlan::new(Vec::new(rt.alloc()));

@@ -1,7 +1,6 @@
 use Rattle.std.proofs.Common.{◌≡◌, ◌∙◌, sym, ap, List, ℕ, true≢false}
 use Rattle.std.proofs.lemmas.Slice.Eq.{bytes_eq-Decides}
 use Rattle.tier_base.specs.Key.{id_text}
-use Rattle.tier_base.specs.declared.names.SegmentId.{SegmentId}
 use Rattle.tier_base.proofs.Keys.{id-parsed, same-id, is-id}
 use Rattle.tier_base.proofs.names.SegmentId.from_text.Goals as goal
 

@@ -1,4 +1,4 @@
-use Rattle.std.proofs.Common.{◌≡◌, arith}
+use Rattle.std.proofs.Common.{arith}
 use Rattle.tier_base.proofs.Keys.{key-behind, key-long, key-id, key-part}
 use Rattle.tier_base.proofs.object_key.ObjectKey.from_text.Goals as goal
 

@@ -1,6 +1,6 @@
 use Rattle.std.proofs.Common.{◌≡◌, drop}
 use Rattle.tier_base.specs.Device.{planned}
-use Rattle.tier_base.proofs.fault_plan.find.Given as goal
+use Rattle.tier_base.proofs.nexts.find.Given as goal
 
 -- what the plan says is said by what is left of it
 abbrev pub invariant-loop-item : goal.invariant-loop-item
