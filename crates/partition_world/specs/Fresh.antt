@@ -45,7 +45,7 @@ module _ {D : Type 0} (content : D → Content) (control : D → Control call_co
   AreFreshDisks [] = Unit {0}
   AreFreshDisks (disk ∷ disks) = IsFreshDisk disk × AreFreshDisks disks
 
--- the given disk's plan is in force, and no call has failed; a disk whose plan rules it and is empty fails no call
+-- the given disk's plan is in force, and no call has failed since; a disk whose plan rules it and is empty fails no call
 pub record IsArmed (given now : Control call_code) : Type 0 where
   pub plan : now.plan ≡ given.plan
   pub armed : IsTrue now.armed
