@@ -1,13 +1,16 @@
 #!/usr/bin/env bash
 # Times `./tiered sim` over scripts of 1, 2, 4, 8 and 16 MiB: with lines of all kinds (65,536 lines at 16 MiB), with flush
 # lines alone, with lines that ask for nothing (the reader's pace), with raw batches (the check's), with fetches that are
-# given 16 bytes for each of those (the trace's writer: 256 MiB at the end), and with eight brokers. A line a script: the bytes
+# given 16 bytes for each of those (the trace's writer: 256 MiB at the end), with eight brokers, with 4,096 segments that are
+# flushed, and with calls of the disk that fail. A line a script: the bytes
 # of the script and of its trace, seconds (the least of ROUNDS runs), peak memory in MiB, and how much longer it took than the
 # script of half the size, beside how many more bytes it read and wrote.
-# usage: bench/sim.sh [ROUNDS]   three if it isn't said. The scripts lie in a folder of their own, which goes at the end.
+# usage: bench/sim.sh [ROUNDS [KIND..]]   three rounds of all kinds if it isn't said. The scripts lie in a folder of their own,
+# which goes at the end.
 set -euo pipefail
 cd "$(dirname "$0")/.."
 rounds=${1:-3}
+kinds=${*:2}
 room=$(mktemp -d)
 trap 'rm -rf "$room"' EXIT
 
@@ -50,7 +53,7 @@ row() { # kind mebibytes
     awk -v kind="$1" -v script="$(stat -c %s "$room/script")" -v trace="$(stat -c %s "$room/trace")" \
         -v seconds="$seconds" -v peak="$peak" -v last="$(cat "$room/last")" 'BEGIN {
             split(last, was, " ")
-            printf "%-6s %9d %10d %8.3f %9.1f", kind, script, trace, seconds, peak / 1024
+            printf "%-8s %9d %10d %8.3f %9.1f", kind, script, trace, seconds, peak / 1024
             if (was[1] > 0) printf " %9.2f %9.2f", seconds / was[1], (script + trace) / was[2]
             printf "\n"
         }'
@@ -58,8 +61,8 @@ row() { # kind mebibytes
 }
 
 ./tiered --version
-printf '%-6s %9s %10s %8s %9s %9s %9s\n' kind script trace seconds peak-MiB x-seconds x-bytes
-for kind in mixed flush text raw fetch brokers; do
+printf '%-8s %9s %10s %8s %9s %9s %9s\n' kind script trace seconds peak-MiB x-seconds x-bytes
+for kind in ${kinds:-mixed flush text raw fetch brokers segments faults}; do
     echo > "$room/last"
     for mebibytes in 1 2 4 8 16; do
         row "$kind" "$mebibytes"

@@ -1,7 +1,7 @@
 #!/usr/bin/env python3
 """Writes a script of so many bytes, for bench/sim.sh.
 
-usage: sim_script.py mixed|flush|text|raw|fetch|brokers BYTES
+usage: sim_script.py mixed|flush|text|raw|fetch|brokers|segments|faults BYTES
 
 mixed: groups of 64 lines and 16,384 bytes, so 256 bytes a line: 61 appends with values of 236 or 237 letters, a flush,
 an ack, and a fetch of at most 128 KiB from some offset of the log so far. BYTES is a multiple of 16,384.
@@ -14,6 +14,8 @@ the trace has 32 times BYTES. The script itself is small.
 brokers: eight brokers, of which each has an actor: groups of 64 lines of 256 bytes, and so 65,536 commands in 16 MiB. A leader
 appends, the others follow, all flush and acknowledge; in every eighth group the lead goes on to the next broker, and all
 learn and join.
+segments: lines of 256 bytes: appends into segments of their own, half of the lines and 4,096 at most, and then flushes.
+faults: lines of 256 bytes: half of them are faults of the disk's reads, in their order, and half are fetches that meet them.
 """
 import struct
 import sys
@@ -133,6 +135,27 @@ def brokers(size):
             yield f"{broker} 0 {broker} {command}".ljust(255) + "\n"
 
 
+def segments(size):
+    """Segments of a batch each, and flushes of all of them."""
+    appends = min(size // 512, 4096)
+    yield "segment_bytes 100".ljust(255) + "\n"
+    for _ in range(appends):
+        yield "0 0 0 append 1700000000000,-,:x".ljust(255) + "\n"
+    for _ in range(size // 256 - appends - 1):
+        yield "0 0 0 flush".ljust(255) + "\n"
+
+
+def faults(size):
+    """Reads that are to fail, and fetches that make them."""
+    reads = size // 512 - 2
+    for number in range(1, reads + 1):
+        yield f"fault 0 disk 0 read {number} before".ljust(255) + "\n"
+    for command in ["append 1700000000000,-,:x", "flush", "ack"]:
+        yield f"0 0 0 {command}".ljust(255) + "\n"
+    for _ in range(reads + 1):
+        yield "0 0 0 fetch 0 1".ljust(255) + "\n"
+
+
 def main(kind, size):
     if kind == "mixed":
         for number in range(size // GROUP):
@@ -149,6 +172,10 @@ def main(kind, size):
         sys.stdout.writelines(fetches(size))
     elif kind == "brokers":
         sys.stdout.writelines(brokers(size))
+    elif kind == "segments":
+        sys.stdout.writelines(segments(size))
+    elif kind == "faults":
+        sys.stdout.writelines(faults(size))
     else:
         sys.exit(__doc__)
 
