@@ -1,0 +1,83 @@
+-- Views that take in further notes.
+use Rattle.std.proofs.Common.{◌≡◌, ◌∙◌, refl, sym, ap, subst, ℕ, ◌+◌, ◌<◌, ◌≤◌, List, [], ◌∷◌, ◌++◌, length, take, drop, Result, Ok, Err, arith}
+use Rattle.std.specs.Prelude.{IsTrue, ◌^◌, ◌-◌, min}
+use Rattle.std.proofs.Math.ListN.{get_or}
+use Rattle.std.proofs.lemmas.List.{take-append-drop, length-take-le, length-append, take_more, drop_more}
+use Rattle.std.proofs.lemmas.List.Elements.{All-nil, All-take}
+use Rattle.tier_base.specs.declared.fault.Trouble.{Trouble}
+use Rattle.tier_base.specs.declared.fault.Trouble.TheVariants.{Failed, NoMemory}
+use Rattle.segment_meta.specs.Rules.{IsNote}
+use Rattle.segment_meta.specs.declared.note.Entry.{Entry}
+use Rattle.segment_meta.specs.declared.note.Note.{Note}
+use Rattle.meta_log.specs.Content.{Content, AreNotes}
+use Rattle.tier_base.specs.Counts.{counted}
+use Rattle.remote_view.specs.Fold.{Seen, fed, view_of, fold, folded_from, noted}
+use Rattle.view_refresh.specs.Refreshing.{fed_all, Refreshes, Advances, Takes}
+
+-- entries and count of a view that is fed
+fed_entries : (view : Seen) (notes : List Note) → (fed_all view notes).entries ≡ folded_from view.entries notes
+fed_entries view [] = refl
+fed_entries view (note ∷ notes) = fed_entries (fed view note) notes
+
+fed_notes : (view : Seen) (notes : List Note) → view.notes + length notes < 2 ^ 64 → (fed_all view notes).notes ≡ view.notes + length notes
+fed_notes view [] low = omega arith
+fed_notes view (note ∷ notes) low =
+    let one : (fed view note).notes ≡ view.notes + 1 = omega (arith, low) in
+    let more = fed_notes (fed view note) notes (omega (arith, low, one)) in
+    omega (arith, more, one)
+
+folded_append : (entries : _) (xs ys : List Note) → folded_from entries (xs ++ ys) ≡ folded_from (folded_from entries xs) ys
+folded_append entries [] ys = refl
+folded_append entries (x ∷ xs) ys = folded_append (noted entries x) xs ys
+
+-- a view of the first k notes, fed all others
+fed_rest : (notes : List Note) (k : ℕ) → length notes < 2 ^ 64 → k ≤ length notes → fed_all (view_of (take k notes)) (drop k notes) ≡ view_of notes
+fed_rest notes k low within =
+    let first = length-take-le k notes within in
+    let others : k + length (drop k notes) ≡ length notes =
+    ap (λ (n : ℕ). n + length (drop k notes)) (sym first) ∙ sym (length-append (take k notes) (drop k notes)) ∙ ap length (take-append-drop k notes) in
+    let seen : (view_of (take k notes)).notes ≡ k = omega (arith, first, low, within) in
+    let entries : (fed_all (view_of (take k notes)) (drop k notes)).entries ≡ fold notes =
+    fed_entries (view_of (take k notes)) (drop k notes) ∙ sym (folded_append [] (take k notes) (drop k notes)) ∙ ap fold (take-append-drop k notes) in
+    let count : (fed_all (view_of (take k notes)) (drop k notes)).notes ≡ counted 0 (length notes) =
+    fed_notes (view_of (take k notes)) (drop k notes) (omega (arith, seen, others, low)) ∙ (omega (arith, seen, others, low)) in
+    ap (λ (es : List Entry). (let v : Seen = record { entries = es; notes = (fed_all (view_of (take k notes)) (drop k notes)).notes } in v)) entries
+    ∙ ap (λ (n : ℕ). (let v : Seen = record { entries = fold notes; notes = n } in v)) count
+
+pub refreshed : (log : Content) (old new : Seen) (k : ℕ) → IsTrue log.tells → length log.notes < 2 ^ 64 → k ≤ length log.notes
+    → old ≡ view_of (take k log.notes) → Refreshes log old new → new ≡ view_of log.notes
+refreshed log old new k tells low within old_is r =
+    let first = length-take-le k log.notes within in
+    let seen : old.notes ≡ k = ap (λ (v : Seen). v.notes) old_is ∙ omega (arith, first, low, within) in
+    let further : r.notes ≡ drop k log.notes = r.further tells ∙ ap (λ (n : ℕ). drop n log.notes) seen in
+    r.view ∙ ap (λ (ns : List Note). fed_all old ns) further ∙ ap (λ (v : Seen). fed_all v (drop k log.notes)) old_is ∙ fed_rest log.notes k low within
+
+fed_push : (view : Seen) (notes : List Note) (note : Note) → fed_all view (notes ++ note ∷ []) ≡ fed (fed_all view notes) note
+fed_push view [] note = refl
+fed_push view (first ∷ notes) note = fed_push (fed view first) notes note
+
+-- one note more
+pub feed_next : (view : Seen) (notes : List Note) (i : ℕ) (none : Note) (old new : Seen) → i < length notes
+    → (old ≡ fed_all view (take i notes)) × (fed_all old (drop i notes) ≡ fed_all view notes) → new ≡ fed old (get_or notes i none)
+    → (new ≡ fed_all view (take (i + 1) notes)) × (fed_all new (drop (i + 1) notes) ≡ fed_all view notes)
+feed_next view notes i none old new within was next = (
+  next ∙ ap (λ (v : Seen). fed v (get_or notes i none)) was.0 ∙ sym (fed_push view (take i notes) (get_or notes i none))
+      ∙ ap (fed_all view) (sym (take_more notes i none within)),
+  ap (λ (v : Seen). fed_all v (drop (i + 1) notes)) next ∙ sym (ap (fed_all old) (drop_more notes i none within)) ∙ was.1,
+)
+
+-- a read that failed, or that found no memory, leaves the view
+pub failed_takes : (T : Type 0) (why : Trouble) (log : Content) (view : Seen) → Takes {T = T} (Err why) log view view
+failed_takes T Failed log view = refl
+failed_takes T NoMemory log view = record { notes = []; rest = drop view.notes log.notes; are = All-nil IsNote; further = λ _. refl; view = refl }
+
+-- a feed that finds no memory leaves it with the first of the notes
+pub stopped_advances : (log : Content) (old new : Seen) (notes : List Note) → AreNotes notes → (IsTrue log.tells → notes ≡ drop old.notes log.notes)
+    → (k : ℕ) × (new ≡ fed_all old (take k notes)) → Advances log old new
+stopped_advances log old new notes are further (k, is) = record {
+  notes = take k notes;
+  rest = drop k notes;
+  are = All-take IsNote k notes are;
+  further = λ t. take-append-drop k notes ∙ further t;
+  view = is;
+}

@@ -1,0 +1,50 @@
+-- What a view makes of further notes, and of what a metadata log has more than it.
+--
+--   form                       says
+--   fed_all view notes         the view after these notes, in their order
+--   Refreshes log old new      the view has all notes of the log
+--   Advances log old new       it has taken in some of those that the log has more, in their order
+--
+-- Of a log that doesn't tell, any notes may have been read.
+use Rattle.std.specs.Prelude.{◌≡◌, List, [], ◌∷◌, ◌++◌, drop, IsTrue, Ok, Err}
+use Rattle.std.specs.declared.result.Result.{Result}
+use Rattle.tier_base.specs.declared.fault.Trouble.{Trouble}
+use Rattle.tier_base.specs.declared.fault.Trouble.TheVariants.{Failed, NoMemory}
+use Rattle.tier_base.specs.Device.{Control, RanQuietly, Went, Fault, Lasts}
+use Rattle.segment_meta.specs.declared.note.Note.{Note}
+use Rattle.meta_log.specs.declared.call.MetaCall.TheVariants.{Read}
+use Rattle.meta_log.specs.Call.{call_code}
+use Rattle.meta_log.specs.Content.{Content, AreNotes}
+use Rattle.remote_view.specs.Fold.{Seen, fed}
+
+-- the view after these notes
+abbrev pub fed_all : Seen → List Note → Seen
+fed_all view [] = view
+fed_all view (note ∷ notes) = fed_all (fed view note) notes
+
+-- the view has taken in all that the log has more than it
+pub record Refreshes (log : Content) (old new : Seen) : Type 0 where
+  pub notes : List Note
+  pub are : AreNotes notes
+  pub further : IsTrue log.tells → notes ≡ drop old.notes log.notes
+  pub view : new ≡ fed_all old notes
+
+-- the view has taken in the first of the notes that the log has more than it
+pub record Advances (log : Content) (old new : Seen) : Type 0 where
+  pub notes : List Note
+  pub rest : List Note
+  pub are : AreNotes notes
+  pub further : IsTrue log.tells → notes ++ rest ≡ drop old.notes log.notes
+  pub view : new ≡ fed_all old notes
+
+-- what a refresh makes of a view: a failed one nothing, and one that wants memory may stop between two notes
+abbrev pub Takes : {T : Type 0} → Result T Trouble → Content → Seen → Seen → Type 0
+Takes (Ok x) log old new = Refreshes log old new
+Takes (Err Failed) log old new = new ≡ old
+Takes (Err NoMemory) log old new = Advances log old new
+
+-- one call of the log, which reads
+abbrev pub Reads : {T : Type 0} → Result T Trouble → Control call_code → Control call_code → Type 0
+Reads (Ok x) old new = RanQuietly Read Went old new
+Reads (Err Failed) old new = RanQuietly Read Fault old new
+Reads (Err NoMemory) old new = Lasts old new

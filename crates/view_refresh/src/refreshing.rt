@@ -1,0 +1,37 @@
+//! Refreshing a view.
+
+ghost use Rattle.std.specs.Prelude.{◌≡◌, ℕ, take, OnOk, OnErr};
+ghost use Rattle.meta_log.specs.Content.{AreNotes, Keeps};
+ghost use Rattle.view_refresh.specs.Refreshing.{fed_all, Takes, Reads};
+
+use meta_log::MetaLog;
+use remote_view::View;
+use segment_meta::Note;
+use std::alloc::AllocError;
+use tier_base::Trouble;
+
+/// Takes in all notes that the metadata log has more than the view.
+#[tactic(auto, using(crate::proofs::Feeding::failed_takes))]
+pub fn refresh<M: MetaLog>(view: &mut View, meta: &mut M) -> Result<(), Trouble>
+    ensures view { Takes result (M.content meta.old) view.old view.new }
+    ensures control { Reads result (M.control meta.old) (M.control meta.new) }
+    ensures content { Keeps (M.content meta.old) (M.content meta.new) }
+{
+    let notes = meta.read(view.seen())?;
+    match feed_all(view, notes.as_slice()) {
+        Ok(()) => Ok(()),
+        Err(_) => Err(Trouble::NoMemory),
+    }
+}
+
+/// Feeds a view these notes. Where memory is wanted it has some of them.
+fn feed_all(view: &mut View, notes: &[Note]) -> Result<(), AllocError>
+    requires { AreNotes notes.now }
+    ensures ok { OnOk result (view.new ≡ fed_all view.old notes.now) }
+    ensures err { OnErr result ((k : ℕ) × (view.new ≡ fed_all view.old (take k notes.now))) }
+{
+    for note in notes {
+        view.feed(note)?;
+    }
+    Ok(())
+}
