@@ -1,0 +1,59 @@
+-- A segment that is copied: what its objects hold, and what the metadata log is told of it.
+use Rattle.std.specs.Prelude.{◌≡◌, ◌≢◌, ℕ, ◌+◌, List, [], length, false, None}
+use Rattle.tier_base.specs.declared.names.PartitionId.{PartitionId}
+use Rattle.tier_base.specs.declared.names.SegmentId.{SegmentId}
+use Rattle.tier_base.specs.declared.plain.State.TheVariants.{CopyStarted, CopyFinished}
+use Rattle.log_terms.specs.Line.{line_of}
+use Rattle.log_terms.specs.Log.{joined, end_from}
+use Rattle.segment_file.specs.Segment.{IsSegment, greatest_ts}
+use Rattle.segment_file.specs.Closed.{Whole}
+use Rattle.segment_bundle.specs.Parts.{Parts, parts_of}
+use Rattle.segment_meta.specs.declared.note.Entry.{Entry}
+use Rattle.segment_meta.specs.declared.note.Note.{Note}
+use Rattle.segment_meta.specs.declared.note.Note.TheVariants.{Add, Update}
+use Rattle.copy_task.specs.declared.turn.Site.{Site}
+
+-- a closed segment under a remote id, with the line of its log and the interval of its indexes
+pub record Copied : Type 0 where
+  pub id : SegmentId
+  pub partition : PartitionId
+  pub segment : Whole
+  pub line : List (ℕ × ℕ)
+  pub interval : ℕ
+  pub parts : Parts
+
+-- what a copy keeps: batches that the segment is, and that its parts are made of
+pub record IsCopied (copy : Copied) : Type 0 where
+  pub batches : List (List ℕ)
+  pub some : batches ≢ []
+  pub is : IsSegment copy.segment.base batches
+  pub bytes_are : copy.segment.bytes ≡ joined batches
+  pub last_is : copy.segment.last + 1 ≡ end_from copy.segment.base batches
+  pub max_ts_is : copy.segment.max_ts ≡ greatest_ts batches
+  pub epochs_are : copy.segment.epochs ≡ line_of batches
+  pub parts_are : copy.parts ≡ parts_of batches copy.line copy.interval
+
+-- its entry, as it is told
+abbrev pub entry_of : Copied → Site → Entry
+entry_of copy site = record {
+  id = copy.id;
+  partition = copy.partition;
+  start = copy.segment.base;
+  end = copy.segment.last;
+  max_ts = copy.segment.max_ts;
+  broker = site.broker;
+  event_ts = site.now;
+  size = length copy.segment.bytes;
+  state = CopyStarted;
+  map = copy.segment.epochs;
+  packed = false;
+  custom = None;
+}
+
+-- that the copy starts
+abbrev pub start_note : Copied → Site → Note
+start_note copy site = Add (entry_of copy site)
+
+-- that it is whole
+abbrev pub finish_note : Copied → Site → Note
+finish_note copy site = Update copy.id site.broker site.now CopyFinished None

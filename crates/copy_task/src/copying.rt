@@ -1,0 +1,148 @@
+//! A segment that is copied.
+
+ghost use Rattle.std.specs.Prelude.{◌≡◌, IfOk};
+ghost use Rattle.segment_meta.specs.Rules.{IsNote};
+ghost use Rattle.segment_bundle.specs.Parts.{part_in};
+ghost use Rattle.copy_task.specs.Copying.{Copied, start_note, finish_note};
+
+use crate::turn::Site;
+use bytes::Bytes;
+use epoch_line::Line;
+use segment_bundle::Bundle;
+use segment_file::Closed;
+use segment_meta::{Entry, Note};
+use std::alloc::{AllocError, Global};
+use std::marker::Model;
+use tier_base::{Part, PartitionId, SegmentId, State};
+
+/// A closed segment under a remote id, and what its objects hold. Its bytes are shared, not copied.
+#[derive(Drop)]
+pub struct Copying {
+    id: SegmentId,
+    partition: PartitionId,
+    segment: Closed,
+    bundle: Bundle,
+}
+
+impl Model for Copying {
+    ghost use Rattle.copy_task.specs.Copying.{Copied, IsCopied};
+
+    ghost Value = { Copied };
+
+    ghost view = { λ c. record {
+      id = c.id;
+      partition = c.partition;
+      segment = c.segment;
+      line = c.bundle.line;
+      interval = c.bundle.interval;
+      parts = c.bundle.parts;
+    } };
+
+    ghost invariant = { λ c. IsCopied (record {
+      id = c.id;
+      partition = c.partition;
+      segment = c.segment;
+      line = c.bundle.line;
+      interval = c.bundle.interval;
+      parts = c.bundle.parts;
+    }) };
+}
+
+impl Copying {
+    /// A segment of the partition under an id. The line is its log's, the interval that of its indexes in bytes.
+    pub fn of(
+        alloc: Global,
+        partition: PartitionId,
+        id: SegmentId,
+        segment: Closed,
+        line: &Line,
+        interval: u32,
+    ) -> Result<Copying, AllocError>
+        ensures id { IfOk result (λ copy. copy.id ≡ id) }
+        ensures partition { IfOk result (λ copy. copy.partition ≡ partition) }
+        ensures segment { IfOk result (λ copy. copy.segment ≡ segment) }
+        ensures line { IfOk result (λ copy. copy.line ≡ line.now) }
+        ensures interval { IfOk result (λ copy. copy.interval ≡ interval) }
+    {
+        let bundle = Bundle::of(alloc, &segment, line, interval)?;
+        let _whole = segment.bytes();
+        Ok(Copying {
+            id,
+            partition,
+            segment,
+            bundle,
+        })
+    }
+
+    /// The id under which the segment is copied.
+    pub fn id(&self) -> SegmentId
+        ensures { result ≡ self.now.id }
+    {
+        self.id
+    }
+
+    /// The partition that the segment is of.
+    pub fn partition(&self) -> PartitionId
+        ensures { result ≡ self.now.partition }
+    {
+        self.partition
+    }
+
+    /// The offset of the segment's first record.
+    pub fn base(&self) -> u64
+        ensures { result ≡ self.now.segment.base }
+    {
+        self.segment.base()
+    }
+
+    /// The offset of its last record.
+    pub fn last(&self) -> u64
+        ensures { result ≡ self.now.segment.last }
+    {
+        self.segment.last()
+    }
+
+    /// The bytes of an object.
+    pub fn part(&self, part: Part) -> &Bytes
+        ensures { result.now ≡ part_in self.now.parts part }
+    {
+        self.bundle.part(part)
+    }
+
+    /// What a broker tells of the copy as it starts.
+    pub fn start_note(&self, alloc: Global, site: Site) -> Result<Note, AllocError>
+        ensures note { IfOk result (λ note. note ≡ start_note self.now site) }
+        ensures rules { IfOk result IsNote }
+    {
+        let map = self.segment.epochs().copy(alloc)?;
+        let _line = map.entries();
+        Ok(Note::Add(Entry {
+            id: self.id,
+            partition: self.partition,
+            start: self.segment.base(),
+            end: self.segment.last(),
+            max_ts: self.segment.max_ts(),
+            broker: site.broker,
+            event_ts: site.now,
+            size: self.segment.bytes().len() as u32,
+            state: State::CopyStarted,
+            map,
+            packed: false,
+            custom: None,
+        }))
+    }
+
+    /// What a broker tells of the copy once its objects stand.
+    pub fn finish_note(&self, site: Site) -> Note
+        ensures note { result ≡ finish_note self.now site }
+        ensures rules { IsNote result }
+    {
+        Note::Update {
+            id: self.id,
+            broker: site.broker,
+            event_ts: site.now,
+            state: State::CopyFinished,
+            custom: None,
+        }
+    }
+}
