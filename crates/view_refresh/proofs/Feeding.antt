@@ -1,6 +1,6 @@
 -- Views that take in further notes.
-use Rattle.std.proofs.Common.{◌≡◌, ◌∙◌, refl, sym, ap, subst, ℕ, ◌+◌, ◌<◌, ◌≤◌, List, [], ◌∷◌, ◌++◌, length, take, drop, Result, Ok, Err, arith}
-use Rattle.std.specs.Prelude.{IsTrue, ◌^◌, ◌-◌, min}
+use Rattle.std.proofs.Common.{◌≡◌, ◌∙◌, refl, sym, ap, ℕ, ◌+◌, ◌<◌, ◌≤◌, List, [], ◌∷◌, ◌++◌, length, take, drop, Err, arith}
+use Rattle.std.specs.Prelude.{IsTrue, ◌^◌}
 use Rattle.std.proofs.Math.ListN.{get_or}
 use Rattle.std.proofs.lemmas.List.{take-append-drop, length-take-le, length-append, take_more, drop_more}
 use Rattle.std.proofs.lemmas.List.Elements.{All-nil, All-take}

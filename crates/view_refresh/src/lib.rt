@@ -6,6 +6,8 @@
 
 mod laws;
 mod refreshing;
+#[cfg(test)]
+mod tests;
 
 pub use laws::a_refreshed_view_is_the_fold;
 pub use refreshing::refresh;
