@@ -15,23 +15,20 @@ use Rattle.std.specs.Prelude.{◌≡◌, ◌⊎◌, ℕ, List, Option, Some, Non
 use Rattle.std.specs.declared.result.Result.{Result}
 use Rattle.std.specs.declared.alloc.AllocError.{AllocError}
 use Rattle.tier_base.specs.declared.plain.Part.{Part}
-use Rattle.tier_base.specs.declared.plain.Part.TheVariants.{Log, Index, TimeIndex, Epochs}
+use Rattle.tier_base.specs.declared.plain.Part.TheVariants.{Log}
 use Rattle.tier_base.specs.declared.plain.State.{State}
 use Rattle.tier_base.specs.declared.plain.State.TheVariants.{CopyStarted, CopyFinished, DeleteStarted, DeleteFinished}
-use Rattle.tier_base.specs.declared.object_key.ObjectKey.{ObjectKey}
-use Rattle.tier_base.specs.Device.{Control, RanQuietly, MayBeDone, Lasts, Fate, Went, Fault, Dry}
-use Rattle.tier_base.specs.Told.{replaced, removed}
-use Rattle.segment_meta.specs.declared.note.Note.{Note}
+use Rattle.tier_base.specs.Device.{Control, Went, Fault, Dry}
 use Rattle.segment_bundle.specs.Parts.{part_in}
-use Rattle.object_store.specs.declared.call.StoreCall.TheVariants.{Put as PutCall, Delete as DeleteCall}
 use Rattle.object_store.specs.Call as store_call
 use Rattle.object_store.specs.Content as store
-use Rattle.object_store.specs.Place.{key_of}
-use Rattle.meta_log.specs.declared.call.MetaCall.TheVariants.{Append, Read}
+use Rattle.object_store.specs.Calls.{Puts, Deletes}
+use Rattle.object_store.specs.Place.{key_of, part_after}
 use Rattle.meta_log.specs.Call as meta_call
+use Rattle.meta_log.specs.Calls.{Appends}
 use Rattle.meta_log.specs.Content as meta
 use Rattle.remote_view.specs.Fold.{Seen, state_of}
-use Rattle.view_refresh.specs.Refreshing.{Refreshes, Advances}
+use Rattle.view_refresh.specs.Refreshing.{Refreshed, Unread, Halted}
 use Rattle.plain_log.specs.declared.answer.Answer.{Answer}
 use Rattle.plain_log.specs.declared.answer.Answer.TheVariants.{MetaFault, StoreFault, Damaged, CopiedSegment, Overtaken}
 use Rattle.plain_log.specs.declared.answer.Place.TheVariants.{Meta}
@@ -41,13 +38,6 @@ use Rattle.copy_task.specs.declared.turn.CopyTurn.TheVariants.{Goes, Ends}
 use Rattle.copy_task.specs.declared.turn.Site.{Site}
 use Rattle.copy_task.specs.declared.turn.Next.{Next}
 use Rattle.copy_task.specs.declared.turn.Next.TheVariants.{Start, Put, Finish, Check, Delete}
-
--- the part behind a part
-abbrev pub part_after : Part → Option Part
-part_after Log = Some Index
-part_after Index = Some TimeIndex
-part_after TimeIndex = Some Epochs
-part_after Epochs = None
 
 -- what comes after a part is put
 abbrev pub after_put : Option Part → Next
@@ -68,68 +58,41 @@ checked copy notes (Some DeleteFinished) = Goes (Delete DeleteFinished Log)
 checked copy notes (Some CopyStarted) = Ends (Damaged Meta notes)
 checked copy notes None = Ends (Damaged Meta notes)
 
-module _ {M : Type 0} (notes : M → meta.Content) (reads : M → Control meta_call.call_code) where
-  -- a note was appended, and the call ended so
-  pub record Appends (note : Note) (fate : Fate) (old new : M) : Type 0 where
-    pub control : RanQuietly Append fate (reads old) (reads new)
-    pub content : meta.Grows note (MayBeDone Append fate (reads old)) (notes old) (notes new)
-
-  -- the log was read, the call ended so, and this became of the view
-  pub record Reads (fate : Fate) (takes : meta.Content → Seen → Seen → Type 0) (before after : Seen) (old new : M) : Type 0 where
-    pub view : takes (notes old) before after
-    pub control : RanQuietly Read fate (reads old) (reads new)
-    pub content : meta.Keeps (notes old) (notes new)
-
-  -- a refresh that wanted memory
-  pub record Stops (before after : Seen) (old new : M) : Type 0 where
-    pub view : Advances (notes old) before after
-    pub control : Lasts (reads old) (reads new)
-    pub content : meta.Keeps (notes old) (notes new)
-
+module _ {M : Type 0} (notes : M → meta.Content) (calls : M → Control meta_call.call_code) where
   -- the copy starts
   abbrev pub StartRow : Copied → Site → Result CopyTurn AllocError → M → M → Type 0
-  StartRow copy site (Ok (Ends MetaFault)) old new = Appends (start_note copy site) Fault old new
-  StartRow copy site (Ok turn) old new = (turn ≡ Goes (Put Log)) × Appends (start_note copy site) Went old new
-  StartRow copy site (Err e) old new = (new ≡ old) ⊎ Appends (start_note copy site) Dry old new
+  StartRow copy site (Ok (Ends MetaFault)) old new = Appends notes calls (start_note copy site) Fault old new
+  StartRow copy site (Ok turn) old new = (turn ≡ Goes (Put Log)) × Appends notes calls (start_note copy site) Went old new
+  StartRow copy site (Err e) old new = (new ≡ old) ⊎ Appends notes calls (start_note copy site) Dry old new
 
   -- it is whole
   abbrev pub FinishRow : Copied → Site → Result CopyTurn AllocError → M → M → Type 0
-  FinishRow copy site (Ok (Ends MetaFault)) old new = Appends (finish_note copy site) Fault old new
-  FinishRow copy site (Ok turn) old new = (turn ≡ Goes Check) × Appends (finish_note copy site) Went old new
-  FinishRow copy site (Err e) old new = Appends (finish_note copy site) Dry old new
+  FinishRow copy site (Ok (Ends MetaFault)) old new = Appends notes calls (finish_note copy site) Fault old new
+  FinishRow copy site (Ok turn) old new = (turn ≡ Goes Check) × Appends notes calls (finish_note copy site) Went old new
+  FinishRow copy site (Err e) old new = Appends notes calls (finish_note copy site) Dry old new
 
   -- how its entry stands
   abbrev pub CheckRow : Copied → Result CopyTurn AllocError → Seen → Seen → M → M → Type 0
-  CheckRow copy (Ok (Ends MetaFault)) before after old new = Reads Fault (λ log x y. y ≡ x) before after old new
+  CheckRow copy (Ok (Ends MetaFault)) before after old new = Unread notes calls before after old new
   CheckRow copy (Ok turn) before after old new =
-      (turn ≡ checked copy after.notes (state_of copy.id after.entries)) × Reads Went Refreshes before after old new
-  CheckRow copy (Err e) before after old new = Stops before after old new
+      (turn ≡ checked copy after.notes (state_of copy.id after.entries)) × Refreshed notes calls before after old new
+  CheckRow copy (Err e) before after old new = Halted notes calls before after old new
 
 module _ {S : Type 0} (objects : S → store.Content) (calls : S → Control store_call.call_code) where
-  -- an object was put, and the call ended so
-  pub record Puts (key : ObjectKey) (bytes : List ℕ) (fate : Fate) (old new : S) : Type 0 where
-    pub control : RanQuietly PutCall fate (calls old) (calls new)
-    pub content : store.Changes key (replaced bytes) (MayBeDone PutCall fate (calls old)) (objects old) (objects new)
-
-  -- an object was taken away, and the call ended so
-  pub record Deletes (key : ObjectKey) (fate : Fate) (old new : S) : Type 0 where
-    pub control : RanQuietly DeleteCall fate (calls old) (calls new)
-    pub content : store.Changes key removed (MayBeDone DeleteCall fate (calls old)) (objects old) (objects new)
-
   -- an object is put
   abbrev pub PutRow : Copied → Part → Result CopyTurn AllocError → S → S → Type 0
   PutRow copy part (Ok (Ends StoreFault)) old new =
-      Puts (key_of copy.partition copy.id part) (part_in copy.parts part) Fault old new
+      Puts objects calls (key_of copy.partition copy.id part) (part_in copy.parts part) Fault old new
   PutRow copy part (Ok turn) old new =
       (turn ≡ Goes (after_put (part_after part)))
-      × Puts (key_of copy.partition copy.id part) (part_in copy.parts part) Went old new
-  PutRow copy part (Err e) old new = Puts (key_of copy.partition copy.id part) (part_in copy.parts part) Dry old new
+      × Puts objects calls (key_of copy.partition copy.id part) (part_in copy.parts part) Went old new
+  PutRow copy part (Err e) old new = Puts objects calls (key_of copy.partition copy.id part) (part_in copy.parts part) Dry old new
 
   -- an object is taken away
   abbrev pub DeleteRow : Copied → State → Part → CopyTurn → S → S → Type 0
-  DeleteRow copy state part (Ends StoreFault) old new = Deletes (key_of copy.partition copy.id part) Fault old new
+  DeleteRow copy state part (Ends StoreFault) old new = Deletes objects calls (key_of copy.partition copy.id part) Fault old new
   DeleteRow copy state part turn old new =
-      (turn ≡ after_delete state (part_after part)) × Deletes (key_of copy.partition copy.id part) Went old new
+      (turn ≡ after_delete state (part_after part)) × Deletes objects calls (key_of copy.partition copy.id part) Went old new
 
 -- what a copy's turns change: its broker's view, the store and the metadata log
 pub record Tiers (S M : Type 0) : Type 0 where
@@ -138,17 +101,17 @@ pub record Tiers (S M : Type 0) : Type 0 where
   pub meta : M
 
 module _ {S M : Type 0} (objects : S → store.Content) (calls : S → Control store_call.call_code)
-    (notes : M → meta.Content) (reads : M → Control meta_call.call_code) where
+    (notes : M → meta.Content) (notings : M → Control meta_call.call_code) where
   -- a turn of a copy, by what was next: what it came to, or that it wanted memory
   abbrev pub CopyRow : Copied → Site → Next → Result CopyTurn AllocError → Tiers S M → Tiers S M → Type 0
   CopyRow copy site Start result old new =
-      (new ≡ record old { meta = new.meta }) × StartRow notes reads copy site result old.meta new.meta
+      (new ≡ record old { meta = new.meta }) × StartRow notes notings copy site result old.meta new.meta
   CopyRow copy site (Put part) result old new =
       (new ≡ record old { store = new.store }) × PutRow objects calls copy part result old.store new.store
   CopyRow copy site Finish result old new =
-      (new ≡ record old { meta = new.meta }) × FinishRow notes reads copy site result old.meta new.meta
+      (new ≡ record old { meta = new.meta }) × FinishRow notes notings copy site result old.meta new.meta
   CopyRow copy site Check result old new =
-      (new.store ≡ old.store) × CheckRow notes reads copy result old.view new.view old.meta new.meta
+      (new.store ≡ old.store) × CheckRow notes notings copy result old.view new.view old.meta new.meta
   CopyRow copy site (Delete state part) (Ok turn) old new =
       (new ≡ record old { store = new.store }) × DeleteRow objects calls copy state part turn old.store new.store
   CopyRow copy site (Delete state part) (Err e) old new = ⊥

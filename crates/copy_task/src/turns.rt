@@ -2,12 +2,13 @@
 
 ghost use Rattle.std.specs.Prelude.{◌≡◌};
 ghost use Rattle.remote_view.specs.Fold.{state_of};
-ghost use Rattle.copy_task.specs.Turns.{Tiers, part_after, after_put, after_delete, checked, StartRow, PutRow, FinishRow, CheckRow, DeleteRow, CopyRow};
+ghost use Rattle.object_store.specs.Place.{part_after};
+ghost use Rattle.copy_task.specs.Turns.{Tiers, after_put, after_delete, checked, StartRow, PutRow, FinishRow, CheckRow, DeleteRow, CopyRow};
 
 use crate::copying::Copying;
 use crate::turn::{CopyTurn, Next, Site};
 use meta_log::MetaLog;
-use object_store::{Store, place};
+use object_store::{Store, part_after, place};
 use plain_log::{Answer, Place};
 use remote_view::View;
 use std::alloc::{AllocError, Global};
@@ -73,18 +74,6 @@ fn after_put(part: Part) -> Next
     match part_after(part) {
         Some(part) => Next::Put(part),
         None => Next::Finish,
-    }
-}
-
-/// The part behind a part.
-fn part_after(part: Part) -> Option<Part>
-    ensures { result ≡ part_after part }
-{
-    match part {
-        Part::Log => Some(Part::Index),
-        Part::Index => Some(Part::TimeIndex),
-        Part::TimeIndex => Some(Part::Epochs),
-        Part::Epochs => None,
     }
 }
 

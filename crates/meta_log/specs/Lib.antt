@@ -1,3 +1,4 @@
 pub mod Call
+pub mod Calls
 pub mod Content
 pub mod Memory

@@ -1,4 +1,5 @@
 pub mod Call
+pub mod Calls
 pub mod Content
 pub mod Deaf
 pub mod Memory

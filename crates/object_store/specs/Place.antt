@@ -1,5 +1,5 @@
 -- Under which keys the objects of a remote segment stand.
-use Rattle.std.specs.Prelude.{List, [], ◌∷◌}
+use Rattle.std.specs.Prelude.{List, [], ◌∷◌, Option, Some, None}
 use Rattle.tier_base.specs.declared.names.PartitionId.{PartitionId}
 use Rattle.tier_base.specs.declared.names.SegmentId.{SegmentId}
 use Rattle.tier_base.specs.declared.plain.Part.{Part}
@@ -14,3 +14,10 @@ key_of partition id part = record { partition = partition; id = id; part = part 
 abbrev pub keys_of : PartitionId → SegmentId → List ObjectKey
 keys_of partition id =
     key_of partition id Log ∷ key_of partition id Index ∷ key_of partition id TimeIndex ∷ key_of partition id Epochs ∷ []
+
+-- the part whose key stands behind a part's
+abbrev pub part_after : Part → Option Part
+part_after Log = Some Index
+part_after Index = Some TimeIndex
+part_after TimeIndex = Some Epochs
+part_after Epochs = None

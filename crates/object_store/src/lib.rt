@@ -21,6 +21,6 @@ mod tests;
 pub use call::{Planned, StoreCall};
 pub use deaf_store::DeafStore;
 pub use memory_store::MemoryStore;
-pub use placing::{keys_of, place};
+pub use placing::{keys_of, part_after, place};
 pub use store::Store;
 pub use tier_base::{ObjectKey, Part};

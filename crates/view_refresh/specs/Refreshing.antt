@@ -14,7 +14,7 @@ use Rattle.tier_base.specs.Device.{Control, RanQuietly, Went, Fault, Lasts}
 use Rattle.segment_meta.specs.declared.note.Note.{Note}
 use Rattle.meta_log.specs.declared.call.MetaCall.TheVariants.{Read}
 use Rattle.meta_log.specs.Call.{call_code}
-use Rattle.meta_log.specs.Content.{Content, AreNotes}
+use Rattle.meta_log.specs.Content.{Content, AreNotes, Keeps}
 use Rattle.remote_view.specs.Fold.{Seen, fed}
 
 -- the view after these notes
@@ -48,3 +48,23 @@ abbrev pub Reads : {T : Type 0} → Result T Trouble → Control call_code → C
 Reads (Ok x) old new = RanQuietly Read Went old new
 Reads (Err Failed) old new = RanQuietly Read Fault old new
 Reads (Err NoMemory) old new = Lasts old new
+
+-- what became of a log, and of a view before and after it was read
+module _ {M : Type 0} (notes : M → Content) (calls : M → Control call_code) where
+  -- the view was refreshed
+  pub record Refreshed (before after : Seen) (old new : M) : Type 0 where
+    pub view : Refreshes (notes old) before after
+    pub control : RanQuietly Read Went (calls old) (calls new)
+    pub content : Keeps (notes old) (notes new)
+
+  -- the read failed
+  pub record Unread (before after : Seen) (old new : M) : Type 0 where
+    pub view : after ≡ before
+    pub control : RanQuietly Read Fault (calls old) (calls new)
+    pub content : Keeps (notes old) (notes new)
+
+  -- memory was wanted
+  pub record Halted (before after : Seen) (old new : M) : Type 0 where
+    pub view : Advances (notes old) before after
+    pub control : Lasts (calls old) (calls new)
+    pub content : Keeps (notes old) (notes new)
