@@ -11,7 +11,7 @@ use Rattle.segment_bundle.specs.Parts.{Parts, parts_of}
 use Rattle.segment_meta.specs.declared.note.Entry.{Entry}
 use Rattle.segment_meta.specs.declared.note.Note.{Note}
 use Rattle.segment_meta.specs.declared.note.Note.TheVariants.{Add, Update}
-use Rattle.copy_task.specs.declared.turn.Site.{Site}
+use Rattle.meta_log.specs.declared.teller.Teller.{Teller}
 
 -- a closed segment under a remote id, with the line of its log and the interval of its indexes
 pub record Copied : Type 0 where
@@ -34,15 +34,15 @@ pub record IsCopied (copy : Copied) : Type 0 where
   pub parts_are : copy.parts ≡ parts_of batches copy.line copy.interval
 
 -- its entry, as it is told
-abbrev pub entry_of : Copied → Site → Entry
-entry_of copy site = record {
+abbrev pub entry_of : Copied → Teller → Entry
+entry_of copy teller = record {
   id = copy.id;
   partition = copy.partition;
   start = copy.segment.base;
   end = copy.segment.last;
   max_ts = copy.segment.max_ts;
-  broker = site.broker;
-  event_ts = site.now;
+  broker = teller.broker;
+  event_ts = teller.now;
   size = length copy.segment.bytes;
   state = CopyStarted;
   map = copy.segment.epochs;
@@ -51,9 +51,9 @@ entry_of copy site = record {
 }
 
 -- that the copy starts
-abbrev pub start_note : Copied → Site → Note
-start_note copy site = Add (entry_of copy site)
+abbrev pub start_note : Copied → Teller → Note
+start_note copy teller = Add (entry_of copy teller)
 
 -- that it is whole
-abbrev pub finish_note : Copied → Site → Note
-finish_note copy site = Update copy.id site.broker site.now CopyFinished None
+abbrev pub finish_note : Copied → Teller → Note
+finish_note copy teller = Update copy.id teller.broker teller.now CopyFinished None

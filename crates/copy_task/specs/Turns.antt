@@ -35,7 +35,7 @@ use Rattle.plain_log.specs.declared.answer.Place.TheVariants.{Meta}
 use Rattle.copy_task.specs.Copying.{Copied, start_note, finish_note}
 use Rattle.copy_task.specs.declared.turn.CopyTurn.{CopyTurn}
 use Rattle.copy_task.specs.declared.turn.CopyTurn.TheVariants.{Goes, Ends}
-use Rattle.copy_task.specs.declared.turn.Site.{Site}
+use Rattle.meta_log.specs.declared.teller.Teller.{Teller}
 use Rattle.copy_task.specs.declared.turn.Next.{Next}
 use Rattle.copy_task.specs.declared.turn.Next.TheVariants.{Start, Put, Finish, Check, Delete}
 
@@ -60,16 +60,16 @@ checked copy notes None = Ends (Damaged Meta notes)
 
 module _ {M : Type 0} (notes : M → meta.Content) (calls : M → Control meta_call.call_code) where
   -- the copy starts
-  abbrev pub StartRow : Copied → Site → Result CopyTurn AllocError → M → M → Type 0
-  StartRow copy site (Ok (Ends MetaFault)) old new = Appends notes calls (start_note copy site) Fault old new
-  StartRow copy site (Ok turn) old new = (turn ≡ Goes (Put Log)) × Appends notes calls (start_note copy site) Went old new
-  StartRow copy site (Err e) old new = (new ≡ old) ⊎ Appends notes calls (start_note copy site) Dry old new
+  abbrev pub StartRow : Copied → Teller → Result CopyTurn AllocError → M → M → Type 0
+  StartRow copy teller (Ok (Ends MetaFault)) old new = Appends notes calls (start_note copy teller) Fault old new
+  StartRow copy teller (Ok turn) old new = (turn ≡ Goes (Put Log)) × Appends notes calls (start_note copy teller) Went old new
+  StartRow copy teller (Err e) old new = (new ≡ old) ⊎ Appends notes calls (start_note copy teller) Dry old new
 
   -- it is whole
-  abbrev pub FinishRow : Copied → Site → Result CopyTurn AllocError → M → M → Type 0
-  FinishRow copy site (Ok (Ends MetaFault)) old new = Appends notes calls (finish_note copy site) Fault old new
-  FinishRow copy site (Ok turn) old new = (turn ≡ Goes Check) × Appends notes calls (finish_note copy site) Went old new
-  FinishRow copy site (Err e) old new = Appends notes calls (finish_note copy site) Dry old new
+  abbrev pub FinishRow : Copied → Teller → Result CopyTurn AllocError → M → M → Type 0
+  FinishRow copy teller (Ok (Ends MetaFault)) old new = Appends notes calls (finish_note copy teller) Fault old new
+  FinishRow copy teller (Ok turn) old new = (turn ≡ Goes Check) × Appends notes calls (finish_note copy teller) Went old new
+  FinishRow copy teller (Err e) old new = Appends notes calls (finish_note copy teller) Dry old new
 
   -- how its entry stands
   abbrev pub CheckRow : Copied → Result CopyTurn AllocError → Seen → Seen → M → M → Type 0
@@ -103,15 +103,15 @@ pub record Tiers (S M : Type 0) : Type 0 where
 module _ {S M : Type 0} (objects : S → store.Content) (calls : S → Control store_call.call_code)
     (notes : M → meta.Content) (notings : M → Control meta_call.call_code) where
   -- a turn of a copy, by what was next: what it came to, or that it wanted memory
-  abbrev pub CopyRow : Copied → Site → Next → Result CopyTurn AllocError → Tiers S M → Tiers S M → Type 0
-  CopyRow copy site Start result old new =
-      (new ≡ record old { meta = new.meta }) × StartRow notes notings copy site result old.meta new.meta
-  CopyRow copy site (Put part) result old new =
+  abbrev pub CopyRow : Copied → Teller → Next → Result CopyTurn AllocError → Tiers S M → Tiers S M → Type 0
+  CopyRow copy teller Start result old new =
+      (new ≡ record old { meta = new.meta }) × StartRow notes notings copy teller result old.meta new.meta
+  CopyRow copy teller (Put part) result old new =
       (new ≡ record old { store = new.store }) × PutRow objects calls copy part result old.store new.store
-  CopyRow copy site Finish result old new =
-      (new ≡ record old { meta = new.meta }) × FinishRow notes notings copy site result old.meta new.meta
-  CopyRow copy site Check result old new =
+  CopyRow copy teller Finish result old new =
+      (new ≡ record old { meta = new.meta }) × FinishRow notes notings copy teller result old.meta new.meta
+  CopyRow copy teller Check result old new =
       (new.store ≡ old.store) × CheckRow notes notings copy result old.view new.view old.meta new.meta
-  CopyRow copy site (Delete state part) (Ok turn) old new =
+  CopyRow copy teller (Delete state part) (Ok turn) old new =
       (new ≡ record old { store = new.store }) × DeleteRow objects calls copy state part turn old.store new.store
-  CopyRow copy site (Delete state part) (Err e) old new = ⊥
+  CopyRow copy teller (Delete state part) (Err e) old new = ⊥

@@ -5,9 +5,9 @@ ghost use Rattle.segment_meta.specs.Rules.{IsNote};
 ghost use Rattle.segment_bundle.specs.Parts.{part_in};
 ghost use Rattle.copy_task.specs.Copying.{Copied, start_note, finish_note};
 
-use crate::turn::Site;
 use bytes::Bytes;
 use epoch_line::Line;
+use meta_log::Teller;
 use segment_bundle::Bundle;
 use segment_file::Closed;
 use segment_meta::{Entry, Note};
@@ -110,8 +110,8 @@ impl Copying {
     }
 
     /// What a broker tells of the copy as it starts.
-    pub fn start_note(&self, alloc: Global, site: Site) -> Result<Note, AllocError>
-        ensures note { IfOk result (λ note. note ≡ start_note self.now site) }
+    pub fn start_note(&self, alloc: Global, teller: Teller) -> Result<Note, AllocError>
+        ensures note { IfOk result (λ note. note ≡ start_note self.now teller) }
         ensures rules { IfOk result IsNote }
     {
         let map = self.segment.epochs().copy(alloc)?;
@@ -122,8 +122,8 @@ impl Copying {
             start: self.segment.base(),
             end: self.segment.last(),
             max_ts: self.segment.max_ts(),
-            broker: site.broker,
-            event_ts: site.now,
+            broker: teller.broker,
+            event_ts: teller.now,
             size: self.segment.bytes().len() as u32,
             state: State::CopyStarted,
             map,
@@ -133,14 +133,14 @@ impl Copying {
     }
 
     /// What a broker tells of the copy once its objects stand.
-    pub fn finish_note(&self, site: Site) -> Note
-        ensures note { result ≡ finish_note self.now site }
+    pub fn finish_note(&self, teller: Teller) -> Note
+        ensures note { result ≡ finish_note self.now teller }
         ensures rules { IsNote result }
     {
         Note::Update {
             id: self.id,
-            broker: site.broker,
-            event_ts: site.now,
+            broker: teller.broker,
+            event_ts: teller.now,
             state: State::CopyFinished,
             custom: None,
         }

@@ -14,5 +14,5 @@ mod turns;
 
 pub use choosing::candidate;
 pub use copying::Copying;
-pub use turn::{CopyTurn, Next, Site};
+pub use turn::{CopyTurn, Next};
 pub use turns::copy_turn;

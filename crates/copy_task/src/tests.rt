@@ -1,9 +1,9 @@
 //! A copy of two batches of a letter each, turn by turn, over devices in memory. Values worked by hand.
 
-use crate::{CopyTurn, Copying, Next, Site, candidate, copy_turn};
+use crate::{CopyTurn, Copying, Next, candidate, copy_turn};
 use bytes::Bytes;
 use epoch_line::Line;
-use meta_log::{MemoryLog, MetaCall, MetaLog};
+use meta_log::{MemoryLog, MetaCall, MetaLog, Teller};
 use object_store::{MemoryStore, Store, StoreCall, place};
 use plain_log::{Answer, Place};
 use record_batch::{Rec, build, read_head};
@@ -41,7 +41,7 @@ const FINISHED: [u8; 29] = [
 ];
 
 /// Broker 0 copies at 5 milliseconds.
-const SITE: Site = Site {
+const TELLER: Teller = Teller {
     broker: BrokerId(0),
     now: 5,
 };
@@ -113,7 +113,7 @@ impl Tiers {
             self.alloc,
             copying,
             next,
-            SITE,
+            TELLER,
             &mut self.view,
             &mut self.store,
             &mut self.meta,

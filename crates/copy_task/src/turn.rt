@@ -1,14 +1,7 @@
-//! Who takes a turn of a copy and when, what it does next, and what it came to.
+//! What a copy does next, and what a turn of it came to.
 
 use plain_log::Answer;
-use tier_base::{BrokerId, Part, State};
-
-/// The broker that copies, and the time of its turn in milliseconds.
-#[derive(Clone, Copy, Debug, PartialEq, Eq)]
-pub struct Site {
-    pub broker: BrokerId,
-    pub now: i64,
-}
+use tier_base::{Part, State};
 
 /// What the next turn of a copy does.
 #[derive(Clone, Copy, Debug, PartialEq, Eq)]

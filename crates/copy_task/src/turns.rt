@@ -6,8 +6,8 @@ ghost use Rattle.object_store.specs.Place.{part_after};
 ghost use Rattle.copy_task.specs.Turns.{Tiers, after_put, after_delete, checked, StartRow, PutRow, FinishRow, CheckRow, DeleteRow, CopyRow};
 
 use crate::copying::Copying;
-use crate::turn::{CopyTurn, Next, Site};
-use meta_log::MetaLog;
+use crate::turn::{CopyTurn, Next};
+use meta_log::{MetaLog, Teller};
 use object_store::{Store, part_after, place};
 use plain_log::{Answer, Place};
 use remote_view::View;
@@ -20,19 +20,19 @@ pub fn copy_turn<S: Store, M: MetaLog>(
     alloc: Global,
     copying: &Copying,
     next: Next,
-    site: Site,
+    teller: Teller,
     view: &mut View,
     store: &mut S,
     meta: &mut M,
 ) -> Result<CopyTurn, AllocError>
-    ensures { CopyRow S.content S.control M.content M.control copying.now site next result
+    ensures { CopyRow S.content S.control M.content M.control copying.now teller next result
         (record { view = view.old; store = store.old; meta = meta.old })
         (record { view = view.new; store = store.new; meta = meta.new }) }
 {
     match next {
-        Next::Start => start(alloc, copying, site, meta),
+        Next::Start => start(alloc, copying, teller, meta),
         Next::Put(part) => put(copying, part, store),
-        Next::Finish => finish(copying, site, meta),
+        Next::Finish => finish(copying, teller, meta),
         Next::Check => check(copying, view, meta),
         Next::Delete(state, part) => Ok(delete(copying, state, part, store)),
     }
@@ -42,12 +42,12 @@ pub fn copy_turn<S: Store, M: MetaLog>(
 fn start<M: MetaLog>(
     alloc: Global,
     copying: &Copying,
-    site: Site,
+    teller: Teller,
     meta: &mut M,
 ) -> Result<CopyTurn, AllocError>
-    ensures { StartRow M.content M.control copying.now site result meta.old meta.new }
+    ensures { StartRow M.content M.control copying.now teller result meta.old meta.new }
 {
-    let note = copying.start_note(alloc, site)?;
+    let note = copying.start_note(alloc, teller)?;
     match meta.append(&note) {
         Ok(_) => Ok(CopyTurn::Goes(Next::Put(Part::Log))),
         Err(Trouble::Failed) => Ok(CopyTurn::Ends(Answer::MetaFault)),
@@ -78,10 +78,14 @@ fn after_put(part: Part) -> Next
 }
 
 /// Tells the metadata log that a copy is whole.
-fn finish<M: MetaLog>(copying: &Copying, site: Site, meta: &mut M) -> Result<CopyTurn, AllocError>
-    ensures { FinishRow M.content M.control copying.now site result meta.old meta.new }
+fn finish<M: MetaLog>(
+    copying: &Copying,
+    teller: Teller,
+    meta: &mut M,
+) -> Result<CopyTurn, AllocError>
+    ensures { FinishRow M.content M.control copying.now teller result meta.old meta.new }
 {
-    match meta.append(&copying.finish_note(site)) {
+    match meta.append(&copying.finish_note(teller)) {
         Ok(_) => Ok(CopyTurn::Goes(Next::Check)),
         Err(Trouble::Failed) => Ok(CopyTurn::Ends(Answer::MetaFault)),
         Err(Trouble::NoMemory) => Err(AllocError),

@@ -10,9 +10,11 @@ mod copying;
 mod log;
 mod memory_log;
 mod notes;
+mod teller;
 #[cfg(test)]
 mod tests;
 
 pub use call::{MetaCall, Planned};
 pub use log::MetaLog;
 pub use memory_log::MemoryLog;
+pub use teller::Teller;

@@ -8,7 +8,7 @@ ghost use Rattle.std.specs.Option.{option_map};
 ghost use Rattle.tier_base.specs.declared.plain.State.TheVariants.{CopyStarted};
 ghost use Rattle.segment_meta.specs.declared.note.Note.TheVariants.{Add, Update};
 ghost use Rattle.segment_meta.specs.Rules.{IsNote, IsAdded};
-ghost use Rattle.remote_view.specs.Fold.{IsKept, AreKept, AreDistinct, state_of, noted, fed};
+ghost use Rattle.remote_view.specs.Fold.{IsKept, AreKept, AreDistinct, entry_of, state_of, noted, fed};
 ghost use Rattle.remote_view.specs.Lookup.{finished, due};
 ghost use Rattle.remote_view.specs.Stairs.{IsStair};
 
@@ -82,6 +82,13 @@ impl View {
         ensures { result ≡ self.now.notes }
     {
         self.notes
+    }
+
+    /// The entry of a segment.
+    pub fn entry(&self, id: SegmentId) -> Option<&Entry>
+        ensures { option_map (λ e. e.now) result ≡ entry_of id self.now.entries }
+    {
+        self.known.get(&id)
     }
 
     /// The state of a segment.
