@@ -4,12 +4,14 @@
 //! whose deletion has begun, and told again once none of them stands.
 #![tactic(auto)]
 
+mod laws;
 mod rule;
 #[cfg(test)]
 mod tests;
 mod turn;
 mod turns;
 
+pub use laws::a_log_start_rises_up_to_the_known_mark;
 pub use rule::{raised_to, rest_behind};
 pub use turn::{Doomed, ExpiryTurn, Next};
 pub use turns::expiry_turn;
