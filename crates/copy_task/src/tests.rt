@@ -79,6 +79,14 @@ fn copying(alloc: Global) -> Result<Copying, Fail> {
     Ok(Copying::of(alloc, PartitionId(0), id(), segment(alloc)?, &line, 4096)?)
 }
 
+/// What comes next, where the copy goes on.
+fn later(turn: &CopyTurn) -> Option<Next> {
+    match turn {
+        CopyTurn::Goes(later) => Some(*later),
+        CopyTurn::Ends(_) => None,
+    }
+}
+
 /// What a broker's copies change.
 #[derive(Drop)]
 struct Tiers {
@@ -121,12 +129,17 @@ impl Tiers {
     }
 
     /// Takes turns until the copy is answered, ten at most, and counts them.
-    fn run(&mut self, copying: &Copying, from: Next) -> Result<(Option<Answer>, u32), AllocError> {
+    fn run(
+        &mut self,
+        copying: &Copying,
+        from: Next,
+    ) -> Result<(Option<CopyTurn>, u32), AllocError> {
         let mut next = from;
         for turns in 1..11 {
-            match self.turn(copying, next)? {
-                CopyTurn::Goes(later) => next = later,
-                CopyTurn::Ends(answer) => return Ok((Some(answer), turns)),
+            let turn = self.turn(copying, next)?;
+            match later(&turn) {
+                Some(later) => next = later,
+                None => return Ok((Some(turn), turns)),
             }
         }
         Ok((None, 10))
@@ -156,7 +169,9 @@ fn a_copy_puts_its_objects_between_two_notes(rt: HostRuntime) -> Result<(), Fail
     let copying = copying(alloc)?;
     let mut tiers = Tiers::new(alloc, Vec::new(alloc), Vec::new(alloc));
     let (answer, turns) = tiers.run(&copying, Next::Start)?;
-    assert!(rt; turns == 7 && matches!(answer, Some(Answer::CopiedSegment(_, 0, 1))));
+    assert!(rt;
+        turns == 7 && matches!(answer, Some(CopyTurn::Ends(Answer::CopiedSegment(_, 0, 1))))
+    );
     assert!(rt; tiers.noted(0, STARTED.as_slice())? && tiers.noted(1, FINISHED.as_slice())?);
     assert_eq!(rt; tiers.meta.read(0)?.len(), 2);
     let parts: [(Part, &[u8]); 3] = [
@@ -183,9 +198,9 @@ fn a_copy_that_was_overtaken_takes_its_objects_away(rt: HostRuntime) -> Result<(
     let mut tiers = Tiers::new(alloc, Vec::new(alloc), Vec::new(alloc));
     let mut next = Next::Start;
     while next != Next::Finish {
-        match tiers.turn(&copying, next)? {
-            CopyTurn::Goes(later) => next = later,
-            CopyTurn::Ends(_) => break,
+        match later(&tiers.turn(&copying, next)?) {
+            Some(later) => next = later,
+            None => break,
         }
     }
     tiers.meta.append(&Note::Update {
@@ -197,7 +212,13 @@ fn a_copy_that_was_overtaken_takes_its_objects_away(rt: HostRuntime) -> Result<(
     })?;
     assert_eq!(rt; tiers.store.keys()?.len(), 4);
     let (answer, turns) = tiers.run(&copying, next)?;
-    assert!(rt; turns == 6 && matches!(answer, Some(Answer::Overtaken(State::DeleteStarted))));
+    assert!(rt;
+        turns == 6
+            && matches!(
+                answer,
+                Some(CopyTurn::Ends(Answer::Overtaken(State::DeleteStarted)))
+            )
+    );
     assert_eq!(rt; tiers.store.keys()?.len(), 0);
     Ok(())
 }
@@ -247,8 +268,8 @@ fn a_call_that_fails_ends_the_copy(rt: HostRuntime) -> Result<(), Fail> {
             let mut tiers = failing(alloc, put, note, after)?;
             let (answer, turns) = tiers.run(&copying, Next::Start)?;
             let told = match answer {
-                Some(Answer::StoreFault) => put.is_some(),
-                Some(Answer::MetaFault) => note.is_some(),
+                Some(CopyTurn::Ends(Answer::StoreFault)) => put.is_some(),
+                Some(CopyTurn::Ends(Answer::MetaFault)) => note.is_some(),
                 _ => false,
             };
             assert!(rt; told && turns == turn, "turn {turn}, done: {after}");
@@ -263,10 +284,20 @@ fn an_entry_that_is_missing_is_damage(rt: HostRuntime) -> Result<(), Fail> {
     let copying = copying(alloc)?;
     let mut tiers = Tiers::new(alloc, Vec::new(alloc), Vec::new(alloc));
     let (answer, _) = tiers.run(&copying, Next::Check)?;
-    assert!(rt; matches!(answer, Some(Answer::Damaged(Place::Meta, 0))));
+    assert!(rt;
+        matches!(
+            answer,
+            Some(CopyTurn::Ends(Answer::Damaged(Place::Meta, 0)))
+        )
+    );
     tiers.turn(&copying, Next::Start)?;
     let (answer, _) = tiers.run(&copying, Next::Check)?;
-    assert!(rt; matches!(answer, Some(Answer::Damaged(Place::Meta, 1))));
+    assert!(rt;
+        matches!(
+            answer,
+            Some(CopyTurn::Ends(Answer::Damaged(Place::Meta, 1)))
+        )
+    );
     Ok(())
 }
 

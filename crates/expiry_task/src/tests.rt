@@ -52,6 +52,14 @@ fn id(attempt: u64) -> SegmentId {
     segment_id(PARTITION, BrokerId(0), 1, attempt)
 }
 
+/// The segment that is to go.
+fn doomed() -> Doomed {
+    Doomed {
+        partition: PARTITION,
+        id: id(0),
+    }
+}
+
 /// What an expiry changes.
 #[derive(Drop)]
 struct Tiers {
@@ -94,18 +102,23 @@ fn devices(
     Ok(Tiers { store, meta })
 }
 
+/// What comes next, where the expiry goes on.
+fn later(turn: &ExpiryTurn) -> Option<Next> {
+    match turn {
+        ExpiryTurn::Goes(later) => Some(*later),
+        ExpiryTurn::Ends(_) => None,
+    }
+}
+
 impl Tiers {
     /// Takes turns until the expiry is answered, ten at most, and counts them.
-    fn run(&mut self) -> Result<(Option<Answer>, u32), AllocError> {
-        let doomed = Doomed {
-            partition: PARTITION,
-            id: id(0),
-        };
+    fn run(&mut self) -> Result<(Option<ExpiryTurn>, u32), AllocError> {
         let mut next = Next::Start;
         for turns in 1..11 {
-            match expiry_turn(doomed, next, TELLER, &mut self.store, &mut self.meta)? {
-                ExpiryTurn::Goes(later) => next = later,
-                ExpiryTurn::Ends(answer) => return Ok((Some(answer), turns)),
+            let turn = expiry_turn(doomed(), next, TELLER, &mut self.store, &mut self.meta)?;
+            match later(&turn) {
+                Some(later) => next = later,
+                None => return Ok((Some(turn), turns)),
             }
         }
         Ok((None, 10))
@@ -136,7 +149,7 @@ impl Tiers {
 fn an_expiry_takes_four_objects_away_between_two_notes(rt: HostRuntime) -> Result<(), Fail> {
     let mut tiers = devices(rt.alloc(), None, None, false)?;
     let (answer, turns) = tiers.run()?;
-    assert!(rt; turns == 6 && matches!(answer, Some(Answer::Deleted(_))));
+    assert!(rt; turns == 6 && matches!(answer, Some(ExpiryTurn::Ends(Answer::Deleted(_)))));
     assert!(rt; tiers.tells(&[State::DeleteStarted, State::DeleteFinished])?);
     let keys = keys_of(PARTITION, id(1));
     assert_eq!(rt; tiers.store.keys()?.as_slice(), keys.as_slice());
@@ -159,8 +172,8 @@ fn a_call_that_fails_ends_the_expiry(rt: HostRuntime) -> Result<(), Fail> {
             let mut tiers = devices(rt.alloc(), put, note, after)?;
             let (answer, turns) = tiers.run()?;
             let told = match answer {
-                Some(Answer::StoreFault) => put.is_some(),
-                Some(Answer::MetaFault) => note.is_some(),
+                Some(ExpiryTurn::Ends(Answer::StoreFault)) => put.is_some(),
+                Some(ExpiryTurn::Ends(Answer::MetaFault)) => note.is_some(),
                 _ => false,
             };
             assert!(rt; told && turns == turn, "turn {turn}, done: {after}");
