@@ -1,5 +1,5 @@
 -- Where retention moves a log start.
-use Rattle.std.proofs.Common.{◌≡◌, refl, sym, ap, subst, ℕ, zero, suc, ◌-◌, ◌<◌, ◌≤◌, ℤ, Bool, true, false, cond, List, [], ◌∷◌, Option, Some, None, arith}
+use Rattle.std.proofs.Common.{◌≡◌, refl, subst, ℕ, zero, suc, ◌-◌, ◌<◌, ◌≤◌, ℤ, Bool, true, false, cond, List, [], ◌∷◌, Option, Some, None, arith}
 use Rattle.std.specs.Prelude.{nat_le, slice_get, option_map}
 use Rattle.std.proofs.lemmas.Bool.Decides.{nat_tests}
 use Rattle.epoch_line.specs.Line.{IsLine}
@@ -7,7 +7,7 @@ use Rattle.tier_base.specs.declared.plain.Keep.{Keep}
 use Rattle.segment_meta.specs.declared.note.Entry.{Entry}
 use Rattle.remote_view.specs.Fold.{AreKept, AreDistinct}
 use Rattle.remote_find.specs.declared.piece.Piece.{Piece}
-use Rattle.remote_find.specs.Pieces.{Pieces, piece_at, IsPieceOf, and_behind, chained, chain}
+use Rattle.remote_find.specs.Pieces.{Pieces, piece_at, and_behind, chained, chain}
 use Rattle.remote_find.proofs.Clipping.{piece_lies}
 use Rattle.retention_rule.specs.Due.{start_due}
 use Rattle.expiry_task.specs.Rule.{items_of, end_of_first, raised_to}

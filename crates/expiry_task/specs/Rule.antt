@@ -5,7 +5,7 @@
 -- start comes to the end of the last piece that is due.
 --
 -- Source: Kafka's retention.ms and retention.bytes, which count the remote log and what of the local log isn't copied.
-use Rattle.std.specs.Prelude.{ℕ, zero, suc, ◌-◌, nat_lt, if◌then◌else◌, List, [], ◌∷◌, Option, Some, None, slice_get, option_map, ℤ, pos, length}
+use Rattle.std.specs.Prelude.{ℕ, zero, suc, ◌-◌, nat_lt, if◌then◌else◌, List, [], ◌∷◌, Option, Some, None, slice_get, option_map, ℤ, pos}
 use Rattle.tier_base.specs.declared.plain.Item.{Item}
 use Rattle.tier_base.specs.declared.plain.Keep.{Keep}
 use Rattle.tier_base.specs.Counts.{counted}

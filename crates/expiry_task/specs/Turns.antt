@@ -12,8 +12,6 @@
 use Rattle.std.specs.Prelude.{◌≡◌, Option, Some, None, Ok, Err}
 use Rattle.std.specs.declared.result.Result.{Result}
 use Rattle.std.specs.declared.alloc.AllocError.{AllocError}
-use Rattle.tier_base.specs.declared.names.PartitionId.{PartitionId}
-use Rattle.tier_base.specs.declared.names.SegmentId.{SegmentId}
 use Rattle.tier_base.specs.declared.plain.Part.{Part}
 use Rattle.tier_base.specs.declared.plain.Part.TheVariants.{Log}
 use Rattle.tier_base.specs.declared.plain.State.{State}
@@ -29,7 +27,6 @@ use Rattle.meta_log.specs.declared.teller.Teller.{Teller}
 use Rattle.meta_log.specs.Call as meta_call
 use Rattle.meta_log.specs.Calls.{Appends}
 use Rattle.meta_log.specs.Content as meta
-use Rattle.plain_log.specs.declared.answer.Answer.{Answer}
 use Rattle.plain_log.specs.declared.answer.Answer.TheVariants.{MetaFault, StoreFault, Deleted}
 use Rattle.expiry_task.specs.declared.turn.Doomed.{Doomed}
 use Rattle.expiry_task.specs.declared.turn.ExpiryTurn.{ExpiryTurn}
