@@ -1,5 +1,8 @@
 //! A copy of two batches of a letter each, turn by turn, over devices in memory. Values worked by hand.
 
+ghost use Rattle.std.specs.Prelude.{◌≤◌, ◌^◌};
+ghost use Rattle.segment_meta.specs.Rules.{IsNote};
+
 use crate::{CopyTurn, Copying, Next, candidate, copy_turn};
 use bytes::Bytes;
 use epoch_line::Line;
@@ -11,6 +14,7 @@ use remote_view::View;
 use segment_file::{Closed, Growing};
 use segment_meta::{Note, encode};
 use std::alloc::{AllocError, Global};
+use std::marker::Model;
 use std::test::Fail;
 use tier_base::{Blob, BrokerId, Part, PartitionId, Row, SegmentId, State, Trouble, segment_id};
 
@@ -79,180 +83,248 @@ fn copying(alloc: Global) -> Result<Copying, Fail> {
     Ok(Copying::of(alloc, PartitionId(0), id(), segment(alloc)?, &line, 4096)?)
 }
 
-/// What comes next, where the copy goes on.
-fn later(turn: &CopyTurn) -> Option<Next> {
-    match turn {
-        CopyTurn::Goes(later) => Some(*later),
-        CopyTurn::Ends(_) => None,
-    }
-}
-
-/// What a broker's copies change.
+/// A copy on trial, with what its turns change. A test knows nothing of it but what it is told.
 #[derive(Drop)]
-struct Tiers {
+struct Trial {
     alloc: Global,
+    copying: Copying,
     view: View,
     store: MemoryStore,
     meta: MemoryLog,
 }
 
-impl Tiers {
-    /// Empty devices, of which these calls fail.
+impl Model for Trial {
+    ghost use Rattle.std.specs.Prelude.{ℕ};
+
+    ghost Value = { ℕ };
+
+    // Nothing is told.
+    ghost view = { λ t. 0 };
+}
+
+/// A call of the store that fails, where there is one, done or not.
+fn failing_put(
+    alloc: Global,
+    put: Option<(StoreCall, u32)>,
+    after: bool,
+) -> Result<MemoryStore, AllocError> {
+    let mut plan = Vec::new(alloc);
+    if let Some((call, number)) = put {
+        plan.push(object_store::Planned {
+            call,
+            number,
+            after,
+        })?;
+    }
+    Ok(MemoryStore::new(alloc, plan))
+}
+
+/// A call of the metadata log that fails, where there is one, done or not.
+fn failing_note(
+    alloc: Global,
+    note: Option<(MetaCall, u32)>,
+    after: bool,
+) -> Result<MemoryLog, AllocError> {
+    let mut plan = Vec::new(alloc);
+    if let Some((call, number)) = note {
+        plan.push(meta_log::Planned {
+            call,
+            number,
+            after,
+        })?;
+    }
+    Ok(MemoryLog::new(alloc, plan))
+}
+
+/// What a turn of a copy came to, in short.
+#[derive(Clone, Copy, Debug, PartialEq, Eq)]
+enum Came {
+    Goes(Next),
+    Copied(u64, u64),
+    Overtaken(State),
+    MetaFault,
+    StoreFault,
+    Damaged(u64),
+    Other,
+}
+
+/// What a turn of a copy came to, in short.
+fn came_to(turn: &CopyTurn) -> Came {
+    match turn {
+        CopyTurn::Goes(next) => Came::Goes(*next),
+        CopyTurn::Ends(Answer::CopiedSegment(_, base, last)) => Came::Copied(*base, *last),
+        CopyTurn::Ends(Answer::Overtaken(state)) => Came::Overtaken(*state),
+        CopyTurn::Ends(Answer::MetaFault) => Came::MetaFault,
+        CopyTurn::Ends(Answer::StoreFault) => Came::StoreFault,
+        CopyTurn::Ends(Answer::Damaged(Place::Meta, notes)) => Came::Damaged(*notes),
+        CopyTurn::Ends(_) => Came::Other,
+    }
+}
+
+/// Whether a note is spelt with these bytes.
+fn is_spelt(alloc: Global, note: &Note, bytes: &[u8]) -> bool
+    requires { IsNote note.now }
+{
+    match encode(alloc, note) {
+        Ok(spelt) => spelt.as_slice() == bytes,
+        Err(_) => false,
+    }
+}
+
+impl Trial {
+    /// A copy over empty devices, of which these calls fail, done or not.
     fn new(
         alloc: Global,
-        puts: Vec<object_store::Planned>,
-        notes: Vec<meta_log::Planned>,
-    ) -> Tiers {
-        let mut store = MemoryStore::new(alloc, puts);
-        let mut meta = MemoryLog::new(alloc, notes);
+        put: Option<(StoreCall, u32)>,
+        note: Option<(MetaCall, u32)>,
+        after: bool,
+    ) -> Result<Trial, Fail> {
+        let mut store = failing_put(alloc, put, after)?;
+        let mut meta = failing_note(alloc, note, after)?;
         store.arm();
         meta.arm();
-        Tiers {
+        Ok(Trial {
             alloc,
+            copying: copying(alloc)?,
             view: View::new(alloc),
             store,
             meta,
-        }
+        })
     }
 
     /// Takes a turn.
-    fn turn(&mut self, copying: &Copying, next: Next) -> Result<CopyTurn, AllocError> {
-        copy_turn(
+    fn turn(&mut self, next: Next) -> Came {
+        match copy_turn(
             self.alloc,
-            copying,
+            &self.copying,
             next,
             TELLER,
             &mut self.view,
             &mut self.store,
             &mut self.meta,
-        )
+        ) {
+            Ok(turn) => came_to(&turn),
+            Err(_) => Came::Other,
+        }
     }
 
-    /// Takes turns until the copy is answered, ten at most, and counts them.
-    fn run(
-        &mut self,
-        copying: &Copying,
-        from: Next,
-    ) -> Result<(Option<CopyTurn>, u32), AllocError> {
+    /// Takes turns until the copy is answered or one comes to an end, ten at most, and counts them.
+    fn run(&mut self, from: Next, end: Next) -> (Came, u32) {
         let mut next = from;
         for turns in 1..11 {
-            let turn = self.turn(copying, next)?;
-            match later(&turn) {
-                Some(later) => next = later,
-                None => return Ok((Some(turn), turns)),
+            match self.turn(next) {
+                Came::Goes(later) if later != end => next = later,
+                came => return (came, turns),
             }
         }
-        Ok((None, 10))
+        (Came::Other, 10)
     }
 
     /// Whether an object has these bytes.
-    fn holds(&mut self, part: Part, bytes: &[u8]) -> Result<bool, Trouble> {
-        match self.store.get(&place(id(), PartitionId(0), part), 0)? {
-            Some(held) => Ok(held.as_slice() == bytes),
-            None => Ok(false),
+    fn holds(&mut self, part: Part, bytes: &[u8]) -> bool {
+        match self.store.get(&place(id(), PartitionId(0), part), 0) {
+            Ok(Some(held)) => held.as_slice() == bytes,
+            _ => false,
+        }
+    }
+
+    /// Whether there are so many objects.
+    fn counts(&mut self, objects: usize) -> bool {
+        match self.store.keys() {
+            Ok(keys) => keys.len() == objects,
+            Err(_) => false,
         }
     }
 
     /// Whether the metadata log has the note of these bytes at a place.
-    fn noted(&mut self, at: u64, bytes: &[u8]) -> Result<bool, Fail> {
-        let notes = self.meta.read(at)?;
-        match notes.as_slice() {
-            [note, ..] => Ok(encode(self.alloc, note)?.as_slice() == bytes),
-            [] => Ok(false),
+    fn noted(&mut self, at: u64, bytes: &[u8]) -> bool {
+        match self.meta.read(at) {
+            Ok(notes) => match notes.as_slice() {
+                [note, ..] => is_spelt(self.alloc, note, bytes),
+                [] => false,
+            },
+            Err(_) => false,
         }
+    }
+
+    /// Tells the metadata log that another broker deletes the segment.
+    fn overtake(&mut self) -> bool {
+        let note = Note::Update {
+            id: id(),
+            broker: BrokerId(1),
+            event_ts: 6,
+            state: State::DeleteStarted,
+            custom: None,
+        };
+        self.meta.append(&note).is_ok()
+    }
+
+    /// The state of the copy's entry in the view.
+    fn state(&self) -> Option<State> {
+        self.view.state(id())
+    }
+
+    /// Whether the copy is of these offsets of partition 0.
+    fn spans(&self, base: u64, last: u64) -> bool {
+        self.copying.id() == id()
+            && self.copying.partition() == PartitionId(0)
+            && self.copying.base() == base
+            && self.copying.last() == last
     }
 }
 
 #[test]
-fn a_copy_puts_its_objects_between_two_notes(rt: HostRuntime) -> Result<(), Fail> {
+fn a_copy_is_answered_after_its_last_turn(rt: HostRuntime) -> Result<(), Fail> {
+    let mut trial = Trial::new(rt.alloc(), None, None, false)?;
+    assert!(rt; trial.spans(0, 1));
+    let came = trial.run(Next::Start, Next::Start);
+    assert_eq!(rt; came, (Came::Copied(0, 1), 7));
+    assert_eq!(rt; trial.state(), Some(State::CopyFinished));
+    Ok(())
+}
+
+#[test]
+fn a_copy_stands_between_two_notes(rt: HostRuntime) -> Result<(), Fail> {
+    let mut trial = Trial::new(rt.alloc(), None, None, false)?;
+    trial.run(Next::Start, Next::Start);
+    let started = trial.noted(0, STARTED.as_slice());
+    let finished = trial.noted(1, FINISHED.as_slice());
+    assert!(rt; started && finished);
+    Ok(())
+}
+
+#[test]
+fn a_copy_has_four_objects(rt: HostRuntime) -> Result<(), Fail> {
     let alloc = rt.alloc();
-    let copying = copying(alloc)?;
-    let mut tiers = Tiers::new(alloc, Vec::new(alloc), Vec::new(alloc));
-    let (answer, turns) = tiers.run(&copying, Next::Start)?;
-    assert!(rt;
-        turns == 7 && matches!(answer, Some(CopyTurn::Ends(Answer::CopiedSegment(_, 0, 1))))
+    let mut trial = Trial::new(alloc, None, None, false)?;
+    trial.run(Next::Start, Next::Start);
+    let segment = segment(alloc)?;
+    let log = trial.holds(Part::Log, segment.bytes().as_slice());
+    let index = trial.holds(Part::Index, b"".as_slice());
+    let times = trial.holds(
+        Part::TimeIndex,
+        b"\x00\x00\x00\x00\x00\x00\x03\xe8\x00\x00\x00\x00".as_slice(),
     );
-    assert!(rt; tiers.noted(0, STARTED.as_slice())? && tiers.noted(1, FINISHED.as_slice())?);
-    assert_eq!(rt; tiers.meta.read(0)?.len(), 2);
-    let parts: [(Part, &[u8]); 3] = [
-        (Part::Index, b"".as_slice()),
-        (
-            Part::TimeIndex,
-            b"\x00\x00\x00\x00\x00\x00\x03\xe8\x00\x00\x00\x00".as_slice(),
-        ),
-        (Part::Epochs, b"0\n1\n0 0\n".as_slice()),
-    ];
-    for (part, bytes) in parts {
-        assert!(rt; tiers.holds(part, bytes)?, "{part:?}");
-    }
-    assert!(rt; tiers.holds(Part::Log, segment(alloc)?.bytes().as_slice())?);
-    assert_eq!(rt; tiers.view.state(id()), Some(State::CopyFinished));
-    assert!(rt; copying.id() == id() && copying.last() == 1 && copying.base() == 0);
+    let epochs = trial.holds(Part::Epochs, b"0\n1\n0 0\n".as_slice());
+    assert!(rt; log && index && times && epochs);
     Ok(())
 }
 
 #[test]
 fn a_copy_that_was_overtaken_takes_its_objects_away(rt: HostRuntime) -> Result<(), Fail> {
-    let alloc = rt.alloc();
-    let copying = copying(alloc)?;
-    let mut tiers = Tiers::new(alloc, Vec::new(alloc), Vec::new(alloc));
-    let mut next = Next::Start;
-    while next != Next::Finish {
-        match later(&tiers.turn(&copying, next)?) {
-            Some(later) => next = later,
-            None => break,
-        }
-    }
-    tiers.meta.append(&Note::Update {
-        id: id(),
-        broker: BrokerId(1),
-        event_ts: 6,
-        state: State::DeleteStarted,
-        custom: None,
-    })?;
-    assert_eq!(rt; tiers.store.keys()?.len(), 4);
-    let (answer, turns) = tiers.run(&copying, next)?;
-    assert!(rt;
-        turns == 6
-            && matches!(
-                answer,
-                Some(CopyTurn::Ends(Answer::Overtaken(State::DeleteStarted)))
-            )
-    );
-    assert_eq!(rt; tiers.store.keys()?.len(), 0);
+    let mut trial = Trial::new(rt.alloc(), None, None, false)?;
+    let came = trial.run(Next::Start, Next::Finish);
+    let four = trial.counts(4);
+    assert!(rt; came == (Came::Goes(Next::Finish), 5) && four);
+    assert!(rt; trial.overtake());
+    let came = trial.run(Next::Finish, Next::Start);
+    let none = trial.counts(0);
+    assert!(rt; came == (Came::Overtaken(State::DeleteStarted), 6) && none);
     Ok(())
-}
-
-/// Devices of which one call fails, which is done or not.
-fn failing(
-    alloc: Global,
-    put: Option<(StoreCall, u32)>,
-    note: Option<(MetaCall, u32)>,
-    after: bool,
-) -> Result<Tiers, AllocError> {
-    let mut puts = Vec::new(alloc);
-    if let Some((call, number)) = put {
-        puts.push(object_store::Planned {
-            call,
-            number,
-            after,
-        })?;
-    }
-    let mut notes = Vec::new(alloc);
-    if let Some((call, number)) = note {
-        notes.push(meta_log::Planned {
-            call,
-            number,
-            after,
-        })?;
-    }
-    Ok(Tiers::new(alloc, puts, notes))
 }
 
 #[test]
 fn a_call_that_fails_ends_the_copy(rt: HostRuntime) -> Result<(), Fail> {
-    let alloc = rt.alloc();
-    let copying = copying(alloc)?;
     // The call of the store or of the metadata log that fails, and the turn of it.
     let rows = [
         (None, Some((MetaCall::Append, 1)), 1),
@@ -264,15 +336,15 @@ fn a_call_that_fails_ends_the_copy(rt: HostRuntime) -> Result<(), Fail> {
         (None, Some((MetaCall::Read, 1)), 7),
     ];
     for (put, note, turn) in rows {
+        let wanted = if put.is_some() {
+            Came::StoreFault
+        } else {
+            Came::MetaFault
+        };
         for after in [false, true] {
-            let mut tiers = failing(alloc, put, note, after)?;
-            let (answer, turns) = tiers.run(&copying, Next::Start)?;
-            let told = match answer {
-                Some(CopyTurn::Ends(Answer::StoreFault)) => put.is_some(),
-                Some(CopyTurn::Ends(Answer::MetaFault)) => note.is_some(),
-                _ => false,
-            };
-            assert!(rt; told && turns == turn, "turn {turn}, done: {after}");
+            let mut trial = Trial::new(rt.alloc(), put, note, after)?;
+            let came = trial.run(Next::Start, Next::Start);
+            assert_eq!(rt; came, (wanted, turn), "done: {after}");
         }
     }
     Ok(())
@@ -280,29 +352,17 @@ fn a_call_that_fails_ends_the_copy(rt: HostRuntime) -> Result<(), Fail> {
 
 #[test]
 fn an_entry_that_is_missing_is_damage(rt: HostRuntime) -> Result<(), Fail> {
-    let alloc = rt.alloc();
-    let copying = copying(alloc)?;
-    let mut tiers = Tiers::new(alloc, Vec::new(alloc), Vec::new(alloc));
-    let (answer, _) = tiers.run(&copying, Next::Check)?;
-    assert!(rt;
-        matches!(
-            answer,
-            Some(CopyTurn::Ends(Answer::Damaged(Place::Meta, 0)))
-        )
-    );
-    tiers.turn(&copying, Next::Start)?;
-    let (answer, _) = tiers.run(&copying, Next::Check)?;
-    assert!(rt;
-        matches!(
-            answer,
-            Some(CopyTurn::Ends(Answer::Damaged(Place::Meta, 1)))
-        )
-    );
+    let mut trial = Trial::new(rt.alloc(), None, None, false)?;
+    assert_eq!(rt; trial.turn(Next::Check), Came::Damaged(0));
+    trial.turn(Next::Start);
+    assert_eq!(rt; trial.turn(Next::Check), Came::Damaged(1));
     Ok(())
 }
 
 /// A segment of batches of a letter each, from one offset to another.
-fn growing(alloc: Global, base: u64, end: u64) -> Result<Growing, Fail> {
+fn growing(alloc: Global, base: u64, end: u64) -> Result<Growing, Fail>
+    requires { base ≤ 2 ^ 62 }
+{
     let mut segment = Growing::new(alloc, base, 4096);
     for offset in base..end {
         let batch = batch(alloc, offset)?;
