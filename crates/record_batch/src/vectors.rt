@@ -1,7 +1,7 @@
 //! Batches worked by hand, field by field; their checksums are those of a program that was written apart from this one.
 
 /// One record at 1000, of the value `a`.
-pub(crate) const FIRST: [u8; 69] = [
+pub(crate) static FIRST: [u8; 69] = [
     0, 0, 0, 0, 0, 0, 0, 0, // base_offset
     0, 0, 0, 0x39, // batch_length
     0, 0, 0, 0, // leader_epoch
@@ -19,7 +19,7 @@ pub(crate) const FIRST: [u8; 69] = [
 ];
 
 /// One record at 1000, of the value `b`, at base offset 1.
-pub(crate) const SECOND: [u8; 69] = [
+pub(crate) static SECOND: [u8; 69] = [
     0, 0, 0, 0, 0, 0, 0, 0x1, // base_offset
     0, 0, 0, 0x39, // batch_length
     0, 0, 0, 0, // leader_epoch
@@ -37,7 +37,7 @@ pub(crate) const SECOND: [u8; 69] = [
 ];
 
 /// One record at 5, of the key `k`, no value, and a header `h` with no value.
-pub(crate) const HEADER: [u8; 72] = [
+pub(crate) static HEADER: [u8; 72] = [
     0, 0, 0, 0, 0, 0, 0, 0, // base_offset
     0, 0, 0, 0x3c, // batch_length
     0, 0, 0, 0, // leader_epoch
@@ -55,7 +55,7 @@ pub(crate) const HEADER: [u8; 72] = [
 ];
 
 /// Three records at 1000, of the values `a`, `b` and `c`.
-pub(crate) const THREE: [u8; 85] = [
+pub(crate) static THREE: [u8; 85] = [
     0, 0, 0, 0, 0, 0, 0, 0, // base_offset
     0, 0, 0, 0x49, // batch_length
     0, 0, 0, 0, // leader_epoch
@@ -75,7 +75,7 @@ pub(crate) const THREE: [u8; 85] = [
 ];
 
 /// The least timestamp and the greatest, whose distance wraps to -1, at base offset 2^40 + 1, in leader epoch 7.
-pub(crate) const WRAPPED: [u8; 83] = [
+pub(crate) static WRAPPED: [u8; 83] = [
     0, 0, 0x1, 0, 0, 0, 0, 0x1, // base_offset
     0, 0, 0, 0x47, // batch_length
     0, 0, 0, 0x7, // leader_epoch
@@ -94,7 +94,7 @@ pub(crate) const WRAPPED: [u8; 83] = [
 ];
 
 /// `FIRST` from a producer of id 7, at base offset 99, in leader epoch 5.
-pub(crate) const FOREIGN: [u8; 69] = [
+pub(crate) static FOREIGN: [u8; 69] = [
     0, 0, 0, 0, 0, 0, 0, 0x63, // base_offset
     0, 0, 0, 0x39, // batch_length
     0, 0, 0, 0x5, // leader_epoch

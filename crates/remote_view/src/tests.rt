@@ -1,14 +1,16 @@
-//! Worked rows, by hand. Each call is made once with ample memory.
+//! Views on trial: notes that are fed, and what is found then. Worked rows, by hand.
+//!
+//! Each kind of call is a method without a contract that tells whether it answered as it should, and the plain look-up with
+//! it; a test is a table of calls and never holds a view.
 
+use crate::View;
 use crate::plain::{finished_in, state_in};
-use crate::{Tread, View};
 use segment_meta::{Entry, decode};
-use std::alloc::Global;
-use std::test::Fail;
+use std::alloc::{AllocError, Global};
 use tier_base::{BrokerId, PartitionId, SegmentId, State, segment_id};
 
 /// A copy that starts: offsets 0 to 19, epoch 0 up to offset 9 and epoch 1 from offset 10 on.
-const TWO_EPOCHS: [u8; 87] = [
+static TWO_EPOCHS: [u8; 87] = [
     0, 0, // version, kind
     0, 0, 0, 0, 0, 0, 0, 1, 0, 0, 0, 0, 0, 0, 0, 0, // id
     0, 0, // partition
@@ -27,7 +29,7 @@ const TWO_EPOCHS: [u8; 87] = [
 ];
 
 /// A copy that starts: offsets 0 to an end, of epoch 0 alone.
-const ONE_EPOCH: [u8; 75] = [
+static ONE_EPOCH: [u8; 75] = [
     0, 0, // version, kind
     0, 0, 0, 0, 0, 0, 0, 1, 0, 0, 0, 0, 0, 0, 0, 0, // id
     0, 0, // partition
@@ -44,7 +46,7 @@ const ONE_EPOCH: [u8; 75] = [
 ];
 
 /// Broker 2 tells a state at 7 milliseconds.
-const UPDATE: [u8; 29] = [
+static UPDATE: [u8; 29] = [
     0, 1, // version, kind
     0, 0, 0, 0, 0, 0, 0, 1, 0, 0, 0, 0, 0, 0, 0, 0, // id
     0, 2, // broker
@@ -52,20 +54,21 @@ const UPDATE: [u8; 29] = [
     1, // state
 ];
 
-/// Where an id's last byte stands, and an update's state.
+/// Where an id's last byte stands in a note, an update's state, and the last byte of a copy's end.
 const ATTEMPT: usize = 17;
 
 const STATE: usize = 28;
 
-/// Feeds a note, of an attempt, with a byte of its own at a place.
-fn take(
-    view: &mut View,
+const END: usize = 35;
+
+/// The bytes of a note, of an attempt, with a byte of its own at a place.
+fn with(
     alloc: Global,
     note: &[u8],
     attempt: u8,
     at: usize,
     own: u8,
-) -> Result<(), Fail> {
+) -> Result<Vec<u8>, AllocError> {
     let mut bytes = Vec::new(alloc);
     for (i, byte) in note.iter().enumerate() {
         if i == ATTEMPT {
@@ -76,203 +79,206 @@ fn take(
             bytes.push(*byte)?;
         }
     }
-    let note = decode(alloc, bytes.as_slice())?;
-    view.feed(&note)?;
-    Ok(())
+    Ok(bytes)
 }
 
 fn id(attempt: u64) -> SegmentId {
     segment_id(PartitionId(0), BrokerId(0), 1, attempt)
 }
 
-/// Whether an entry was found, and it is that of an attempt.
-fn is_of(entry: Option<&Entry>, attempt: u64) -> bool {
-    match entry {
-        Some(entry) => entry.id == id(attempt),
-        None => false,
+/// A call of a view. Copies are told apart by their attempt.
+#[derive(Clone, Copy)]
+enum Call<'a> {
+    /// A copy starts, of two epochs or of one, up to an end.
+    Starts(u8, bool, u8),
+    /// It comes to a state.
+    Comes(u8, u8),
+    /// The copy that is found in an epoch at an offset.
+    Finds(u32, u64, Option<u64>),
+    /// The copy that is due below a log start.
+    IsDue(u64, Option<u64>),
+    HasState(u64, Option<State>),
+    /// The treads of an epoch: from, to and whose.
+    HasStair(u32, &'a [(u64, u64, u64)]),
+    /// How many notes were fed, and of which copies are the entries.
+    Tells(u64, &'a [u64]),
+}
+
+/// A view on trial.
+#[derive(Drop)]
+struct Trial {
+    alloc: Global,
+    view: View,
+}
+
+/// Whether an entry is that of this attempt, or neither is there.
+fn is_of(entry: Option<&Entry>, attempt: Option<u64>) -> bool {
+    match (entry, attempt) {
+        (Some(entry), Some(attempt)) => entry.id == id(attempt),
+        (None, None) => true,
+        _ => false,
     }
 }
 
-/// Two copies that have finished: the first up to 19 with two epochs, the second up to 14.
-fn two_copies(alloc: Global) -> Result<View, Fail> {
-    let mut view = View::new(alloc);
-    take(&mut view, alloc, TWO_EPOCHS.as_slice(), 0, 35, 19)?;
-    take(&mut view, alloc, UPDATE.as_slice(), 0, STATE, 1)?;
-    take(&mut view, alloc, ONE_EPOCH.as_slice(), 1, 35, 14)?;
-    take(&mut view, alloc, UPDATE.as_slice(), 1, STATE, 1)?;
-    Ok(view)
-}
-
-#[test]
-fn the_copy_that_ends_last_is_found(rt: HostRuntime) -> Result<(), Fail> {
-    let alloc = rt.alloc();
-    let mut view = two_copies(alloc)?;
-    assert!(rt; is_of(view.finished(0, 9), 0), "epoch 0 in both");
-    assert!(rt;
-        is_of(view.finished(0, 10), 1),
-        "the first has epoch 1 there"
-    );
-    assert!(rt; is_of(view.finished(1, 19), 0), "its last offset");
-    assert!(rt; view.finished(1, 20).is_none(), "past its end");
-    assert!(rt; view.finished(2, 5).is_none(), "no such epoch");
-    take(&mut view, alloc, ONE_EPOCH.as_slice(), 2, 35, 19)?;
-    assert!(rt;
-        is_of(view.finished(0, 10), 1),
-        "a copy that hasn't finished"
-    );
-    take(&mut view, alloc, UPDATE.as_slice(), 2, STATE, 1)?;
-    assert!(rt; is_of(view.finished(0, 10), 2), "it ends last");
-    assert!(rt; is_of(view.finished(0, 9), 0), "of two ends the lesser id");
-    take(&mut view, alloc, UPDATE.as_slice(), 0, STATE, 2)?;
-    assert!(rt; is_of(view.finished(0, 9), 2), "its deletion has begun");
-    Ok(())
-}
-
-#[test]
-fn only_steps_change_a_state(rt: HostRuntime) -> Result<(), Fail> {
-    let alloc = rt.alloc();
-    let mut view = two_copies(alloc)?;
-    assert_eq!(rt; view.seen(), 4, "notes");
-    take(&mut view, alloc, UPDATE.as_slice(), 0, STATE, 2)?;
-    take(&mut view, alloc, UPDATE.as_slice(), 0, STATE, 1)?;
-    assert_eq!(rt;
-        view.state(id(0)),
-        Some(State::DeleteStarted),
-        "not revived"
-    );
-    take(&mut view, alloc, TWO_EPOCHS.as_slice(), 0, 35, 19)?;
-    assert_eq!(rt;
-        view.state(id(0)),
-        Some(State::DeleteStarted),
-        "not added again"
-    );
-    take(&mut view, alloc, UPDATE.as_slice(), 3, STATE, 1)?;
-    assert_eq!(rt; view.state(id(3)), None, "not added by an update");
-    assert_eq!(rt; view.seen(), 8, "each note is counted");
-    assert_eq!(rt; view.entries().len(), 2, "two entries");
-    let [first, second] = view.entries() else {
-        return Ok(());
-    };
-    assert!(rt; first.id == id(0) && second.id == id(1), "in their order");
-    assert_eq!(rt;
-        (first.broker, first.event_ts),
-        (BrokerId(2), 7),
-        "by the note that counted"
-    );
-    Ok(())
-}
-
-#[test]
-fn a_segment_is_due_below_the_start(rt: HostRuntime) -> Result<(), Fail> {
-    let alloc = rt.alloc();
-    let mut view = two_copies(alloc)?;
-    assert!(rt; view.due(14).is_none(), "both hold offset 14");
-    assert!(rt; is_of(view.due(15), 1), "the second ends at 14");
-    assert!(rt; is_of(view.due(20), 0), "the first in the order of notes");
-    take(&mut view, alloc, UPDATE.as_slice(), 0, STATE, 2)?;
-    assert!(rt; is_of(view.due(20), 0), "its deletion isn't whole");
-    take(&mut view, alloc, UPDATE.as_slice(), 0, STATE, 3)?;
-    assert!(rt; is_of(view.due(20), 1), "now it is");
-    Ok(())
-}
-
-fn tread(from: u64, to: u64, attempt: u64) -> Tread {
-    Tread {
-        from,
-        to,
-        id: id(attempt),
-    }
-}
-
-#[test]
-fn stair_rows(rt: HostRuntime) -> Result<(), Fail> {
-    let alloc = rt.alloc();
-    let mut view = two_copies(alloc)?;
-    let both = [tread(0, 10, 0), tread(10, 15, 1)];
-    assert!(rt;
-        view.stair(0) == both.as_slice(),
-        "the second shows behind the first"
-    );
-    assert!(rt; view.stair(1) == [tread(10, 20, 0)].as_slice(), "epoch 1");
-    assert!(rt; view.stair(2).is_empty(), "no such epoch");
-    take(&mut view, alloc, UPDATE.as_slice(), 0, STATE, 2)?;
-    assert!(rt;
-        view.stair(0) == [tread(0, 15, 1)].as_slice(),
-        "the first is gone"
-    );
-    assert!(rt; view.stair(1).is_empty(), "and nothing lay under it");
-    Ok(())
-}
-
-/// Where the last bytes of a start, an end, and the start of the first epoch stand in the note of one epoch.
-const START: usize = 27;
-
-const END: usize = 35;
-
-const FIRST: usize = 74;
-
-/// Feeds a copy of epoch 0 that has finished.
-fn take_copy(view: &mut View, alloc: Global, attempt: u8, start: u8, end: u8) -> Result<(), Fail> {
-    let mut bytes = Vec::new(alloc);
-    for (i, byte) in ONE_EPOCH.iter().enumerate() {
-        match i {
-            ATTEMPT => bytes.push(attempt)?,
-            START | FIRST => bytes.push(start)?,
-            END => bytes.push(end)?,
-            _ => bytes.push(*byte)?,
+impl Trial {
+    /// Whether a note is fed.
+    fn feeds(&mut self, note: &[u8]) -> bool {
+        match decode(self.alloc, note) {
+            Ok(note) => self.view.feed(&note).is_ok(),
+            Err(_) => false,
         }
     }
-    let note = decode(alloc, bytes.as_slice())?;
-    view.feed(&note)?;
-    take(view, alloc, UPDATE.as_slice(), attempt, STATE, 1)
-}
 
-fn id_of(entry: Option<&Entry>) -> Option<SegmentId> {
-    match entry {
-        Some(entry) => Some(entry.id),
-        None => None,
+    /// Whether a note is fed, of an attempt, with a byte of its own at a place.
+    fn takes(&mut self, note: &[u8], attempt: u8, at: usize, own: u8) -> bool {
+        match with(self.alloc, note, attempt, at, own) {
+            Ok(bytes) => self.feeds(bytes.as_slice()),
+            Err(_) => false,
+        }
     }
-}
 
-/// Whether the view answers as a pass over all of its entries does.
-fn is_plain(view: &View, most: u64, attempts: u64) -> bool {
-    for offset in 0..most {
-        for epoch in 0..2 {
-            let plain = finished_in(view.entries(), epoch, offset);
-            if id_of(view.finished(epoch, offset)) != id_of(plain) {
+    fn finds(&self, epoch: u32, offset: u64, attempt: Option<u64>) -> bool {
+        let plain = is_of(finished_in(self.view.entries(), epoch, offset), attempt);
+        let found = is_of(self.view.finished(epoch, offset), attempt);
+        plain && found
+    }
+
+    fn is_due(&self, start: u64, attempt: Option<u64>) -> bool {
+        is_of(self.view.due(start), attempt)
+    }
+
+    fn has_state(&self, attempt: u64, state: Option<State>) -> bool {
+        let plain = state_in(self.view.entries(), &id(attempt)) == state;
+        let found = self.view.state(id(attempt)) == state;
+        plain && found
+    }
+
+    fn has_stair(&self, epoch: u32, treads: &[(u64, u64, u64)]) -> bool {
+        let stair = self.view.stair(epoch);
+        for (tread, (from, to, attempt)) in stair.iter().zip(treads) {
+            if (tread.from, tread.to, tread.id) != (*from, *to, id(*attempt)) {
                 return false;
             }
         }
+        stair.len() == treads.len()
     }
-    for attempt in 0..attempts {
-        if view.state(id(attempt)) != state_in(view.entries(), &id(attempt)) {
-            return false;
+
+    fn tells(&self, seen: u64, attempts: &[u64]) -> bool {
+        let entries = self.view.entries();
+        for (entry, attempt) in entries.iter().zip(attempts) {
+            if (entry.id, entry.broker, entry.event_ts) != (id(*attempt), BrokerId(2), 7) {
+                return false;
+            }
+        }
+        self.view.seen() == seen && entries.len() == attempts.len()
+    }
+
+    fn goes(&mut self, call: Call) -> bool {
+        match call {
+            Call::Starts(attempt, true, end) => self.takes(&TWO_EPOCHS, attempt, END, end),
+            Call::Starts(attempt, false, end) => self.takes(&ONE_EPOCH, attempt, END, end),
+            Call::Comes(attempt, state) => self.takes(&UPDATE, attempt, STATE, state),
+            Call::Finds(epoch, offset, attempt) => self.finds(epoch, offset, attempt),
+            Call::IsDue(start, attempt) => self.is_due(start, attempt),
+            Call::HasState(attempt, state) => self.has_state(attempt, state),
+            Call::HasStair(epoch, treads) => self.has_stair(epoch, treads),
+            Call::Tells(seen, attempts) => self.tells(seen, attempts),
         }
     }
-    true
 }
 
+/// The number of the first call of a view that doesn't answer as it should, behind the notes of two copies that have
+/// finished: the first up to 19 with two epochs, the second up to 14.
+fn first_wrong(alloc: Global, calls: &[Call]) -> Option<usize> {
+    let view = View::new(alloc);
+    let mut trial = Trial { alloc, view };
+    for call in TWO_COPIES {
+        if !trial.goes(call) {
+            return Some(9999);
+        }
+    }
+    for (i, call) in calls.iter().enumerate() {
+        if !trial.goes(*call) {
+            return Some(i);
+        }
+    }
+    None
+}
+
+const TWO_COPIES: [Call<'static>; 4] = [
+    Call::Starts(0, true, 19),
+    Call::Comes(0, 1),
+    Call::Starts(1, false, 14),
+    Call::Comes(1, 1),
+];
+
+/// What views of two copies go through.
+static STORIES: [(&str, &[Call<'static>]); 4] = [
+    (
+        "the copy that ends last is found",
+        &[
+            Call::Finds(0, 9, Some(0)),
+            Call::Finds(0, 10, Some(1)),
+            Call::Finds(1, 19, Some(0)),
+            Call::Finds(1, 20, None),
+            Call::Finds(2, 5, None),
+            // a copy that hasn't finished, and then has
+            Call::Starts(2, false, 19),
+            Call::Finds(0, 10, Some(1)),
+            Call::Comes(2, 1),
+            Call::Finds(0, 10, Some(2)),
+            // of two ends the lesser id, until its deletion has begun
+            Call::Finds(0, 9, Some(0)),
+            Call::Comes(0, 2),
+            Call::Finds(0, 9, Some(2)),
+        ],
+    ),
+    (
+        "only steps change a state",
+        &[
+            Call::Tells(4, &[0, 1]),
+            Call::Comes(0, 2),
+            // it isn't revived, nor added again
+            Call::Comes(0, 1),
+            Call::HasState(0, Some(State::DeleteStarted)),
+            Call::Starts(0, true, 19),
+            Call::HasState(0, Some(State::DeleteStarted)),
+            // no update adds a copy
+            Call::Comes(3, 1),
+            Call::HasState(3, None),
+            Call::Tells(8, &[0, 1]),
+        ],
+    ),
+    (
+        "a segment is due below the start",
+        &[
+            Call::IsDue(14, None),
+            Call::IsDue(15, Some(1)),
+            Call::IsDue(20, Some(0)),
+            // until its deletion is whole
+            Call::Comes(0, 2),
+            Call::IsDue(20, Some(0)),
+            Call::Comes(0, 3),
+            Call::IsDue(20, Some(1)),
+        ],
+    ),
+    (
+        "a copy shows behind another one",
+        &[
+            Call::HasStair(0, &[(0, 10, 0), (10, 15, 1)]),
+            Call::HasStair(1, &[(10, 20, 0)]),
+            Call::HasStair(2, &[]),
+            // the first is gone, and nothing lay under it in epoch 1
+            Call::Comes(0, 2),
+            Call::HasStair(0, &[(0, 15, 1)]),
+            Call::HasStair(1, &[]),
+        ],
+    ),
+];
+
 #[test]
-fn searches_answer_as_passes_do(rt: HostRuntime) -> Result<(), Fail> {
-    let alloc = rt.alloc();
-    let mut view = two_copies(alloc)?;
-    let copies: [(u8, u8, u8); 8] = [
-        (2, 30, 39),
-        (3, 3, 6),
-        (4, 12, 33),
-        (5, 0, 2),
-        (6, 20, 29),
-        (7, 5, 33),
-        (8, 7, 7),
-        (9, 2, 41),
-    ];
-    for (attempt, start, end) in copies {
-        take_copy(&mut view, alloc, attempt, start, end)?;
-        assert!(rt; is_plain(&view, 45, 12), "a copy from {start} to {end}");
+fn views_go_through_their_stories(rt: HostRuntime) {
+    for (story, calls) in &STORIES {
+        assert_eq!(rt; first_wrong(rt.alloc(), calls), None, "{story}");
     }
-    for attempt in [9u8, 2, 7, 0, 4] {
-        take(&mut view, alloc, UPDATE.as_slice(), attempt, STATE, 2)?;
-        assert!(rt; is_plain(&view, 45, 12), "without copy {attempt}");
-    }
-    Ok(())
 }

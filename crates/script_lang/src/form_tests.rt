@@ -1,200 +1,215 @@
 //! What lines say, form by form, whether it is built or not. The expected values are worked by hand from the grammar.
 
-use crate::form::Form;
 use crate::forms::form;
 use crate::options::Options;
-use crate::refusal::LineRefusal;
 use crate::words::Words;
-use plain_log::Command;
 use std::alloc::{AllocError, Global};
 use std::test::Fail;
-use tier_base::Blob;
+
+/// Lines, and what their words say.
+static FORMS: [(&str, &str); 53] = [
+    ("", "Blank"),
+    ("#x", "Blank"),
+    ("brokers 8", "Given(Brokers(8))"),
+    ("partitions 064", "Given(Partitions(64))"),
+    ("segment_bytes 100", "Given(SegmentBytes(100))"),
+    (
+        "index_interval_bytes 16777216",
+        "Given(IndexIntervalBytes(16777216))",
+    ),
+    ("retention_ms -1", "Given(RetentionMs(-1))"),
+    (
+        "retention_bytes 9223372036854775807",
+        "Given(RetentionBytes(9223372036854775807))",
+    ),
+    ("local_retention_ms -2", "Given(LocalRetentionMs(-2))"),
+    ("local_retention_bytes -1", "Given(LocalRetentionBytes(-1))"),
+    (
+        "turn 63 1048576",
+        "Turn { actor: ActorId(63), turns: 1048576 }",
+    ),
+    (
+        "fault 0 disk 0 sync 4294967295 after",
+        "Faulty { partition: PartitionId(0), fault: Fault { device: Disk(BrokerId(0)), call: Sync, number: 4294967295, after: true } }",
+    ),
+    (
+        "fault 0 store delete 1 before",
+        "Faulty { partition: PartitionId(0), fault: Fault { device: Store, call: Delete, number: 1, after: false } }",
+    ),
+    (
+        "fault 0 meta read 02 after",
+        "Faulty { partition: PartitionId(0), fault: Fault { device: Meta, call: Read, number: 2, after: true } }",
+    ),
+    (
+        "later 5 0 0 roll",
+        "Placed { actor: ActorId(5), partition: PartitionId(0), order: Order { broker: BrokerId(0), command: Roll }, at_once: false }",
+    ),
+    (
+        "63 0 - clock 7",
+        "Placed { actor: ActorId(63), partition: PartitionId(0), order: Order { broker: BrokerId(0), command: Clock { ms: 7 } }, at_once: true }",
+    ),
+    (
+        "fault 0 store put 1 before",
+        "Faulty { partition: PartitionId(0), fault: Fault { device: Store, call: Put, number: 1, after: false } }",
+    ),
+    (
+        "fault 0 store get 1 before",
+        "Faulty { partition: PartitionId(0), fault: Fault { device: Store, call: Get, number: 1, after: false } }",
+    ),
+    (
+        "fault 0 meta append 1 before",
+        "Faulty { partition: PartitionId(0), fault: Fault { device: Meta, call: Append, number: 1, after: false } }",
+    ),
+    (
+        "fault 0 meta read 1 before",
+        "Faulty { partition: PartitionId(0), fault: Fault { device: Meta, call: Read, number: 1, after: false } }",
+    ),
+    (
+        "fault 0 disk 0 append 1 before",
+        "Faulty { partition: PartitionId(0), fault: Fault { device: Disk(BrokerId(0)), call: Append, number: 1, after: false } }",
+    ),
+    (
+        "fault 0 disk 0 sync 1 before",
+        "Faulty { partition: PartitionId(0), fault: Fault { device: Disk(BrokerId(0)), call: Sync, number: 1, after: false } }",
+    ),
+    (
+        "fault 0 disk 0 read 1 before",
+        "Faulty { partition: PartitionId(0), fault: Fault { device: Disk(BrokerId(0)), call: Read, number: 1, after: false } }",
+    ),
+    (
+        "fault 0 disk 0 cut 1 before",
+        "Faulty { partition: PartitionId(0), fault: Fault { device: Disk(BrokerId(0)), call: Cut, number: 1, after: false } }",
+    ),
+    (
+        "fault 0 disk 0 replace 1 before",
+        "Faulty { partition: PartitionId(0), fault: Fault { device: Disk(BrokerId(0)), call: Replace, number: 1, after: false } }",
+    ),
+    (
+        "fault 0 disk 0 remove 1 before",
+        "Faulty { partition: PartitionId(0), fault: Fault { device: Disk(BrokerId(0)), call: Remove, number: 1, after: false } }",
+    ),
+    (
+        "fault 0 disk 0 list 1 before",
+        "Faulty { partition: PartitionId(0), fault: Fault { device: Disk(BrokerId(0)), call: List, number: 1, after: false } }",
+    ),
+    (
+        "0 0 0 flush",
+        "Placed { actor: ActorId(0), partition: PartitionId(0), order: Order { broker: BrokerId(0), command: Flush }, at_once: true }",
+    ),
+    (
+        "0 0 0 roll",
+        "Placed { actor: ActorId(0), partition: PartitionId(0), order: Order { broker: BrokerId(0), command: Roll }, at_once: true }",
+    ),
+    (
+        "0 0 0 elect",
+        "Placed { actor: ActorId(0), partition: PartitionId(0), order: Order { broker: BrokerId(0), command: Elect }, at_once: true }",
+    ),
+    (
+        "0 0 0 unclean",
+        "Placed { actor: ActorId(0), partition: PartitionId(0), order: Order { broker: BrokerId(0), command: Unclean }, at_once: true }",
+    ),
+    (
+        "0 0 0 learn",
+        "Placed { actor: ActorId(0), partition: PartitionId(0), order: Order { broker: BrokerId(0), command: Learn }, at_once: true }",
+    ),
+    (
+        "0 0 0 join",
+        "Placed { actor: ActorId(0), partition: PartitionId(0), order: Order { broker: BrokerId(0), command: Join }, at_once: true }",
+    ),
+    (
+        "0 0 0 ack",
+        "Placed { actor: ActorId(0), partition: PartitionId(0), order: Order { broker: BrokerId(0), command: Ack }, at_once: true }",
+    ),
+    (
+        "0 0 0 shrink",
+        "Placed { actor: ActorId(0), partition: PartitionId(0), order: Order { broker: BrokerId(0), command: Shrink }, at_once: true }",
+    ),
+    (
+        "0 0 0 expand",
+        "Placed { actor: ActorId(0), partition: PartitionId(0), order: Order { broker: BrokerId(0), command: Expand }, at_once: true }",
+    ),
+    (
+        "0 0 0 copy",
+        "Placed { actor: ActorId(0), partition: PartitionId(0), order: Order { broker: BrokerId(0), command: Copy }, at_once: true }",
+    ),
+    (
+        "0 0 0 trim",
+        "Placed { actor: ActorId(0), partition: PartitionId(0), order: Order { broker: BrokerId(0), command: Trim }, at_once: true }",
+    ),
+    (
+        "0 0 0 expire",
+        "Placed { actor: ActorId(0), partition: PartitionId(0), order: Order { broker: BrokerId(0), command: Expire }, at_once: true }",
+    ),
+    (
+        "0 0 0 stop",
+        "Placed { actor: ActorId(0), partition: PartitionId(0), order: Order { broker: BrokerId(0), command: Stop }, at_once: true }",
+    ),
+    (
+        "0 0 0 up",
+        "Placed { actor: ActorId(0), partition: PartitionId(0), order: Order { broker: BrokerId(0), command: Up }, at_once: true }",
+    ),
+    (
+        "0 0 0 follow 2147483647",
+        "Placed { actor: ActorId(0), partition: PartitionId(0), order: Order { broker: BrokerId(0), command: Follow { limit: 2147483647 } }, at_once: true }",
+    ),
+    (
+        "0 0 0 raise 4611686018427387904",
+        "Placed { actor: ActorId(0), partition: PartitionId(0), order: Order { broker: BrokerId(0), command: Raise { start: 4611686018427387904 } }, at_once: true }",
+    ),
+    (
+        "0 0 0 fetch 7 9",
+        "Placed { actor: ActorId(0), partition: PartitionId(0), order: Order { broker: BrokerId(0), command: Fetch { offset: 7, limit: 9 } }, at_once: true }",
+    ),
+    (
+        "0 0 0 offset earliest",
+        "Placed { actor: ActorId(0), partition: PartitionId(0), order: Order { broker: BrokerId(0), command: Offset(Earliest) }, at_once: true }",
+    ),
+    (
+        "0 0 0 offset latest",
+        "Placed { actor: ActorId(0), partition: PartitionId(0), order: Order { broker: BrokerId(0), command: Offset(Latest) }, at_once: true }",
+    ),
+    (
+        "0 0 0 offset earliest_local",
+        "Placed { actor: ActorId(0), partition: PartitionId(0), order: Order { broker: BrokerId(0), command: Offset(EarliestLocal) }, at_once: true }",
+    ),
+    (
+        "0 0 0 offset latest_tiered",
+        "Placed { actor: ActorId(0), partition: PartitionId(0), order: Order { broker: BrokerId(0), command: Offset(LatestTiered) }, at_once: true }",
+    ),
+    (
+        "0 0 0 offset at 9223372036854775807",
+        "Placed { actor: ActorId(0), partition: PartitionId(0), order: Order { broker: BrokerId(0), command: Offset(At(9223372036854775807)) }, at_once: true }",
+    ),
+    (
+        "0 0 - clock 9223372036854775807",
+        "Placed { actor: ActorId(0), partition: PartitionId(0), order: Order { broker: BrokerId(0), command: Clock { ms: 9223372036854775807 } }, at_once: true }",
+    ),
+    (
+        "0 0 - pack 0",
+        "Placed { actor: ActorId(0), partition: PartitionId(0), order: Order { broker: BrokerId(0), command: Pack(false) }, at_once: true }",
+    ),
+    (
+        "0 0 - copying 01",
+        "Placed { actor: ActorId(0), partition: PartitionId(0), order: Order { broker: BrokerId(0), command: Copying(true) }, at_once: true }",
+    ),
+    (
+        "0 0 0 append 0005,x6bfF,-,:h=-,x=:v.1 6,-,:",
+        "Placed { actor: ActorId(0), partition: PartitionId(0), order: Order { broker: BrokerId(0), command: Append(Row { items: [Rec { ts: 5, key: Some(Blob { bytes: [107, 255] }), value: None, headers: Row { items: [Header { key: Blob { bytes: [104] }, value: None }, Header { key: Blob { bytes: [] }, value: Some(Blob { bytes: [118, 46, 49] }) }] } }, Rec { ts: 6, key: None, value: Some(Blob { bytes: [] }), headers: Row { items: [] } }] }) }, at_once: true }",
+    ),
+];
 
 /// What a line's words say, as text.
-fn shown(alloc: Global, line: &[u8]) -> Result<String, AllocError> {
-    match form(alloc, Options::new(), Words::of(line)) {
+fn shown(alloc: Global, line: &str) -> Result<String, AllocError> {
+    match form(alloc, Options::new(), Words::of(line.as_bytes())) {
         Ok(form) => format!(in alloc; "{form:?}"),
         Err(refusal) => format!(in alloc; "{refusal:?}"),
     }
 }
 
-/// The command of a line, as text.
-fn command_of(alloc: Global, line: &[u8]) -> Result<String, AllocError> {
-    match form(alloc, Options::new(), Words::of(line)) {
-        Ok(Form::Placed { order, .. }) => format!(in alloc; "{:?}", order.command),
-        Ok(other) => format!(in alloc; "{other:?}"),
-        Err(refusal) => format!(in alloc; "{refusal:?}"),
-    }
-}
-
 #[test]
-fn forms_of_lines(rt: HostRuntime) -> Result<(), Fail> {
-    let alloc = rt.alloc();
-    let rows: [(&[u8], &str); 16] = [
-        (b"".as_slice(), "Blank"),
-        (b"#x".as_slice(), "Blank"),
-        (b"brokers 8".as_slice(), "Given(Brokers(8))"),
-        (b"partitions 064".as_slice(), "Given(Partitions(64))"),
-        (b"segment_bytes 100".as_slice(), "Given(SegmentBytes(100))"),
-        (
-            b"index_interval_bytes 16777216".as_slice(),
-            "Given(IndexIntervalBytes(16777216))",
-        ),
-        (b"retention_ms -1".as_slice(), "Given(RetentionMs(-1))"),
-        (
-            b"retention_bytes 9223372036854775807".as_slice(),
-            "Given(RetentionBytes(9223372036854775807))",
-        ),
-        (
-            b"local_retention_ms -2".as_slice(),
-            "Given(LocalRetentionMs(-2))",
-        ),
-        (
-            b"local_retention_bytes -1".as_slice(),
-            "Given(LocalRetentionBytes(-1))",
-        ),
-        (
-            b"turn 63 1048576".as_slice(),
-            "Turn { actor: ActorId(63), turns: 1048576 }",
-        ),
-        (
-            b"fault 0 disk 0 sync 4294967295 after".as_slice(),
-            "Faulty { partition: PartitionId(0), fault: Fault { device: Disk(BrokerId(0)), call: Sync, number: 4294967295, after: true } }",
-        ),
-        (
-            b"fault 0 store delete 1 before".as_slice(),
-            "Faulty { partition: PartitionId(0), fault: Fault { device: Store, call: Delete, number: 1, after: false } }",
-        ),
-        (
-            b"fault 0 meta read 02 after".as_slice(),
-            "Faulty { partition: PartitionId(0), fault: Fault { device: Meta, call: Read, number: 2, after: true } }",
-        ),
-        (
-            b"later 5 0 0 roll".as_slice(),
-            "Placed { actor: ActorId(5), partition: PartitionId(0), order: Order { broker: BrokerId(0), command: Roll }, at_once: false }",
-        ),
-        (
-            b"63 0 - clock 7".as_slice(),
-            "Placed { actor: ActorId(63), partition: PartitionId(0), order: Order { broker: BrokerId(0), command: Clock { ms: 7 } }, at_once: true }",
-        ),
-    ];
-    for (line, wanted) in rows {
-        assert_eq!(rt; shown(alloc, line)?.as_str(), wanted);
+fn each_form_is_read(rt: HostRuntime) -> Result<(), Fail> {
+    for (line, wanted) in &FORMS {
+        assert_eq!(rt; shown(rt.alloc(), line)?.as_str(), *wanted);
     }
-    Ok(())
-}
-
-#[test]
-fn commands_of_lines(rt: HostRuntime) -> Result<(), Fail> {
-    let alloc = rt.alloc();
-    let rows: [(&[u8], &str); 25] = [
-        (b"0 0 0 flush".as_slice(), "Flush"),
-        (b"0 0 0 roll".as_slice(), "Roll"),
-        (b"0 0 0 elect".as_slice(), "Elect"),
-        (b"0 0 0 unclean".as_slice(), "Unclean"),
-        (b"0 0 0 learn".as_slice(), "Learn"),
-        (b"0 0 0 join".as_slice(), "Join"),
-        (b"0 0 0 ack".as_slice(), "Ack"),
-        (b"0 0 0 shrink".as_slice(), "Shrink"),
-        (b"0 0 0 expand".as_slice(), "Expand"),
-        (b"0 0 0 copy".as_slice(), "Copy"),
-        (b"0 0 0 trim".as_slice(), "Trim"),
-        (b"0 0 0 expire".as_slice(), "Expire"),
-        (b"0 0 0 stop".as_slice(), "Stop"),
-        (b"0 0 0 up".as_slice(), "Up"),
-        (
-            b"0 0 0 follow 2147483647".as_slice(),
-            "Follow { limit: 2147483647 }",
-        ),
-        (
-            b"0 0 0 raise 4611686018427387904".as_slice(),
-            "Raise { start: 4611686018427387904 }",
-        ),
-        (
-            b"0 0 0 fetch 7 9".as_slice(),
-            "Fetch { offset: 7, limit: 9 }",
-        ),
-        (b"0 0 0 offset earliest".as_slice(), "Offset(Earliest)"),
-        (b"0 0 0 offset latest".as_slice(), "Offset(Latest)"),
-        (
-            b"0 0 0 offset earliest_local".as_slice(),
-            "Offset(EarliestLocal)",
-        ),
-        (
-            b"0 0 0 offset latest_tiered".as_slice(),
-            "Offset(LatestTiered)",
-        ),
-        (
-            b"0 0 0 offset at 9223372036854775807".as_slice(),
-            "Offset(At(9223372036854775807))",
-        ),
-        (
-            b"0 0 - clock 9223372036854775807".as_slice(),
-            "Clock { ms: 9223372036854775807 }",
-        ),
-        (b"0 0 - pack 0".as_slice(), "Pack(false)"),
-        (b"0 0 - copying 01".as_slice(), "Copying(true)"),
-    ];
-    for (line, wanted) in rows {
-        assert_eq!(rt; command_of(alloc, line)?.as_str(), wanted);
-    }
-    Ok(())
-}
-
-#[test]
-fn the_calls_of_each_device(rt: HostRuntime) -> Result<(), Fail> {
-    let alloc = rt.alloc();
-    let lines: [&[u8]; 12] = [
-        b"fault 0 store put 1 before".as_slice(),
-        b"fault 0 store get 1 before".as_slice(),
-        b"fault 0 store delete 1 before".as_slice(),
-        b"fault 0 meta append 1 before".as_slice(),
-        b"fault 0 meta read 1 before".as_slice(),
-        b"fault 0 disk 0 append 1 before".as_slice(),
-        b"fault 0 disk 0 sync 1 before".as_slice(),
-        b"fault 0 disk 0 read 1 before".as_slice(),
-        b"fault 0 disk 0 cut 1 before".as_slice(),
-        b"fault 0 disk 0 replace 1 before".as_slice(),
-        b"fault 0 disk 0 remove 1 before".as_slice(),
-        b"fault 0 disk 0 list 1 before".as_slice(),
-    ];
-    for line in lines {
-        let found = form(alloc, Options::new(), Words::of(line));
-        assert!(rt; matches!(found, Ok(Form::Faulty { .. })));
-    }
-    Ok(())
-}
-
-/// Whether bytes are those, where there are any.
-fn is_some_of(found: &Option<Blob>, wanted: &[u8]) -> bool {
-    match found {
-        Some(bytes) => bytes.as_slice() == wanted,
-        None => false,
-    }
-}
-
-#[test]
-fn a_record_has_time_key_value_and_headers(rt: HostRuntime) -> Result<(), Fail> {
-    let line = b"0 0 0 append 0005,x6bfF,-,:h=-,x=:v.1 6,-,:".as_slice();
-    let found = form(rt.alloc(), Options::new(), Words::of(line))?;
-    let Form::Placed { order, .. } = found else {
-        return Err(Fail::from(LineRefusal::NoMemory));
-    };
-    let Command::Append(recs) = order.command else {
-        return Err(Fail::from(LineRefusal::NoMemory));
-    };
-    let [first, second] = recs.as_slice() else {
-        return Err(Fail::from(LineRefusal::NoMemory));
-    };
-    assert_eq!(rt; first.ts, 5);
-    assert!(rt; is_some_of(&first.key, [0x6b, 0xff].as_slice()));
-    assert!(rt; first.value.is_none());
-    let [header, other] = first.headers.as_slice() else {
-        return Err(Fail::from(LineRefusal::NoMemory));
-    };
-    assert!(rt; header.key.as_slice() == b"h".as_slice() && header.value.is_none());
-    assert!(rt; other.key.is_empty() && is_some_of(&other.value, b"v.1".as_slice()));
-    assert_eq!(rt; second.ts, 6);
-    assert!(rt; second.key.is_none() && is_some_of(&second.value, b"".as_slice()));
     Ok(())
 }

@@ -1,12 +1,12 @@
 //! Worked rows, by hand. Each call is made once with ample memory.
 
-use crate::{Note, NoteRefusal, decode, encode, next_state};
-use std::alloc::Global;
+use crate::{Entry, Note, NoteRefusal, decode, encode, next_state};
+use std::alloc::{AllocError, Global};
 use std::test::Fail;
 use tier_base::{BrokerId, PartitionId, State, segment_id};
 
 /// The first copy of a leader: two records of epoch 0.
-const STARTED: [u8; 75] = [
+static STARTED: [u8; 75] = [
     0, 0, // version, kind
     0, 0, 0, 0, 0, 0, 0, 1, 0, 0, 0, 0, 0, 0, 0, 0, // id
     0, 0, // partition
@@ -23,7 +23,7 @@ const STARTED: [u8; 75] = [
 ];
 
 /// Its end, told by broker 2 a millisecond before the epoch.
-const FINISHED: [u8; 29] = [
+static FINISHED: [u8; 29] = [
     0, 1, // version, kind
     0, 0, 0, 0, 0, 0, 0, 1, 0, 0, 0, 0, 0, 0, 0, 0, // id
     0, 2, // broker
@@ -32,7 +32,7 @@ const FINISHED: [u8; 29] = [
 ];
 
 /// Two epochs, from offset 5 to 9: the first starts at 5, the second at 7.
-const TWO_EPOCHS: [u8; 87] = [
+static TWO_EPOCHS: [u8; 87] = [
     0, 0, // version, kind
     0, 3, 0, 2, 0, 0, 0, 5, 0, 0, 0, 0, 0, 0, 1, 2, // id
     0, 3, // partition
@@ -50,9 +50,19 @@ const TWO_EPOCHS: [u8; 87] = [
     0, 0, 0, 0, 0, 0, 0, 7, // its start
 ];
 
-#[test]
-fn notes_are_spelled_field_by_field(rt: HostRuntime) -> Result<(), Fail> {
-    let alloc = rt.alloc();
+/// Whether bytes are read as a note that is written so.
+fn is_written_again(alloc: Global, bytes: &[u8]) -> bool {
+    match decode(alloc, bytes) {
+        Ok(note) => match encode(alloc, &note) {
+            Ok(written) => written.as_slice() == bytes,
+            Err(_) => false,
+        },
+        Err(_) => false,
+    }
+}
+
+/// Whether the end of the copy is written as the second row.
+fn writes_finished(alloc: Global) -> bool {
     let finished = Note::Update {
         id: segment_id(PartitionId(0), BrokerId(0), 1, 0),
         broker: BrokerId(2),
@@ -60,62 +70,63 @@ fn notes_are_spelled_field_by_field(rt: HostRuntime) -> Result<(), Fail> {
         state: State::CopyFinished,
         custom: None,
     };
-    let bytes = encode(alloc, &finished)?;
-    assert!(rt; bytes.as_slice() == FINISHED.as_slice(), "it has finished");
-    let notes: [&[u8]; 3] = [
-        STARTED.as_slice(),
-        FINISHED.as_slice(),
-        TWO_EPOCHS.as_slice(),
-    ];
-    for bytes in notes {
-        let note = decode(alloc, bytes)?;
-        let again = encode(alloc, &note)?;
-        assert!(rt; again.as_slice() == bytes, "what is read is written again");
+    match encode(alloc, &finished) {
+        Ok(bytes) => bytes.as_slice() == FINISHED.as_slice(),
+        Err(_) => false,
     }
-    Ok(())
 }
 
-/// Whether a note says what the first row spells.
-fn is_first(note: &Note) -> bool {
-    match note {
-        Note::Add(entry) => {
-            entry.id == segment_id(PartitionId(0), BrokerId(0), 1, 0)
-                && entry.partition == PartitionId(0)
-                && (entry.start, entry.end) == (0, 1)
-                && (entry.max_ts, entry.event_ts) == (1000, 0)
-                && entry.broker == BrokerId(0)
-                && entry.size == 138
-                && entry.state == State::CopyStarted
-                && entry.map.entries() == [(0, 0)].as_slice()
-                && !entry.packed
-                && entry.custom.is_none()
-        }
-        Note::Update { .. } => false,
+/// Whether an entry says what the first row spells.
+fn is_first(entry: &Entry) -> bool {
+    let names = (entry.id, entry.partition, entry.broker)
+        == (
+            segment_id(PartitionId(0), BrokerId(0), 1, 0),
+            PartitionId(0),
+            BrokerId(0),
+        );
+    let span = (entry.start, entry.end, entry.max_ts, entry.event_ts) == (0, 1, 1000, 0);
+    let rest = (entry.size, entry.state, entry.packed) == (138, State::CopyStarted, false);
+    let map = entry.map.entries() == [(0, 0)].as_slice();
+    names & span & rest & map & entry.custom.is_none()
+}
+
+/// Whether the first row is read field by field.
+fn reads_first(alloc: Global) -> bool {
+    match decode(alloc, STARTED.as_slice()) {
+        Ok(Note::Add(entry)) => is_first(&entry),
+        _ => false,
     }
 }
 
 #[test]
-fn the_fields_are_read(rt: HostRuntime) -> Result<(), Fail> {
-    let note = decode(rt.alloc(), STARTED.as_slice())?;
-    assert!(rt; is_first(&note), "each field");
-    Ok(())
-}
-
-#[test]
-fn a_note_cut_anywhere_is_short(rt: HostRuntime) -> Result<(), Fail> {
+fn notes_are_spelled_field_by_field(rt: HostRuntime) {
     let alloc = rt.alloc();
-    let notes: [&[u8]; 2] = [FINISHED.as_slice(), TWO_EPOCHS.as_slice()];
-    for bytes in notes {
-        for len in 0..bytes.len() {
-            let refusal = decode(alloc, &bytes[..len]).err();
-            assert_eq!(rt; refusal, Some(NoteRefusal::Short), "cut at {len}");
-        }
+    assert!(rt; writes_finished(alloc), "it has finished");
+    assert!(rt; reads_first(alloc), "each field");
+    assert!(rt; is_written_again(alloc, STARTED.as_slice()), "the first");
+    assert!(rt; is_written_again(alloc, FINISHED.as_slice()), "the second");
+    assert!(rt; is_written_again(alloc, TWO_EPOCHS.as_slice()), "the third");
+}
+
+#[test]
+fn a_note_cut_anywhere_is_short(rt: HostRuntime) {
+    for len in 0..FINISHED.len() {
+        let refusal = decode(rt.alloc(), &FINISHED[..len]).err();
+        assert_eq!(rt; refusal, Some(NoteRefusal::Short), "cut at {len}");
     }
-    Ok(())
+    for len in 0..TWO_EPOCHS.len() {
+        let refusal = decode(rt.alloc(), &TWO_EPOCHS[..len]).err();
+        assert_eq!(rt; refusal, Some(NoteRefusal::Short), "cut at {len}");
+    }
 }
 
 /// Reads a note with bytes of its own at a place.
-fn with(alloc: Global, note: &[u8], at: usize, field: &[u8]) -> Result<Option<NoteRefusal>, Fail> {
+fn with(
+    alloc: Global,
+    note: &[u8],
+    at: usize,
+    field: &[u8],
+) -> Result<Option<NoteRefusal>, AllocError> {
     let mut bytes = Vec::new(alloc);
     for (i, byte) in note.iter().enumerate() {
         bytes.push(*field.get(i.wrapping_sub(at)).unwrap_or(byte))?;
@@ -123,59 +134,67 @@ fn with(alloc: Global, note: &[u8], at: usize, field: &[u8]) -> Result<Option<No
     Ok(decode(alloc, bytes.as_slice()).err())
 }
 
+/// Bytes of their own at a place of the third row, and what is told.
+static BAD: [(usize, &[u8], NoteRefusal); 16] = [
+    (0, &[2], NoteRefusal::BadVersion),
+    (1, &[2], NoteRefusal::Bad { at: 1 }),
+    (35, &[4], NoteRefusal::Bad { at: 28 }),
+    (28, &[0x40], NoteRefusal::Bad { at: 28 }),
+    (20, &[0x40], NoteRefusal::Bad { at: 28 }),
+    (58, &[1], NoteRefusal::BadState),
+    (62, &[0], NoteRefusal::Bad { at: 59 }),
+    (59, &[4, 0, 0, 1], NoteRefusal::Bad { at: 59 }),
+    (59, &[4, 0, 0, 0], NoteRefusal::Short),
+    (62, &[1], NoteRefusal::Bad { at: 75 }),
+    (63, &[0x80], NoteRefusal::Bad { at: 63 }),
+    (74, &[6], NoteRefusal::Bad { at: 67 }),
+    (78, &[3], NoteRefusal::Bad { at: 75 }),
+    (75, &[0x80], NoteRefusal::Bad { at: 75 }),
+    (86, &[5], NoteRefusal::Bad { at: 79 }),
+    (86, &[10], NoteRefusal::Bad { at: 79 }),
+];
+
+/// The state that the second row tells, and what is told of it.
+static STATES: [(u8, Option<NoteRefusal>); 5] = [
+    (0, Some(NoteRefusal::BadState)),
+    (1, None),
+    (2, None),
+    (3, None),
+    (4, Some(NoteRefusal::BadState)),
+];
+
+/// First bytes, and what is told.
+static FRONTS: [(&[u8], NoteRefusal); 4] = [
+    (&[], NoteRefusal::Short),
+    (&[2], NoteRefusal::BadVersion),
+    (&[0], NoteRefusal::Short),
+    (&[0, 2], NoteRefusal::Bad { at: 1 }),
+];
+
+/// What is told of a note with a byte more.
+fn with_more(alloc: Global) -> Result<Option<NoteRefusal>, AllocError> {
+    let mut bytes = Vec::from_slice(alloc, FINISHED.as_slice())?;
+    bytes.push(0)?;
+    Ok(decode(alloc, bytes.as_slice()).err())
+}
+
 #[test]
 fn each_broken_rule_is_told_at_its_place(rt: HostRuntime) -> Result<(), Fail> {
     let alloc = rt.alloc();
-    let bad: [(usize, &[u8], NoteRefusal); 16] = [
-        (0, [2].as_slice(), NoteRefusal::BadVersion),
-        (1, [2].as_slice(), NoteRefusal::Bad { at: 1 }),
-        (35, [4].as_slice(), NoteRefusal::Bad { at: 28 }),
-        (28, [0x40].as_slice(), NoteRefusal::Bad { at: 28 }),
-        (20, [0x40].as_slice(), NoteRefusal::Bad { at: 28 }),
-        (58, [1].as_slice(), NoteRefusal::BadState),
-        (62, [0].as_slice(), NoteRefusal::Bad { at: 59 }),
-        (59, [4, 0, 0, 1].as_slice(), NoteRefusal::Bad { at: 59 }),
-        (59, [4, 0, 0, 0].as_slice(), NoteRefusal::Short),
-        (62, [1].as_slice(), NoteRefusal::Bad { at: 75 }),
-        (63, [0x80].as_slice(), NoteRefusal::Bad { at: 63 }),
-        (74, [6].as_slice(), NoteRefusal::Bad { at: 67 }),
-        (78, [3].as_slice(), NoteRefusal::Bad { at: 75 }),
-        (75, [0x80].as_slice(), NoteRefusal::Bad { at: 75 }),
-        (86, [5].as_slice(), NoteRefusal::Bad { at: 79 }),
-        (86, [10].as_slice(), NoteRefusal::Bad { at: 79 }),
-    ];
-    for (at, field, refusal) in bad {
-        let told = with(alloc, TWO_EPOCHS.as_slice(), at, field)?;
-        assert_eq!(rt; told, Some(refusal), "changed at {at}");
+    for (at, field, refusal) in &BAD {
+        let told = with(alloc, TWO_EPOCHS.as_slice(), *at, field)?;
+        assert_eq!(rt; told, Some(*refusal), "changed at {at}");
     }
-    let states: [(u8, Option<NoteRefusal>); 5] = [
-        (0, Some(NoteRefusal::BadState)),
-        (1, None),
-        (2, None),
-        (3, None),
-        (4, Some(NoteRefusal::BadState)),
-    ];
-    for (code, refusal) in states {
-        let told = with(alloc, FINISHED.as_slice(), 28, [code].as_slice())?;
-        assert_eq!(rt; told, refusal, "an update to {code}");
+    for (code, refusal) in &STATES {
+        let told = with(alloc, FINISHED.as_slice(), 28, [*code].as_slice())?;
+        assert_eq!(rt; told, *refusal, "an update to {code}");
     }
-    let mut bytes = Vec::from_slice(alloc, FINISHED.as_slice())?;
-    bytes.push(0)?;
-    let told = decode(alloc, bytes.as_slice()).err();
+    for (bytes, refusal) in &FRONTS {
+        let told = decode(alloc, bytes).err();
+        assert_eq!(rt; told, Some(*refusal), "by the first bytes");
+    }
+    let told = with_more(alloc)?;
     assert_eq!(rt; told, Some(NoteRefusal::Bad { at: 29 }), "a byte more");
-    let first: [(&[u8], NoteRefusal); 4] = [
-        ([].as_slice(), NoteRefusal::Short),
-        ([2].as_slice(), NoteRefusal::BadVersion),
-        ([0].as_slice(), NoteRefusal::Short),
-        ([0, 2].as_slice(), NoteRefusal::Bad { at: 1 }),
-    ];
-    for (bytes, refusal) in first {
-        assert_eq!(rt;
-            decode(alloc, bytes).err(),
-            Some(refusal),
-            "by the first bytes"
-        );
-    }
     Ok(())
 }
 
