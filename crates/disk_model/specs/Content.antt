@@ -16,7 +16,7 @@
 --   remove    removed                Gone: as before, or none
 --
 -- The bytes that are synced stay: each image after a call is one of before with that file changed so.
-use Rattle.std.specs.Prelude.{◌≡◌, ◌⊎◌, ℕ, ◌≤◌, Bool, true, List, ◌++◌, take, if◌then◌else◌, Option, Some, None, option_map, IsTrue, IsSome}
+use Rattle.std.specs.Prelude.{◌≡◌, ◌⊎◌, ℕ, ◌≤◌, Bool, true, List, ◌++◌, take, drop, if◌then◌else◌, Option, Some, None, option_map, IsTrue, IsSome}
 use Rattle.tier_base.specs.declared.plain.FileName.{FileName}
 use Rattle.tier_base.specs.Told.{OnlyAt, bytes_in}
 
@@ -70,6 +70,10 @@ pub record Keeps (old new : Content) : Type 0 where
   pub files : (n : FileName) → new.files n ≡ old.files n
   pub images : (c : Files) → Image new c → Image old c
   pub time : Elapses old new
+
+-- `read_part`: so many bytes of a file from a place on, fewer where it ends
+abbrev pub part_of : ℕ → ℕ → List ℕ → List ℕ
+part_of at most bytes = take most (drop at bytes)
 
 -- `append`: until a sync, any bytes behind what was there
 abbrev pub appended : List ℕ → Option (List ℕ) → Option (List ℕ)

@@ -1,7 +1,7 @@
 //! Calls of a disk in memory that are done or not, as its plan says. Where one isn't done it uses
 //! its room all the same.
 
-ghost use Rattle.std.specs.Prelude.{◌≡◌, ◌≤◌, if◌then◌else◌, IfOk, OnOk, OnErr};
+ghost use Rattle.std.specs.Prelude.{◌≡◌, ◌≤◌, if◌then◌else◌, take, option_map, IfOk, OnOk, OnErr};
 ghost use Rattle.tier_base.specs.Told.{bytes_in};
 ghost use Rattle.disk_model.specs.Steps.{Append, Sync, Cut, Replace, Remove};
 ghost use Rattle.disk_model.specs.Kept.{attempts};
@@ -90,6 +90,19 @@ pub fn share(file: &Option<Bytes>) -> Result<Bytes, AllocError>
     match file {
         None => Ok(Bytes::new()),
         Some(bytes) => bytes.clone(),
+    }
+}
+
+/// The first so many bytes of what a read found, which share its memory.
+pub fn front_of(file: Option<Bytes>, most: usize) -> Option<Bytes>
+    ensures { result ≡ option_map (take most) file }
+{
+    match file {
+        None => None,
+        Some(mut bytes) => {
+            bytes.truncate(most);
+            Some(bytes)
+        }
     }
 }
 

@@ -9,7 +9,7 @@ ghost use Rattle.disk_model.specs.Call.{call_code};
 ghost use Rattle.tier_base.specs.Told.{bytes_in};
 ghost use Rattle.disk_model.specs.Deaf.{nothing_told, deaf_lawful};
 
-use crate::attempt::{hand, share};
+use crate::attempt::{front_of, hand, share};
 use crate::call::DiskCall;
 use crate::disk::Disk;
 use bytes::Bytes;
@@ -76,6 +76,15 @@ impl Disk for DeafDisk {
         let outcome = self.faults.note(DiskCall::Read, ending);
         hand(&mut self.handed, outcome.is_ok(), shared);
         give(outcome, file)
+    }
+
+    fn read_part(&mut self, name: FileName, at: u64, most: u64) -> Result<Option<Bytes>, Trouble> {
+        let ending = self.faults.ending(DiskCall::Read);
+        let part = front_of(share_from(&self.files, name, at as usize)?, most as usize);
+        let handed = share(&part)?;
+        let outcome = self.faults.note(DiskCall::Read, ending);
+        hand(&mut self.handed, outcome.is_ok(), handed);
+        give(outcome, part)
     }
 
     fn cut(&mut self, name: FileName, len: u64) -> Result<(), Failed> {

@@ -9,7 +9,7 @@ ghost use Rattle.tier_base.specs.Device.{Control, Ran, RanQuietly, MayBeDone, Re
 ghost use Rattle.disk_model.specs.declared.call.DiskCall.TheVariants.{Append, Sync, Read, Cut, Replace, Remove, List as Listing};
 ghost use Rattle.disk_model.specs.Call.{call_code};
 ghost use Rattle.tier_base.specs.Told.{Names, replaced, removed, handed_after};
-ghost use Rattle.disk_model.specs.Content.{Content, Lawful, Files, Image, Changes, Keeps, appended, Grown, cut_to, CutBack, Swapped, Gone, Begins};
+ghost use Rattle.disk_model.specs.Content.{Content, Lawful, Files, Image, Changes, Keeps, appended, Grown, cut_to, CutBack, Swapped, Gone, Begins, part_of};
 
 use bytes::Bytes;
 use std::alloc::AllocError;
@@ -60,6 +60,16 @@ pub trait Disk: Drop {
         ensures content { Keeps (content self.old) (content self.new) }
         ensures bytes { IsTrue (content self.old).tells → IfOk result (λ bytes. bytes
             ≡ option_map (drop at) ((content self.old).files name)) };
+
+    /// Gives the first so many bytes of what `read` gives, and fewer only where these end.
+    fn read_part(&mut self, name: FileName, at: u64, most: u64) -> Result<Option<Bytes>, Trouble>
+        ensures control { Ran Read (fate_of result) (control self.old) (control self.new) }
+        ensures handed { (control self.new).handed
+            ≡ handed_after result (control self.old).handed }
+        ensures room { spare self.new ≡ spare self.old }
+        ensures content { Keeps (content self.old) (content self.new) }
+        ensures bytes { IsTrue (content self.old).tells → IfOk result (λ bytes. bytes
+            ≡ option_map (part_of at most) ((content self.old).files name)) };
 
     /// Cuts a file to a length. Nothing is done where it is shorter or absent.
     fn cut(&mut self, name: FileName, len: u64) -> Result<(), Failed>

@@ -12,7 +12,7 @@ ghost use Rattle.disk_model.specs.Content.{Keeps};
 ghost use Rattle.disk_model.specs.Laws.{lawful_at};
 ghost use Rattle.disk_model.specs.Steps.{content_of};
 
-use crate::attempt::{append_if, cut_if, hand, remove_if, replace_if, share, sync_if};
+use crate::attempt::{append_if, cut_if, front_of, hand, remove_if, replace_if, share, sync_if};
 use crate::call::{DiskCall, Planned};
 use crate::disk::Disk;
 use crate::history::History;
@@ -149,6 +149,15 @@ impl Disk for MemoryDisk {
         let outcome = self.faults.note(DiskCall::Read, ending);
         hand(&mut self.handed, outcome.is_ok(), shared);
         give(outcome, file)
+    }
+
+    fn read_part(&mut self, name: FileName, at: u64, most: u64) -> Result<Option<Bytes>, Trouble> {
+        let ending = self.faults.ending(DiskCall::Read);
+        let part = front_of(self.history.read(name, at)?, most as usize);
+        let handed = share(&part)?;
+        let outcome = self.faults.note(DiskCall::Read, ending);
+        hand(&mut self.handed, outcome.is_ok(), handed);
+        give(outcome, part)
     }
 
     fn cut(&mut self, name: FileName, len: u64) -> Result<(), Failed> {

@@ -1,4 +1,4 @@
+pub mod Kept
 pub mod Name
 pub mod Path
-pub mod Tail
 pub mod Tally

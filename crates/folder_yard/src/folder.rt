@@ -1,15 +1,17 @@
 //! The files of a broker's partition in a folder, through the calls of the system.
 //!
-//! A file that is appended to stays open until another one is. A new name stays only once its folder
-//! is synced, so a sync does both. After a sync that failed the system may have dropped what was
-//! written, and a later sync wouldn't tell of it: so from then on none succeeds.
+//! The files that were used last stay open, so that a log appends to and reads its segments without opening them again.
+//! A new name stays only once its folder is synced, so a sync of a file syncs the folder too where a name is new. After
+//! a sync that failed the system may have dropped what was written, and a later sync wouldn't tell of it: so from then on
+//! none succeeds.
 
 ghost use Rattle.std.specs.Prelude.{◌≡◌, ◌↔◌, Ok, Err, Some, IfOk, IfErr, IsOk, IsErr, IsTrue, IsFalse};
-ghost use Rattle.folder_yard.specs.Tail.{IsClosed};
+ghost use Rattle.folder_yard.specs.Kept.{IsClosed};
 
+use crate::kept::{Kept, KeptFiles};
 use crate::listing::{UNFINISHED, list, remove_unfinished};
 use crate::making::{make_folder, sync_folder};
-use crate::open_file::{cut, read_from, write_whole};
+use crate::open_file::{cut, read_part, write_whole};
 use crate::path_text::PathText;
 use bytes::Bytes;
 use std::fs::{self, File, OpenFile, OpenOptions};
@@ -17,20 +19,14 @@ use std::io::{self, ErrorKind};
 use std::rt::Files;
 use tier_base::{FileName, Row};
 
-/// The file that was appended to last.
-#[derive(Drop)]
-struct Tail<F: Drop> {
-    name: FileName,
-    file: F,
-}
-
 /// A folder.
 #[derive(Drop)]
 pub struct Folder<R: Files + Drop> {
     rt: R,
     place: PathText,
     unfinished: PathText,
-    tail: Option<Tail<R::File>>,
+    kept: KeptFiles<R::File>,
+    name_is_new: bool,
     sync_failed: bool,
 }
 
@@ -40,13 +36,16 @@ impl<R: Files + AllocGlobal + Clone + Drop> Folder<R> {
         let path = if path.is_empty() { "." } else { path };
         let place = PathText::new(rt.alloc(), path)?;
         let unfinished = PathText::new(rt.alloc(), path)?;
+        let kept = KeptFiles::new(rt.alloc())?;
         make_folder(&rt, path)?;
         remove_unfinished(&rt, place.folder())?;
         Ok(Folder {
             rt,
             place,
             unfinished,
-            tail: None,
+            kept,
+            // Names that were there before may not stay yet.
+            name_is_new: true,
             sync_failed: false,
         })
     }
@@ -55,9 +54,10 @@ impl<R: Files + AllocGlobal + Clone + Drop> Folder<R> {
     pub fn append(&mut self, name: FileName, bytes: &[u8]) -> io::Result<()>
         ensures stays_lost { self.new.sync_failed ≡ self.old.sync_failed }
     {
-        let mut file = self.open_tail(name)?;
-        write_whole(&mut file, bytes)?;
-        self.tail = Some(Tail { name, file });
+        let (mut file, len) = self.open_to_append(name)?;
+        write_whole(&mut file, len, bytes)?;
+        let len = Some(len.saturating_add(bytes.len() as u64));
+        self.kept.keep(Kept { name, file, len });
         Ok(())
     }
 
@@ -65,27 +65,36 @@ impl<R: Files + AllocGlobal + Clone + Drop> Folder<R> {
     pub fn sync(&mut self, name: FileName) -> io::Result<()>
         ensures stays_lost { IsTrue self.old.sync_failed → IsTrue self.new.sync_failed }
     {
-        let Some(file) = self.find(name)? else {
+        let Some(kept) = self.find(name)? else {
             return Ok(());
         };
-        self.settle(file)?;
-        self.settle_names()
+        let outcome = kept.file.sync_data();
+        self.kept.keep(kept);
+        self.settled(outcome)?;
+        if self.name_is_new {
+            self.settle_names()?;
+        }
+        Ok(())
     }
 
-    /// Gives a file's bytes from a place on, none past its end, and `None` where it is absent.
-    pub fn read(&mut self, name: FileName, at: u64) -> io::Result<Option<Bytes>>
+    /// Gives so many bytes of a file from a place on, fewer only where it ends, and `None` where it is absent.
+    pub fn read_part(&mut self, name: FileName, at: u64, most: u64) -> io::Result<Option<Bytes>>
         ensures stays_lost { self.new.sync_failed ≡ self.old.sync_failed }
     {
-        let Some(mut file) = self.find(name)? else {
+        let Some(mut kept) = self.find(name)? else {
             return Ok(None);
         };
-        Ok(Some(read_from(self.rt.alloc(), &mut file, at)?))
+        let bytes = read_part(self.rt.alloc(), &mut kept.file, at, most)?;
+        self.kept.keep(kept);
+        Ok(Some(bytes))
     }
 
     /// Cuts a file to a length. Nothing is done where it is shorter or absent.
     pub fn cut(&mut self, name: FileName, len: u64) -> io::Result<()>
+        ensures closed { IsClosed name self.new.kept }
         ensures stays_lost { self.new.sync_failed ≡ self.old.sync_failed }
     {
+        self.kept.close(name);
         self.place.write(name, "");
         let opened = OpenOptions::new()
             .write(true)
@@ -98,26 +107,27 @@ impl<R: Files + AllocGlobal + Clone + Drop> Folder<R> {
 
     /// Puts a file in the place of an old one, and makes its bytes stay.
     pub fn replace(&mut self, name: FileName, bytes: &[u8]) -> io::Result<()>
-        ensures closed { IsClosed name self.new.tail }
+        ensures closed { IsClosed name self.new.kept }
         ensures lost { IsTrue self.old.sync_failed → IsErr result }
         ensures stays_lost { IsTrue self.old.sync_failed → IsTrue self.new.sync_failed }
     {
-        self.close(name);
+        self.kept.close(name);
         self.place.write(name, "");
         self.unfinished.write(name, UNFINISHED);
         let mut file = File::create(&self.rt, self.unfinished.file())?;
-        write_whole(&mut file, bytes)?;
+        write_whole(&mut file, 0, bytes)?;
         self.settle(file)?;
         fs::rename(&self.rt, self.unfinished.file(), self.place.file())?;
+        self.name_is_new = true;
         self.settle_names()
     }
 
     /// Removes a file. Nothing is done where it is absent.
     pub fn remove(&mut self, name: FileName) -> io::Result<()>
-        ensures closed { IsClosed name self.new.tail }
+        ensures closed { IsClosed name self.new.kept }
         ensures stays_lost { self.new.sync_failed ≡ self.old.sync_failed }
     {
-        self.close(name);
+        self.kept.close(name);
         self.place.write(name, "");
         if_there(fs::remove_file(&self.rt, self.place.file()))?;
         Ok(())
@@ -128,66 +138,73 @@ impl<R: Files + AllocGlobal + Clone + Drop> Folder<R> {
         list(&self.rt, self.place.folder())
     }
 
-    /// Opens a file to append to it, or takes the one that is open.
-    fn open_tail(&mut self, name: FileName) -> io::Result<R::File>
+    /// Opens a file to append to it, or takes the one that is open, and tells its length.
+    fn open_to_append(&mut self, name: FileName) -> io::Result<(R::File, u64)>
         ensures { self.new.sync_failed ≡ self.old.sync_failed }
     {
-        if let Some(tail) = self.tail.take() {
-            if tail.name == name {
-                return Ok(tail.file);
+        if let Some(kept) = self.kept.take(name) {
+            if let Some(len) = kept.len {
+                return Ok((kept.file, len));
             }
         }
         self.place.write(name, "");
-        OpenOptions::new()
-            .append(true)
-            .create(true)
-            .open(&self.rt, self.place.file())
+        let mut how = OpenOptions::new();
+        how.read(true).append(true);
+        let file = match if_there(how.open(&self.rt, self.place.file()))? {
+            Some(file) => file,
+            None => {
+                self.name_is_new = true;
+                how.create(true).open(&self.rt, self.place.file())?
+            }
+        };
+        let len = file.metadata()?.len();
+        Ok((file, len))
     }
 
-    /// Opens a file to read it.
-    fn find(&mut self, name: FileName) -> io::Result<Option<R::File>>
+    /// Opens a file to read or sync it, or takes the one that is open.
+    fn find(&mut self, name: FileName) -> io::Result<Option<Kept<R::File>>>
         ensures { self.new.sync_failed ≡ self.old.sync_failed }
     {
+        if let Some(kept) = self.kept.take(name) {
+            return Ok(Some(kept));
+        }
         self.place.write(name, "");
-        if_there(File::open(&self.rt, self.place.file()))
-    }
-
-    /// Closes a file that isn't to be appended to any more.
-    fn close(&mut self, name: FileName)
-        ensures closed { IsClosed name self.new.tail }
-        ensures kept { self.new.sync_failed ≡ self.old.sync_failed }
-    {
-        if let Some(tail) = &self.tail {
-            if tail.name == name {
-                self.tail = None;
-            }
+        match if_there(File::open(&self.rt, self.place.file()))? {
+            Some(file) => Ok(Some(Kept {
+                name,
+                file,
+                len: None,
+            })),
+            None => Ok(None),
         }
     }
 
-    /// Makes a file's bytes stay.
+    /// Makes the bytes of a file stay that is going to be put in its place.
     fn settle(&mut self, file: R::File) -> io::Result<()>
-        ensures tail { self.new.tail ≡ self.old.tail }
+        ensures kept { self.new.kept ≡ self.old.kept }
         ensures lost { IsTrue self.old.sync_failed → IsErr result }
         ensures stays_lost { IsTrue self.old.sync_failed → IsTrue self.new.sync_failed }
     {
-        let outcome = file.sync_all();
+        let outcome = file.sync_data();
         self.settled(outcome)
     }
 
     /// Makes the folder's names stay.
     fn settle_names(&mut self) -> io::Result<()>
-        ensures tail { self.new.tail ≡ self.old.tail }
+        ensures kept { self.new.kept ≡ self.old.kept }
         ensures stays_lost { IsTrue self.old.sync_failed → IsTrue self.new.sync_failed }
     {
         let outcome = sync_folder(&self.rt, self.place.folder());
-        self.settled(outcome)
+        self.settled(outcome)?;
+        self.name_is_new = false;
+        Ok(())
     }
 
     /// Answers how a sync ended, which is well only where none before it failed.
     fn settled(&mut self, outcome: io::Result<()>) -> io::Result<()>
         ensures well { IsOk result ↔ (IsOk outcome × IsFalse self.old.sync_failed) }
         ensures lost { IsErr result ↔ IsTrue self.new.sync_failed }
-        ensures tail { self.new.tail ≡ self.old.tail }
+        ensures kept { self.new.kept ≡ self.old.kept }
     {
         if outcome.is_err() {
             self.sync_failed = true;

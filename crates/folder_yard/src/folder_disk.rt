@@ -87,7 +87,11 @@ impl<R: Files + AllocGlobal + Clone + Drop> Disk for FolderDisk<R> {
     }
 
     fn read(&mut self, name: FileName, at: u64) -> Result<Option<Bytes>, Trouble> {
-        let outcome = told(self.folder.read(name, at));
+        self.read_part(name, at, u64::MAX)
+    }
+
+    fn read_part(&mut self, name: FileName, at: u64, most: u64) -> Result<Option<Bytes>, Trouble> {
+        let outcome = told(self.folder.read_part(name, at, most));
         let shared = share(&outcome)?;
         let answer = self.tally.note_any(DiskCall::Read, outcome);
         hand(&mut self.handed, answer.is_ok(), shared);

@@ -7,6 +7,7 @@
 
 mod folder;
 mod folder_disk;
+mod kept;
 mod listing;
 mod making;
 mod name;

@@ -1,6 +1,6 @@
-//! An open file: writes that are whole or taken back, reads of all that is left, and cuts.
+//! An open file: writes that are whole or taken back, reads of a part, and cuts.
 
-ghost use Rattle.std.specs.Prelude.{◌≡◌, ◌↔◌, ◌<◌, ◌≤◌, IfOk, IfSome, IsNone, OnOk};
+ghost use Rattle.std.specs.Prelude.{◌≡◌, ◌↔◌, ◌<◌, ◌≤◌, IfOk, IfSome, IsNone, OnOk, take};
 ghost use Rattle.std.specs.Io.KnownBytes.{Appends};
 
 use bytes::Bytes;
@@ -8,40 +8,40 @@ use std::alloc::Global;
 use std::fs::OpenFile;
 use std::io::{self, Read, Seek, SeekFrom, Write};
 
-/// Writes bytes at a file's end. Those of a write that fails are taken back, so that a reader finds
-/// all of them or none.
-pub fn write_whole<F: Write + OpenFile>(file: &mut F, bytes: &[u8]) -> io::Result<()>
+/// Writes bytes at the end of a file of this length. Those of a write that fails are taken back, so
+/// that a reader finds all of them or none.
+pub fn write_whole<F: Write + OpenFile>(file: &mut F, len: u64, bytes: &[u8]) -> io::Result<()>
     ensures { OnOk result (Appends (F.contents file.old) (F.contents file.new) bytes.now) }
 {
-    let before = file.metadata()?.len();
     let outcome = file.write_all(bytes);
     if outcome.is_err() {
-        let _ = file.set_len(before);
+        let _ = file.set_len(len);
     }
     outcome
 }
 
-/// Gives a file's bytes from a place on, none past its end.
-pub fn read_from<F: Read + Seek + OpenFile>(
+/// Gives so many bytes of a file from a place on, fewer only where it ends.
+pub fn read_part<F: Read + Seek + OpenFile>(
     alloc: Global,
     file: &mut F,
     at: u64,
+    most: u64,
 ) -> io::Result<Bytes> {
-    let len = file.metadata()?.len();
-    if len <= at {
+    let left = file.metadata()?.len().saturating_sub(at);
+    if left == 0 {
         return Ok(Bytes::new());
     }
     file.seek(SeekFrom::Start(at))?;
-    read_rest(alloc, file, len - at)
+    read_front(alloc, file, left.min(most))
 }
 
-/// Gives all that a reader has left. So many bytes are likely.
-fn read_rest<R: Read>(alloc: Global, reader: &mut R, likely: u64) -> io::Result<Bytes>
-    ensures { IfOk result (λ bytes. IfSome (R.remaining reader.old) (λ left. bytes ≡ left)) }
+/// Gives so many bytes that a reader has left, fewer only where it ends.
+fn read_front<R: Read>(alloc: Global, reader: &mut R, most: u64) -> io::Result<Bytes>
+    ensures { IfOk result (λ bytes. IfSome (R.remaining reader.old) (λ left. bytes ≡ take most left)) }
 {
     let mut bytes = Vec::new(alloc);
-    bytes.reserve(likely as usize)?;
-    reader.read_to_end(&mut bytes)?;
+    bytes.reserve(most as usize)?;
+    reader.take(most).read_to_end(&mut bytes)?;
     Ok(Bytes::from_vec(bytes)?)
 }
 

@@ -1,7 +1,8 @@
-//! Each call of a disk over a folder that the test makes, and what a folder holds when it is opened
+//! Disks over folders that a test makes, call by call, and what a folder holds when it is opened
 //! again. Values worked by hand; the names are those of Kafka's log segments.
-
-ghost use Rattle.std.specs.Prelude.{◌≡◌, ◌≤◌};
+//!
+//! Each kind of call is a function of its own, without a contract, that tells how the call ended. A
+//! test is a table of calls and never holds a disk.
 
 use crate::{FolderDisk, read_name};
 use bytes::Bytes;
@@ -9,111 +10,212 @@ use disk_model::Disk;
 use std::os::unix::fs::symlink;
 use std::test::Fail;
 use std::{fs, io};
-use tier_base::{FileName, Trouble};
+use tier_base::{Failed, FileName, Trouble};
 
 const LOG: FileName = FileName::Log(7);
 
-/// A call that changes or syncs a file.
-#[derive(Clone, Copy, Debug)]
-enum Step {
-    Append(FileName, &'static [u8]),
+/// A call of a disk.
+#[derive(Clone, Copy)]
+enum Step<'a> {
+    Append(FileName, &'a [u8]),
     Sync(FileName),
     Cut(FileName, u64),
-    Replace(FileName, &'static [u8]),
+    Replace(FileName, &'a [u8]),
     Remove(FileName),
+    /// A read from a place on, and the bytes that it gives.
+    Read(FileName, u64, &'a [u8]),
+    /// A read of a file that isn't there.
+    Miss(FileName),
+    /// How many files are listed, and some of them.
+    List(usize, &'a [FileName]),
+}
+
+/// How a call ended.
+#[derive(Clone, Copy, Debug, PartialEq, Eq)]
+enum End {
+    Well,
+    Fault,
+    NoMemory,
+    /// It gave something else.
+    Other,
+}
+
+/// How a call that gives this ended.
+fn right(given: bool) -> End {
+    if given { End::Well } else { End::Other }
+}
+
+/// How a call with this trouble ended.
+fn troubled(trouble: Trouble) -> End {
+    match trouble {
+        Trouble::Failed => End::Fault,
+        Trouble::NoMemory => End::NoMemory,
+    }
+}
+
+/// How a call that gives nothing ended.
+fn ended(answer: Result<(), Trouble>) -> End {
+    match answer {
+        Ok(()) => End::Well,
+        Err(trouble) => troubled(trouble),
+    }
+}
+
+/// How a call that takes no memory ended.
+fn done(answer: Result<(), Failed>) -> End {
+    match answer {
+        Ok(()) => End::Well,
+        Err(_) => End::Fault,
+    }
+}
+
+fn sync<D: Disk>(disk: &mut D, name: FileName) -> End {
+    match disk.reserve(1) {
+        Ok(()) => done(disk.sync(name)),
+        Err(_) => End::NoMemory,
+    }
+}
+
+fn cut<D: Disk>(disk: &mut D, name: FileName, len: u64) -> End {
+    match disk.reserve(1) {
+        Ok(()) => done(disk.cut(name, len)),
+        Err(_) => End::NoMemory,
+    }
+}
+
+fn remove<D: Disk>(disk: &mut D, name: FileName) -> End {
+    match disk.reserve(1) {
+        Ok(()) => done(disk.remove(name)),
+        Err(_) => End::NoMemory,
+    }
+}
+
+/// Whether a read gave these bytes.
+fn is_given(given: Option<Bytes>, wanted: Option<&[u8]>) -> bool {
+    match (given, wanted) {
+        (Some(bytes), Some(wanted)) => bytes.as_slice() == wanted,
+        (None, None) => true,
+        _ => false,
+    }
+}
+
+fn read<D: Disk>(disk: &mut D, name: FileName, at: u64, wanted: Option<&[u8]>) -> End {
+    match disk.read(name, at) {
+        Ok(given) => right(is_given(given, wanted)),
+        Err(trouble) => troubled(trouble),
+    }
+}
+
+/// Whether so many files are listed, and these among them.
+fn are_listed(listed: &[FileName], many: usize, names: &[FileName]) -> bool {
+    for name in names {
+        if !listed.contains(name) {
+            return false;
+        }
+    }
+    listed.len() == many
+}
+
+fn list<D: Disk>(disk: &mut D, many: usize, names: &[FileName]) -> End {
+    match disk.list() {
+        Ok(listed) => right(are_listed(listed.as_slice(), many, names)),
+        Err(trouble) => troubled(trouble),
+    }
 }
 
 /// Makes a call.
-fn take<D: Disk>(disk: &mut D, step: Step) -> Result<(), Trouble> {
-    disk.reserve(1)?;
+fn call<D: Disk>(disk: &mut D, step: Step) -> End {
     match step {
-        Step::Append(name, bytes) => disk.append(name, bytes)?,
-        Step::Sync(name) => disk.sync(name)?,
-        Step::Cut(name, len) => disk.cut(name, len)?,
-        Step::Replace(name, bytes) => disk.replace(name, bytes)?,
-        Step::Remove(name) => disk.remove(name)?,
-    }
-    Ok(())
-}
-
-/// The bytes of a file from a place on, or `absent`.
-fn bytes_of<D: Disk>(disk: &mut D, name: FileName, at: u64) -> Result<Bytes, Trouble> {
-    match disk.read(name, at)? {
-        Some(bytes) => Ok(bytes),
-        None => Ok(Bytes::from_static(b"absent")),
+        Step::Append(name, bytes) => ended(disk.append(name, bytes)),
+        Step::Sync(name) => sync(disk, name),
+        Step::Cut(name, len) => cut(disk, name, len),
+        Step::Replace(name, bytes) => ended(disk.replace(name, bytes)),
+        Step::Remove(name) => remove(disk, name),
+        Step::Read(name, at, bytes) => read(disk, name, at, Some(bytes)),
+        Step::Miss(name) => read(disk, name, 0, None),
+        Step::List(many, names) => list(disk, many, names),
     }
 }
 
-/// Whether a disk lists this many files, and these among them.
-fn lists<D: Disk>(disk: &mut D, many: usize, names: &[FileName]) -> Result<bool, Trouble> {
-    let found = disk.list()?;
-    let mut all = found.len() == many;
-    for name in names {
-        all = all && found.as_slice().contains(name);
+/// Makes calls, and tells how many end well at first, and how the next one ends.
+fn run<D: Disk>(disk: &mut D, steps: &[Step]) -> (usize, End) {
+    for (i, step) in steps.iter().enumerate() {
+        let end = call(disk, *step);
+        if end != End::Well {
+            return (i, end);
+        }
     }
-    Ok(all)
+    (steps.len(), End::Well)
 }
 
-/// Opens a disk over a folder that holds nothing.
-fn open_new(rt: HostRuntime, path: &str) -> Result<FolderDisk<HostRuntime>, Trouble> {
+/// Counts the calls that fail.
+fn count_faults<D: Disk>(disk: &mut D, steps: &[Step]) -> usize {
+    let mut faults: usize = 0;
+    for step in steps {
+        if call(disk, *step) == End::Fault {
+            faults = faults.saturating_add(1);
+        }
+    }
+    faults
+}
+
+/// Makes calls of a disk over a folder, and tells how many end well at first, how the next one ends, and how many faults are
+/// told.
+fn run_in(rt: HostRuntime, path: &str, steps: &[Step]) -> Result<(usize, End, u64), Trouble> {
+    let mut disk = FolderDisk::open(rt, path)?;
+    let (well, end) = run(&mut disk, steps);
+    Ok((well, end, disk.faults()))
+}
+
+/// Removes a folder, where there is one.
+fn clear(rt: HostRuntime, path: &str) {
     let _ = fs::remove_dir_all(&rt, path);
-    FolderDisk::open(rt, path)
 }
 
-#[test]
-fn a_folder_reads_what_was_written(rt: HostRuntime) -> Result<(), Fail> {
-    let mut disk = open_new(rt, "yard_reads")?;
-    let rows = [
-        (Step::Append(LOG, b"abc"), b"abc".as_slice()),
-        (Step::Append(LOG, b"def"), b"abcdef"),
-        (Step::Sync(LOG), b"abcdef"),
-        (Step::Sync(FileName::Gate), b"abcdef"),
-        (Step::Cut(LOG, 9), b"abcdef"),
-        (Step::Cut(LOG, 6), b"abcdef"),
-        (Step::Cut(LOG, 4), b"abcd"),
-        (Step::Cut(FileName::Gate, 0), b"abcd"),
-        (Step::Append(LOG, b"g"), b"abcdg"),
-        (Step::Remove(LOG), b"absent"),
-        (Step::Remove(LOG), b"absent"),
-        (Step::Append(LOG, b"new"), b"new"),
-        (Step::Replace(LOG, b"longer"), b"longer"),
-        (Step::Replace(LOG, b"short"), b"short"),
-        (Step::Append(LOG, b"er"), b"shorter"),
-        (Step::Append(FileName::Notes, b"n"), b"shorter"),
-        (Step::Append(LOG, b"!"), b"shorter!"),
-    ];
-    for (step, bytes) in rows {
-        take(&mut disk, step)?;
-        assert_eq!(rt;
-            bytes_of(&mut disk, LOG, 0)?.as_slice(),
-            bytes,
-            "after {step:?}"
-        );
-    }
-    assert!(rt; lists(&mut disk, 2, &[LOG, FileName::Notes])?);
-    assert_eq!(rt; disk.faults(), 0);
-    fs::remove_dir_all(&rt, "yard_reads")?;
-    Ok(())
-}
+static WORK: [Step<'static>; 35] = [
+    Step::Append(LOG, b"abc"),
+    Step::Read(LOG, 0, b"abc"),
+    Step::Append(LOG, b"def"),
+    Step::Read(LOG, 0, b"abcdef"),
+    Step::Read(LOG, 5, b"f"),
+    Step::Read(LOG, 6, b""),
+    Step::Read(LOG, 1 << 63, b""),
+    Step::Sync(LOG),
+    Step::Sync(FileName::Gate),
+    Step::Cut(LOG, 9),
+    Step::Read(LOG, 0, b"abcdef"),
+    Step::Cut(LOG, 6),
+    Step::Read(LOG, 0, b"abcdef"),
+    Step::Cut(LOG, 4),
+    Step::Read(LOG, 0, b"abcd"),
+    Step::Cut(FileName::Gate, 0),
+    Step::Append(LOG, b"g"),
+    Step::Read(LOG, 0, b"abcdg"),
+    Step::Remove(LOG),
+    Step::Miss(LOG),
+    Step::Remove(LOG),
+    Step::Miss(LOG),
+    Step::Append(LOG, b"new"),
+    Step::Read(LOG, 0, b"new"),
+    Step::Replace(LOG, b"longer"),
+    Step::Read(LOG, 0, b"longer"),
+    Step::Replace(LOG, b"short"),
+    Step::Read(LOG, 0, b"short"),
+    Step::Append(LOG, b"er"),
+    Step::Read(LOG, 0, b"shorter"),
+    Step::Append(FileName::Notes, b"n"),
+    Step::Read(LOG, 0, b"shorter"),
+    Step::Append(LOG, b"!"),
+    Step::Read(LOG, 0, b"shorter!"),
+    Step::List(2, &[LOG, FileName::Notes]),
+];
 
 #[test]
-fn a_read_begins_at_its_place(rt: HostRuntime) -> Result<(), Fail> {
-    let mut disk = open_new(rt, "yard_places")?;
-    take(&mut disk, Step::Append(LOG, b"abcdef"))?;
-    for (at, bytes) in [
-        (0, b"abcdef".as_slice()),
-        (5, b"f"),
-        (6, b""),
-        (1 << 63, b""),
-    ] {
-        assert_eq!(rt;
-            bytes_of(&mut disk, LOG, at)?.as_slice(),
-            bytes,
-            "from {at}"
-        );
-    }
-    fs::remove_dir_all(&rt, "yard_places")?;
-    Ok(())
+fn a_folder_reads_what_was_written(rt: HostRuntime) {
+    clear(rt, "yard_reads");
+    let came = run_in(rt, "yard_reads", WORK.as_slice());
+    assert_eq!(rt; came, Ok((35, End::Well, 0)));
+    clear(rt, "yard_reads");
 }
 
 /// Puts files into a folder that are none of a log.
@@ -133,31 +235,31 @@ fn holds(rt: HostRuntime, paths: &[&str]) -> bool {
     true
 }
 
+static MADE: [Step<'static>; 2] = [
+    Step::Append(FileName::Log(u64::MAX), b"last"),
+    Step::Replace(FileName::Gate, b"g"),
+];
+
+static FOUND: [Step<'static>; 2] = [
+    Step::List(2, &[FileName::Log(u64::MAX), FileName::Gate]),
+    Step::Read(FileName::Gate, 0, b"g"),
+];
+
 #[test]
 fn files_stand_when_a_folder_is_opened_again(rt: HostRuntime) -> Result<(), Fail> {
-    let _ = fs::remove_dir_all(&rt, "yard_again");
-    let mut disk = FolderDisk::open(rt, "yard_again/p0/b1/")?;
-    take(&mut disk, Step::Append(FileName::Log(u64::MAX), b"last"))?;
-    take(&mut disk, Step::Replace(FileName::Gate, b"g"))?;
-    drop(disk);
+    clear(rt, "yard_again");
+    let came = run_in(rt, "yard_again/p0/b1/", MADE.as_slice());
+    assert_eq!(rt; came, Ok((2, End::Well, 0)));
     add_strays(rt)?;
-    let mut disk = FolderDisk::open(rt, "yard_again/p0/b1")?;
+    let came = run_in(rt, "yard_again/p0/b1", FOUND.as_slice());
+    assert_eq!(rt; came, Ok((2, End::Well, 0)));
     assert!(rt; !holds(rt, &["yard_again/p0/b1/manifest.new"]));
-    assert!(rt;
-        holds(
-            rt,
-            &[
-                "yard_again/p0/b1/stray",
-                "yard_again/p0/b1/18446744073709551615.log"
-            ]
-        )
-    );
-    assert!(rt; lists(&mut disk, 2, &[FileName::Log(u64::MAX), FileName::Gate])?);
-    assert_eq!(rt;
-        bytes_of(&mut disk, FileName::Gate, 0)?.as_slice(),
-        b"g".as_slice()
-    );
-    fs::remove_dir_all(&rt, "yard_again")?;
+    let kept = [
+        "yard_again/p0/b1/stray",
+        "yard_again/p0/b1/18446744073709551615.log",
+    ];
+    assert!(rt; holds(rt, kept.as_slice()));
+    clear(rt, "yard_again");
     Ok(())
 }
 
@@ -167,26 +269,29 @@ fn spoil(rt: HostRuntime, path: &str) -> io::Result<()> {
     fs::write(&rt, path, b"no folder".as_slice())
 }
 
+static CALLS: [Step<'static>; 7] = [
+    Step::Append(LOG, b"a"),
+    Step::Sync(LOG),
+    Step::Cut(LOG, 0),
+    Step::Replace(LOG, b"b"),
+    Step::Remove(LOG),
+    Step::Miss(LOG),
+    Step::List(0, &[]),
+];
+
+/// How many calls fail of an armed disk whose folder is a file by now, how many faults it tells, and whether it is armed.
+fn fail_in(rt: HostRuntime, path: &str) -> Result<(usize, u64, bool), Fail> {
+    let mut disk = FolderDisk::open(rt, path)?;
+    spoil(rt, path)?;
+    disk.arm();
+    let faults = count_faults(&mut disk, CALLS.as_slice());
+    Ok((faults, disk.faults(), disk.is_armed()))
+}
+
 #[test]
 fn each_failure_of_the_system_is_a_fault(rt: HostRuntime) -> Result<(), Fail> {
     let _ = fs::remove_file(&rt, "yard_fails");
-    let mut disk = open_new(rt, "yard_fails")?;
-    spoil(rt, "yard_fails")?;
-    disk.arm();
-    let steps = [
-        Step::Append(LOG, b"a"),
-        Step::Sync(LOG),
-        Step::Cut(LOG, 0),
-        Step::Replace(LOG, b"b"),
-        Step::Remove(LOG),
-    ];
-    for step in steps {
-        assert_eq!(rt; take(&mut disk, step), Err(Trouble::Failed), "{step:?}");
-    }
-    assert_eq!(rt; bytes_of(&mut disk, LOG, 0).err(), Some(Trouble::Failed));
-    assert_eq!(rt; lists(&mut disk, 0, &[]), Err(Trouble::Failed));
-    assert!(rt; disk.is_armed());
-    assert_eq!(rt; disk.faults(), 7);
+    assert_eq!(rt; fail_in(rt, "yard_fails")?, (7, 7, true));
     fs::remove_file(&rt, "yard_fails")?;
     Ok(())
 }
@@ -195,66 +300,73 @@ fn each_failure_of_the_system_is_a_fault(rt: HostRuntime) -> Result<(), Fail> {
 fn a_folder_that_cannot_be_made_is_a_fault(rt: HostRuntime) -> Result<(), Fail> {
     fs::write(&rt, "yard_blocked", b"no folder".as_slice())?;
     for path in ["yard_blocked", "yard_blocked/b0"] {
-        assert_eq!(rt;
-            FolderDisk::open(rt, path).err(),
-            Some(Trouble::Failed),
-            "{path}"
-        );
+        let came = run_in(rt, path, &[]);
+        assert_eq!(rt; came, Err(Trouble::Failed), "{path}");
     }
     fs::remove_file(&rt, "yard_blocked")?;
     Ok(())
 }
 
-#[test]
-fn no_sync_succeeds_after_one_that_failed(rt: HostRuntime) -> Result<(), Fail> {
-    let mut disk = open_new(rt, "yard_lost")?;
-    // A device that takes what is written, and can't be synced.
+static BEFORE: [Step<'static>; 3] = [
+    Step::Append(LOG, b"a"),
+    Step::Sync(LOG),
+    Step::Append(FileName::Notes, b"n"),
+];
+
+static LOST: [Step<'static>; 3] = [
+    Step::Sync(FileName::Notes),
+    Step::Sync(LOG),
+    Step::Replace(FileName::Gate, b"g"),
+];
+
+static BEHIND: [Step<'static>; 2] = [Step::Append(LOG, b"b"), Step::Miss(FileName::Gate)];
+
+/// How the calls before a sync that fails end, how many of the syncs behind it fail, how the calls behind these end, and how
+/// many faults are told. The notes are a device that takes what is written, and can't be synced.
+fn lose_in(rt: HostRuntime, path: &str) -> Result<((usize, End), usize, (usize, End), u64), Fail> {
+    let mut disk = FolderDisk::open(rt, path)?;
     symlink(&rt, "/dev/null", "yard_lost/notes")?;
-    let rows = [
-        (Step::Append(LOG, b"a"), true),
-        (Step::Sync(LOG), true),
-        (Step::Append(FileName::Notes, b"n"), true),
-        (Step::Sync(FileName::Notes), false),
-        (Step::Sync(LOG), false),
-        (Step::Replace(FileName::Gate, b"g"), false),
-        (Step::Append(LOG, b"b"), true),
-    ];
-    for (step, well) in rows {
-        assert_eq!(rt; take(&mut disk, step).is_ok(), well, "{step:?}");
-    }
-    assert_eq!(rt;
-        bytes_of(&mut disk, FileName::Gate, 0)?.as_slice(),
-        b"absent".as_slice()
-    );
-    assert_eq!(rt; disk.faults(), 3);
-    fs::remove_dir_all(&rt, "yard_lost")?;
-    Ok(())
+    let before = run(&mut disk, BEFORE.as_slice());
+    let lost = count_faults(&mut disk, LOST.as_slice());
+    let behind = run(&mut disk, BEHIND.as_slice());
+    Ok((before, lost, behind, disk.faults()))
 }
 
 #[test]
+fn no_sync_succeeds_after_one_that_failed(rt: HostRuntime) -> Result<(), Fail> {
+    clear(rt, "yard_lost");
+    let came = lose_in(rt, "yard_lost")?;
+    assert_eq!(rt; came, ((3, End::Well), 3, (2, End::Well), 3));
+    clear(rt, "yard_lost");
+    Ok(())
+}
+
+/// Names of files, and what they name.
+static NAMES: [(&str, Option<FileName>); 19] = [
+    ("manifest", Some(FileName::Manifest)),
+    ("notes", Some(FileName::Notes)),
+    ("gate", Some(FileName::Gate)),
+    ("00000000000000000000.log", Some(FileName::Log(0))),
+    ("00000000000000368769.log", Some(FileName::Log(368_769))),
+    ("18446744073709551615.log", Some(FileName::Log(u64::MAX))),
+    ("", None),
+    ("Manifest", None),
+    ("manifest.new", None),
+    ("gates", None),
+    ("0.log", None),
+    ("00000000000000000000.LOG", None),
+    ("00000000000000000000.index", None),
+    ("00000000000000000000.log.new", None),
+    ("000000000000000000000.log", None),
+    ("+0000000000000000007.log", None),
+    ("0000000000000000000a.log", None),
+    ("18446744073709551616.log", None),
+    ("99999999999999999999.log", None),
+];
+
+#[test]
 fn a_file_has_one_name(rt: HostRuntime) {
-    let names = [
-        ("manifest", Some(FileName::Manifest)),
-        ("notes", Some(FileName::Notes)),
-        ("gate", Some(FileName::Gate)),
-        ("00000000000000000000.log", Some(FileName::Log(0))),
-        ("00000000000000368769.log", Some(FileName::Log(368_769))),
-        ("18446744073709551615.log", Some(FileName::Log(u64::MAX))),
-        ("", None),
-        ("Manifest", None),
-        ("manifest.new", None),
-        ("gates", None),
-        ("0.log", None),
-        ("00000000000000000000.LOG", None),
-        ("00000000000000000000.index", None),
-        ("00000000000000000000.log.new", None),
-        ("000000000000000000000.log", None),
-        ("+0000000000000000007.log", None),
-        ("0000000000000000000a.log", None),
-        ("18446744073709551616.log", None),
-        ("99999999999999999999.log", None),
-    ];
-    for (text, name) in names {
-        assert_eq!(rt; read_name(text.as_bytes()), name, "{text}");
+    for (text, name) in &NAMES {
+        assert_eq!(rt; read_name(text.as_bytes()), *name, "{text}");
     }
 }

@@ -37,7 +37,7 @@ length_field batch rest long =
     let behind : length (drop 8 batch) ≡ length batch - 8 = length_drop 8 batch (omega (arith, long)) in
     rw (drop_append 8 batch rest (omega (arith, long)), take-append-le 4 (drop 8 batch) rest (omega (arith, long, behind))) refl
 
-head_kept : (batch rest : List ℕ) → 61 ≤ length batch → head_refusal (batch ++ rest) ≡ head_refusal batch
+pub head_kept : (batch rest : List ℕ) → 61 ≤ length batch → head_refusal (batch ++ rest) ≡ head_refusal batch
 unfolding head_refusal
 head_kept batch rest long =
     let one : nat_lt (length (batch ++ rest)) 61 ≡ false = le-ltb (length (batch ++ rest)) 61 (grind (arith, length-append, long)) in

@@ -125,7 +125,7 @@ lasts-adjacent first at (one ∷ two ∷ batches) (suc k) d laid l = lasts-adjac
 pub lasts-rise : (first at : ℕ) (batches : List Placed) → AreLaid first at batches → IsNonDecreasingBy (λ (b : Placed). b.last) batches
 lasts-rise first at batches laid = IsNonDecreasingBy-from_all_adjacent (λ (b : Placed). b.last) batches (λ k d l. rw add-one (lasts-adjacent first at batches k d laid (omega (arith, l))))
 
-rest-point : (p : Placed → Bool) (x : Placed) (xs : List Placed) (i : ℕ) → IsPartitionPoint (λ y. p y ≡ true) (λ y. p y ≡ false) (x ∷ xs) (suc i) → IsPartitionPoint (λ y. p y ≡ true) (λ y. p y ≡ false) xs i
+pub rest-point : (p : Placed → Bool) (x : Placed) (xs : List Placed) (i : ℕ) → IsPartitionPoint (λ y. p y ≡ true) (λ y. p y ≡ false) (x ∷ xs) (suc i) → IsPartitionPoint (λ y. p y ≡ true) (λ y. p y ≡ false) xs i
 rest-point p x xs i h = (λ k d low high. h.0 (suc k) d (omega arith) (omega (arith, high)), λ k d low high. h.1 (suc k) d (omega (arith, low)) (omega (arith, high)))
 
 pub front_ending : (end : ℕ) (batches : List Placed) (i : ℕ) → i ≤ length batches → IsPartitionPoint (λ y. nat_lt y.last end ≡ true) (λ y. nat_lt y.last end ≡ false) batches i → take i batches ≡ ending_by end batches

@@ -8,3 +8,4 @@ pub mod Placing
 pub mod Joining
 pub mod Gaining
 pub mod Tracking
+pub mod Fitting

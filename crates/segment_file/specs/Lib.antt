@@ -3,6 +3,7 @@ pub mod Run
 pub mod Going
 pub mod Index
 pub mod Growing
+pub mod Reach
 pub mod Segment
 pub mod Closed
 pub mod Gathering

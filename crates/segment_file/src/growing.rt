@@ -9,8 +9,10 @@ ghost use Rattle.sparse_index.specs.Entries.{last_of};
 ghost use Rattle.sparse_index.specs.Offsets.{Rises, find};
 ghost use Rattle.segment_file.specs.Index.{placed_in, begun_at, is_due, with_offset, index_of};
 ghost use Rattle.segment_file.specs.Growing.{AreLaid, end_after, size_after, ending_by, with_batch, MayPush, BeginsSearch};
+ghost use Rattle.segment_file.specs.Reach.{reach_at};
 
 use crate::placed::{Placed, place};
+use crate::reaching::reach_from;
 use crate::walking::size_in;
 use record_batch::Head;
 use sparse_index::OffsetIndex;
@@ -126,6 +128,17 @@ impl Growing {
         (end_of(self.base, front), size_of(front))
     }
 
+    /// Up to which position a reader needs the segment's bytes who cuts out the run at an offset: its first batch, those that
+    /// end at or below a bound and a position, and the head of the next one where these end below the bound.
+    pub fn reach(&self, offset: u64, bound: u64, top: u64) -> u32
+        ensures reach { result ≡ reach_at bound top offset self.now.batches }
+        ensures from { size_after 0 (ending_by offset self.now.batches) ≤ result }
+    {
+        let batches = self.batches.as_slice();
+        let (front, rest) = batches.split_at(count_ending(self.base, batches, offset));
+        reach_from(end_of(self.base, front), size_of(front), rest, bound, top)
+    }
+
     /// Drops the batches that end past an offset. It takes no memory and reads nothing.
     pub fn cut_to(&mut self, end: u64)
         ensures { self.new ≡ record self.old { batches = ending_by end self.old.batches } }
@@ -139,7 +152,7 @@ impl Growing {
 }
 
 /// The bytes of batches from the segment's beginning on.
-fn size_of(batches: &[Placed]) -> u32
+pub(crate) fn size_of(batches: &[Placed]) -> u32
     ensures { result ≡ size_after 0 batches.now }
 {
     match batches.last() {
@@ -149,7 +162,7 @@ fn size_of(batches: &[Placed]) -> u32
 }
 
 /// The offset after batches from the segment's beginning on.
-fn end_of(base: u64, batches: &[Placed]) -> u64
+pub(crate) fn end_of(base: u64, batches: &[Placed]) -> u64
     requires { end_after base batches.now < 2 ^ 64 }
     ensures { result ≡ end_after base batches.now }
 {

@@ -11,9 +11,8 @@ mod growing;
 mod laws;
 mod marking;
 mod placed;
+mod reaching;
 mod refusal;
-#[cfg(test)]
-mod segment_tests;
 mod taking;
 #[cfg(test)]
 mod tests;
