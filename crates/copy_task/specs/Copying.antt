@@ -3,11 +3,13 @@ use Rattle.std.specs.Prelude.{◌≡◌, ◌≢◌, ℕ, ◌+◌, List, [], leng
 use Rattle.tier_base.specs.declared.names.PartitionId.{PartitionId}
 use Rattle.tier_base.specs.declared.names.SegmentId.{SegmentId}
 use Rattle.tier_base.specs.declared.plain.State.TheVariants.{CopyStarted, CopyFinished}
+use Rattle.tier_base.specs.declared.object_key.ObjectKey.{ObjectKey}
 use Rattle.log_terms.specs.Line.{line_of}
 use Rattle.log_terms.specs.Log.{joined, end_from}
 use Rattle.segment_file.specs.Segment.{IsSegment, greatest_ts}
 use Rattle.segment_file.specs.Closed.{Whole}
 use Rattle.segment_bundle.specs.Parts.{Parts, parts_of}
+use Rattle.object_store.specs.Place.{keys_of}
 use Rattle.segment_meta.specs.declared.note.Entry.{Entry}
 use Rattle.segment_meta.specs.declared.note.Note.{Note}
 use Rattle.segment_meta.specs.declared.note.Note.TheVariants.{Add, Update}
@@ -32,6 +34,10 @@ pub record IsCopied (copy : Copied) : Type 0 where
   pub max_ts_is : copy.segment.max_ts ≡ greatest_ts batches
   pub epochs_are : copy.segment.epochs ≡ line_of batches
   pub parts_are : copy.parts ≡ parts_of batches copy.line copy.interval
+
+-- the keys of its objects
+abbrev pub keys : Copied → List ObjectKey
+keys copy = keys_of copy.partition copy.id false
 
 -- its entry, as it is told
 abbrev pub entry_of : Copied → Teller → Entry

@@ -5,25 +5,25 @@
 --   Put       puts an object                      StoreFault
 --   Finish    appends the note that it is whole   MetaFault
 --   Check     refreshes the view                  Copied, MetaFault, Damaged
---   Delete    takes an object away                Overtaken, StoreFault
+--   Delete    takes an object away                Overtaken, StoreFault, Damaged
 --
--- The objects are put in the order of their parts. A copy that finds its entry's deletion begun takes all of its objects away
--- again, in the same order, and answers the state that it found.
+-- The objects are put in the order of their keys. A copy that finds its entry's deletion begun takes all of its objects away
+-- again, in the same order. It keeps no state: it answers the one that its entry has in its broker's view then.
 --
 -- Source: KIP-405, where a segment's metadata is added as started, its objects are copied, and the metadata is updated as finished.
-use Rattle.std.specs.Prelude.{◌≡◌, ◌⊎◌, ℕ, List, Option, Some, None, Ok, Err}
+use Rattle.std.specs.Prelude.{◌≡◌, ◌⊎◌, ℕ, ◌+◌, false, Option, Some, None, slice_get, Ok, Err}
 use Rattle.std.specs.declared.result.Result.{Result}
 use Rattle.std.specs.declared.alloc.AllocError.{AllocError}
 use Rattle.tier_base.specs.declared.plain.Part.{Part}
-use Rattle.tier_base.specs.declared.plain.Part.TheVariants.{Log}
 use Rattle.tier_base.specs.declared.plain.State.{State}
 use Rattle.tier_base.specs.declared.plain.State.TheVariants.{CopyStarted, CopyFinished, DeleteStarted, DeleteFinished}
-use Rattle.tier_base.specs.Device.{Control, Went, Fault, Dry}
+use Rattle.tier_base.specs.declared.object_key.ObjectKey.{ObjectKey}
+use Rattle.tier_base.specs.Device.{Control, Fate, Went, Fault, Dry}
 use Rattle.segment_bundle.specs.Parts.{part_in}
 use Rattle.object_store.specs.Call as store_call
 use Rattle.object_store.specs.Content as store
 use Rattle.object_store.specs.Calls.{Puts, Deletes}
-use Rattle.object_store.specs.Place.{key_of, part_after}
+use Rattle.object_store.specs.Place.{whole, spot_of}
 use Rattle.meta_log.specs.Call as meta_call
 use Rattle.meta_log.specs.Calls.{Appends}
 use Rattle.meta_log.specs.Content as meta
@@ -32,29 +32,35 @@ use Rattle.view_refresh.specs.Refreshing.{Refreshed, Unread, Halted}
 use Rattle.plain_log.specs.declared.answer.Answer.{Answer}
 use Rattle.plain_log.specs.declared.answer.Answer.TheVariants.{MetaFault, StoreFault, Damaged, CopiedSegment, Overtaken}
 use Rattle.plain_log.specs.declared.answer.Place.TheVariants.{Meta}
-use Rattle.copy_task.specs.Copying.{Copied, start_note, finish_note}
+use Rattle.copy_task.specs.Copying.{Copied, keys, start_note, finish_note}
 use Rattle.copy_task.specs.declared.turn.CopyTurn.{CopyTurn}
 use Rattle.copy_task.specs.declared.turn.CopyTurn.TheVariants.{Goes, Ends}
 use Rattle.meta_log.specs.declared.teller.Teller.{Teller}
 use Rattle.copy_task.specs.declared.turn.Next.{Next}
 use Rattle.copy_task.specs.declared.turn.Next.TheVariants.{Start, Put, Finish, Check, Delete}
 
--- what comes after a part is put
-abbrev pub after_put : Option Part → Next
-after_put None = Finish
-after_put (Some part) = Put part
+-- the turn that puts the object of a number, where it has a key, or the one behind the last
+abbrev pub put_at : ℕ → Option ObjectKey → Next
+put_at n None = Finish
+put_at n (Some key) = Put n
 
--- what comes after a part is taken away, of a copy that found this state
-abbrev pub after_delete : State → Option Part → CopyTurn
-after_delete state None = Ends (Overtaken state)
-after_delete state (Some part) = Goes (Delete state part)
+-- what a copy that took its objects away answers, by the state of its entry in a view of so many notes: an entry that is
+-- missing is damage of the metadata log
+abbrev pub overtaken : ℕ → Option State → Answer
+overtaken notes None = Damaged Meta notes
+overtaken notes (Some state) = Overtaken state
+
+-- the turn that takes the object of a number away, where it has a key, or the answer behind the last
+abbrev pub delete_at : Copied → Seen → ℕ → Option ObjectKey → CopyTurn
+delete_at copy view n None = Ends (overtaken view.notes (state_of copy.id view.entries))
+delete_at copy view n (Some key) = Goes (Delete n)
 
 -- what a refreshed view of so many notes says of a copy, by the state of its entry: an entry that is missing, or that isn't
 -- finished yet, is damage of the metadata log
 abbrev pub checked : Copied → ℕ → Option State → CopyTurn
 checked copy notes (Some CopyFinished) = Ends (CopiedSegment copy.id copy.segment.base copy.segment.last)
-checked copy notes (Some DeleteStarted) = Goes (Delete DeleteStarted Log)
-checked copy notes (Some DeleteFinished) = Goes (Delete DeleteFinished Log)
+checked copy notes (Some DeleteStarted) = Goes (Delete 0)
+checked copy notes (Some DeleteFinished) = Goes (Delete 0)
 checked copy notes (Some CopyStarted) = Ends (Damaged Meta notes)
 checked copy notes None = Ends (Damaged Meta notes)
 
@@ -62,7 +68,7 @@ module _ {M : Type 0} (notes : M → meta.Content) (calls : M → Control meta_c
   -- the copy starts
   abbrev pub StartRow : Copied → Teller → Result CopyTurn AllocError → M → M → Type 0
   StartRow copy teller (Ok (Ends MetaFault)) old new = Appends notes calls (start_note copy teller) Fault old new
-  StartRow copy teller (Ok turn) old new = (turn ≡ Goes (Put Log)) × Appends notes calls (start_note copy teller) Went old new
+  StartRow copy teller (Ok turn) old new = (turn ≡ Goes (Put 0)) × Appends notes calls (start_note copy teller) Went old new
   StartRow copy teller (Err e) old new = (new ≡ old) ⊎ Appends notes calls (start_note copy teller) Dry old new
 
   -- it is whole
@@ -79,20 +85,26 @@ module _ {M : Type 0} (notes : M → meta.Content) (calls : M → Control meta_c
   CheckRow copy (Err e) before after old new = Halted notes calls before after old new
 
 module _ {S : Type 0} (objects : S → store.Content) (calls : S → Control store_call.call_code) where
-  -- an object is put
-  abbrev pub PutRow : Copied → Part → Result CopyTurn AllocError → S → S → Type 0
-  PutRow copy part (Ok (Ends StoreFault)) old new =
-      Puts objects calls (key_of copy.partition copy.id part) (part_in copy.parts part) Fault old new
-  PutRow copy part (Ok turn) old new =
-      (turn ≡ Goes (after_put (part_after part)))
-      × Puts objects calls (key_of copy.partition copy.id part) (part_in copy.parts part) Went old new
-  PutRow copy part (Err e) old new = Puts objects calls (key_of copy.partition copy.id part) (part_in copy.parts part) Dry old new
+  -- an object is put under a key: the part that stands there
+  pub record PutsUnder (copy : Copied) (key : ObjectKey) (fate : Fate) (old new : S) : Type 0 where
+    pub part : Part
+    pub place : spot_of copy.partition copy.id false None part ≡ Some (whole key)
+    pub puts : Puts objects calls key (part_in copy.parts part) fate old new
 
-  -- an object is taken away
-  abbrev pub DeleteRow : Copied → State → Part → CopyTurn → S → S → Type 0
-  DeleteRow copy state part (Ends StoreFault) old new = Deletes objects calls (key_of copy.partition copy.id part) Fault old new
-  DeleteRow copy state part turn old new =
-      (turn ≡ after_delete state (part_after part)) × Deletes objects calls (key_of copy.partition copy.id part) Went old new
+  -- the object of a number is put, where it has a key
+  abbrev pub PutRow : Copied → ℕ → Option ObjectKey → Result CopyTurn AllocError → S → S → Type 0
+  PutRow copy n None result old new = (result ≡ Ok (Goes Finish)) × (new ≡ old)
+  PutRow copy n (Some key) (Ok (Ends StoreFault)) old new = PutsUnder copy key Fault old new
+  PutRow copy n (Some key) (Ok turn) old new =
+      (turn ≡ Goes (put_at (n + 1) (slice_get (keys copy) (n + 1)))) × PutsUnder copy key Went old new
+  PutRow copy n (Some key) (Err e) old new = PutsUnder copy key Dry old new
+
+  -- the object of a number is taken away, where it has a key
+  abbrev pub DeleteRow : Copied → Seen → ℕ → Option ObjectKey → CopyTurn → S → S → Type 0
+  DeleteRow copy view n None turn old new = (turn ≡ delete_at copy view n None) × (new ≡ old)
+  DeleteRow copy view n (Some key) (Ends StoreFault) old new = Deletes objects calls key Fault old new
+  DeleteRow copy view n (Some key) turn old new =
+      (turn ≡ delete_at copy view (n + 1) (slice_get (keys copy) (n + 1))) × Deletes objects calls key Went old new
 
 -- what a copy's turns change: its broker's view, the store and the metadata log
 pub record Tiers (S M : Type 0) : Type 0 where
@@ -106,12 +118,13 @@ module _ {S M : Type 0} (objects : S → store.Content) (calls : S → Control s
   abbrev pub CopyRow : Copied → Teller → Next → Result CopyTurn AllocError → Tiers S M → Tiers S M → Type 0
   CopyRow copy teller Start result old new =
       (new ≡ record old { meta = new.meta }) × StartRow notes notings copy teller result old.meta new.meta
-  CopyRow copy teller (Put part) result old new =
-      (new ≡ record old { store = new.store }) × PutRow objects calls copy part result old.store new.store
+  CopyRow copy teller (Put n) result old new =
+      (new ≡ record old { store = new.store }) × PutRow objects calls copy n (slice_get (keys copy) n) result old.store new.store
   CopyRow copy teller Finish result old new =
       (new ≡ record old { meta = new.meta }) × FinishRow notes notings copy teller result old.meta new.meta
   CopyRow copy teller Check result old new =
       (new.store ≡ old.store) × CheckRow notes notings copy result old.view new.view old.meta new.meta
-  CopyRow copy teller (Delete state part) (Ok turn) old new =
-      (new ≡ record old { store = new.store }) × DeleteRow objects calls copy state part turn old.store new.store
-  CopyRow copy teller (Delete state part) (Err e) old new = ⊥
+  CopyRow copy teller (Delete n) (Ok turn) old new =
+      (new ≡ record old { store = new.store })
+      × DeleteRow objects calls copy old.view n (slice_get (keys copy) n) turn old.store new.store
+  CopyRow copy teller (Delete n) (Err e) old new = ⊥

@@ -1,13 +1,14 @@
 //! A segment that is copied.
 
-ghost use Rattle.std.specs.Prelude.{◌≡◌, IfOk};
+ghost use Rattle.std.specs.Prelude.{◌≡◌, IfOk, slice_get};
 ghost use Rattle.segment_meta.specs.Rules.{IsNote};
 ghost use Rattle.segment_bundle.specs.Parts.{part_in};
-ghost use Rattle.copy_task.specs.Copying.{Copied, start_note, finish_note};
+ghost use Rattle.copy_task.specs.Copying.{Copied, keys, start_note, finish_note};
 
 use bytes::Bytes;
 use epoch_line::Line;
 use meta_log::Teller;
+use object_store::{ObjectKey, keys_of};
 use segment_bundle::Bundle;
 use segment_file::Closed;
 use segment_meta::{Entry, Note};
@@ -102,7 +103,19 @@ impl Copying {
         self.segment.last()
     }
 
-    /// The bytes of an object.
+    /// The key of an object, where one has this number, counted from 0.
+    pub fn key(&self, n: u8) -> Option<ObjectKey>
+        ensures { result ≡ slice_get (keys self.now) n }
+    {
+        let keys = keys_of(self.partition, self.id, false);
+        if n < keys.count() {
+            Some(keys.get(n))
+        } else {
+            None
+        }
+    }
+
+    /// The bytes of a part.
     pub fn part(&self, part: Part) -> &Bytes
         ensures { result.now ≡ part_in self.now.parts part }
     {

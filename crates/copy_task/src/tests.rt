@@ -17,6 +17,7 @@ use std::alloc::{AllocError, Global};
 use std::marker::Model;
 use std::test::Fail;
 use tier_base::{Blob, BrokerId, Part, PartitionId, Row, SegmentId, State, Trouble, segment_id};
+use view_refresh::refresh;
 
 /// The copy starts, at 5 milliseconds.
 const STARTED: [u8; 75] = [
@@ -222,7 +223,10 @@ impl Trial {
 
     /// Whether an object has these bytes.
     fn holds(&mut self, part: Part, bytes: &[u8]) -> bool {
-        match self.store.get(&place(id(), PartitionId(0), part), 0) {
+        let Some(spot) = place(PartitionId(0), id(), false, None, part) else {
+            return false;
+        };
+        match self.store.get(&spot.key, spot.at) {
             Ok(Some(held)) => held.as_slice() == bytes,
             _ => false,
         }
@@ -247,16 +251,26 @@ impl Trial {
         }
     }
 
-    /// Tells the metadata log that another broker deletes the segment.
-    fn overtake(&mut self) -> bool {
+    /// Tells the metadata log that another broker deletes the segment, or that its objects are gone.
+    fn overtake(&mut self, gone: bool) -> bool {
+        let state = if gone {
+            State::DeleteFinished
+        } else {
+            State::DeleteStarted
+        };
         let note = Note::Update {
             id: id(),
             broker: BrokerId(1),
             event_ts: 6,
-            state: State::DeleteStarted,
+            state,
             custom: None,
         };
         self.meta.append(&note).is_ok()
+    }
+
+    /// Takes in what the metadata log has more.
+    fn look(&mut self) -> bool {
+        refresh(&mut self.view, &mut self.meta).is_ok()
     }
 
     /// The state of the copy's entry in the view.
@@ -316,10 +330,37 @@ fn a_copy_that_was_overtaken_takes_its_objects_away(rt: HostRuntime) -> Result<(
     let came = trial.run(Next::Start, Next::Finish);
     let four = trial.counts(4);
     assert!(rt; came == (Came::Goes(Next::Finish), 5) && four);
-    assert!(rt; trial.overtake());
+    assert!(rt; trial.overtake(false));
     let came = trial.run(Next::Finish, Next::Start);
     let none = trial.counts(0);
     assert!(rt; came == (Came::Overtaken(State::DeleteStarted), 6) && none);
+    Ok(())
+}
+
+#[test]
+fn an_overtaken_copy_tells_the_state_of_its_last_turn(rt: HostRuntime) -> Result<(), Fail> {
+    let mut trial = Trial::new(rt.alloc(), None, None, false)?;
+    trial.run(Next::Start, Next::Finish);
+    assert!(rt; trial.overtake(false));
+    let came = trial.run(Next::Finish, Next::Delete(3));
+    let one = trial.counts(1);
+    assert!(rt; came == (Came::Goes(Next::Delete(3)), 5) && one);
+    let told = trial.overtake(true);
+    assert!(rt; told && trial.look());
+    assert_eq!(rt;
+        trial.turn(Next::Delete(3)),
+        Came::Overtaken(State::DeleteFinished)
+    );
+    Ok(())
+}
+
+#[test]
+fn behind_the_last_key_no_call_is_made(rt: HostRuntime) -> Result<(), Fail> {
+    let mut trial = Trial::new(rt.alloc(), None, None, false)?;
+    assert_eq!(rt; trial.turn(Next::Put(4)), Came::Goes(Next::Finish));
+    assert_eq!(rt; trial.turn(Next::Delete(4)), Came::Damaged(0));
+    let none = trial.counts(0);
+    assert!(rt; none);
     Ok(())
 }
 

@@ -1,18 +1,18 @@
 //! The turns of a copy, one call of a device each.
 
-ghost use Rattle.std.specs.Prelude.{◌≡◌};
+ghost use Rattle.std.specs.Prelude.{◌≡◌, slice_get};
 ghost use Rattle.remote_view.specs.Fold.{state_of};
-ghost use Rattle.object_store.specs.Place.{part_after};
-ghost use Rattle.copy_task.specs.Turns.{Tiers, after_put, after_delete, checked, StartRow, PutRow, FinishRow, CheckRow, DeleteRow, CopyRow};
+ghost use Rattle.copy_task.specs.Copying.{keys};
+ghost use Rattle.copy_task.specs.Turns.{Tiers, put_at, delete_at, overtaken, checked, StartRow, PutRow, FinishRow, CheckRow, DeleteRow, CopyRow};
 
 use crate::copying::Copying;
 use crate::turn::{CopyTurn, Next};
 use meta_log::{MetaLog, Teller};
-use object_store::{Store, part_after, place};
+use object_store::Store;
 use plain_log::{Answer, Place};
 use remote_view::View;
 use std::alloc::{AllocError, Global};
-use tier_base::{Part, State, Trouble};
+use tier_base::{State, Trouble};
 use view_refresh::refresh;
 
 /// Takes the next turn of a copy.
@@ -31,10 +31,10 @@ pub fn copy_turn<S: Store, M: MetaLog>(
 {
     match next {
         Next::Start => start(alloc, copying, teller, meta),
-        Next::Put(part) => put(copying, part, store),
+        Next::Put(n) => put(copying, n, store),
         Next::Finish => finish(copying, teller, meta),
         Next::Check => check(copying, view, meta),
-        Next::Delete(state, part) => Ok(delete(copying, state, part, store)),
+        Next::Delete(n) => Ok(delete(copying, n, view, store)),
     }
 }
 
@@ -49,30 +49,33 @@ fn start<M: MetaLog>(
 {
     let note = copying.start_note(alloc, teller)?;
     match meta.append(&note) {
-        Ok(_) => Ok(CopyTurn::Goes(Next::Put(Part::Log))),
+        Ok(_) => Ok(CopyTurn::Goes(Next::Put(0))),
         Err(Trouble::Failed) => Ok(CopyTurn::Ends(Answer::MetaFault)),
         Err(Trouble::NoMemory) => Err(AllocError),
     }
 }
 
-/// Puts an object.
-fn put<S: Store>(copying: &Copying, part: Part, store: &mut S) -> Result<CopyTurn, AllocError>
-    ensures { PutRow S.content S.control copying.now part result store.old store.new }
+/// Puts an object, where one has this number.
+fn put<S: Store>(copying: &Copying, n: u8, store: &mut S) -> Result<CopyTurn, AllocError>
+    ensures { PutRow S.content S.control copying.now n (slice_get (keys copying.now) n) result
+        store.old store.new }
 {
-    let key = place(copying.id(), copying.partition(), part);
-    match store.put(&key, copying.part(part)) {
-        Ok(()) => Ok(CopyTurn::Goes(after_put(part))),
+    let Some(key) = copying.key(n) else {
+        return Ok(CopyTurn::Goes(Next::Finish));
+    };
+    match store.put(&key, copying.part(key.part)) {
+        Ok(()) => Ok(CopyTurn::Goes(put_at(copying, n + 1))),
         Err(Trouble::Failed) => Ok(CopyTurn::Ends(Answer::StoreFault)),
         Err(Trouble::NoMemory) => Err(AllocError),
     }
 }
 
-/// What comes after an object is put.
-fn after_put(part: Part) -> Next
-    ensures { result ≡ after_put (part_after part) }
+/// The turn that puts the object of this number, or the one behind the last.
+fn put_at(copying: &Copying, n: u8) -> Next
+    ensures { result ≡ put_at n (slice_get (keys copying.now) n) }
 {
-    match part_after(part) {
-        Some(part) => Next::Put(part),
+    match copying.key(n) {
+        Some(_) => Next::Put(n),
         None => Next::Finish,
     }
 }
@@ -117,9 +120,7 @@ fn found(copying: &Copying, view: &View) -> CopyTurn
             copying.base(),
             copying.last(),
         )),
-        Some(state @ (State::DeleteStarted | State::DeleteFinished)) => {
-            CopyTurn::Goes(Next::Delete(state, Part::Log))
-        }
+        Some(State::DeleteStarted | State::DeleteFinished) => CopyTurn::Goes(Next::Delete(0)),
         Some(State::CopyStarted) | None => CopyTurn::Ends(Answer::Damaged(
             Place::Meta,
             view.seen(),
@@ -127,23 +128,37 @@ fn found(copying: &Copying, view: &View) -> CopyTurn
     }
 }
 
-/// Takes an object away, for a copy whose entry was found in a state.
-fn delete<S: Store>(copying: &Copying, state: State, part: Part, store: &mut S) -> CopyTurn
-    ensures { DeleteRow S.content S.control copying.now state part result store.old store.new }
+/// Takes an object away, where one has this number.
+fn delete<S: Store>(copying: &Copying, n: u8, view: &View, store: &mut S) -> CopyTurn
+    ensures { DeleteRow S.content S.control copying.now view.now n (slice_get (keys copying.now) n)
+        result store.old store.new }
 {
-    let key = place(copying.id(), copying.partition(), part);
+    let Some(key) = copying.key(n) else {
+        return CopyTurn::Ends(overtaken(copying, view));
+    };
     match store.delete(&key) {
-        Ok(()) => after_delete(state, part),
+        Ok(()) => delete_at(copying, n + 1, view),
         Err(_) => CopyTurn::Ends(Answer::StoreFault),
     }
 }
 
-/// What comes after an object is taken away.
-fn after_delete(state: State, part: Part) -> CopyTurn
-    ensures { result ≡ after_delete state (part_after part) }
+/// The turn that takes the object of this number away, or the answer behind the last.
+fn delete_at(copying: &Copying, n: u8, view: &View) -> CopyTurn
+    ensures { result ≡ delete_at copying.now view.now n (slice_get (keys copying.now) n) }
 {
-    match part_after(part) {
-        Some(part) => CopyTurn::Goes(Next::Delete(state, part)),
-        None => CopyTurn::Ends(Answer::Overtaken(state)),
+    match copying.key(n) {
+        Some(_) => CopyTurn::Goes(Next::Delete(n)),
+        None => CopyTurn::Ends(overtaken(copying, view)),
+    }
+}
+
+/// What a copy answers that has taken its objects away: the state that its entry has by now in the
+/// view.
+fn overtaken(copying: &Copying, view: &View) -> Answer
+    ensures { result ≡ overtaken view.now.notes (state_of copying.now.id view.now.entries) }
+{
+    match view.state(copying.id()) {
+        Some(state) => Answer::Overtaken(state),
+        None => Answer::Damaged(Place::Meta, view.seen()),
     }
 }

@@ -5,7 +5,8 @@
 -- start comes to the end of the last piece that is due.
 --
 -- Source: Kafka's retention.ms and retention.bytes, which count the remote log and what of the local log isn't copied.
-use Rattle.std.specs.Prelude.{ℕ, zero, suc, ◌-◌, nat_lt, if◌then◌else◌, List, [], ◌∷◌, Option, Some, None, slice_get, option_map, ℤ, pos}
+use Rattle.std.specs.Prelude.{ℕ, zero, suc, ◌-◌, nat_lt, if◌then◌else◌, List, [], ◌∷◌, map, filter, sum, Option, Some, None}
+use Rattle.std.specs.Prelude.{slice_get, option_map, ℤ, pos}
 use Rattle.tier_base.specs.declared.plain.Item.{Item}
 use Rattle.tier_base.specs.declared.plain.Keep.{Keep}
 use Rattle.tier_base.specs.Counts.{counted}
@@ -31,16 +32,15 @@ abbrev pub end_from : ℕ → List Piece → ℕ
 end_from start [] = start
 end_from start (piece ∷ pieces) = end_from piece.to pieces
 
--- the bytes of the segments that end past an offset, and so many more; sums past 2^64 - 1 stand there
-abbrev pub bytes_past : ℕ → ℕ → List Grown → ℕ
-bytes_past more offset [] = more
-bytes_past more offset (segment ∷ segments) =
-    bytes_past (if nat_lt offset (end_of segment) then counted more (size_of segment) else more) offset segments
+-- the bytes of the segments that end past an offset
+abbrev pub bytes_past : ℕ → List Grown → ℕ
+bytes_past offset segments = sum (map size_of (filter (λ segment. nat_lt offset (end_of segment)) segments))
 
--- the bytes of the local log behind the pieces: of the closed segments, and of an open one that ends at the log's end
+-- the bytes of the local log behind the pieces: of the closed segments, and of an open one that ends at the log's end; a sum
+-- past 2^64 - 1 stands there
 abbrev pub rest_behind : List Piece → ℕ → List Grown → ℕ → ℕ → ℕ
 rest_behind pieces start closed open_size log_end =
-    bytes_past (if nat_lt (end_from start pieces) log_end then open_size else 0) (end_from start pieces) closed
+    counted (if nat_lt (end_from start pieces) log_end then open_size else 0) (bytes_past (end_from start pieces) closed)
 
 -- where so many pieces end
 abbrev pub end_of_first : ℕ → List Piece → Option ℕ

@@ -5,24 +5,23 @@
 --   Delete    takes an object away                       StoreFault
 --   Finish    appends the note that no object stands     Deleted, MetaFault
 --
--- The objects are taken away in the order of their parts. An expiry that fails is taken up by a later one, which does all of it again.
+-- The objects are taken away in the order of their keys. An expiry that fails is taken up by a later one, which does all of it again.
 --
 -- Source: KIP-405, where a segment's metadata is updated as delete-started, its objects are deleted, and the metadata is updated as
 -- delete-finished.
-use Rattle.std.specs.Prelude.{◌≡◌, Option, Some, None, Ok, Err}
+use Rattle.std.specs.Prelude.{◌≡◌, ℕ, ◌+◌, false, List, Option, Some, None, slice_get, Ok, Err}
 use Rattle.std.specs.declared.result.Result.{Result}
 use Rattle.std.specs.declared.alloc.AllocError.{AllocError}
-use Rattle.tier_base.specs.declared.plain.Part.{Part}
-use Rattle.tier_base.specs.declared.plain.Part.TheVariants.{Log}
 use Rattle.tier_base.specs.declared.plain.State.{State}
 use Rattle.tier_base.specs.declared.plain.State.TheVariants.{DeleteStarted, DeleteFinished}
+use Rattle.tier_base.specs.declared.object_key.ObjectKey.{ObjectKey}
 use Rattle.tier_base.specs.Device.{Control, Went, Fault, Dry}
 use Rattle.segment_meta.specs.declared.note.Note.{Note}
 use Rattle.segment_meta.specs.declared.note.Note.TheVariants.{Update}
 use Rattle.object_store.specs.Call as store_call
 use Rattle.object_store.specs.Calls.{Deletes}
 use Rattle.object_store.specs.Content as store
-use Rattle.object_store.specs.Place.{key_of, part_after}
+use Rattle.object_store.specs.Place.{keys_of}
 use Rattle.meta_log.specs.declared.teller.Teller.{Teller}
 use Rattle.meta_log.specs.Call as meta_call
 use Rattle.meta_log.specs.Calls.{Appends}
@@ -38,17 +37,21 @@ use Rattle.expiry_task.specs.declared.turn.Next.TheVariants.{Start, Delete, Fini
 abbrev pub note_of : Doomed → Teller → State → Note
 note_of doomed teller state = Update doomed.id teller.broker teller.now state None
 
--- what comes after a part is taken away
-abbrev pub after_delete : Option Part → Next
-after_delete None = Finish
-after_delete (Some part) = Delete part
+-- the keys of its objects
+abbrev pub keys : Doomed → List ObjectKey
+keys doomed = keys_of doomed.partition doomed.id false
+
+-- the turn that takes the object of a number away, where it has a key, or the one behind the last
+abbrev pub delete_at : ℕ → Option ObjectKey → Next
+delete_at n None = Finish
+delete_at n (Some key) = Delete n
 
 module _ {M : Type 0} (notes : M → meta.Content) (calls : M → Control meta_call.call_code) where
   -- the deletion starts
   abbrev pub StartRow : Doomed → Teller → Result ExpiryTurn AllocError → M → M → Type 0
   StartRow doomed teller (Ok (Ends MetaFault)) old new = Appends notes calls (note_of doomed teller DeleteStarted) Fault old new
   StartRow doomed teller (Ok turn) old new =
-      (turn ≡ Goes (Delete Log)) × Appends notes calls (note_of doomed teller DeleteStarted) Went old new
+      (turn ≡ Goes (Delete 0)) × Appends notes calls (note_of doomed teller DeleteStarted) Went old new
   StartRow doomed teller (Err e) old new = Appends notes calls (note_of doomed teller DeleteStarted) Dry old new
 
   -- no object stands any more
@@ -59,11 +62,12 @@ module _ {M : Type 0} (notes : M → meta.Content) (calls : M → Control meta_c
   FinishRow doomed teller (Err e) old new = Appends notes calls (note_of doomed teller DeleteFinished) Dry old new
 
 module _ {S : Type 0} (objects : S → store.Content) (calls : S → Control store_call.call_code) where
-  -- an object is taken away
-  abbrev pub DeleteRow : Doomed → Part → ExpiryTurn → S → S → Type 0
-  DeleteRow doomed part (Ends StoreFault) old new = Deletes objects calls (key_of doomed.partition doomed.id part) Fault old new
-  DeleteRow doomed part turn old new =
-      (turn ≡ Goes (after_delete (part_after part))) × Deletes objects calls (key_of doomed.partition doomed.id part) Went old new
+  -- the object of a number is taken away, where it has a key
+  abbrev pub DeleteRow : Doomed → ℕ → Option ObjectKey → ExpiryTurn → S → S → Type 0
+  DeleteRow doomed n None turn old new = (turn ≡ Goes Finish) × (new ≡ old)
+  DeleteRow doomed n (Some key) (Ends StoreFault) old new = Deletes objects calls key Fault old new
+  DeleteRow doomed n (Some key) turn old new =
+      (turn ≡ Goes (delete_at (n + 1) (slice_get (keys doomed) (n + 1)))) × Deletes objects calls key Went old new
 
 -- what an expiry's turns change: the store and the metadata log
 pub record Tiers (S M : Type 0) : Type 0 where
@@ -76,8 +80,9 @@ module _ {S M : Type 0} (objects : S → store.Content) (calls : S → Control s
   abbrev pub ExpiryRow : Doomed → Teller → Next → Result ExpiryTurn AllocError → Tiers S M → Tiers S M → Type 0
   ExpiryRow doomed teller Start result old new =
       (new ≡ record old { meta = new.meta }) × StartRow notes notings doomed teller result old.meta new.meta
-  ExpiryRow doomed teller (Delete part) (Ok turn) old new =
-      (new ≡ record old { store = new.store }) × DeleteRow objects calls doomed part turn old.store new.store
-  ExpiryRow doomed teller (Delete part) (Err e) old new = ⊥
+  ExpiryRow doomed teller (Delete n) (Ok turn) old new =
+      (new ≡ record old { store = new.store })
+      × DeleteRow objects calls doomed n (slice_get (keys doomed) n) turn old.store new.store
+  ExpiryRow doomed teller (Delete n) (Err e) old new = ⊥
   ExpiryRow doomed teller Finish result old new =
       (new ≡ record old { meta = new.meta }) × FinishRow notes notings doomed teller result old.meta new.meta

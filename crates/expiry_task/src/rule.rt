@@ -2,6 +2,7 @@
 
 ghost use Rattle.std.specs.Prelude.{◌≡◌, IfOk, option_map};
 ghost use Rattle.expiry_task.specs.Rule.{items_of, item_of, end_from, bytes_past, rest_behind, end_of_first, raised_to};
+ghost use Rattle.tier_base.specs.Counts.{counted};
 ghost use Rattle.remote_view.specs.Fold.{entry_of};
 
 use remote_find::Piece;
@@ -85,7 +86,7 @@ fn end_from(start: u64, pieces: &[Piece]) -> u64
 
 /// The bytes of the segments that end past an offset, and so many more.
 fn bytes_past(more: u64, offset: u64, segments: &[Growing]) -> u64
-    ensures { result ≡ bytes_past more offset segments.now }
+    ensures { result ≡ counted more (bytes_past offset segments.now) }
 {
     let mut bytes = more;
     for segment in segments {

@@ -1,7 +1,7 @@
 //! What an expiry does next, and what a turn of it came to.
 
 use plain_log::Answer;
-use tier_base::{Part, PartitionId, SegmentId};
+use tier_base::{PartitionId, SegmentId};
 
 /// A remote segment whose objects are to go.
 #[derive(Clone, Copy, Debug, PartialEq, Eq)]
@@ -15,8 +15,8 @@ pub struct Doomed {
 pub enum Next {
     /// It tells the metadata log that the deletion starts.
     Start,
-    /// It takes an object away.
-    Delete(Part),
+    /// It takes an object away: the one under the key of this number among those of its segment.
+    Delete(u8),
     /// It tells the metadata log that no object stands.
     Finish,
 }

@@ -1,16 +1,15 @@
 //! The turns of an expiry, one call of a device each.
 
-ghost use Rattle.std.specs.Prelude.{◌≡◌};
-ghost use Rattle.object_store.specs.Place.{part_after};
-ghost use Rattle.expiry_task.specs.Turns.{Tiers, note_of, after_delete, StartRow, FinishRow, DeleteRow, ExpiryRow};
+ghost use Rattle.std.specs.Prelude.{◌≡◌, slice_get};
+ghost use Rattle.expiry_task.specs.Turns.{Tiers, keys, note_of, delete_at, StartRow, FinishRow, DeleteRow, ExpiryRow};
 
 use crate::turn::{Doomed, ExpiryTurn, Next};
 use meta_log::{MetaLog, Teller};
-use object_store::{Store, part_after, place};
+use object_store::{ObjectKey, Store, keys_of};
 use plain_log::Answer;
 use segment_meta::Note;
 use std::alloc::AllocError;
-use tier_base::{Part, State, Trouble};
+use tier_base::{State, Trouble};
 
 /// Takes the next turn of an expiry.
 pub fn expiry_turn<S: Store, M: MetaLog>(
@@ -25,7 +24,7 @@ pub fn expiry_turn<S: Store, M: MetaLog>(
 {
     match next {
         Next::Start => start(doomed, teller, meta),
-        Next::Delete(part) => Ok(delete(doomed, part, store)),
+        Next::Delete(n) => Ok(delete(doomed, n, store)),
         Next::Finish => finish(doomed, teller, meta),
     }
 }
@@ -35,29 +34,45 @@ fn start<M: MetaLog>(doomed: Doomed, teller: Teller, meta: &mut M) -> Result<Exp
     ensures { StartRow M.content M.control doomed teller result meta.old meta.new }
 {
     match meta.append(&note_of(doomed, teller, State::DeleteStarted)) {
-        Ok(_) => Ok(ExpiryTurn::Goes(Next::Delete(Part::Log))),
+        Ok(_) => Ok(ExpiryTurn::Goes(Next::Delete(0))),
         Err(Trouble::Failed) => Ok(ExpiryTurn::Ends(Answer::MetaFault)),
         Err(Trouble::NoMemory) => Err(AllocError),
     }
 }
 
-/// Takes an object away.
-fn delete<S: Store>(doomed: Doomed, part: Part, store: &mut S) -> ExpiryTurn
-    ensures { DeleteRow S.content S.control doomed part result store.old store.new }
+/// Takes an object away, where one has this number.
+fn delete<S: Store>(doomed: Doomed, n: u8, store: &mut S) -> ExpiryTurn
+    ensures { DeleteRow S.content S.control doomed n (slice_get (keys doomed) n) result
+        store.old store.new }
 {
-    match store.delete(&place(doomed.id, doomed.partition, part)) {
-        Ok(()) => ExpiryTurn::Goes(after_delete(part)),
+    let Some(key) = key_at(&doomed, n) else {
+        return ExpiryTurn::Goes(Next::Finish);
+    };
+    match store.delete(&key) {
+        Ok(()) => ExpiryTurn::Goes(delete_at(&doomed, n + 1)),
         Err(_) => ExpiryTurn::Ends(Answer::StoreFault),
     }
 }
 
-/// What comes after an object is taken away.
-fn after_delete(part: Part) -> Next
-    ensures { result ≡ after_delete (part_after part) }
+/// The turn that takes the object of this number away, or the one behind the last.
+fn delete_at(doomed: &Doomed, n: u8) -> Next
+    ensures { result ≡ delete_at n (slice_get (keys doomed.now) n) }
 {
-    match part_after(part) {
-        Some(part) => Next::Delete(part),
+    match key_at(doomed, n) {
+        Some(_) => Next::Delete(n),
         None => Next::Finish,
+    }
+}
+
+/// The key of an object, where one has this number, counted from 0.
+fn key_at(doomed: &Doomed, n: u8) -> Option<ObjectKey>
+    ensures { result ≡ slice_get (keys doomed.now) n }
+{
+    let keys = keys_of(doomed.partition, doomed.id, false);
+    if n < keys.count() {
+        Some(keys.get(n))
+    } else {
+        None
     }
 }
 

@@ -9,7 +9,7 @@ ghost use Rattle.object_store.specs.Call.{call_code};
 ghost use Rattle.object_store.specs.Deaf.{nothing_told};
 
 use crate::call::StoreCall;
-use crate::handing::{hand, share};
+use crate::handing::{end_get, part};
 use crate::store::Store;
 use bytes::Bytes;
 use std::alloc::{AllocError, Global};
@@ -52,12 +52,13 @@ impl Store for DeafStore {
     }
 
     fn get(&mut self, key: &ObjectKey, at: u64) -> Result<Option<Bytes>, Trouble> {
-        let ending = self.faults.ending(StoreCall::Get);
         let object = share_from(&self.objects, key, at as usize)?;
-        let shared = share(&object)?;
-        let outcome = self.faults.note(StoreCall::Get, ending);
-        hand(&mut self.handed, outcome.is_ok(), shared);
-        give(outcome, object)
+        end_get(&mut self.faults, &mut self.handed, object)
+    }
+
+    fn get_part(&mut self, key: &ObjectKey, at: u64, most: u64) -> Result<Option<Bytes>, Trouble> {
+        let object = share_part(&self.objects, key, at as usize, most as usize)?;
+        end_get(&mut self.faults, &mut self.handed, object)
     }
 
     fn delete(&mut self, key: &ObjectKey) -> Result<(), Failed> {
@@ -117,6 +118,19 @@ fn share_from(
             let bytes = &objects[i].1;
             Ok(Some(bytes.slice(at.min(bytes.len())..)?))
         }
+        None => Ok(None),
+    }
+}
+
+/// Gives at most so many of an object's bytes from a place on.
+fn share_part(
+    objects: &[(ObjectKey, Bytes)],
+    key: &ObjectKey,
+    at: usize,
+    most: usize,
+) -> Result<Option<Bytes>, AllocError> {
+    match find(objects, key) {
+        Some(i) => Ok(Some(part(&objects[i].1, at, most)?)),
         None => Ok(None),
     }
 }

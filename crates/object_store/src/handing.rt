@@ -1,13 +1,47 @@
-//! What a `get` hands.
+//! How a `get` ends, and what it hands.
 
-ghost use Rattle.std.specs.Prelude.{◌≡◌, if◌then◌else◌, IfOk};
-ghost use Rattle.tier_base.specs.Told.{bytes_in};
+ghost use Rattle.std.specs.Prelude.{◌≡◌, take, drop, if◌then◌else◌, IfOk};
+ghost use Rattle.tier_base.specs.Device.{Ran, fate_of};
+ghost use Rattle.tier_base.specs.Faults.{control_of};
+ghost use Rattle.tier_base.specs.Told.{bytes_in, handed_after};
+ghost use Rattle.object_store.specs.declared.call.StoreCall.TheVariants.{Get};
+ghost use Rattle.object_store.specs.Call.{call_code};
 
+use crate::call::StoreCall;
 use bytes::Bytes;
 use std::alloc::AllocError;
+use tier_base::{FaultPlan, Trouble, give};
+
+/// Ends a `get` or a `get_part` that found this: where it goes well it gives it and hands its
+/// bytes.
+pub fn end_get(
+    faults: &mut FaultPlan<StoreCall>,
+    handed: &mut Bytes,
+    object: Option<Bytes>,
+) -> Result<Option<Bytes>, Trouble>
+    ensures control { Ran Get (fate_of result) (control_of call_code faults.old handed.old)
+        (control_of call_code faults.new handed.new) }
+    ensures handed { handed.new ≡ handed_after result handed.old }
+    ensures given { IfOk result (λ given. given ≡ object) }
+{
+    let ending = faults.ending(StoreCall::Get);
+    let shared = share(&object)?;
+    let outcome = faults.note(StoreCall::Get, ending);
+    hand(handed, outcome.is_ok(), shared);
+    give(outcome, object)
+}
+
+/// Shares at most so many bytes from a place on.
+pub fn part(bytes: &Bytes, at: usize, most: usize) -> Result<Bytes, AllocError>
+    ensures { IfOk result (λ part. part ≡ take most (drop at bytes.now)) }
+{
+    let from = at.min(bytes.len());
+    let to = from + most.min(bytes.len() - from);
+    bytes.slice(from..to)
+}
 
 /// Shares the bytes that a `get` found.
-pub fn share(object: &Option<Bytes>) -> Result<Bytes, AllocError>
+fn share(object: &Option<Bytes>) -> Result<Bytes, AllocError>
     ensures { IfOk result (λ shared. shared ≡ bytes_in object.now) }
 {
     match object {
@@ -17,7 +51,7 @@ pub fn share(object: &Option<Bytes>) -> Result<Bytes, AllocError>
 }
 
 /// Hands bytes where they are given.
-pub fn hand(handed: &mut Bytes, given: bool, bytes: Bytes)
+fn hand(handed: &mut Bytes, given: bool, bytes: Bytes)
     ensures { handed.new ≡ (if given then bytes else handed.old) }
 {
     if given {

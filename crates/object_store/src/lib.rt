@@ -4,7 +4,7 @@
 //! and always tells its faults, the calls made and the bytes that it handed. `MemoryStore` tells all
 //! of it and is proved to be such a store: its calls fail by a plan. `DeafStore` works and tells no
 //! content, so that a test can put any bytes under the code that reads. `place` and `keys_of` say
-//! under which keys the objects of a segment stand.
+//! where the parts of a segment stand and under which keys its objects.
 #![tactic(auto)]
 
 mod call;
@@ -21,6 +21,6 @@ mod tests;
 pub use call::{Planned, StoreCall};
 pub use deaf_store::DeafStore;
 pub use memory_store::MemoryStore;
-pub use placing::{keys_of, part_after, place};
+pub use placing::{Keys, Spot, keys_of, place};
 pub use store::Store;
 pub use tier_base::{ObjectKey, Part};

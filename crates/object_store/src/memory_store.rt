@@ -1,6 +1,6 @@
 //! A store in memory, whose calls fail by a plan.
 //!
-//! Each call asks first how it is going to end, does as much as is to be done, and is counted last;
+//! A call asks how it is going to end, does as much as is to be done, and is counted last;
 //! so one that finds no memory has changed nothing and isn't counted.
 
 ghost use Rattle.std.specs.Prelude.{◌≡◌, [], IsTrue};
@@ -12,7 +12,7 @@ ghost use Rattle.object_store.specs.Memory.{IsEmptyStore};
 ghost use Rattle.object_store.specs.Shelf.{content_of};
 
 use crate::call::{Planned, StoreCall};
-use crate::handing::{hand, share};
+use crate::handing::end_get;
 use crate::shelf::Shelf;
 use crate::store::Store;
 use bytes::Bytes;
@@ -92,12 +92,13 @@ impl Store for MemoryStore {
     }
 
     fn get(&mut self, key: &ObjectKey, at: u64) -> Result<Option<Bytes>, Trouble> {
-        let ending = self.faults.ending(StoreCall::Get);
         let object = self.shelf.get(key, at as usize)?;
-        let shared = share(&object)?;
-        let outcome = self.faults.note(StoreCall::Get, ending);
-        hand(&mut self.handed, outcome.is_ok(), shared);
-        give(outcome, object)
+        end_get(&mut self.faults, &mut self.handed, object)
+    }
+
+    fn get_part(&mut self, key: &ObjectKey, at: u64, most: u64) -> Result<Option<Bytes>, Trouble> {
+        let object = self.shelf.get_part(key, at as usize, most as usize)?;
+        end_get(&mut self.faults, &mut self.handed, object)
     }
 
     fn delete(&mut self, key: &ObjectKey) -> Result<(), Failed> {

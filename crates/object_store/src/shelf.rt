@@ -1,12 +1,13 @@
 //! The objects of a store in memory, in the order of their keys.
 
-ghost use Rattle.std.specs.Prelude.{◌≡◌, drop, None, IfOk, OnOk, OnErr, option_map};
+ghost use Rattle.std.specs.Prelude.{◌≡◌, take, drop, None, IfOk, OnOk, OnErr, option_map};
 ghost use Rattle.std.specs.BTreeMap.{keys};
 ghost use Rattle.std.specs.List.Sorted.{IsStrictlySortedBy};
 ghost use Rattle.tier_base.specs.Told.{Names, replaced, removed};
 ghost use Rattle.object_store.specs.Content.{MadeAt, made_if};
 ghost use Rattle.object_store.specs.Shelf.{objects_on, keys_on, slot_cmp};
 
+use crate::handing::part;
 use crate::slot::{Slot, key_at, slot_of};
 use bytes::Bytes;
 use std::alloc::{AllocError, Global};
@@ -59,6 +60,22 @@ impl Shelf {
     {
         match self.objects.get(&slot_of(key)) {
             Some(bytes) => Ok(Some(bytes.slice(at.min(bytes.len())..)?)),
+            None => Ok(None),
+        }
+    }
+
+    /// Gives at most so many of an object's bytes from a place on.
+    pub fn get_part(
+        &self,
+        key: &ObjectKey,
+        at: usize,
+        most: usize,
+    ) -> Result<Option<Bytes>, AllocError>
+        ensures { IfOk result (λ bytes. bytes
+            ≡ option_map (λ object. take most (drop at object)) (objects_on self.now key.now)) }
+    {
+        match self.objects.get(&slot_of(key)) {
+            Some(bytes) => Ok(Some(part(bytes, at, most)?)),
             None => Ok(None),
         }
     }

@@ -3,7 +3,7 @@
 //! A call is whole: it is done or not, and one that answers `Failed` may have been done. One that
 //! finds no memory changes nothing.
 
-ghost use Rattle.std.specs.Prelude.{◌≡◌, drop, IfOk, IsTrue, option_map};
+ghost use Rattle.std.specs.Prelude.{◌≡◌, take, drop, IfOk, IsTrue, option_map};
 ghost use Rattle.tier_base.specs.Device.{Control, Ran, RanQuietly, MayBeDone, Arms, fate_of, failing};
 ghost use Rattle.object_store.specs.declared.call.StoreCall.TheVariants.{Put, Get, Delete, Keys};
 ghost use Rattle.object_store.specs.Call.{call_code};
@@ -36,6 +36,16 @@ pub trait Store: Drop {
         ensures content { Keeps (content self.old) (content self.new) }
         ensures bytes { IsTrue (content self.old).tells → IfOk result (λ bytes. bytes
             ≡ option_map (drop at) ((content self.old).objects key.now)) };
+
+    /// Gives at most so many of the bytes that `get` gives, fewer only where these end.
+    fn get_part(&mut self, key: &ObjectKey, at: u64, most: u64) -> Result<Option<Bytes>, Trouble>
+        ensures control { Ran Get (fate_of result) (control self.old) (control self.new) }
+        ensures handed { (control self.new).handed
+            ≡ handed_after result (control self.old).handed }
+        ensures content { Keeps (content self.old) (content self.new) }
+        ensures bytes { IsTrue (content self.old).tells → IfOk result (λ bytes. bytes
+            ≡ option_map (λ object. take most (drop at object))
+            ((content self.old).objects key.now)) };
 
     /// Removes an object. Nothing is done where it is absent.
     fn delete(&mut self, key: &ObjectKey) -> Result<(), Failed>

@@ -81,11 +81,11 @@ clipped_both line log_end epoch entry span own is is' =
     clipped_is line log_end epoch entry ∙ (ap (λ (s : Option Span). shared entry s (span_of line epoch log_end)) (sym is) ∙ ap (λ (s : Option Span). shared entry (Some span) s) (sym is'))
 
 -- an epoch that an offset has is given
-given : (epoch : ℕ) (found : Option ℕ) → is_epoch epoch found ≡ true → found ≡ Some epoch
+pub given : (epoch : ℕ) (found : Option ℕ) → is_epoch epoch found ≡ true → found ≡ Some epoch
 given epoch None h = absurd (cc)
 given epoch (Some e) h = ap Some (eqb-true e epoch h)
 
-gives_it : (epoch : ℕ) (found : Option ℕ) → found ≡ Some epoch → is_epoch epoch found ≡ true
+pub gives_it : (epoch : ℕ) (found : Option ℕ) → found ≡ Some epoch → is_epoch epoch found ≡ true
 gives_it epoch found is = rw (is, eq-eqb epoch epoch refl) refl
 
 -- a span of a longer line holds at least as much

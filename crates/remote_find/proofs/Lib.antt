@@ -1,2 +1,3 @@
 pub mod Clipping
+pub mod Covering
 pub mod Following

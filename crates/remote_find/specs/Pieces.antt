@@ -2,7 +2,7 @@
 --
 -- Source: KIP-405, where an offset is looked up with the leader epoch that the reading log has for it.
 use Rattle.std.specs.Prelude.{◌≡◌, ℕ, ◌<◌, ◌≤◌, zero, suc, ◌+◌, ◌-◌, ◌==◌, nat_lt, nat_le, true, min, max}
-use Rattle.std.specs.Prelude.{if◌then◌else◌, List, [], ◌∷◌, Option, Some, None}
+use Rattle.std.specs.Prelude.{if◌then◌else◌, List, [], ◌∷◌, length, Option, Some, None, IsSome}
 use Rattle.std.specs.List.{AllByRecursion}
 use Rattle.log_terms.specs.Line.{epoch_at}
 use Rattle.epoch_line.specs.Line.{end_of}
@@ -86,3 +86,25 @@ chained pieces top (suc most) at = and_behind top (λ n. chained pieces top most
 -- all of them
 abbrev pub chain : List Entry → List (ℕ × ℕ) → ℕ → ℕ → ℕ → List Piece
 chain entries line log_end at top = chained (piece_at entries line log_end) top (log_end - at) at
+
+-- from a place up to an end each offset has a piece, and at the end there is none
+pub record IsCovered (pieces : Pieces) (at end : ℕ) : Type 0 where
+  pub from : at ≤ end
+  pub each : (offset : ℕ) → at ≤ offset → offset < end → IsSome (pieces offset)
+  pub none : pieces end ≡ None
+
+-- each of these holds the place where the one before ends, and the first one a given place
+abbrev pub AreTouching : Pieces → ℕ → List Piece → Type 0
+AreTouching pieces at [] = Unit {0}
+AreTouching pieces at (piece ∷ rest) =
+    (pieces at ≡ Some piece) × (piece.from ≤ at) × (at < piece.to) × AreTouching pieces piece.to rest
+
+-- they end at or below a top
+abbrev pub AreBelow : ℕ → List Piece → Type 0
+AreBelow top chain = AllByRecursion (λ piece. piece.to ≤ top) chain
+
+-- the longest chain of pieces from a place on that end at or below a top
+pub record IsLongest (pieces : Pieces) (at top : ℕ) (chain : List Piece) : Type 0 where
+  pub touching : AreTouching pieces at chain
+  pub below : AreBelow top chain
+  pub longest : (other : List Piece) → AreTouching pieces at other → AreBelow top other → length other ≤ length chain

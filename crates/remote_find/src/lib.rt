@@ -10,6 +10,8 @@ mod pieces;
 #[cfg(test)]
 mod tests;
 
-pub use laws::a_piece_lies_in_one_copy_and_epoch;
+pub use laws::{
+    a_chain_is_the_longest, a_piece_lies_in_one_copy_and_epoch, what_is_covered_has_pieces,
+};
 pub use piece::Piece;
 pub use pieces::{chain, covered_to, find};

@@ -1,4 +1,0 @@
-use Rattle.object_store.proofs.memory_store.MemoryStoreStore.get.Goals as goal
-
-pub returns-clause-control : goal.returns-clause-control
-returns-clause-control c = rw c.give.ensures.fate (c.note-outcome.ensures.ran c.args.self.now.handed c.hand.new.handed)
