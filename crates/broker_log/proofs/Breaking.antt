@@ -1,68 +1,113 @@
 -- How a log is seen of which the disk alone is left. After a write that failed, a crash leaves the log of before or the one
 -- that was to be.
-use Rattle.std.proofs.Common.{◌≡◌, ◌⊎◌, ◌∙◌, subst, refl, inl, inr, ⊎_elim, ℕ, ◌+◌, Bool, true, false, List, IsTrue}
+use Rattle.std.proofs.Common.{◌≡◌, ◌⊎◌, ◌∙◌, ap, sym, subst, refl, inl, inr, ⊎_elim, ℕ, ◌+◌, ◌≤◌, arith, Bool, true, false, List, IsTrue}
 use Rattle.std.specs.Prelude.{nat_lt, if◌then◌else◌, Some}
 use Rattle.disk_model.specs.Content.{Content, Files, Image, Lawful, LeavesOnly}
-use Rattle.log_terms.specs.Log.{end_of}
+use Rattle.log_terms.specs.Log.{end_of, up_to, from_offset}
 use Rattle.epoch_line.specs.Line.{cut_end}
 use Rattle.log_steps.specs.Opens.{Opened, Opens}
 use Rattle.local_log.specs.Log.{Log, committed, stable_log}
 use Rattle.local_log.specs.Cutting.{OpensAs, OpensAsOr}
-use Rattle.broker_log.specs.Seen.{Seen, Up, Down, returning, returns, ComesBack, ShowsOpen}
+use Rattle.broker_log.specs.Seen.{Seen, Back, Up, Down, back_of, returning, returns, ComesBack, IsBack, IsKept, ShowsOpen}
 use Rattle.broker_log.specs.Turns.{Breaks, BreaksUnsaved, Stops, loosened, torn}
 use Rattle.broker_log.proofs.Showing.{image_as}
+use Rattle.broker_log.proofs.Local.{opened_as, local_low, local_ends, up_local, back_stands, kept_stands}
 
 -- the cut log or that of before, whichever ends first
-pub torn_back : (i : ℕ) (s : Seen) (end : ℕ) (line : List (ℕ × ℕ)) (c : Files) → Opens c (returns i s) ⊎ Opens c (returning i s end line) → ComesBack i (torn s end line) c
-torn_back i s end line c = go (nat_lt end s.stable)
+pub torn_back : (i : ℕ) (s : Seen) (back : Back) (c : Files) → Opens c (returns i s) ⊎ Opens c (returning i s back) → ComesBack i (torn s back) c
+torn_back i s back c = go (nat_lt back.0 s.stable)
   where
-    go : (b : Bool) → Opens c (returns i s) ⊎ Opens c (returning i s end line)
-        → ComesBack i (if b then record s { stable = end; saved = line; loose = Some (s.stable, s.saved) } else loosened s end line) c
+    go : (b : Bool) → Opens c (returns i s) ⊎ Opens c (returning i s back)
+        → ComesBack i (if b then record s { stable = back.0; saved = back.1; local = back.2; loose = Some (back_of s) } else loosened s back) c
     go true (inl was) = inr was
     go true (inr made) = inl made
     go false (inl was) = inl was
     go false (inr made) = inr made
 
+-- it was opened as often
+pub torn_most : (i : ℕ) (s : Seen) (back : Back) → s.incarnation ≤ i → (torn s back).incarnation ≤ i
+torn_most i s back le = go (nat_lt back.0 s.stable)
+  where
+    go : (b : Bool) → (if b then record s { stable = back.0; saved = back.1; local = back.2; loose = Some (back_of s) } else loosened s back).incarnation ≤ i
+    go true = le
+    go false = le
+
+-- what is kept then
+pub loosened_kept : (s : Seen) (back : Back) → IsKept s → IsBack s back → IsKept (loosened s back)
+loosened_kept s back k is = record {
+  consecutive = k.consecutive;
+  back = record { begins = k.back.begins; within = k.back.within };
+  loose = λ other e. (let same : back ≡ other = cc (e) in subst (λ (o : Back). IsBack (loosened s back) o) same (record { begins = is.begins; within = is.within }));
+}
+
+pub torn_kept : (s : Seen) (back : Back) → IsKept s → IsBack s back → IsKept (torn s back)
+torn_kept s back k is = go (nat_lt back.0 s.stable)
+  where
+    low : Seen
+    low = record s { stable = back.0; saved = back.1; local = back.2; loose = Some (back_of s) }
+
+    go : (b : Bool) → IsKept (if b then record s { stable = back.0; saved = back.1; local = back.2; loose = Some (back_of s) } else loosened s back)
+    go true = record {
+      consecutive = k.consecutive;
+      back = record { begins = is.begins; within = is.within };
+      loose = λ other e. (let same : back_of s ≡ other = cc (e) in subst (λ (o : Back). IsBack low o) same (record { begins = k.back.begins; within = k.back.within }));
+    }
+    go false = loosened_kept s back k is
+
+-- what is the same is no less
+pub most : {m n : ℕ} → m ≡ n → m ≤ n
+most is = omega (arith, is)
+
 -- a log that is closed comes back as it is
-pub stops_by : {D : Type 0} (content : D → Content) (log : Log D) → Stops content (Up log) (Down log.disk)
+pub stops_by : {D : Type 0} (content : D → Content) (log : Log D) → Stops content (Up log) (Down log.settings log.disk)
 stops_by content log = record {
   down = refl;
-  seen = λ s h. (s, record { told = h.told; images = λ c now. (log.incarnation, inl (h.images c now)) }, refl);
+  settings = refl;
+  seen = λ s h. (s, record { told = h.told; kept = kept_stands content log s h; images = λ c now. (log.incarnation, most h.incarnation_is, inl (h.images c now)) }, refl);
 }
 
 module _ {D : Type 0} (content : D → Content) (old new : Log D) where
   pub breaks_by : (after : Seen → Seen) → (content new.disk).tells ≡ (content old.disk).tells
-      → ((s : Seen) → ShowsOpen content old s → (c : Files) → Image (content new.disk) c → (i : ℕ) × ComesBack i (after s) c)
-      → Breaks content (Up old) (Down new.disk) after
-  breaks_by after tells images = record {
+      → ((s : Seen) → ShowsOpen content old s → IsKept (after s))
+      → ((s : Seen) → ShowsOpen content old s → (c : Files) → Image (content new.disk) c → (i : ℕ) × ((after s).incarnation ≤ i) × ComesBack i (after s) c)
+      → Breaks content (Up old) (Down old.settings new.disk) after
+  breaks_by after tells kept images = record {
     down = refl;
-    seen = λ s h. (after s, record { told = tells ∙ h.told; images = images s h }, refl);
+    settings = refl;
+    seen = λ s h. (after s, record { told = tells ∙ h.told; kept = kept s h; images = images s h }, refl);
   }
 
   module _ (laws : Lawful (content new.disk)) where
     -- each image opens as before
-    pub breaks_unsaved : (content new.disk).tells ≡ (content old.disk).tells → LeavesOnly (content old.disk) (content new.disk) (OpensAs (content old.disk)) → BreaksUnsaved content (Up old) (Down new.disk)
+    pub breaks_unsaved : (content new.disk).tells ≡ (content old.disk).tells → LeavesOnly (content old.disk) (content new.disk) (OpensAs (content old.disk)) → BreaksUnsaved content (Up old) (Down old.settings new.disk)
     breaks_unsaved tells opens =
         breaks_by _ tells
-        (λ s h c now. (let was = image_as (content old.disk) (content new.disk) laws opens c now in (old.incarnation, inl (was.2 (returns old.incarnation s) (h.images was.0 was.1)))))
+        (λ s h. loosened_kept s (back_of s) (kept_stands content old s h) (back_stands content old s h))
+        (λ s h c now. (let was = image_as (content old.disk) (content new.disk) laws opens c now in (old.incarnation, most h.incarnation_is, inl (was.2 (returns old.incarnation s) (h.images was.0 was.1)))))
 
     -- as before, or as what was to be
     pub image_or : (o : Opened) → LeavesOnly (content old.disk) (content new.disk) (OpensAsOr (content old.disk) o)
-        → (s : Seen) → ShowsOpen content old s → (end : ℕ) (line : List (ℕ × ℕ)) → o ≡ returning old.incarnation s end line
-        → (c : Files) → Image (content new.disk) c → Opens c (returns old.incarnation s) ⊎ Opens c (returning old.incarnation s end line)
-    image_or o opens s h end line is c now =
+        → (s : Seen) → ShowsOpen content old s → (p : Opened) → o ≡ p
+        → (c : Files) → Image (content new.disk) c → Opens c (returns old.incarnation s) ⊎ Opens c p
+    image_or o opens s h p is c now =
         ⊎_elim
         (λ was. inl (was.2 (returns old.incarnation s) (h.images was.0 was.1)))
         (λ made. inr (subst (Opens c) is made))
         (opens.each c (laws.earlier (content old.disk).moment (content new.disk).moment c opens.later now))
 
     -- all of the log was to be stable
-    pub breaks_settling : (f : List (ℕ × ℕ) → ℕ → List (ℕ × ℕ)) → old.local_start ≡ 0 → (IsTrue (content old.disk).tells → cut_end (f old.line old.end) (old.end + 1) ≡ f old.line old.end)
+    pub breaks_settling : (f : List (ℕ × ℕ) → ℕ → List (ℕ × ℕ)) → (IsTrue (content old.disk).tells → cut_end (f old.line old.end) (old.end + 1) ≡ f old.line old.end)
         → (content new.disk).tells ≡ (content old.disk).tells → LeavesOnly (content old.disk) (content new.disk) (OpensAsOr (content old.disk) (stable_log (committed old (f old.line old.end))))
-        → Breaks content (Up old) (Down new.disk) (λ s. loosened s (end_of s.batches) (f s.line (end_of s.batches)))
-    breaks_settling f start within tells opens =
+        → Breaks content (Up old) (Down old.settings new.disk) (λ s. loosened s (end_of s.batches, f s.line (end_of s.batches), s.local))
+    breaks_settling f within tells opens =
         breaks_by _ tells
-        (λ s h c now. (old.incarnation, ⊎_elim (λ was. inl was) (λ made. inr made) (image_or (stable_log (committed old (f old.line old.end))) opens s h (end_of s.batches) (f s.line (end_of s.batches)) (made s h) c now)))
+        (λ s h. loosened_kept s (end_of s.batches, f s.line (end_of s.batches), s.local) (kept_stands content old s h) (record { begins = local_ends content old s h; within = local_low content old s h }))
+        (λ s h c now. (old.incarnation, most h.incarnation_is, image_or (stable_log (committed old (f old.line old.end))) opens s h (returning old.incarnation s (end_of s.batches, f s.line (end_of s.batches), s.local)) (made s h) c now))
       where
-        made : (s : Seen) → ShowsOpen content old s → stable_log (committed old (f old.line old.end)) ≡ returning old.incarnation s (end_of s.batches) (f s.line (end_of s.batches))
-        made s h = rw (start, within h.told, h.ends, h.line_is, h.batches_are) refl
+        made : (s : Seen) → ShowsOpen content old s → stable_log (committed old (f old.line old.end)) ≡ returning old.incarnation s (end_of s.batches, f s.line (end_of s.batches), s.local)
+        made s h =
+            opened_as (stable_log (committed old (f old.line old.end))) old.incarnation s.local (from_offset s.local (up_to (end_of s.batches) s.batches)) (f s.line (end_of s.batches))
+            refl
+            (sym h.local_is)
+            (ap (λ (n : ℕ). up_to n old.batches) (sym h.ends) ∙ sym (up_local content old s h (end_of s.batches) (local_low content old s h)))
+            (within h.told ∙ ap (f old.line) (sym h.ends) ∙ ap (λ (l : List (ℕ × ℕ)). f l (end_of s.batches)) (sym h.line_is))

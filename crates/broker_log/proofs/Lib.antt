@@ -1,6 +1,9 @@
+pub mod Local
 pub mod Showing
 pub mod Breaking
 pub mod Placing
 pub mod Cuts
 pub mod Runs
 pub mod Returning
+pub mod Drops
+pub mod Restarts

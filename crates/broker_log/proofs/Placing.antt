@@ -1,14 +1,16 @@
 -- Where a log is after a call, by how the call ended.
-use Rattle.std.proofs.Common.{◌≡◌, ◌⊎◌, ◌↔◌, sym, subst, refl, inl, inr, Bool, true, false, Result, Ok, Err, IfOk, IfErr, OnOk, OnErr, IsErrOf, IsOk, IsTrue, ⊎_elim, ℕ}
+use Rattle.std.proofs.Common.{◌≡◌, ◌⊎◌, ◌↔◌, sym, subst, refl, inl, inr, Bool, true, false, Result, Ok, Err, IfOk, IfErr, OnOk, OnErr, IsErrOf, IsOk, IsTrue, ⊎_elim, ℕ, ◌≤◌, ◌<◌, arith}
+use Rattle.std.proofs.lemmas.Bool.{cases_lt}
 use Rattle.disk_model.specs.Content.{Content}
 use Rattle.log_steps.specs.Reopens.{Reopens}
-use Rattle.local_log.specs.Log.{Log}
+use Rattle.tier_base.specs.declared.plain.Settings.{Settings}
+use Rattle.local_log.specs.Log.{Log, AreSettings}
 use Rattle.local_log.specs.declared.refusal.LogRefusal.{LogRefusal}
-use Rattle.local_log.specs.declared.refusal.LogRefusal.TheVariants.{DiskFault, NoMemory}
+use Rattle.local_log.specs.declared.refusal.LogRefusal.TheVariants.{TooManySegments, EmptySegment, DiskFault, NoMemory}
 use Rattle.broker_log.specs.declared.place.Place.{Place}
 use Rattle.broker_log.specs.declared.place.Place.TheVariants as place
 use Rattle.broker_log.specs.Seen.{Up}
-use Rattle.broker_log.specs.Inside.{kept_of, IsWellPlaced}
+use Rattle.broker_log.specs.Inside.{kept_of, IsWell}
 
 -- it ended otherwise than by a fault
 pub ok_open : {T : Type 0} (P : T → Type 0) (r : Result T LogRefusal) (b : Bool) → (IsTrue b ↔ IsErrOf r DiskFault) → (b ≡ false → IfOk r P) → IfOk r P
@@ -35,6 +37,10 @@ pub on_told : {T : Type 0} (P Q : Type 0) (r : Result T LogRefusal) → (P → Q
 on_told P Q (Ok x) f p = f p
 on_told P Q (Err e) f p = tt
 
+pub on_both : {T : Type 0} (P Q R : Type 0) (r : Result T LogRefusal) → (P → Q → R) → OnOk r P → OnOk r Q → OnOk r R
+on_both P Q R (Ok x) f p q = f p q
+on_both P Q R (Err e) f p q = tt
+
 -- an answer, and what else holds where there is one
 pub ok_told : {T : Type 0} (P Q : T → Type 0) {A B : Type 0} (r : Result T LogRefusal) → ((x : T) → P x → A → B → Q x) → IfOk r P → OnOk r A → OnOk r B → IfOk r Q
 ok_told P Q (Ok x) f p a b = f x p a b
@@ -49,14 +55,15 @@ whole_by P Q A B (Err e) ok (inr (inr h)) f a b not = absurd (not h)
 
 module _ {D : Type 0} (content : D → Content) where
   -- an open log was taken out
-  pub well_up : (p : Place D) (log : Log D) → kept_of p ≡ Up log → IsWellPlaced content p → (log.broken ≡ false) × (log.local_start ≡ 0)
-  well_up (place.Up l) log is well = let same : l ≡ log = cc is in subst (λ (x : Log D). (x.broken ≡ false) × (x.local_start ≡ 0)) same well
-  well_up (place.Down disk) log is well = absurd (cc is)
+  pub well_up : (p : Place D) (log : Log D) → kept_of p ≡ Up log → IsWell content p → log.broken ≡ false
+  well_up (place.Up l) log is well = let same : l ≡ log = cc is in subst (λ (x : Log D). x.broken ≡ false) same well
+  well_up (place.Down settings disk) log is well = absurd (cc is)
   well_up place.Away log is well = absurd well
 
-  pub place_well : (p : Place D) (n : Log D) (b : Bool) → (b ≡ false → p ≡ place.Up n) → (b ≡ true → p ≡ place.Down n.disk) → (b ≡ true → Reopens (content n.disk)) → (b ≡ false → (n.broken ≡ false) × (n.local_start ≡ 0)) → IsWellPlaced content p
-  place_well p n true up down again whole = subst (IsWellPlaced content) (sym (down refl)) (again refl)
-  place_well p n false up down again whole = subst (IsWellPlaced content) (sym (up refl)) (whole refl)
+  pub place_well : (p : Place D) (settings : Settings) (n : Log D) (b : Bool) → AreSettings settings → (b ≡ false → p ≡ place.Up n) → (b ≡ true → p ≡ place.Down settings n.disk)
+      → (b ≡ true → Reopens (content n.disk)) → (b ≡ false → n.broken ≡ false) → IsWell content p
+  place_well p settings n true are up down again whole = subst (IsWell content) (sym (down refl)) (are, again refl)
+  place_well p settings n false are up down again whole = subst (IsWell content) (sym (up refl)) (whole refl)
 
 -- what a call of no answer leaves that didn't end by a fault
 pub whole_on : {T : Type 0} (P P2 : Type 0) (Q : Type 0) (B : Type 0) (r : Result T LogRefusal) → OnOk r P → OnOk r P2 → OnErr r (B ⊎ IsErrOf r DiskFault) → (P → P2 → Q) → (B → Q) → (IsErrOf r DiskFault → ⊥) → Q
@@ -81,3 +88,16 @@ ended_dry (Err e) r' end ok err dry = cc (err, dry)
 pub ended_fault : {T : Type 0} (r : Result T LogRefusal) (r' : Result ℕ LogRefusal) (end : ℕ) → (IsOk r → r' ≡ Ok end) → IfErr r (λ e. r' ≡ Err e) → IsErrOf r' DiskFault → IsErrOf r DiskFault
 ended_fault (Ok x) r' end ok err fault = absurd (cc (ok refl, fault))
 ended_fault (Err e) r' end ok err fault = cc (err, fault)
+
+-- a log that rolled, or broke as it did, had what to roll, and room
+may_roll : (size closed : ℕ) → (size ≡ 0 → ⊥) → ((0 < size) × (4095 ≤ closed) → ⊥) → (0 < size) × (closed < 4095)
+may_roll size closed some few = elim (cases_lt 0 size) [
+  | inl more ↦ elim (cases_lt closed 4095) [ inl less ↦ (more, less) | inr full ↦ absurd (few (more, full)) ]
+  | inr none ↦ absurd (some (omega (arith, none)))
+]
+
+pub rolls_where : (r : Result ℕ LogRefusal) (size closed : ℕ) → (IsErrOf r EmptySegment ↔ (size ≡ 0)) → (IsErrOf r TooManySegments ↔ ((0 < size) × (4095 ≤ closed)))
+    → (IsOk r ⊎ IsErrOf r DiskFault) → (0 < size) × (closed < 4095)
+rolls_where (Ok x) size closed empty many ended = may_roll size closed (λ none. absurd (cc (empty.1 none))) (λ full. absurd (cc (many.1 full)))
+rolls_where (Err e) size closed empty many (inl ok) = absurd (cc ok)
+rolls_where (Err e) size closed empty many (inr fault) = may_roll size closed (λ none. absurd (cc (fault, empty.1 none))) (λ full. absurd (cc (fault, many.1 full)))

@@ -1,44 +1,53 @@
 -- A run of an open log, as it is seen.
-use Rattle.std.proofs.Common.{◌≡◌, ◌≢◌, ◌∙◌, ap, sym, subst, refl, ℕ, ◌+◌, ◌≤◌, ◌<◌, Bool, true, false, List, [], ◌∷◌, length, arith, ltb-true}
-use Rattle.std.specs.Prelude.{nat_lt, IsOk}
+use Rattle.std.proofs.Common.{◌≡◌, ◌∙◌, ap, sym, subst, refl, ℕ, ◌+◌, ◌≤◌, ◌<◌, Bool, true, false, List, [], ◌∷◌, ◌++◌, length, arith, append_assoc, ltb-true}
+use Rattle.std.specs.Prelude.{nat_lt, IsOk, Option, Some, None, IfSome, Result, Ok, Err, IfOk, IfErr, IsErrOf, IsTrue}
 use Rattle.tier_base.specs.declared.plain.Stop.{Stop}
 use Rattle.tier_base.specs.declared.plain.Stop.TheVariants.{Mark, Piece, Limit}
-use Rattle.disk_model.specs.Content.{Content}
+use Rattle.tier_base.specs.Device.{Control}
+use Rattle.tier_base.specs.declared.plain.FileName.{FileName}
+use Rattle.disk_model.specs.Call.{call_code}
+use Rattle.disk_model.specs.Content.{Content, Keeps}
 use Rattle.log_terms.specs.Batch.{last_of}
-use Rattle.log_terms.specs.Log.{up_to, from_offset, end_of, end_from, joined, IsConsecutive, EndsAt}
+use Rattle.log_terms.specs.Log.{from_offset, end_of, end_from, joined, EndsAt}
 use Rattle.log_terms.proofs.Logs.{up_to_end, ends_below}
 use Rattle.record_batch.specs.Check.{checked}
 use Rattle.segment_file.specs.Run.{StopIs as StopsIn}
 use Rattle.log_steps.specs.Fronts.{Each}
 use Rattle.log_steps.proofs.Lists.{each_map, each_left}
 use Rattle.local_log.specs.declared.reading.RunOut.{RunOut}
-use Rattle.local_log.specs.Log.{Log}
+use Rattle.local_log.specs.Log.{Log, Becomes}
 use Rattle.local_log.specs.Coheres.{Coheres}
-use Rattle.local_log.specs.Reading.{IsRunOf, IsEdge, piece_of, passes}
-use Rattle.broker_log.specs.Seen.{Seen, Up, ShowsOpen}
-use Rattle.broker_log.specs.Turns.{IsRunAt, IsRunIn, StopIs}
+use Rattle.local_log.specs.declared.refusal.LogRefusal.{LogRefusal}
+use Rattle.local_log.specs.declared.refusal.LogRefusal.TheVariants.{Damaged}
+use Rattle.local_log.specs.Reading.{segment_at, IsRunOf, IsEdge, IsCut, RunFails, IsOfDevice, piece_of, passes}
+use Rattle.broker_log.specs.Seen.{Seen, Up, Stays, ShowsOpen}
+use Rattle.broker_log.specs.Turns.{IsRunIn, IsSegmentOf, Reads, Misreads, StopIs}
+use Rattle.broker_log.proofs.Showing.{stays_by}
+use Rattle.broker_log.proofs.Local.{from_local, up_end}
+use Rattle.segment_file.specs.Closed.{Whole}
+use Rattle.local_log.specs.Reading.{IsPartOf}
+use Rattle.log_terms.proofs.Logs.{end_append}
 
 module _ {D : Type 0} (content : D → Content) (log : Log D) (s : Seen) (h : ShowsOpen content log s) where
-  pub run_at : (offset limit mark : ℕ) (out : RunOut) → IsRunOf log offset limit mark out → IsRunAt (Up log) s offset limit mark out
-  run_at offset limit mark out r = record {
-    run = r.first ∷ r.others;
-    rest = r.rest;
-    some = λ none. absurd (cc none);
-    parts = ap (from_offset offset) h.batches_are ∙ r.parts;
-    bytes_are = r.bytes_are;
-    fits = r.fits;
-    next_is = r.next_is;
-    below = r.below;
-    piece = (r.within, r.stop_is);
-  }
+  pub edge_at : (mark : ℕ) → log.local_start ≤ mark → EndsAt mark s.batches → IsEdge log mark
+  edge_at mark from ends =
+      sym (up_end content log s h mark (let same = h.local_is in omega (arith, from, same))) ∙ up_to_end mark s.batches h.consecutive ends
 
-  pub edge_at : (mark : ℕ) → Coheres log → EndsAt mark s.batches → IsEdge log mark
-  edge_at mark c ends =
-      let start = h.start in
-      let all : IsConsecutive 0 s.batches = subst (λ (n : ℕ). IsConsecutive n s.batches) start (subst (IsConsecutive log.local_start) (sym h.batches_are) c.consecutive) in
-      ap (λ (n : ℕ). end_from n (up_to mark log.batches)) start
-      ∙ ap (λ (l : List (List ℕ)). end_from 0 (up_to mark l)) (sym h.batches_are)
-      ∙ up_to_end mark s.batches all ends
+-- a closed segment of an open log
+pub segment_of : {D : Type 0} (content : D → Content) (log : Log D) (s : Seen) → ShowsOpen content log s → (whole : Whole) → IsPartOf log whole → IsSegmentOf s whole
+segment_of content log s h whole k = record {
+  before = h.below ++ k.before;
+  batches = k.batches;
+  after = k.after;
+  parts = h.batches_are ∙ ap (λ (l : List (List ℕ)). h.below ++ l) k.parts ∙ sym (append_assoc h.below k.before (k.batches ++ k.after));
+  begins = end_append 0 h.below k.before ∙ ap (λ (n : ℕ). end_from n k.before) h.begins ∙ k.begins;
+  bytes_are = k.bytes_are;
+  ends = k.ends;
+}
+
+pub some_more : {X : Type 0} (P Q : X → Type 0) (o : Option X) → ((x : X) → P x → Q x) → IfSome o P → IfSome o Q
+some_more P Q None f h = tt
+some_more P Q (Some x) f h = f x h
 
 -- what holds of all batches holds of those from an offset on
 each_from : (P : List ℕ → Type 0) (offset : ℕ) (batches : List (List ℕ)) → Each P batches → Each P (from_offset offset batches)
@@ -49,10 +58,6 @@ each_from P offset (batch ∷ batches) each = go (nat_lt (last_of batch) offset)
     go true e more = rw e more
     go false e more = rw e each
 
-end_any : (n : ℕ) (run : List (List ℕ)) → run ≢ [] → end_of run ≡ end_from n run
-end_any n [] some = absurd (some refl)
-end_any n (batch ∷ run) some = refl
-
 -- why a run ends, without the piece
 stops : (stop : Stop) (next mark piece limit : ℕ) (run rest : List (List ℕ)) (bytes : List ℕ) → bytes ≡ joined run → StopsIn stop next mark piece (passes limit (length bytes) rest) → StopIs stop run rest next limit mark
 stops Mark next mark piece limit run rest bytes is s = s
@@ -61,32 +66,66 @@ stops Limit next mark piece limit run [] bytes is s = absurd (cc (s.2))
 stops Limit next mark piece limit run (batch ∷ rest) bytes is s = (s.0, subst (λ (b : List ℕ). limit < length b + length batch) is (ltb-true limit (length bytes + length batch) s.2))
 
 module _ {D : Type 0} (content : D → Content) (log : Log D) (s : Seen) (h : ShowsOpen content log s) (c : Coheres log) where
-  all_consecutive : IsConsecutive 0 s.batches
-  all_consecutive = subst (λ (n : ℕ). IsConsecutive n s.batches) h.start (subst (IsConsecutive log.local_start) (sym h.batches_are) c.consecutive)
-
   -- a run that was read up to an end of the log's batches
-  pub run_in : (offset limit mark : ℕ) (out : RunOut) → offset < mark → EndsAt mark s.batches → IsRunAt (Up log) s offset limit mark out → IsRunIn s offset limit mark out
-  run_in offset limit mark out below ends r =
-      let high : mark ≤ end_of s.batches = ends_below mark s.batches all_consecutive ends in
+  pub run_in : (offset limit mark : ℕ) (out : RunOut) → log.local_start ≤ offset → offset < mark → EndsAt mark s.batches → IsRunOf log offset limit mark out → IsRunIn (Up log) s offset limit mark out
+  run_in offset limit mark out from below ends r =
+      let run = r.first ∷ r.others in
+      let high : mark ≤ end_of s.batches = ends_below mark s.batches h.consecutive ends in
       let ends_is = h.ends in
       let within : offset < log.end = omega (arith, below, high, ends_is) in
-      let start = h.start in
-      let from : log.local_start ≤ offset = omega (arith, start) in
-      let checked_all : Each (λ (batch : List ℕ). IsOk (checked batch)) s.batches = subst (Each (λ (batch : List ℕ). IsOk (checked batch))) (sym h.batches_are) c.are in
-      let those = subst (Each (λ (batch : List ℕ). IsOk (checked batch))) r.parts (each_from (λ (batch : List ℕ). IsOk (checked batch)) offset s.batches checked_all) in
+      let same = h.local_is in
+      let of_local : from_offset offset s.batches ≡ from_offset offset log.batches = from_local content log s h offset (omega (arith, from, same)) in
+      let those = subst (Each (λ (batch : List ℕ). IsOk (checked batch))) r.parts (each_from (λ (batch : List ℕ). IsOk (checked batch)) offset log.batches c.are) in
+      let inner = r.within in
       let starts = each_map {Q = λ (entry : ℕ × ℕ). offset < entry.1 → EndsAt entry.1 s.batches → out.next ≤ entry.1}
-      (λ entry piece past end. (let at = piece past (edge_at content log s h entry.1 c end) in let in_piece = r.piece.0 in omega (arith, at, in_piece)))
+      (λ entry piece past end. (let at = piece past (edge_at content log s h entry.1 (omega (arith, from, past)) end) in omega (arith, at, inner)))
       log.line (c.pieces offset from within) in
       record {
-        run = r.run;
+        run = run;
         rest = r.rest;
-        some = r.some;
-        parts = r.parts;
+        some = λ none. absurd (cc none);
+        parts = of_local ∙ r.parts;
         bytes = r.bytes_are;
         fits = r.fits;
-        are = each_left (λ (batch : List ℕ). IsOk (checked batch)) r.run r.rest those;
-        next_is = r.next_is ∙ end_any offset r.run r.some;
+        are = each_left (λ (batch : List ℕ). IsOk (checked batch)) run r.rest those;
+        next_is = r.next_is;
         below = r.below;
         before = subst (Each (λ (entry : ℕ × ℕ). offset < entry.1 → EndsAt entry.1 s.batches → out.next ≤ entry.1)) (sym h.line_is) starts;
-        stop_is = stops out.stop out.next mark (piece_of log offset) limit r.run r.rest out.bytes r.bytes_are r.piece.1;
+        stop_is = stops out.stop out.next mark (piece_of log offset) limit run r.rest out.bytes r.bytes_are r.stop_is;
+        piece = (r.within, r.stop_is);
       }
+
+-- three facts of an answer make one
+pub ok_three : {T E : Type 0} (P Q R S : T → Type 0) (r : Result T E) → ((x : T) → P x → Q x → R x → S x) → IfOk r P → IfOk r Q → IfOk r R → IfOk r S
+ok_three P Q R S (Ok x) f p q h = f x p q h
+ok_three P Q R S (Err e) f p q h = tt
+
+-- what a refusal tells
+pub err_told : {T : Type 0} (P Q : LogRefusal → Type 0) (r : Result T LogRefusal) (cause : LogRefusal) → IfErr r P → IfErr r Q → IsErrOf r cause → P cause × Q cause
+err_told P Q (Ok x) cause p q is = absurd (cc is)
+err_told P Q (Err e) cause p q is = let same : e ≡ cause = cc is in (subst P same p, subst Q same q)
+
+module _ {D : Type 0} (content : D → Content) (old new : Log D) (b : Becomes content old new) (keeps : Keeps (content old.disk) (content new.disk)) where
+  -- a log that was read is as it was
+  pub reading_stays : Stays content (Up old) (Up new)
+  reading_stays = stays_by content old new b (λ c now. (c, keeps.images c now, λ o is. is))
+
+  module _ (control : D → Control call_code) (offset limit mark : ℕ) (from : old.local_start ≤ offset) (below : offset < mark) where
+    -- the run that was read
+    pub reads_by : (IsTrue (content old.disk).tells → Coheres old) → (out : RunOut) → (IsTrue (content old.disk).tells → IsRunOf old offset limit mark out) → out.base ≡ (segment_at old offset).base
+        → IsCut (control new.disk).handed offset limit mark (piece_of old offset) out → Reads content control (Up old) (Up new) offset limit mark out
+    reads_by coheres out run base part = record {
+      stays = reading_stays;
+      base = base;
+      part = part;
+      run = λ s h ends. run_in content old s h (coheres h.told) offset limit mark out from below ends (run h.told);
+    }
+
+    -- what was damaged
+    pub misreads_by : (name : FileName) (at : ℕ) → RunFails old offset limit mark (control new.disk).handed (Damaged name at) → (IsTrue (content old.disk).tells → IsEdge old mark → IsOfDevice (Damaged name at))
+        → Misreads content control (Up old) (Up new) offset limit mark name at
+    misreads_by name at fails whole = record {
+      stays = reading_stays;
+      cause = fails;
+      unmarked = λ s h ends. whole h.told (edge_at content old s h mark (omega (arith, from, below)) ends);
+    }

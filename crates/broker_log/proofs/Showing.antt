@@ -1,15 +1,15 @@
 -- How a log is seen after a call.
-use Rattle.std.proofs.Common.{◌∷◌, ◌≡◌, ◌∙◌, ap, sym, subst, refl, ℕ, ◌+◌, ◌≤◌, Bool, true, false, List, [], ◌++◌, Some, IsTrue, arith}
+use Rattle.std.proofs.Common.{◌∷◌, ◌≡◌, ◌∙◌, ap, sym, subst, refl, ℕ, ◌+◌, ◌≤◌, Bool, true, false, List, [], ◌++◌, Some, IsTrue, arith, append_assoc}
 use Rattle.std.specs.List.{AllByRecursion}
 use Rattle.disk_model.specs.Content.{Content, Files, Image, Lawful, LeavesOnly}
 use Rattle.std.proofs.Common.{◌≢◌, cond, IsOk}
-use Rattle.log_terms.specs.Log.{up_to, end_from, end_of, joined, IsConsecutive}
+use Rattle.log_terms.specs.Log.{up_to, from_offset, end_from, end_of, joined, IsConsecutive}
 use Rattle.log_terms.proofs.Logs.{end_append}
 use Rattle.record_batch.specs.Check.{checked}
 use Rattle.segment_file.proofs.Joining.{consecutive_parts, joined_same}
 use Rattle.log_steps.specs.Fronts.{Each}
 use Rattle.local_log.specs.Stored.{size_of}
-use Rattle.local_log.specs.Run.{taking, lined, rolled, is_due, open_for, IsAppendedTo, IsAppended}
+use Rattle.local_log.specs.Run.{taking, lined, rolled, is_due, open_for, with_batches as gaining, IsAppendedTo, IsAppended}
 use Rattle.local_log.proofs.Taken.{taking_front}
 use Rattle.local_log.proofs.Appended.{up_to_more}
 use Rattle.local_log.proofs.Pieces.{consecutive_append}
@@ -17,10 +17,11 @@ use Rattle.epoch_line.specs.Line.{cut_end, assign}
 use Rattle.local_log.proofs.Lines.{cut_within, within_assign}
 use Rattle.log_steps.specs.Opens.{Opens}
 use Rattle.local_log.specs.Log.{Log, Becomes, committed, stable_log}
-use Rattle.local_log.specs.Coheres.{Coheres}
+use Rattle.local_log.specs.Coheres.{Coheres, Hold}
 use Rattle.local_log.specs.Cutting.{OpensAs}
-use Rattle.broker_log.specs.Seen.{Seen, Up, Stays, returns, ShowsOpen}
-use Rattle.broker_log.specs.Turns.{Appends, Settles, settled, with_batches, first_in}
+use Rattle.broker_log.specs.Seen.{Seen, Up, Stays, layout_of, returns, ShowsOpen}
+use Rattle.broker_log.specs.Turns.{Appends, Settles, Rolls, settled, with_batches, first_in}
+use Rattle.broker_log.proofs.Local.{opened_as, local_low, up_local}
 
 -- an epoch that starts at the end is within it
 pub assigned_within : (line : List (ℕ × ℕ)) (epoch end : ℕ) → cut_end (assign line epoch end) (end + 1) ≡ assign line epoch end
@@ -38,6 +39,11 @@ same_batches xs ys okx oky e = joined_same xs ys (by_recursion xs okx) (by_recur
 pub image_as : (old new : Content) → Lawful new → LeavesOnly old new (OpensAs old) → (c : Files) → Image new c → OpensAs old c
 image_as old new laws opens c now = opens.each c (laws.earlier old.moment new.moment c opens.later now)
 
+-- segments hold the same batches of the same log
+pub hold_same : {D : Type 0} (old new : Log D) → new.local_start ≡ old.local_start → new.closed ≡ old.closed → new.active ≡ old.active → new.batches ≡ old.batches
+    → Hold old.local_start (old.closed ++ old.active ∷ []) old.batches → Hold new.local_start (new.closed ++ new.active ∷ []) new.batches
+hold_same old new start closed active batches hold = rw (start, closed, active, batches) hold
+
 module _ {D : Type 0} (content : D → Content) (old new : Log D) where
   -- the log is the same, and so is what each image opens as
   pub stays_by : Becomes content old new → ((c : Files) → Image (content new.disk) c → OpensAs (content old.disk) c) → Stays content (Up old) (Up new)
@@ -46,27 +52,38 @@ module _ {D : Type 0} (content : D → Content) (old new : Log D) where
     end = ap (λ (l : Log D). Some l.end) b.fields;
     stable = ap (λ (l : Log D). Some l.stable) b.fields;
     line = ap (λ (l : Log D). Some l.line) b.fields;
+    local = ap (λ (l : Log D). Some l.local_start) b.fields;
+    layout = ap (λ (l : Log D). Some (layout_of l)) b.fields;
+    settings = ap (λ (l : Log D). Some l.settings) b.fields;
     seen = λ s h. (
       s,
       record {
         told = b.tells ∙ h.told;
-        start = ap (λ (l : Log D). l.local_start) b.fields ∙ h.start;
         unbroken = ap (λ (l : Log D). l.broken) b.fields ∙ h.unbroken;
-        batches_are = h.batches_are ∙ sym (b.batches h.told);
+        below = h.below;
+        batches_are = h.batches_are ∙ ap (λ (l : List (List ℕ)). h.below ++ l) (sym (b.batches h.told));
+        begins = h.begins ∙ sym (ap (λ (l : Log D). l.local_start) b.fields);
+        consecutive = h.consecutive;
+        local_is = h.local_is ∙ sym (ap (λ (l : Log D). l.local_start) b.fields);
+        within = h.within;
         line_is = h.line_is ∙ sym (ap (λ (l : Log D). l.line) b.fields);
         stable_is = h.stable_is ∙ sym (ap (λ (l : Log D). l.stable) b.fields);
         ends = h.ends ∙ sym (ap (λ (l : Log D). l.end) b.fields);
         tight = h.tight;
         images = λ c now. (let was = opens c now in
             subst (λ (i : ℕ). Opens c (returns i s)) (sym (ap (λ (l : Log D). l.incarnation) b.fields)) (was.2 (returns old.incarnation s) (h.images was.0 was.1)));
+        incarnation_is = h.incarnation_is ∙ sym (ap (λ (l : Log D). l.incarnation) b.fields);
+        segments = hold_same old new (ap (λ (l : Log D). l.local_start) b.fields) (ap (λ (l : Log D). l.closed) b.fields) (ap (λ (l : Log D). l.active) b.fields) (b.batches h.told) h.segments;
       },
       refl,
     );
   }
 
   -- a new segment is begun
-  pub rolled_stays : Becomes content (rolled old) new → ((c : Files) → Image (content new.disk) c → OpensAs (content old.disk) c) → Stays content (Up old) (Up new)
-  rolled_stays b opens = record {
+  pub rolls_by : Becomes content (rolled old) new → ((c : Files) → Image (content new.disk) c → OpensAs (content old.disk) c)
+      → (new.broken ≡ false → IsTrue (content new.disk).tells → Coheres new) → Rolls content (Up old) (Up new)
+  rolls_by b opens coheres = record {
+    layout = ap (λ (l : Log D). Some (layout_of l)) b.fields;
     up = refl;
     end = ap (λ (l : Log D). Some l.end) b.fields;
     stable = ap (λ (l : Log D). Some l.stable) b.fields;
@@ -75,56 +92,81 @@ module _ {D : Type 0} (content : D → Content) (old new : Log D) where
       s,
       record {
         told = b.tells ∙ h.told;
-        start = ap (λ (l : Log D). l.local_start) b.fields ∙ h.start;
         unbroken = ap (λ (l : Log D). l.broken) b.fields ∙ h.unbroken;
-        batches_are = h.batches_are ∙ sym (b.batches h.told);
+        below = h.below;
+        batches_are = h.batches_are ∙ ap (λ (l : List (List ℕ)). h.below ++ l) (sym (b.batches h.told));
+        begins = h.begins ∙ sym (ap (λ (l : Log D). l.local_start) b.fields);
+        consecutive = h.consecutive;
+        local_is = h.local_is ∙ sym (ap (λ (l : Log D). l.local_start) b.fields);
+        within = h.within;
         line_is = h.line_is ∙ sym (ap (λ (l : Log D). l.line) b.fields);
         stable_is = h.stable_is ∙ sym (ap (λ (l : Log D). l.stable) b.fields);
         ends = h.ends ∙ sym (ap (λ (l : Log D). l.end) b.fields);
         tight = h.tight;
         images = λ c now. (let was = opens c now in
             subst (λ (i : ℕ). Opens c (returns i s)) (sym (ap (λ (l : Log D). l.incarnation) b.fields)) (was.2 (returns old.incarnation s) (h.images was.0 was.1)));
+        incarnation_is = h.incarnation_is ∙ sym (ap (λ (l : Log D). l.incarnation) b.fields);
+        segments = (coheres (ap (λ (l : Log D). l.broken) b.fields ∙ h.unbroken) (b.tells ∙ h.told)).segments;
       },
       refl,
     );
   }
 
   -- all of the log is stable
-  pub settles_by : (f : List (ℕ × ℕ) → ℕ → List (ℕ × ℕ)) → (old.local_start ≡ 0) → (old.broken ≡ false) → (IsTrue (content old.disk).tells → cut_end (f old.line old.end) (old.end + 1) ≡ f old.line old.end)
+  pub settles_by : (f : List (ℕ × ℕ) → ℕ → List (ℕ × ℕ)) → (old.broken ≡ false) → (IsTrue (content old.disk).tells → cut_end (f old.line old.end) (old.end + 1) ≡ f old.line old.end)
       → Becomes content (committed old (f old.line old.end)) new → ((c : Files) → Image (content new.disk) c → Opens c (stable_log new)) → Settles content (Up old) (Up new) f old.end
-  settles_by f start unbroken within b durable =
-      let end = ap (λ (l : Log D). l.end) b.fields in
-      let stable = ap (λ (l : Log D). l.stable) b.fields in
-      let line = ap (λ (l : Log D). l.line) b.fields in
-      let local_start = ap (λ (l : Log D). l.local_start) b.fields in
+  settles_by f unbroken within b durable =
       record {
         base_is = refl;
         end_is = ap Some end;
         stable_is = ap Some stable;
         line_is = ap Some line;
+        layout = ap (λ (l : Log D). Some (layout_of l)) b.fields;
         seen = λ s h. (
           settled s (f s.line (end_of s.batches)),
           record {
             told = b.tells ∙ h.told;
-            start = local_start ∙ start;
             unbroken = ap (λ (l : Log D). l.broken) b.fields ∙ unbroken;
-            batches_are = h.batches_are ∙ sym (b.batches h.told);
-            line_is = ap (λ (l : List (ℕ × ℕ)). f l (end_of s.batches)) h.line_is ∙ ap (f old.line) h.ends ∙ sym line;
+            below = h.below;
+            batches_are = h.batches_are ∙ ap (λ (l : List (List ℕ)). h.below ++ l) (sym (b.batches h.told));
+            begins = h.begins ∙ sym local_start;
+            consecutive = h.consecutive;
+            local_is = h.local_is ∙ sym local_start;
+            within = local_low content old s h;
+            line_is = line_told s h;
             stable_is = h.ends ∙ sym stable;
             ends = h.ends ∙ sym end;
             tight = h.tight;
             images = λ c now. subst (Opens c) (opened s h) (durable c now);
+            incarnation_is = h.incarnation_is ∙ sym (ap (λ (l : Log D). l.incarnation) b.fields);
+            segments = hold_same old new local_start (ap (λ (l : Log D). l.closed) b.fields) (ap (λ (l : Log D). l.active) b.fields) (b.batches h.told) h.segments;
           },
           refl,
         );
       }
     where
+      end : new.end ≡ old.end
+      end = ap (λ (l : Log D). l.end) b.fields
+
+      stable : new.stable ≡ old.end
+      stable = ap (λ (l : Log D). l.stable) b.fields
+
+      line : new.line ≡ f old.line old.end
+      line = ap (λ (l : Log D). l.line) b.fields
+
+      local_start : new.local_start ≡ old.local_start
+      local_start = ap (λ (l : Log D). l.local_start) b.fields
+
+      line_told : (s : Seen) → ShowsOpen content old s → f s.line (end_of s.batches) ≡ new.line
+      line_told s h = ap (λ (l : List (ℕ × ℕ)). f l (end_of s.batches)) h.line_is ∙ ap (f old.line) h.ends ∙ sym line
+
       opened : (s : Seen) → ShowsOpen content old s → stable_log new ≡ returns new.incarnation (settled s (f s.line (end_of s.batches)))
       opened s h =
-          let stable = ap (λ (l : Log D). l.stable) b.fields in
-          let line = ap (λ (l : Log D). l.line) b.fields in
-          let local_start = ap (λ (l : Log D). l.local_start) b.fields ∙ start in
-          rw (stable, line, local_start, b.batches h.told, within h.told, h.ends, h.line_is, h.batches_are) refl
+          opened_as (stable_log new) new.incarnation s.local (from_offset s.local (up_to (end_of s.batches) s.batches)) (f s.line (end_of s.batches))
+          refl
+          (local_start ∙ sym h.local_is)
+          (ap (λ (n : ℕ). up_to n new.batches) (stable ∙ sym h.ends) ∙ ap (up_to (end_of s.batches)) (b.batches h.told) ∙ sym (up_local content old s h (end_of s.batches) (local_low content old s h)))
+          (ap (λ (n : ℕ). cut_end new.line (n + 1)) stable ∙ ap (λ (l : List (ℕ × ℕ)). cut_end l (old.end + 1)) line ∙ within h.told ∙ sym line ∙ sym (line_told s h))
 
 -- what was taken of a run stands at the end
 module _ {D : Type 0} (content : D → Content) where
@@ -143,8 +185,9 @@ module _ {D : Type 0} (content : D → Content) where
   perhaps_rolled true old = record { disk = refl; incarnation = refl; local_start = refl; batches = refl; end = refl; stable = refl; line = refl; broken = refl }
   perhaps_rolled false old = record { disk = refl; incarnation = refl; local_start = refl; batches = refl; end = refl; stable = refl; line = refl; broken = refl }
 
-  module _ (old base new : Log D) (same : SameSeen old base) (laws : Lawful (content new.disk)) (start : old.local_start ≡ 0) (coheres : IsTrue (content old.disk).tells → Coheres old)
-      (run : List ℕ) (answer : ℕ × ℕ) (a : IsAppendedTo content old base new run answer) (up : answer.0 ≤ answer.1) (opens : LeavesOnly (content old.disk) (content new.disk) (OpensAs (content old.disk))) where
+  module _ (old base new : Log D) (same : SameSeen old base) (laws : Lawful (content new.disk)) (coheres : IsTrue (content old.disk).tells → Coheres old)
+      (run : List ℕ) (answer : ℕ × ℕ) (a : IsAppendedTo content old base new run answer) (up : answer.0 ≤ answer.1) (opens : LeavesOnly (content old.disk) (content new.disk) (OpensAs (content old.disk)))
+      (whole : new.broken ≡ false → IsTrue (content new.disk).tells → Coheres new) where
     abbrev pub front : List (List ℕ)
     front = taking base.settings.segment_bytes base.active.base (size_of base.active) a.is.batches
 
@@ -183,16 +226,22 @@ module _ {D : Type 0} (content : D → Content) where
         let ends : end_from 0 s.batches ≡ old.end = h.ends in
         let all : IsConsecutive 0 (s.batches ++ front) =
         consecutive_append 0 s.batches front
-        (subst (λ (n : ℕ). IsConsecutive n s.batches) start (subst (IsConsecutive old.local_start) (sym h.batches_are) c.consecutive))
+        h.consecutive
         (subst (λ (n : ℕ). IsConsecutive n front) (sym ends) follow) in
         let low : s.stable ≤ end_from 0 s.batches = omega (arith, h.stable_is, ends, c.stable_within) in
         let kept : up_to s.stable (s.batches ++ front) ≡ up_to s.stable s.batches = up_to_more 0 s.stable s.batches front all low in
         let inc : new.incarnation ≡ old.incarnation = ap (λ (l : Log D). l.incarnation) a.becomes.fields ∙ same.incarnation in
+        let local : new.local_start ≡ old.local_start = ap (λ (l : Log D). l.local_start) a.becomes.fields ∙ same.local_start in
         record {
           told = tells ∙ h.told;
-          start = ap (λ (l : Log D). l.local_start) a.becomes.fields ∙ same.local_start ∙ h.start;
           unbroken = ap (λ (l : Log D). l.broken) a.becomes.fields ∙ same.broken ∙ h.unbroken;
-          batches_are = ap (λ (l : List (List ℕ)). l ++ front) h.batches_are ∙ sym (new_batches h.told);
+          below = h.below;
+          batches_are = ap (λ (l : List (List ℕ)). l ++ front) h.batches_are ∙ append_assoc h.below old.batches front
+              ∙ ap (λ (l : List (List ℕ)). h.below ++ l) (sym (new_batches h.told));
+          begins = h.begins ∙ sym local;
+          consecutive = all;
+          local_is = h.local_is ∙ sym local;
+          within = h.within;
           line_is = ap (λ (l : List (ℕ × ℕ)). lined l front) h.line_is ∙ sym new_line;
           stable_is = h.stable_is ∙ sym new_stable;
           ends = end_append 0 s.batches front ∙ ap (λ (n : ℕ). end_from n front) ends ∙ sym new_end;
@@ -200,8 +249,10 @@ module _ {D : Type 0} (content : D → Content) where
           images = λ f now. (
               let was = image_as (content old.disk) (content new.disk) laws opens f now in
               let o = was.2 (returns old.incarnation s) (h.images was.0 was.1) in
-              subst (Opens f) (ap (λ (i : ℕ). returns i s) (sym inc) ∙ ap (λ (l : List (List ℕ)). record { incarnation = new.incarnation; local_start = 0; batches = l; line = s.saved }) (sym kept)) o
+              subst (Opens f) (ap (λ (i : ℕ). returns i s) (sym inc) ∙ ap (λ (l : List (List ℕ)). record { incarnation = new.incarnation; local_start = s.local; batches = from_offset s.local l; line = s.saved }) (sym kept)) o
               );
+          incarnation_is = h.incarnation_is ∙ sym inc;
+          segments = (whole (ap (λ (l : Log D). l.broken) a.becomes.fields ∙ same.broken ∙ h.unbroken) (tells ∙ h.told)).segments;
         }
 
     pub appends_to : base ≡ open_for old run → Appends content (Up old) (Up new) run answer
@@ -219,18 +270,15 @@ module _ {D : Type 0} (content : D → Content) where
       last_is = a.last_is ∙ new_end ∙ ap (λ (n : ℕ). end_from n front) (sym a.base_is);
       stable_is = ap Some new_stable;
       line_is = ap Some new_line;
+      layout = subst (λ (log : Log D). Some (layout_of new) ≡ Some (layout_of (gaining log front))) opened (ap (λ (l : Log D). Some (layout_of l)) a.becomes.fields);
       seen = λ s h. (with_batches s front, shows s h, refl);
     }
 
-  pub appends_by : (old new : Log D) → Lawful (content new.disk) → (old.local_start ≡ 0) → (IsTrue (content old.disk).tells → Coheres old) → (run : List ℕ) (answer : ℕ × ℕ) → IsAppended content old new run answer → answer.0 ≤ answer.1
-      → LeavesOnly (content old.disk) (content new.disk) (OpensAs (content old.disk)) → Appends content (Up old) (Up new) run answer
-  appends_by old new laws start coheres run answer a up opens =
-      appends_to old (open_for old run) new (perhaps_rolled (is_due old run) old) laws start coheres run answer a up opens refl
+  pub appends_by : (old new : Log D) → Lawful (content new.disk) → (IsTrue (content old.disk).tells → Coheres old) → (run : List ℕ) (answer : ℕ × ℕ) → IsAppended content old new run answer → answer.0 ≤ answer.1
+      → LeavesOnly (content old.disk) (content new.disk) (OpensAs (content old.disk)) → (new.broken ≡ false → IsTrue (content new.disk).tells → Coheres new) → Appends content (Up old) (Up new) run answer
+  appends_by old new laws coheres run answer a up opens whole =
+      appends_to old (open_for old run) new (perhaps_rolled (is_due old run) old) laws coheres run answer a up opens whole refl
 
   -- it can be appended to as before
-  pub appended_whole : (old new : Log D) (run : List ℕ) (answer : ℕ × ℕ) → IsAppended content old new run answer → (new.broken ≡ old.broken) × (new.local_start ≡ old.local_start)
-  appended_whole old new run answer a =
-      let same = perhaps_rolled (is_due old run) old in (
-        ap (λ (l : Log D). l.broken) a.becomes.fields ∙ same.broken,
-        ap (λ (l : Log D). l.local_start) a.becomes.fields ∙ same.local_start,
-      )
+  pub appended_whole : (old new : Log D) (run : List ℕ) (answer : ℕ × ℕ) → IsAppended content old new run answer → new.broken ≡ old.broken
+  appended_whole old new run answer a = ap (λ (l : Log D). l.broken) a.becomes.fields ∙ (perhaps_rolled (is_due old run) old).broken

@@ -11,18 +11,17 @@ use Rattle.broker_log.specs.declared.broker.BrokerLog.TheInside.{Inside}
 module _ {D : Type 0} where
   abbrev pub kept_of : Place D → Kept D
   kept_of (place.Up log) = Up log
-  kept_of (place.Down disk) = Down disk
+  kept_of (place.Down settings disk) = Down settings disk
   kept_of place.Away = Away
 
   abbrev pub kept_in : Inside D → Kept D
   kept_in broker = kept_of broker.place
 
-  -- an open log isn't broken and begins at 0, and one that is closed can be opened again
-  abbrev pub IsWellPlaced : (D → Content) → Place D → Type 0
-  IsWellPlaced content (place.Up log) = (log.broken ≡ false) × (log.local_start ≡ 0)
-  IsWellPlaced content (place.Down disk) = Reopens (content disk)
-  IsWellPlaced content place.Away = ⊥
+  -- an open log isn't broken, and one that is closed can be opened again
+  abbrev pub IsWell : (D → Content) → Place D → Type 0
+  IsWell content (place.Up log) = log.broken ≡ false
+  IsWell content (place.Down settings disk) = AreSettings settings × Reopens (content disk)
+  IsWell content place.Away = ⊥
 
-  pub record IsWell (content : D → Content) (broker : Inside D) : Type 0 where
-    pub settings : AreSettings broker.settings
-    pub placed : IsWellPlaced content broker.place
+  abbrev pub IsWellPlaced : (D → Content) → Inside D → Type 0
+  IsWellPlaced content broker = IsWell content broker.place

@@ -1,21 +1,31 @@
 -- A broker's log as it is seen: its batches and its line, and what comes back of them after a stop.
 --
--- A write that failed may have been done or not, so one of two ends comes back after it, each with its line.
+-- The batches are seen from offset 0 on, also where the local log begins later: those below the local start stand on no
+-- disk, and whatever batches lead up to it may be seen there. A write that failed may have been done or not, so one of two
+-- ends comes back after it, each with its line and its local start.
 --
 --   form                      says
 --   Shows content kept s      the log, or its disk, is seen so
 --   Goes content old new R    a call makes this of what is seen
 --   Stays content old new     a call leaves what is seen, and the plain facts
 --
--- Of a disk that doesn't tell nothing is seen. A log that is up also has its end, its stable end and its line.
-use Rattle.std.specs.Prelude.{◌≡◌, ◌⊎◌, ℕ, Bool, true, false, List, Option, Some, None, IsTrue, IsSomeAnd}
+-- Of a disk that doesn't tell nothing is seen. A log that is up also has its end, its stable end and its line, and its
+-- layout: how it stands in segments, whose batches it has. Its settings last as long as the broker.
+use Rattle.std.specs.Prelude.{◌≡◌, ◌⊎◌, ◌≤◌, [], ◌∷◌, ℕ, Bool, true, false, List, ◌++◌, Option, Some, None, IsTrue, IsSomeAnd}
+use Rattle.tier_base.specs.declared.plain.Settings.{Settings}
 use Rattle.tier_base.specs.Device.{Control, Lasts}
 use Rattle.tier_base.specs.Counts.{Rose}
 use Rattle.disk_model.specs.Call.{call_code}
 use Rattle.disk_model.specs.Content.{Content, Files, Image}
-use Rattle.log_terms.specs.Log.{up_to, end_of}
+use Rattle.log_terms.specs.Log.{IsConsecutive, EndsAt, up_to, from_offset, end_of}
+use Rattle.segment_file.specs.Growing.{Grown}
 use Rattle.log_steps.specs.Opens.{Opened, Opens}
 use Rattle.local_log.specs.Log.{Log}
+use Rattle.local_log.specs.Coheres.{Hold}
+
+-- what comes back of a log after a stop: its end, its line and its local start
+abbrev pub Back : Type 0
+Back = ℕ × List (ℕ × ℕ) × ℕ
 
 -- a log as it is seen
 pub record Seen : Type 0 where
@@ -25,93 +35,178 @@ pub record Seen : Type 0 where
   pub stable : ℕ
   -- the line that comes back after a stop
   pub saved : List (ℕ × ℕ)
-  -- after a write that failed: the other end and line that may come back
-  pub loose : Option (ℕ × List (ℕ × ℕ))
+  -- where the local log begins
+  pub local : ℕ
+  -- after a write that failed: what may come back instead
+  pub loose : Option Back
+  -- how often the log was opened, or more often where a crash came as it was opened
+  pub incarnation : ℕ
 
--- a log that is open, or its disk while the broker is down
+-- a log that is open, or its settings and its disk while the broker is down
 pub data Kept (D : Type 0) : Type 0 where
   Up : Log D → Kept D
-  Down : D → Kept D
+  Down : Settings → D → Kept D
   -- taken out, in the course of a call alone
   Away : Kept D
 
--- what is opened where the log comes back up to this end, with this line, opened so many times
-abbrev pub returning : ℕ → Seen → ℕ → List (ℕ × ℕ) → Opened
-returning i s end line = record { incarnation = i; local_start = 0; batches = up_to end s.batches; line = line }
+-- what comes back where no write fails
+abbrev pub back_of : Seen → Back
+back_of s = (s.stable, s.saved, s.local)
+
+-- what is opened where this comes back of the log, opened so many times
+abbrev pub returning : ℕ → Seen → Back → Opened
+returning i s back = record {
+  incarnation = i;
+  local_start = back.2;
+  batches = from_offset back.2 (up_to back.0 s.batches);
+  line = back.1;
+}
 
 -- what comes back after a stop, opened so many times
 abbrev pub returns : ℕ → Seen → Opened
-returns i s = returning i s s.stable s.saved
+returns i s = returning i s (back_of s)
 
 -- the files open as what comes back after a stop
 abbrev pub ComesBack : ℕ → Seen → Files → Type 0
-ComesBack i s c = Opens c (returns i s) ⊎ IsSomeAnd s.loose (λ other. Opens c (returning i s other.0 other.1))
+ComesBack i s c = Opens c (returns i s) ⊎ IsSomeAnd s.loose (λ back. Opens c (returning i s back))
 
 -- an open log is seen so
 pub record ShowsOpen {D : Type 0} (content : D → Content) (log : Log D) (s : Seen) : Type 0 where
   pub told : IsTrue (content log.disk).tells
-  pub start : log.local_start ≡ 0
   pub unbroken : log.broken ≡ false
-  pub batches_are : s.batches ≡ log.batches
+  -- the batches below the local start, and those of the local log
+  pub below : List (List ℕ)
+  pub batches_are : s.batches ≡ below ++ log.batches
+  pub begins : end_of below ≡ log.local_start
+  pub consecutive : IsConsecutive 0 s.batches
+  pub local_is : s.local ≡ log.local_start
+  pub within : s.local ≤ s.stable
   pub line_is : s.line ≡ log.line
   pub stable_is : s.stable ≡ log.stable
   pub ends : end_of s.batches ≡ log.end
   pub tight : s.loose ≡ None
   pub images : (c : Files) → Image (content log.disk) c → Opens c (returns log.incarnation s)
+  pub incarnation_is : s.incarnation ≡ log.incarnation
+  -- its segments hold the batches of the local log
+  pub segments : Hold log.local_start (log.closed ++ log.active ∷ []) log.batches
+
+-- what comes back begins at an end of the log, at or below where it ends
+pub record IsBack (s : Seen) (back : Back) : Type 0 where
+  pub begins : EndsAt back.2 s.batches
+  pub within : back.2 ≤ back.0
+
+-- consecutive batches, and so is each that may come back
+pub record IsKept (s : Seen) : Type 0 where
+  pub consecutive : IsConsecutive 0 s.batches
+  pub back : IsBack s (back_of s)
+  pub loose : (back : Back) → s.loose ≡ Some back → IsBack s back
 
 -- a log that is closed is seen so, by its disk
 pub record ShowsClosed {D : Type 0} (content : D → Content) (disk : D) (s : Seen) : Type 0 where
   pub told : IsTrue (content disk).tells
-  pub images : (c : Files) → Image (content disk) c → (i : ℕ) × ComesBack i s c
+  pub kept : IsKept s
+  pub images : (c : Files) → Image (content disk) c → (i : ℕ) × (s.incarnation ≤ i) × ComesBack i s c
+
+-- how a log that is up stands in segments: the closed ones, and the open one
+pub record Layout : Type 0 where
+  pub settings : Settings
+  -- how often it was opened
+  pub incarnation : ℕ
+  pub local_start : ℕ
+  pub closed : List Grown
+  pub active : Grown
 
 module _ {D : Type 0} where
   abbrev pub Shows : (D → Content) → Kept D → Seen → Type 0
   Shows content (Up log) s = ShowsOpen content log s
-  Shows content (Down disk) s = ShowsClosed content disk s
+  Shows content (Down settings disk) s = ShowsClosed content disk s
   Shows content Away s = ⊥
 
   -- a call makes this of what is seen
   abbrev pub Goes : (D → Content) → Kept D → Kept D → (Seen → Seen → Type 0) → Type 0
   Goes content old new R = (s : Seen) → Shows content old s → (s' : Seen) × Shows content new s' × R s s'
 
+  -- a call makes this of what is seen, where that is so
+  abbrev pub GoesIf : (D → Content) → Kept D → Kept D → (Seen → Type 0) → (Seen → Seen → Type 0) → Type 0
+  GoesIf content old new P R = (s : Seen) → Shows content old s → P s → (s' : Seen) × Shows content new s' × R s s'
+
   abbrev pub is_up : Kept D → Bool
   is_up (Up log) = true
-  is_up (Down disk) = false
+  is_up (Down settings disk) = false
   is_up Away = false
 
   abbrev pub is_down : Kept D → Bool
   is_down (Up log) = false
-  is_down (Down disk) = true
+  is_down (Down settings disk) = true
   is_down Away = false
 
   -- the log end offset, where the broker is up
   abbrev pub end_in : Kept D → Option ℕ
   end_in (Up log) = Some log.end
-  end_in (Down disk) = None
+  end_in (Down settings disk) = None
   end_in Away = None
 
   -- the offset up to which it is stable
   abbrev pub stable_in : Kept D → Option ℕ
   stable_in (Up log) = Some log.stable
-  stable_in (Down disk) = None
+  stable_in (Down settings disk) = None
   stable_in Away = None
 
   -- which leader epoch starts where
   abbrev pub line_in : Kept D → Option (List (ℕ × ℕ))
   line_in (Up log) = Some log.line
-  line_in (Down disk) = None
+  line_in (Down settings disk) = None
   line_in Away = None
+
+  -- where the local log begins, where the broker is up
+  abbrev pub local_in : Kept D → Option ℕ
+  local_in (Up log) = Some log.local_start
+  local_in (Down settings disk) = None
+  local_in Away = None
+
+  -- how often the log was opened, where the broker is up
+  abbrev pub incarnation_in : Kept D → Option ℕ
+  incarnation_in (Up log) = Some log.incarnation
+  incarnation_in (Down settings disk) = None
+  incarnation_in Away = None
+
+  -- the closed segments, where the broker is up
+  abbrev pub closed_in : Kept D → List Grown
+  closed_in (Up log) = log.closed
+  closed_in (Down settings disk) = []
+  closed_in Away = []
+
+  -- a log's layout
+  abbrev pub layout_of : Log D → Layout
+  layout_of log = record {
+    settings = log.settings;
+    incarnation = log.incarnation;
+    local_start = log.local_start;
+    closed = log.closed;
+    active = log.active;
+  }
+
+  abbrev pub layout_in : Kept D → Option Layout
+  layout_in (Up log) = Some (layout_of log)
+  layout_in (Down settings disk) = None
+  layout_in Away = None
+
+  -- its settings, also while the broker is down
+  abbrev pub settings_in : Kept D → Option Settings
+  settings_in (Up log) = Some log.settings
+  settings_in (Down settings disk) = Some settings
+  settings_in Away = None
 
   -- the broker is up, and it holds of its log
   abbrev pub WhileUp : Kept D → (Log D → Type 0) → Type 0
   WhileUp (Up log) P = P log
-  WhileUp (Down disk) P = ⊥
+  WhileUp (Down settings disk) P = ⊥
   WhileUp Away P = ⊥
 
   -- it holds of the disk
   abbrev pub OnDisk : Kept D → (D → Type 0) → Type 0
   OnDisk (Up log) P = P log.disk
-  OnDisk (Down disk) P = P disk
+  OnDisk (Down settings disk) P = P disk
   OnDisk Away P = ⊥
 
   -- the disk's plan and calm last
@@ -128,4 +223,7 @@ pub record Stays {D : Type 0} (content : D → Content) (old new : Kept D) : Typ
   pub end : end_in new ≡ end_in old
   pub stable : stable_in new ≡ stable_in old
   pub line : line_in new ≡ line_in old
+  pub local : local_in new ≡ local_in old
+  pub layout : layout_in new ≡ layout_in old
+  pub settings : settings_in new ≡ settings_in old
   pub seen : Goes content old new (λ s s'. s' ≡ s)

@@ -1,24 +1,30 @@
 -- What each call makes of a broker's log.
-use Rattle.std.specs.Prelude.{◌≡◌, ◌≢◌, ◌⊎◌, IsTrue, ℕ, ◌+◌, ◌≤◌, List, [], ◌++◌, length, Some, None, IsOk, IsSomeAnd, false, ◌∷◌, ◌<◌, nat_lt, if◌then◌else◌}
+use Rattle.std.specs.Prelude.{◌≡◌, ◌≢◌, ◌⊎◌, IsTrue, ℕ, ◌+◌, ◌≤◌, List, [], ◌++◌, length, Some, None, IsOk, IsSomeAnd, false, ◌∷◌, ◌<◌, min, nat_lt, if◌then◌else◌}
 use Rattle.tier_base.specs.declared.plain.Stop.{Stop}
 use Rattle.tier_base.specs.declared.plain.Stop.TheVariants.{Mark, Piece, Limit}
 use Rattle.segment_file.specs.Run.{Fits, StopIs as StopsIn}
 use Rattle.local_log.specs.declared.reading.RunOut.{RunOut}
-use Rattle.local_log.specs.declared.refusal.OpenRefusal.{OpenRefusal}
-use Rattle.local_log.specs.declared.refusal.OpenRefusal.TheVariants.{DiskFault, Damaged, LastIncarnation, NoMemory}
-use Rattle.broker_log.specs.declared.refusal.UpRefusal.{UpRefusal}
-use Rattle.broker_log.specs.declared.refusal.UpRefusal.TheVariants.{LateStart, Open}
-use Rattle.local_log.specs.Cutting.{cut_point}
-use Rattle.local_log.specs.Reading.{piece_of, passes}
+use Rattle.tier_base.specs.declared.plain.FileName.{FileName}
+use Rattle.tier_base.specs.declared.plain.Settings.{Settings}
+use Rattle.tier_base.specs.Device.{Control}
+use Rattle.disk_model.specs.Call.{call_code}
+use Rattle.segment_file.specs.Growing.{Grown}
+use Rattle.local_log.specs.declared.refusal.LogRefusal.TheVariants as refusal
+use Rattle.local_log.specs.declared.refusal.OpenRefusal.TheVariants.{Damaged, LastIncarnation}
+use Rattle.local_log.specs.Cutting.{cut_point, cut_at as cut_log, restarted as restarted_log}
+use Rattle.local_log.specs.Dropping.{SpansFirst, dropped as dropped_log}
+use Rattle.local_log.specs.Opening.{OpenFails, HoldsLast}
+use Rattle.segment_file.specs.Closed.{Whole as Closed}
+use Rattle.local_log.specs.Reading.{segment_at, piece_of, passes, IsCut, RunFails}
 use Rattle.disk_model.specs.Content.{Content}
 use Rattle.log_terms.specs.Log.{joined, IsConsecutive, EndsAt, end_of, end_from, up_to, from_offset}
 use Rattle.record_batch.specs.Check.{checked}
 use Rattle.epoch_line.specs.Line.{assign, cut_end}
 use Rattle.log_steps.specs.Fronts.{Each}
-use Rattle.local_log.specs.Run.{lined, taking, open_for}
+use Rattle.local_log.specs.Run.{lined, taking, open_for, rolled, with_batches as gaining}
 use Rattle.local_log.specs.Stored.{size_of}
 use Rattle.local_log.specs.Log.{Log}
-use Rattle.broker_log.specs.Seen.{Seen, Kept, Shows, Goes, Stays, WhileUp, end_in, stable_in, line_in, is_up}
+use Rattle.broker_log.specs.Seen.{Back, Seen, Kept, Layout, back_of, Shows, Goes, GoesIf, Stays, WhileUp, OnDisk, end_in, stable_in, line_in, local_in, closed_in, layout_of, layout_in, settings_in, is_up}
 
 -- the log with batches more
 abbrev pub with_batches : Seen → List (List ℕ) → Seen
@@ -39,61 +45,78 @@ cut_to s end = record s {
   line = cut_end s.line (end_of (up_to end s.batches));
   stable = end_of (up_to end s.batches);
   saved = cut_end s.line (end_of (up_to end s.batches));
+  local = min s.local (end_of (up_to end s.batches));
 }
 
--- the log as it comes back up to this end, with this line
-abbrev pub opened : Seen → ℕ → List (ℕ × ℕ) → Seen
-opened s end line = record {
-  batches = up_to end s.batches;
-  line = line;
-  stable = end_of (up_to end s.batches);
-  saved = line;
+-- the log may be cut there: at its local start or past it, or to an end of what is below
+abbrev pub MayCut : ℕ → Seen → Type 0
+MayCut end s = (s.local ≤ end) ⊎ EndsAt end s.batches
+
+-- what a cut makes come back
+abbrev pub cut_back : Seen → ℕ → Back
+cut_back s end = back_of (cut_to s end)
+
+-- the line without the entries that start past what is stable
+abbrev pub kept_line : Seen → List (ℕ × ℕ)
+kept_line s = cut_end s.line (s.stable + 1)
+
+-- the log whose local log begins further on
+abbrev pub dropped : Seen → ℕ → Seen
+dropped s start = record s { local = start; saved = kept_line s }
+
+-- these batches, which end at n, with this line; nothing of them is in the local log
+abbrev pub restarted : Seen → List (List ℕ) → List (ℕ × ℕ) → ℕ → Seen
+restarted s whole line n = record s { batches = whole; line = line; stable = n; saved = line; local = n }
+
+-- these batches, where it may have failed that all of them come back
+abbrev pub unbuilt : Seen → List (List ℕ) → List (ℕ × ℕ) → ℕ → Seen
+unbuilt s whole line n = record s { batches = whole; line = line; loose = Some (n, line, n) }
+
+-- the log as this comes back of it, opened so many times
+abbrev pub opened : Seen → Back → ℕ → Seen
+opened s back incarnation = record {
+  batches = up_to back.0 s.batches;
+  line = back.1;
+  stable = end_of (up_to back.0 s.batches);
+  saved = back.1;
+  local = back.2;
   loose = None;
+  incarnation = incarnation;
 }
 
--- the log comes back up to this end, with this line
-abbrev pub OpensAt : ℕ → Seen → Seen → ℕ → List (ℕ × ℕ) → Type 0
-OpensAt now s s' end line = (s' ≡ opened s end line) × (now ≡ end_of (up_to end s.batches))
+-- this comes back of the log
+abbrev pub OpensAt : ℕ → Seen → Seen → Back → Type 0
+OpensAt now s s' back = (s' ≡ opened s back s'.incarnation) × (now ≡ end_of (up_to back.0 s.batches))
 
 -- the log comes back, and this is its end
 abbrev pub Opens : ℕ → Seen → Seen → Type 0
-Opens now s s' = OpensAt now s s' s.stable s.saved ⊎ IsSomeAnd s.loose (λ other. OpensAt now s s' other.0 other.1)
+Opens now s s' = OpensAt now s s' (back_of s) ⊎ IsSomeAnd s.loose (λ back. OpensAt now s s' back)
 
--- a write failed that was to make this end stable, with this line: it may have been done or not
-abbrev pub loosened : Seen → ℕ → List (ℕ × ℕ) → Seen
-loosened s end line = record s { loose = Some (end, line) }
+-- a write failed that was to make this come back: it may have been done or not
+abbrev pub loosened : Seen → Back → Seen
+loosened s back = record s { loose = Some back }
 
--- a cut failed, to this end, with this line: the smaller end is stable
-abbrev pub torn : Seen → ℕ → List (ℕ × ℕ) → Seen
-torn s end line =
-    if nat_lt end s.stable then record s { stable = end; saved = line; loose = Some (s.stable, s.saved) } else loosened s end line
+-- a cut failed that was to make this come back: the smaller end is stable
+abbrev pub torn : Seen → Back → Seen
+torn s back =
+    if nat_lt back.0 s.stable then record s { stable = back.0; saved = back.1; local = back.2; loose = Some (back_of s) }
+    else loosened s back
 
 -- a write failed, and the broker is down
 pub record Breaks {D : Type 0} (content : D → Content) (old new : Kept D) (after : Seen → Seen) : Type 0 where
   pub down : is_up new ≡ false
+  pub settings : settings_in new ≡ settings_in old
   pub seen : Goes content old new (λ s s'. s' ≡ after s)
+
+-- a write failed, and the broker is down; where that is so, this is seen of it
+pub record BreaksIf {D : Type 0} (content : D → Content) (old new : Kept D) (P : Seen → Type 0) (after : Seen → Seen) : Type 0 where
+  pub down : is_up new ≡ false
+  pub settings : settings_in new ≡ settings_in old
+  pub seen : GoesIf content old new P (λ s s'. s' ≡ after s)
 
 -- a write of what isn't stable yet failed
 abbrev pub BreaksUnsaved : {D : Type 0} → (D → Content) → Kept D → Kept D → Type 0
-BreaksUnsaved content old new = Breaks content old new (λ s. loosened s s.stable s.saved)
-
--- why a broker didn't come up, where the opening tells it
-abbrev pub OfOpening : (OpenRefusal → Type 0) → UpRefusal → Type 0
-OfOpening P (LateStart start) = Unit {0}
-OfOpening P (Open why) = P why
-
--- the log doesn't begin past 0
-abbrev pub IsNotLate : UpRefusal → Type 0
-IsNotLate (LateStart start) = ⊥
-IsNotLate (Open why) = Unit {0}
-
--- what stands on the disk is no log of a broker
-abbrev pub IsUnread : UpRefusal → Type 0
-IsUnread (LateStart start) = Unit {0}
-IsUnread (Open DiskFault) = ⊥
-IsUnread (Open (Damaged name at)) = Unit {0}
-IsUnread (Open LastIncarnation) = ⊥
-IsUnread (Open NoMemory) = ⊥
+BreaksUnsaved content old new = Breaks content old new (λ s. loosened s (back_of s))
 
 -- the first of these batches that stand in the log's open segment, behind what it holds
 abbrev pub first_in : {D : Type 0} → Log D → List (List ℕ) → List (List ℕ)
@@ -115,6 +138,7 @@ pub record Appends {D : Type 0} (content : D → Content) (old new : Kept D) (ru
   pub last_is : answer.1 + 1 ≡ end_from answer.0 front
   pub stable_is : stable_in new ≡ stable_in old
   pub line_is : WhileUp old (λ log. line_in new ≡ Some (lined log.line front))
+  pub layout : WhileUp old (λ log. layout_in new ≡ Some (layout_of (gaining (open_for log run) front)))
   pub seen : Goes content old new (λ s s'. s' ≡ with_batches s front)
 
 -- all of the log is stable, with this line, and this is its end
@@ -123,46 +147,108 @@ pub record Settles {D : Type 0} (content : D → Content) (old new : Kept D) (li
   pub end_is : end_in new ≡ Some end
   pub stable_is : stable_in new ≡ Some end
   pub line_is : WhileUp old (λ log. line_in new ≡ Some (line log.line log.end))
+  pub layout : layout_in new ≡ layout_in old
   pub seen : Goes content old new (λ s s'. s' ≡ settled s (line s.line (end_of s.batches)))
+
+-- the open segment is closed, and the next begins at the log's end
+pub record Rolls {D : Type 0} (content : D → Content) (old new : Kept D) : Type 0 where
+  pub layout : WhileUp old (λ log. layout_in new ≡ Some (layout_of (rolled log)))
+  pub up : is_up new ≡ is_up old
+  pub end : end_in new ≡ end_in old
+  pub stable : stable_in new ≡ stable_in old
+  pub line : line_in new ≡ line_in old
+  pub seen : Goes content old new (λ s s'. s' ≡ s)
 
 -- the empty log of a disk
 abbrev pub first_seen : Seen
-first_seen = record { batches = []; line = []; stable = 0; saved = []; loose = None }
+first_seen = record { batches = []; line = []; stable = 0; saved = []; local = 0; loose = None; incarnation = 1 }
+
+-- how it stands in segments
+abbrev pub first_layout : Settings → Layout
+first_layout settings = record {
+  settings = settings;
+  incarnation = 1;
+  local_start = 0;
+  closed = [];
+  active = record { base = 0; interval = settings.index_interval; batches = [] };
+}
 
 -- an empty log at 0 that is open
-pub record IsFirst {D : Type 0} (content : D → Content) (disk : D) (new : Kept D) : Type 0 where
+pub record IsFirst {D : Type 0} (content : D → Content) (disk : D) (settings : Settings) (new : Kept D) : Type 0 where
+  pub layout : layout_in new ≡ Some (first_layout settings)
   pub end_is : end_in new ≡ Some 0
   pub stable_is : stable_in new ≡ Some 0
   pub line_is : line_in new ≡ Some []
   pub seen : IsTrue (content disk).tells → Shows content new first_seen
 
--- the log ends at the last batch's end at or below an offset, all of it stable
+-- where a log ends that is cut to an offset
+abbrev pub cut_end_at : {D : Type 0} → Log D → ℕ → ℕ
+cut_end_at log end = if nat_lt end log.local_start then end else cut_point end log.closed log.active
+
+-- the log ends at the last batch's end at or below an offset, all of it stable; below the local start it is empty there
 pub record Cuts {D : Type 0} (content : D → Content) (old new : Kept D) (end now : ℕ) : Type 0 where
   pub end_is : end_in new ≡ Some now
   pub stable_is : stable_in new ≡ Some now
   pub line_is : WhileUp old (λ log. line_in new ≡ Some (cut_end log.line now))
-  pub point : WhileUp old (λ log. now ≡ cut_point end log.closed log.active)
-  pub seen : Goes content old new (λ s s'. (s' ≡ cut_to s end) × (now ≡ end_of (up_to end s.batches)))
+  pub local_is : WhileUp old (λ log. local_in new ≡ Some (min log.local_start end))
+  pub point : WhileUp old (λ log. now ≡ cut_end_at log end)
+  pub layout : WhileUp old (λ log. layout_in new ≡ Some (layout_of (cut_log log end)))
+  pub seen : GoesIf content old new (MayCut end) (λ s s'. (s' ≡ cut_to s end) × (now ≡ end_of (up_to end s.batches)))
 
--- a run of the log: the batch that holds an offset, and those after it
-pub record IsRunAt {D : Type 0} (kept : Kept D) (s : Seen) (offset limit mark : ℕ) (out : RunOut) : Type 0 where
-  pub run : List (List ℕ)
-  pub rest : List (List ℕ)
-  pub some : run ≢ []
-  pub parts : from_offset offset s.batches ≡ run ++ rest
-  pub bytes_are : out.bytes ≡ joined run
-  -- one batch, or several that fit the limit
-  pub fits : Fits limit run
-  pub next_is : out.next ≡ end_of run
-  pub below : out.next ≤ mark
-  -- it lies in one piece, and this ends it
-  pub piece : WhileUp kept (λ log. (out.next ≤ piece_of log offset)
-      × StopsIn out.stop out.next mark (piece_of log offset) (passes limit (length out.bytes) rest))
+-- the first closed segment is gone, with these offsets
+pub record Drops {D : Type 0} (content : D → Content) (old new : Kept D) (answer : ℕ × ℕ) : Type 0 where
+  pub spans : SpansFirst (closed_in old) answer
+  pub local_is : local_in new ≡ Some (answer.1 + 1)
+  pub end_is : end_in new ≡ end_in old
+  pub stable_is : stable_in new ≡ stable_in old
+  pub line_is : line_in new ≡ line_in old
+  pub layout : WhileUp old (λ log. layout_in new ≡ Some (layout_of (dropped_log log)))
+  -- from the local start up to an end of the log that is stable
+  pub ends : (s : Seen) → Shows content old s → (answer.0 ≡ s.local) × EndsAt (answer.1 + 1) s.batches × (answer.1 + 1 ≤ s.stable)
+  pub seen : Goes content old new (λ s s'. s' ≡ dropped s (answer.1 + 1))
 
--- where the last batch ends that ends at or below an offset, or 0
+-- a write failed that was to drop the first closed segment: the local log begins there, or behind it
+pub record DropBreaks {D : Type 0} (content : D → Content) (old new : Kept D) : Type 0 where
+  pub down : is_up new ≡ false
+  pub settings : settings_in new ≡ settings_in old
+  pub seen : (s : Seen) → Shows content old s → (start : ℕ) × EndsAt start s.batches × (start ≤ s.stable)
+      × Shows content new (loosened s (s.stable, kept_line s, start))
+
+-- these batches lead up to an offset
+pub record LeadsTo (whole : List (List ℕ)) (n : ℕ) : Type 0 where
+  pub consecutive : IsConsecutive 0 whole
+  pub ends : end_of whole ≡ n
+
+-- the local log is empty at an offset, with this line; whatever batches lead up to there are seen
+pub record Restarts {D : Type 0} (content : D → Content) (old new : Kept D) (n : ℕ) (line : List (ℕ × ℕ)) : Type 0 where
+  pub end_is : end_in new ≡ Some n
+  pub stable_is : stable_in new ≡ Some n
+  pub local_is : local_in new ≡ Some n
+  pub line_is : line_in new ≡ Some line
+  pub layout : WhileUp old (λ log. layout_in new ≡ Some (layout_of (restarted_log log n line)))
+  pub seen : (s : Seen) → Shows content old s → (whole : List (List ℕ)) → LeadsTo whole n → Shows content new (restarted s whole line n)
+
+-- a write failed that was to do so: of batches that have what was stable, that or all comes back
+pub record RestartBreaks {D : Type 0} (content : D → Content) (old new : Kept D) (n : ℕ) (line : List (ℕ × ℕ)) : Type 0 where
+  pub down : is_up new ≡ false
+  pub settings : settings_in new ≡ settings_in old
+  pub seen : (s : Seen) → Shows content old s → (whole : List (List ℕ)) → LeadsTo whole n → up_to s.stable whole ≡ up_to s.stable s.batches
+      → Shows content new (unbuilt s whole line n)
+
+-- a closed segment's batches stand in the log, from its base to its last offset
+pub record IsSegmentOf (s : Seen) (whole : Closed) : Type 0 where
+  pub before : List (List ℕ)
+  pub batches : List (List ℕ)
+  pub after : List (List ℕ)
+  pub parts : s.batches ≡ before ++ (batches ++ after)
+  pub begins : end_of before ≡ whole.base
+  pub bytes_are : whole.bytes ≡ joined batches
+  pub ends : end_from whole.base batches ≡ whole.last + 1
+
+-- where the log would end that is cut to an offset
 pub record IsEndUpTo {D : Type 0} (content : D → Content) (kept : Kept D) (offset end : ℕ) : Type 0 where
-  pub point : WhileUp kept (λ log. end ≡ cut_point offset log.closed log.active)
-  pub is : (s : Seen) → Shows content kept s → end ≡ end_of (up_to offset s.batches)
+  pub point : WhileUp kept (λ log. end ≡ cut_end_at log offset)
+  pub is : (s : Seen) → Shows content kept s → MayCut offset s → end ≡ end_of (up_to offset s.batches)
 
 -- why a run ends: at the mark, with its piece, or since the next batch would pass the limit
 abbrev pub StopIs : Stop → List (List ℕ) → List (List ℕ) → ℕ → ℕ → ℕ → Type 0
@@ -171,32 +257,64 @@ StopIs Piece run rest next limit mark = next ≢ mark
 StopIs Limit run [] next limit mark = ⊥
 StopIs Limit run (batch ∷ rest) next limit mark = (next ≢ mark) × (limit < length (joined run) + length batch)
 
--- a run of the log at an offset: no epoch of the line starts within it
-pub record IsRunIn (s : Seen) (offset limit mark : ℕ) (out : RunOut) : Type 0 where
+-- the run of the log at an offset, up to a mark: as many batches as its piece has below the mark and as fit the limit. The
+-- piece ends with its log segment, or before it where the next leader epoch starts
+pub record IsRunIn {D : Type 0} (kept : Kept D) (s : Seen) (offset limit mark : ℕ) (out : RunOut) : Type 0 where
   pub run : List (List ℕ)
   pub rest : List (List ℕ)
   pub some : run ≢ []
   pub parts : from_offset offset s.batches ≡ run ++ rest
   pub bytes : out.bytes ≡ joined run
+  -- one batch, or several that fit the limit
   pub fits : Fits limit run
   pub are : Each (λ (batch : List ℕ). IsOk (checked batch)) run
   pub next_is : out.next ≡ end_from offset run
   pub below : out.next ≤ mark
   pub before : Each (λ (entry : ℕ × ℕ). offset < entry.1 → EndsAt entry.1 s.batches → out.next ≤ entry.1) s.line
   pub stop_is : StopIs out.stop run rest out.next limit mark
+  -- and why it ends there, and not later
+  pub piece : WhileUp kept (λ log. (out.next ≤ piece_of log offset)
+      × StopsIn out.stop out.next mark (piece_of log offset) (passes limit (length out.bytes) rest))
 
--- a run was read, up to a mark that is an end of the log's batches
-pub record Reads {D : Type 0} (content : D → Content) (old new : Kept D) (offset limit mark : ℕ) (out : RunOut) : Type 0 where
-  pub stays : Stays content old new
-  pub run : (s : Seen) → Shows content old s → EndsAt mark s.batches → IsRunIn s offset limit mark out
+module _ {D : Type 0} (content : D → Content) (control : D → Control call_code) where
+  -- a run was read, out of what the disk handed in this call; where a batch ends at the mark, it is the log's
+  pub record Reads (old new : Kept D) (offset limit mark : ℕ) (out : RunOut) : Type 0 where
+    pub stays : Stays content old new
+    -- its segment's base
+    pub base : WhileUp old (λ log. out.base ≡ (segment_at log offset).base)
+    pub part : WhileUp old (λ log. OnDisk new (λ d. IsCut (control d).handed offset limit mark (piece_of log offset) out))
+    pub run : (s : Seen) → Shows content old s → EndsAt mark s.batches → IsRunIn old s offset limit mark out
+
+  -- no run was read, since what the disk handed has none, or no batch ends at the mark
+  pub record Misreads (old new : Kept D) (offset limit mark : ℕ) (name : FileName) (at : ℕ) : Type 0 where
+    pub stays : Stays content old new
+    pub cause : WhileUp old (λ log. OnDisk new (λ d. RunFails log offset limit mark (control d).handed (refusal.Damaged name at)))
+    pub unmarked : (s : Seen) → Shows content old s → EndsAt mark s.batches → ⊥
+
+  -- the log wasn't opened, since what the disk handed has no reading
+  pub record Unopened (old new : Kept D) (name : FileName) (at : ℕ) : Type 0 where
+    pub stays : Stays content old new
+    pub cause : OnDisk new (λ d. OpenFails (control d).handed (Damaged name at))
+    pub unseen : (s : Seen) → Shows content old s → ⊥
+
+  -- the log wasn't opened, since its manifest has the last incarnation
+  pub record IsSpent (old new : Kept D) : Type 0 where
+    pub stays : Stays content old new
+    pub cause : OnDisk new (λ d. OpenFails (control d).handed LastIncarnation)
+    pub holds : OnDisk old (λ d. IsTrue (content d).tells → HoldsLast (content d).files)
 
 -- the broker is down, and its log as it was
 pub record Stops {D : Type 0} (content : D → Content) (old new : Kept D) : Type 0 where
   pub down : is_up new ≡ false
+  pub settings : settings_in new ≡ settings_in old
   pub seen : Goes content old new (λ s s'. s' ≡ s)
 
 -- the broker is up, and its log ends there
 pub record ComesUp {D : Type 0} (content : D → Content) (old new : Kept D) (end : ℕ) : Type 0 where
   pub end_is : end_in new ≡ Some end
   pub stable_is : stable_in new ≡ Some end
-  pub seen : Goes content old new (Opens end)
+  pub settings : settings_in new ≡ settings_in old
+  -- its segments' indexes have the settings' interval
+  pub intervals : WhileUp new (λ log. Each (λ (segment : Grown). segment.interval ≡ log.settings.index_interval) (log.closed ++ log.active ∷ []))
+  -- one incarnation on, at least
+  pub seen : Goes content old new (λ s s'. Opens end s s' × (s.incarnation < s'.incarnation))

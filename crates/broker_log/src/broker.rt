@@ -1,7 +1,7 @@
 //! A broker's log and its calls.
 
 ghost use Rattle.std.specs.Prelude.{◌≡◌, ◌⊎◌, ◌↔◌, ◌≤◌, ◌<◌, ◌^◌, ◌+◌, ℕ, List, true, false, IfOk, OnOk, OnErr, IsTrue, IsErrOf};
-ghost use Rattle.std.specs.Prelude.{length, Some, None, Ok, Err, IsOk, IfErr, option_map};
+ghost use Rattle.std.specs.Prelude.{length, Some, None, Ok, Err, IsOk, IfErr, IfSome, option_map};
 ghost use Rattle.tier_base.specs.declared.plain.FileName.{FileName};
 ghost use Rattle.tier_base.specs.Counts.{Rose};
 ghost use Rattle.tier_base.specs.Device.{Lasts, Arms};
@@ -9,27 +9,26 @@ ghost use Rattle.log_steps.specs.Reopens.{Reopens};
 ghost use Rattle.log_terms.specs.Log.{up_to, end_of, EndsAt};
 ghost use Rattle.local_log.specs.Log.{AreSettings};
 ghost use Rattle.local_log.specs.Cutting.{cut_point};
-ghost use Rattle.local_log.specs.Reading.{piece_of, IsCut, RunFails, IsOfDevice};
+ghost use Rattle.local_log.specs.Reading.{RunFails, IsOfDevice};
 ghost use Rattle.local_log.specs.declared.refusal.CreateRefusal.TheVariants as create;
 ghost use Rattle.std.specs.Option.{ForSome};
 ghost use Rattle.log_terms.specs.Batch.{last_of};
 ghost use Rattle.epoch_line.specs.Line.{last_epoch, assign, cut_end};
 ghost use Rattle.local_log.specs.Stored.{size_of};
 ghost use Rattle.local_log.specs.Run.{IsRun, is_due};
-ghost use Rattle.local_log.specs.declared.refusal.LogRefusal.TheVariants.{LastOffset, TooManySegments, EmptySegment, DiskFault, NoMemory};
-ghost use Rattle.local_log.specs.Refusing.{IsSoundCause};
-ghost use Rattle.local_log.specs.Opening.{OpenFails, HoldsLast};
+ghost use Rattle.local_log.specs.declared.refusal.LogRefusal.TheVariants.{LastOffset, TooManySegments, EmptySegment, Damaged, DiskFault, NoMemory};
 ghost use Rattle.local_log.specs.declared.refusal.OpenRefusal.TheVariants as opening;
-ghost use Rattle.broker_log.specs.declared.refusal.UpRefusal.TheVariants.{Open};
-ghost use Rattle.broker_log.specs.Seen.{Seen, Shows, Goes, Stays, WhileUp, OnDisk, Lasting, Faulted, is_up, end_in, stable_in, line_in};
-ghost use Rattle.broker_log.specs.Turns.{IsFirst, OfOpening, IsNotLate, IsUnread, Appends, Settles, Cuts, Breaks, BreaksUnsaved, loosened, torn, IsEndUpTo, IsRunAt, IsRunIn, Stops, ComesUp};
+ghost use Rattle.broker_log.specs.Seen.{Seen, Shows, Goes, Stays, WhileUp, OnDisk, Lasting, Faulted, is_up, end_in, stable_in, line_in, local_in, incarnation_in, closed_in};
+ghost use Rattle.broker_log.specs.Turns.{IsFirst, Appends, Settles, Cuts, MayCut, cut_back, Drops, DropBreaks, Restarts, RestartBreaks, IsSegmentOf, Breaks, BreaksIf, BreaksUnsaved, loosened, torn, IsEndUpTo, Rolls, Reads, Misreads, Unopened, IsSpent, Stops, ComesUp};
+ghost use Rattle.log_steps.specs.Fronts.{Each};
+ghost use Rattle.local_log.specs.Dropping.{IsFirstStable};
+ghost use Rattle.local_log.specs.Reading.{IsClosedFrom, ClosedFails};
 
-use crate::opening::open_whole;
 use crate::place::{Place, is_fault, placed, taken, taken_disk};
-use crate::refusal::UpRefusal;
 use disk_model::Disk;
 use epoch_line::Line;
-use local_log::{CreateRefusal, LocalLog, LogRefusal, RunOut};
+use local_log::{CreateRefusal, LocalLog, LogRefusal, OpenRefusal, RunOut};
+use segment_file::{Closed, Growing};
 use std::alloc::Global;
 use std::marker::Model;
 use tier_base::Settings;
@@ -38,7 +37,6 @@ use tier_base::Settings;
 #[derive(Drop)]
 pub struct BrokerLog<D: Disk> {
     alloc: Global,
-    settings: Settings,
     place: Place<D>,
 }
 
@@ -47,11 +45,11 @@ impl<D: Disk> Model for BrokerLog<D> {
 
     ghost Value = { Kept D };
 
-    ghost use Rattle.broker_log.specs.Inside.{kept_in, IsWell};
+    ghost use Rattle.broker_log.specs.Inside.{kept_in, IsWellPlaced};
 
     ghost view = { kept_in };
 
-    ghost invariant = { IsWell D.content };
+    ghost invariant = { IsWellPlaced D.content };
 }
 
 impl<D: Disk> BrokerLog<D> {
@@ -63,7 +61,7 @@ impl<D: Disk> BrokerLog<D> {
     ) -> Result<BrokerLog<D>, (D, CreateRefusal)>
         requires settings { AreSettings settings }
         requires empty { IsTrue (D.content disk).tells → (n : FileName) → (D.content disk).files n ≡ None }
-        ensures ok { IfOk result (λ broker. IsFirst D.content disk broker) }
+        ensures ok { IfOk result (λ broker. IsFirst D.content disk settings broker) }
         ensures control { IfOk result (λ broker. OnDisk broker (λ d. Lasts (D.control disk) (D.control d))) }
         ensures control_err { IfErr result (λ e. Lasts (D.control disk) (D.control e.0)) }
         ensures cause { IfErr result (λ e. e.1 ≡ create.DiskFault → Rose (D.control disk).faults (D.control e.0).faults) }
@@ -71,7 +69,6 @@ impl<D: Disk> BrokerLog<D> {
         match LocalLog::create(alloc, disk, settings) {
             Ok(log) => Ok(BrokerLog {
                 alloc,
-                settings,
                 place: Place::Up(log),
             }),
             Err(refused) => Err(refused),
@@ -91,7 +88,7 @@ impl<D: Disk> BrokerLog<D> {
     {
         match &self.place {
             Place::Up(log) => Some(log.end()),
-            Place::Down(_) | Place::Away => None,
+            Place::Down(..) | Place::Away => None,
         }
     }
 
@@ -101,7 +98,7 @@ impl<D: Disk> BrokerLog<D> {
     {
         match &self.place {
             Place::Up(log) => Some(log.stable()),
-            Place::Down(_) | Place::Away => None,
+            Place::Down(..) | Place::Away => None,
         }
     }
 
@@ -111,7 +108,38 @@ impl<D: Disk> BrokerLog<D> {
     {
         match &self.place {
             Place::Up(log) => Some(log.line()),
-            Place::Down(_) | Place::Away => None,
+            Place::Down(..) | Place::Away => None,
+        }
+    }
+
+    /// Where the local log begins, while the broker is up.
+    pub fn local_start(&self) -> Option<u64>
+        ensures is { result ≡ local_in self.now }
+        ensures low { IfSome result (λ start. start ≤ 2 ^ 62) }
+    {
+        match &self.place {
+            Place::Up(log) => Some(log.local_start()),
+            Place::Down(..) | Place::Away => None,
+        }
+    }
+
+    /// How often the log was opened, while the broker is up.
+    pub fn incarnation(&self) -> Option<u32>
+        ensures { result ≡ incarnation_in self.now }
+    {
+        match &self.place {
+            Place::Up(log) => Some(log.incarnation()),
+            Place::Down(..) | Place::Away => None,
+        }
+    }
+
+    /// The closed segments, each with its base, its end and its size. There is none while the broker is down.
+    pub fn closed(&self) -> &[Growing]
+        ensures { result.now ≡ closed_in self.now }
+    {
+        match &self.place {
+            Place::Up(log) => log.closed(),
+            Place::Down(..) | Place::Away => &[],
         }
     }
 
@@ -132,12 +160,13 @@ impl<D: Disk> BrokerLog<D> {
     {
         match &self.place {
             Place::Up(log) => log.disk(),
-            Place::Down(disk) => disk,
+            Place::Down(_, disk) => disk,
             Place::Away => unreachable!(),
         }
     }
 
-    /// Where the last batch ends that ends at or below an offset, or 0.
+    /// Where the log would end that is cut to an offset: where the last batch ends that ends at or below it, or at the offset
+    /// itself where the local log begins later.
     pub fn end_up_to(&self, offset: u64) -> u64
         requires { IsTrue (is_up self.now) }
         ensures { IsEndUpTo D.content self.now offset result }
@@ -146,6 +175,9 @@ impl<D: Disk> BrokerLog<D> {
             unreachable!()
         };
         log.coheres();
+        if offset < log.local_start() {
+            return offset;
+        }
         log.end_up_to(offset)
     }
 
@@ -155,14 +187,15 @@ impl<D: Disk> BrokerLog<D> {
         ensures ok { IfOk result (λ end. Settles D.content self.old self.new (λ line _. line) end) }
         ensures refused { OnErr result (IsErrOf result NoMemory ⊎ IsErrOf result DiskFault) }
         ensures no_memory { IsErrOf result NoMemory → Stays D.content self.old self.new }
-        ensures fault { IsErrOf result DiskFault → Breaks D.content self.old self.new (λ s. loosened s (end_of s.batches) s.line) }
+        ensures fault { IsErrOf result DiskFault → Breaks D.content self.old self.new (λ s. loosened s (end_of s.batches, s.line, s.local)) }
         ensures control { Lasting D.control self.old self.new }
         ensures cause { IsErrOf result DiskFault → Faulted D.control self.old self.new }
     {
         let mut log = taken(&mut self.place);
+        let settings = *log.settings();
         log.coheres();
         let outcome = log.flush();
-        self.place = placed(log, is_fault(&outcome));
+        self.place = placed(settings, log, is_fault(&outcome));
         outcome
     }
 
@@ -185,9 +218,10 @@ impl<D: Disk> BrokerLog<D> {
         ensures cause { IsErrOf result DiskFault → Faulted D.control self.old self.new }
     {
         let mut log = taken(&mut self.place);
+        let settings = *log.settings();
         log.coheres();
         let outcome = log.append(run);
-        self.place = placed(log, is_fault(&outcome));
+        self.place = placed(settings, log, is_fault(&outcome));
         outcome
     }
 
@@ -199,14 +233,15 @@ impl<D: Disk> BrokerLog<D> {
         ensures refused { OnErr result (IsErrOf result NoMemory ⊎ IsErrOf result DiskFault) }
         ensures no_memory { IsErrOf result NoMemory → Stays D.content self.old self.new }
         ensures fault { IsErrOf result DiskFault → Breaks D.content self.old self.new
-            (λ s. loosened s (end_of s.batches) (assign s.line epoch (end_of s.batches))) }
+            (λ s. loosened s (end_of s.batches, assign s.line epoch (end_of s.batches), s.local)) }
         ensures control { Lasting D.control self.old self.new }
         ensures cause { IsErrOf result DiskFault → Faulted D.control self.old self.new }
     {
         let mut log = taken(&mut self.place);
+        let settings = *log.settings();
         log.coheres();
         let outcome = log.lead(epoch);
-        self.place = placed(log, is_fault(&outcome));
+        self.place = placed(settings, log, is_fault(&outcome));
         outcome
     }
 
@@ -214,7 +249,9 @@ impl<D: Disk> BrokerLog<D> {
     pub fn roll(&mut self) -> Result<u64, LogRefusal>
         requires { IsTrue (is_up self.old) }
         ensures base { IfOk result (λ base. end_in self.old ≡ Some base) }
-        ensures ok { OnOk result (Stays D.content self.old self.new) }
+        ensures ok { OnOk result (Rolls D.content self.old self.new) }
+        ensures may { (IsOk result ⊎ IsErrOf result DiskFault)
+            → WhileUp self.old (λ log. (0 < size_of log.active) × (length log.closed < 4095)) }
 
         // Each cause, where no earlier one holds.
         ensures empty { IsErrOf result EmptySegment ↔ WhileUp self.old (λ log. size_of log.active ≡ 0) }
@@ -229,46 +266,113 @@ impl<D: Disk> BrokerLog<D> {
         ensures cause { IsErrOf result DiskFault → Faulted D.control self.old self.new }
     {
         let mut log = taken(&mut self.place);
+        let settings = *log.settings();
         let outcome = log.roll();
-        self.place = placed(log, is_fault(&outcome));
+        self.place = placed(settings, log, is_fault(&outcome));
         outcome
     }
 
-    /// Cuts the log to an offset, durably, and answers its new end; where a batch holds the offset, that batch's base.
+    /// Cuts the log to an offset, durably, and answers its new end; where a batch holds the offset, that batch's base. Below
+    /// the local start nothing is left of it on the disk.
     pub fn cut_to(&mut self, end: u64) -> Result<u64, LogRefusal>
         requires { WhileUp self.old (λ log. end ≤ log.end) }
         ensures ok { IfOk result (λ now. Cuts D.content self.old self.new end now) }
         ensures refused { OnErr result (IsErrOf result NoMemory ⊎ IsErrOf result DiskFault) }
         ensures no_memory { IsErrOf result NoMemory → Stays D.content self.old self.new }
-        ensures fault { IsErrOf result DiskFault → Breaks D.content self.old self.new
-            (λ s. torn s (end_of (up_to end s.batches)) (cut_end s.line (end_of (up_to end s.batches)))) }
+        ensures fault { IsErrOf result DiskFault → BreaksIf D.content self.old self.new (MayCut end) (λ s. torn s (cut_back s end)) }
         ensures control { Lasting D.control self.old self.new }
         ensures cause { IsErrOf result DiskFault → Faulted D.control self.old self.new }
     {
         let mut log = taken(&mut self.place);
+        let settings = *log.settings();
         log.coheres();
         let outcome = log.cut_to(end);
         let now = log.end();
-        self.place = placed(log, is_fault(&outcome));
+        self.place = placed(settings, log, is_fault(&outcome));
         ended(outcome, now)
+    }
+
+    /// Whether there is a closed segment, and the first one is stable.
+    pub fn may_drop(&self) -> bool
+        ensures { IsTrue result ↔ WhileUp self.now (λ log. IsFirstStable log.stable log.closed) }
+    {
+        match &self.place {
+            Place::Up(log) => {
+                let closed = log.closed();
+                !closed.is_empty() && closed[0].end() <= log.stable()
+            }
+            Place::Down(..) | Place::Away => false,
+        }
+    }
+
+    /// Drops the first closed segment, durably, and answers its base and its last offset.
+    pub fn drop_first(&mut self) -> Result<(u64, u64), LogRefusal>
+        requires { WhileUp self.old (λ log. IsFirstStable log.stable log.closed) }
+        ensures ok { IfOk result (λ answer. Drops D.content self.old self.new answer) }
+        ensures refused { OnErr result (IsErrOf result NoMemory ⊎ IsErrOf result DiskFault) }
+        ensures no_memory { IsErrOf result NoMemory → Stays D.content self.old self.new }
+        ensures fault { IsErrOf result DiskFault → DropBreaks D.content self.old self.new }
+        ensures control { Lasting D.control self.old self.new }
+        ensures cause { IsErrOf result DiskFault → Faulted D.control self.old self.new }
+    {
+        let mut log = taken(&mut self.place);
+        let settings = *log.settings();
+        log.coheres();
+        let outcome = log.drop_first();
+        self.place = placed(settings, log, is_fault(&outcome));
+        outcome
+    }
+
+    /// Begins the local log anew at an offset, empty and durable, with this line.
+    pub fn restart_at(&mut self, start: u64, line: Line) -> Result<(), LogRefusal>
+        requires up { IsTrue (is_up self.old) }
+        requires low { start ≤ 2 ^ 62 }
+        requires within { Each (λ (entry : ℕ × ℕ). entry.1 ≤ start) line }
+        ensures ok { OnOk result (Restarts D.content self.old self.new start line) }
+        ensures refused { OnErr result (IsErrOf result NoMemory ⊎ IsErrOf result DiskFault) }
+        ensures no_memory { IsErrOf result NoMemory → Stays D.content self.old self.new }
+        ensures fault { IsErrOf result DiskFault → RestartBreaks D.content self.old self.new start line }
+        ensures control { Lasting D.control self.old self.new }
+        ensures cause { IsErrOf result DiskFault → Faulted D.control self.old self.new }
+    {
+        let mut log = taken(&mut self.place);
+        let settings = *log.settings();
+        let outcome = log.restart_at(start, line);
+        self.place = placed(settings, log, is_fault(&outcome));
+        outcome
+    }
+
+    /// Reads the first closed segment that ends past an offset. The log is as it was also where the read failed.
+    pub fn closed_from(&mut self, offset: u64) -> Result<Option<Closed>, LogRefusal>
+        requires { IsTrue (is_up self.old) }
+        ensures stays { Stays D.content self.old self.new }
+        ensures segment { IfOk result (λ segment. WhileUp self.old (λ log. OnDisk self.new (λ d.
+            IsClosedFrom log offset (D.control d).handed segment))) }
+        ensures part { IfOk result (λ segment. (s : Seen) → Shows D.content self.old s → IfSome segment (λ segment. IsSegmentOf s segment)) }
+        ensures err { IfErr result (λ e. WhileUp self.old (λ log. OnDisk self.new (λ d. ClosedFails log offset (D.control d).handed e))) }
+        ensures whole { IfErr result (λ e. (s : Seen) → Shows D.content self.old s → IsOfDevice e) }
+        ensures control { Lasting D.control self.old self.new }
+        ensures cause { IsErrOf result DiskFault → Faulted D.control self.old self.new }
+    {
+        let mut log = taken(&mut self.place);
+        let outcome = log.closed_from(offset);
+        self.place = Place::Up(log);
+        outcome
     }
 
     /// Reads the run at an offset: the batch that holds it, and further ones that end at or below the mark and together
     /// fit the limit, in bytes. The log is as it was also where the read failed.
     pub fn read_run(&mut self, offset: u64, limit: u64, mark: u64) -> Result<RunOut, LogRefusal>
-        requires up { IsTrue (is_up self.old) }
+        requires start { WhileUp self.old (λ log. log.local_start ≤ offset) }
         requires below { offset < mark }
         ensures stays { Stays D.content self.old self.new }
-        ensures run { IfOk result (λ run. (s : Seen) → Shows D.content self.old s → IsRunAt self.old s offset limit mark run) }
-        ensures reads { IfOk result (λ run. (s : Seen) → Shows D.content self.old s → EndsAt mark s.batches
-            → IsRunIn s offset limit mark run) }
-        ensures bytes { IfOk result (λ run. WhileUp self.old (λ log. OnDisk self.new (λ d.
-            IsCut (D.control d).handed offset limit mark (piece_of log offset) run))) }
+        ensures ok { IfOk result (Reads D.content D.control self.old self.new offset limit mark) }
 
         // Each cause. Where the disk tells and a batch ends at the mark, nothing is damaged.
-        ensures err { IfErr result (λ e. WhileUp self.old (λ log. OnDisk self.new (λ d.
+        ensures damaged { (name : FileName) (at : ℕ) → IsErrOf result (Damaged name at)
+            → Misreads D.content D.control self.old self.new offset limit mark name at }
+        ensures refused { IfErr result (λ e. WhileUp self.old (λ log. OnDisk self.new (λ d.
             RunFails log offset limit mark (D.control d).handed e))) }
-        ensures whole { IfErr result (λ e. (s : Seen) → Shows D.content self.old s → EndsAt mark s.batches → IsOfDevice e) }
         ensures control { Lasting D.control self.old self.new }
         ensures cause { IsErrOf result DiskFault → Faulted D.control self.old self.new }
     {
@@ -286,7 +390,7 @@ impl<D: Disk> BrokerLog<D> {
     {
         match &mut self.place {
             Place::Up(log) => log.arm(),
-            Place::Down(disk) => disk.arm(),
+            Place::Down(_, disk) => disk.arm(),
             Place::Away => unreachable!(),
         }
     }
@@ -298,7 +402,7 @@ impl<D: Disk> BrokerLog<D> {
     {
         match self.place {
             Place::Up(log) => log.close(),
-            Place::Down(disk) => disk,
+            Place::Down(_, disk) => disk,
             Place::Away => unreachable!(),
         }
     }
@@ -310,35 +414,34 @@ impl<D: Disk> BrokerLog<D> {
         ensures control { OnDisk self.old (λ d. OnDisk self.new (λ d'. d' ≡ d)) }
     {
         let log = taken(&mut self.place);
-        self.place = placed(log, true);
+        let settings = *log.settings();
+        self.place = placed(settings, log, true);
     }
 
     /// Opens the log of a broker that is down, and answers its end.
-    pub fn up(&mut self) -> Result<u64, UpRefusal>
+    pub fn up(&mut self) -> Result<u64, OpenRefusal>
         requires { is_up self.old ≡ false }
         ensures ok { IfOk result (λ end. ComesUp D.content self.old self.new end) }
         ensures refused { OnErr result (is_up self.new ≡ false) }
         ensures stays { OnErr result (Stays D.content self.old self.new) }
 
-        // Each cause, by what the disk handed last. Of a disk that tells nothing is damaged, and a broker's log isn't late.
-        ensures err { IfErr result (λ e. OnDisk self.new (λ d. OfOpening (OpenFails (D.control d).handed) e)) }
-        ensures sound { IfErr result (λ e. OnDisk self.old (λ d. IsTrue (D.content d).tells → OfOpening IsSoundCause e)) }
-        ensures whole { IfErr result (λ e. (s : Seen) → Shows D.content self.old s → IsNotLate e) }
-        ensures unseen { IfErr result (λ e. IsUnread e → (s : Seen) → Shows D.content self.old s → ⊥) }
-        ensures last { IsErrOf result (Open opening.LastIncarnation)
-            → OnDisk self.old (λ d. IsTrue (D.content d).tells → HoldsLast (D.content d).files) }
+        // Each cause, by what the disk handed last. Of a disk that tells nothing is damaged.
+        ensures damaged { (name : FileName) (at : ℕ) → IsErrOf result (opening.Damaged name at)
+            → Unopened D.content D.control self.old self.new name at }
+        ensures last { IsErrOf result opening.LastIncarnation → IsSpent D.content D.control self.old self.new }
         ensures control { Lasting D.control self.old self.new }
-        ensures cause { IsErrOf result (Open opening.DiskFault) → Faulted D.control self.old self.new }
+        ensures cause { IsErrOf result opening.DiskFault → Faulted D.control self.old self.new }
     {
-        let disk = taken_disk(&mut self.place);
-        match open_whole(self.alloc, disk, self.settings) {
+        let (settings, disk) = taken_disk(&mut self.place);
+        match LocalLog::open_at(self.alloc, disk, settings) {
             Ok(log) => {
+                log.coheres();
                 let end = log.end();
                 self.place = Place::Up(log);
                 Ok(end)
             }
             Err((disk, refusal)) => {
-                self.place = Place::Down(disk);
+                self.place = Place::Down(settings, disk);
                 Err(refusal)
             }
         }

@@ -4,6 +4,7 @@
 
 ghost use Rattle.std.specs.Prelude.{◌≡◌, ◌↔◌, true, false, IsTrue, IsFalse, IsErrOf};
 ghost use Rattle.log_steps.specs.Reopens.{Reopens};
+ghost use Rattle.local_log.specs.Coheres.{Coheres};
 ghost use Rattle.local_log.specs.declared.refusal.LogRefusal.TheVariants.{DiskFault};
 ghost use Rattle.broker_log.specs.declared.place.Place.TheVariants as place;
 ghost use Rattle.broker_log.specs.Seen.{is_up, is_down, Up, Down};
@@ -12,14 +13,15 @@ ghost use Rattle.broker_log.specs.Inside.{kept_of};
 use disk_model::Disk;
 use local_log::{LocalLog, LogRefusal};
 use std::mem;
+use tier_base::Settings;
 
 /// Where a log is.
 #[derive(Drop)]
 pub(crate) enum Place<D: Disk> {
     /// It is open.
     Up(LocalLog<D>),
-    /// The broker is down.
-    Down(D),
+    /// The broker is down. Its log is opened with these settings again.
+    Down(Settings, D),
     /// A call works on it.
     Away,
 }
@@ -31,29 +33,31 @@ pub(crate) fn taken<D: Disk>(place: &mut Place<D>) -> LocalLog<D>
 {
     match mem::replace(place, Place::Away) {
         Place::Up(log) => log,
-        Place::Down(_) | Place::Away => unreachable!(),
+        Place::Down(..) | Place::Away => unreachable!(),
     }
 }
 
-/// Takes the disk of a broker that is down out.
-pub(crate) fn taken_disk<D: Disk>(place: &mut Place<D>) -> D
+/// Takes the disk of a broker that is down out, and its log's settings.
+pub(crate) fn taken_disk<D: Disk>(place: &mut Place<D>) -> (Settings, D)
     requires { IsTrue (is_down (kept_of place.old)) }
-    ensures { kept_of place.old ≡ Down result }
+    ensures { kept_of place.old ≡ Down result.0 result.1 }
 {
     match mem::replace(place, Place::Away) {
-        Place::Down(disk) => disk,
+        Place::Down(settings, disk) => (settings, disk),
         Place::Up(_) | Place::Away => unreachable!(),
     }
 }
 
-/// Puts a log where it was, or its disk alone where that failed.
-pub(crate) fn placed<D: Disk>(log: LocalLog<D>, failed: bool) -> Place<D>
+/// Puts a log where it was, or its disk and these settings alone where that failed.
+pub(crate) fn placed<D: Disk>(settings: Settings, log: LocalLog<D>, failed: bool) -> Place<D>
     ensures up { failed ≡ false → result ≡ place.Up log }
-    ensures down { failed ≡ true → result ≡ place.Down log.disk }
+    ensures down { failed ≡ true → result ≡ place.Down settings log.disk }
     ensures again { failed ≡ true → Reopens (D.content log.disk) }
+    ensures coheres { failed ≡ false → log.broken ≡ false → IsTrue (D.content log.disk).tells → Coheres log }
 {
+    log.coheres();
     if failed {
-        Place::Down(log.close())
+        Place::Down(settings, log.close())
     } else {
         Place::Up(log)
     }

@@ -1,20 +1,20 @@
 -- A closed segment over a disk that tells is a part of the log.
-use Rattle.std.proofs.Common.{◌≡◌, ◌≢◌, ◌∙◌, ap, sym, refl, subst, ⊎_elim, inl, inr, ℕ, ◌+◌, ◌^◌, ◌<◌, ◌≤◌, nat_lt, nat_le, Bool, true, false, List, [], ◌∷◌, ◌++◌, length, take, drop, Option, Some, None, IsOk, IsTrue, IfSome, arith, append_assoc, append-nil}
+use Rattle.std.proofs.Common.{◌≡◌, ◌≢◌, ◌∙◌, ap, sym, refl, subst, inl, inr, ℕ, ◌+◌, ◌^◌, ◌<◌, ◌≤◌, nat_lt, nat_le, Bool, true, false, List, [], ◌∷◌, ◌++◌, length, take, Option, Some, IsOk, IsTrue, arith, append_assoc}
 use Rattle.std.specs.List.{AllByRecursion}
 use Rattle.std.specs.Prelude.{unwrap_or}
-use Rattle.std.proofs.lemmas.Bool.{ltb-true, ltb-false, leb-true, leb-false}
+use Rattle.std.proofs.lemmas.Bool.{ltb-false}
+use Rattle.std.proofs.lemmas.List.{length-take-le, take-take}
 use Rattle.std.proofs.lemmas.Option.{same_Some}
-use Rattle.tier_base.specs.Told.{bytes_in}
 use Rattle.disk_model.specs.Content.{Content, Files}
 use Rattle.log_terms.specs.Batch.{base_of, last_of, epoch_of}
 use Rattle.log_terms.specs.Log.{joined, IsConsecutive, end_from}
 use Rattle.log_terms.specs.Line.{epoch_at}
-use Rattle.log_terms.proofs.Logs.{end_append, end_above, lt_false}
+use Rattle.log_terms.proofs.Logs.{end_append, lt_false}
 use Rattle.record_batch.specs.Check.{checked}
 use Rattle.epoch_line.specs.Line.{IsLine}
 use Rattle.segment_file.specs.Growing.{Grown}
 use Rattle.segment_file.specs.Segment.{EpochsRise, IsSegment}
-use Rattle.segment_file.specs.Closed.{Whole, IsWhole, IsBadPlace}
+use Rattle.segment_file.specs.Closed.{Whole}
 use Rattle.segment_file.proofs.Joining.{segment_same}
 use Rattle.segment_file.proofs.Laying.{end_up}
 use Rattle.log_steps.specs.Fronts.{Each}
@@ -24,9 +24,8 @@ use Rattle.local_log.specs.declared.log.LocalLog.TheInside.{Inside}
 use Rattle.local_log.specs.declared.refusal.LogRefusal.{LogRefusal}
 use Rattle.local_log.specs.declared.refusal.LogRefusal.TheVariants as refusal
 use Rattle.local_log.specs.Stored.{bytes_of, batches_of, all_batches, size_of, end_of, AreChained, IsStored}
-use Rattle.local_log.specs.Listing.{AreSegmentsOf, IsLaidOut}
-use Rattle.local_log.specs.Log.{Log}
-use Rattle.local_log.specs.Inside.{log_in, IsSound, HasLog}
+use Rattle.local_log.specs.Listing.{IsLaidOut}
+use Rattle.local_log.specs.Inside.{log_in, IsSound}
 use Rattle.local_log.specs.Reading.{first_past, IsFront, HasNoSegment, FrontFails, IsPartOf, IsOfDevice}
 use Rattle.local_log.proofs.Pieces.{stored_batches, stored_end, size_placed}
 use Rattle.local_log.proofs.Edges.{holder, holder_each}
@@ -201,21 +200,24 @@ module _ {D : Type 0} (content : D → Content) (s : Inside D) (sound : IsSound 
   bytes : take (size_of found) (bytes_of f found) ≡ joined k.batches
   bytes = k.stands.bytes
 
+  again : take (size_of found) (take (size_of found) (bytes_of f found)) ≡ take (size_of found) (bytes_of f found)
+  again = take-take (size_of found) (size_of found) (bytes_of f found) (omega arith)
+
   none_empty : k.batches ≢ []
   none_empty =
       let some = found_some offset closed found is sound.segments.some in
       let size : size_of found ≡ 0 + length (joined k.batches) = ap (λ l. size_of (record found { batches = l })) k.placed ∙ size_placed 0 k.batches in
       not_none k.batches (omega (arith, some, size))
 
-  pub no_bad_segment : (read : List ℕ) (at : ℕ) → read ≡ bytes_of f found → HasNoSegment found.base (size_of found) read at → ⊥
+  pub no_bad_segment : (read : List ℕ) (at : ℕ) → read ≡ take (size_of found) (bytes_of f found) → HasNoSegment found.base (size_of found) read at → ⊥
   no_bad_segment read at same none =
       let here = subst (λ (b : List ℕ). HasNoSegment found.base (size_of found) b at) same none in
       elim here.bad [
-        | inl bad ↦ bad.unread k.batches none_empty segment bytes
-        | inr short ↦ (let long = k.stands.long in let e = short.0 in let lt = short.1 in absurd (omega (arith, long, e, lt)))
+        | inl bad ↦ bad.unread k.batches none_empty segment (again ∙ bytes)
+        | inr short ↦ (let long = k.stands.long in let e = short.0 in let lt = short.1 in let len = length-take-le (size_of found) (bytes_of f found) long in absurd (omega (arith, long, e, lt, len)))
       ]
 
-  pub front_told : (b size : ℕ) (read : List ℕ) (e : LogRefusal) → b ≡ found.base → size ≡ size_of found → read ≡ bytes_of f found → FrontFails b size read e → IsOfDevice e
+  pub front_told : (b size : ℕ) (read : List ℕ) (e : LogRefusal) → b ≡ found.base → size ≡ size_of found → read ≡ take (size_of found) (bytes_of f found) → FrontFails b size read e → IsOfDevice e
   front_told b size read refusal.LastOffset at_b at_size same why = why
   front_told b size read refusal.TooManySegments at_b at_size same why = why
   front_told b size read refusal.EmptySegment at_b at_size same why = why
@@ -223,11 +225,11 @@ module _ {D : Type 0} (content : D → Content) (s : Inside D) (sound : IsSound 
   front_told b size read refusal.DiskFault at_b at_size same why = absurd why
   front_told b size read refusal.NoMemory at_b at_size same why = why
 
-  pub part_told : (read : List ℕ) (whole : Whole) → read ≡ bytes_of f found → IsFront found.base (size_of found) read whole → IsPartOf (log_in content s) whole
+  pub part_told : (read : List ℕ) (whole : Whole) → read ≡ take (size_of found) (bytes_of f found) → IsFront found.base (size_of found) read whole → IsPartOf (log_in content s) whole
   part_told read whole same front =
       let w = front.whole in
       let stands = subst (StandsAt f s.local_start closed s.active) at_holder (holder_stands f s.line s.local_start offset closed s.active sound.segments.chained ((sound.has unbroken).stored t)) in
-      let read_is : whole.bytes ≡ joined k.batches = front.bytes_are ∙ ap (take (size_of found)) same ∙ bytes in
+      let read_is : whole.bytes ≡ joined k.batches = front.bytes_are ∙ ap (take (size_of found)) same ∙ again ∙ bytes in
       let mine : w.batches ≡ k.batches = segment_same whole.base found.base w.batches k.batches w.is segment (sym w.bytes_are ∙ read_is) in
       record {
         before = stands.before;

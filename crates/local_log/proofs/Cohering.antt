@@ -7,13 +7,15 @@ use Rattle.log_terms.specs.Log.{IsConsecutive, end_from, up_to}
 use Rattle.segment_file.specs.Growing.{Grown}
 use Rattle.log_steps.specs.Fronts.{Each}
 use Rattle.local_log.specs.declared.log.LocalLog.TheInside.{Inside}
-use Rattle.local_log.specs.Stored.{all_batches, end_of, extent_of, IsStored}
+use mathlib.Core.List.{IsPrefix}
+use Rattle.log_terms.proofs.Logs.{up_to_is}
+use Rattle.local_log.specs.Stored.{all_batches, end_of, extent_of, AreChained, IsStored}
 use Rattle.local_log.specs.Log.{Log}
 use Rattle.local_log.specs.Inside.{log_in, IsSound}
 use Rattle.local_log.specs.Reading.{begin_of}
 use Rattle.local_log.specs.Cutting.{open_by, cut_point}
-use Rattle.local_log.specs.Coheres.{Coheres}
-use Rattle.local_log.proofs.Pieces.{all_end, chain_snoc, consecutive_segments, stored_segments}
+use Rattle.local_log.specs.Coheres.{Coheres, Hold}
+use Rattle.local_log.proofs.Pieces.{all_end, chain_snoc, consecutive_segments, stored_batches, stored_end, stored_segments}
 use Rattle.local_log.proofs.Lines.{cut_within}
 use Rattle.local_log.proofs.Edges.{holder}
 use Rattle.local_log.proofs.RunsTold.{edge_told}
@@ -26,6 +28,27 @@ open_holds n (g ∷ closed) active = elim (cases_lt n (end_of g)) [
   | inl lt ↦ rw (lt-ltb n (end_of g) lt, lt-leb (end_of g) n lt) refl
   | inr ge ↦ rw (le-ltb n (end_of g) ge, le-leb (end_of g) n ge) (open_holds n closed active)
 ]
+
+-- the first closed segment begins where the log does, and ends where a batch does
+first_edge : (f : Files) (line : List (ℕ × ℕ)) (start : ℕ) (closed : List Grown) (active : Grown) → AreChained start (closed ++ active ∷ []) → Each (IsStored f line) (closed ++ active ∷ [])
+    → (g : Grown) (rest : List Grown) → closed ≡ g ∷ rest → (g.base ≡ start) × (end_from start (up_to (end_of g) (all_batches f (closed ++ active ∷ []))) ≡ end_of g)
+first_edge f line start [] active chained each g rest is = absurd cc
+first_edge f line start (h ∷ hs) active chained each g rest is =
+    let same : h ≡ g = cc (is) in
+    let all = all_batches f (h ∷ hs ++ active ∷ []) in
+    let c = consecutive_segments f line start (map extent_of (h ∷ hs ++ active ∷ [])) all (stored_segments f line start (h ∷ hs ++ active ∷ []) chained each) in
+    let s = each.0 in
+    let front : IsPrefix s.batches all = (all_batches f (hs ++ active ∷ []), ap (λ (l : List (List ℕ)). l ++ all_batches f (hs ++ active ∷ [])) (sym (stored_batches f line h s))) in
+    let end : end_from start s.batches ≡ end_of h = ap (λ (n : ℕ). end_from n s.batches) (sym chained.0) ∙ sym (stored_end f line h s) in
+    subst (λ (k : Grown). (k.base ≡ start) × (end_from start (up_to (end_of k) all) ≡ end_of k)) same
+    (chained.0, ap (end_from start) (up_to_is start (end_of h) s.batches all c front end) ∙ end)
+
+-- stored segments hold their batches
+held : (f : Files) (line : List (ℕ × ℕ)) (start : ℕ) (segments : List Grown) → AreChained start segments → Each (IsStored f line) segments → Hold start segments (all_batches f segments)
+held f line start [] chained each = refl
+held f line start (g ∷ segments) chained each =
+    let s = each.0 in
+    (s.batches, all_batches f segments, ap (λ (l : List (List ℕ)). l ++ all_batches f segments) (stored_batches f line g s), chained.0, s.placed, held f line (end_of g) segments chained.1 each.1)
 
 module _ {D : Type 0} (content : D → Content) (s : Inside D) (sound : IsSound content s) (unbroken : s.broken ≡ false) (t : IsTrue (content s.disk).tells) where
   abbrev pub segments : List Grown
@@ -44,6 +67,8 @@ module _ {D : Type 0} (content : D → Content) (s : Inside D) (sound : IsSound 
         stable_within = sound.stable_within;
         line_within = cut_within s.line (end_of s.active) sound.line_within;
         cuts = λ n le. ap (λ (g : Grown). begin_of g n) (open_holds n s.closed.items s.active) ∙ sym (edge_told content s sound unbroken t n le);
+        segments = held f s.line s.local_start segments are.chained each;
+        first = λ g rest is. first_edge f s.line s.local_start s.closed.items s.active are.chained each g rest is;
         are = stored_checked f s.line segments each;
         pieces = piece_before content s sound unbroken t;
       }

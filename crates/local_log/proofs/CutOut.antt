@@ -1,10 +1,10 @@
 -- A run that is cut out of a segment's bytes, and bytes without one.
-use Rattle.std.proofs.Common.{◌≡◌, ◌≢◌, ◌∙◌, ap, sym, refl, subst, inr, ℕ, ◌+◌, ◌-◌, ◌<◌, ◌≤◌, min, nat_lt, Bool, true, false, List, [], ◌∷◌, ◌++◌, length, take, drop, Option, Some, None, Result, Ok, Err, IsOk, arith, append_assoc, length-append}
+use Rattle.std.proofs.Common.{◌≡◌, ◌≢◌, ◌∙◌, ap, sym, refl, subst, inl, inr, ℕ, ◌+◌, ◌-◌, ◌<◌, ◌≤◌, min, nat_lt, Bool, true, false, List, [], ◌∷◌, ◌++◌, length, take, drop, Option, Some, None, Result, Ok, Err, IsOk, arith, append_assoc, length-append}
 use Rattle.std.specs.Prelude.{slice_range}
 use Rattle.std.specs.Option.{ForSome}
 use Rattle.std.proofs.lemmas.List.{append-nil, take_at, take-append-drop}
 use Rattle.std.proofs.lemmas.Option.{same_Some}
-use Rattle.std.proofs.lemmas.Bool.{ltb-true}
+use Rattle.std.proofs.lemmas.Bool.{lt-ltb, ltb-true, ltb-false}
 use mathlib.Core.List.{IsPrefix}
 use Rattle.tier_base.specs.declared.plain.Stop.{Stop}
 use Rattle.tier_base.specs.declared.plain.Stop.TheVariants.{Mark, Piece, Limit}
@@ -15,25 +15,25 @@ use Rattle.log_terms.proofs.Logs.{end_append, end_above, consecutive_prefix, nes
 use Rattle.record_batch.specs.declared.head.Head.{Head}
 use Rattle.record_batch.specs.declared.refusal.HeadRefusal.{HeadRefusal}
 use Rattle.record_batch.specs.Head.{head_of}
-use Rattle.record_batch.specs.Check.{checked, headed}
+use Rattle.record_batch.specs.Check.{checked, head_refusal, headed}
 use Rattle.record_batch.proofs.Passing.{checked_long}
 use Rattle.segment_file.specs.declared.walking.Found.TheVariants as found
 use Rattle.segment_file.specs.declared.taking.Cutout.{Cutout}
 use Rattle.segment_file.specs.Walk.{size_in, found_at}
-use Rattle.segment_file.specs.Growing.{Grown, AreParted, BeginsSearch, end_after as placed_end, size_after}
-use Rattle.segment_file.specs.Run.{end_after, Begins, Follows, AreBatches, Stand, NoBatch, would_pass, Fits, GoesOn, StopIs, IsRun, IsBadAt}
-use Rattle.segment_file.proofs.Finding.{batch_found, head_sized}
+use Rattle.segment_file.specs.Growing.{Grown, AreParted, BeginsSearch}
+use Rattle.segment_file.specs.Run.{end_after, Begins, Follows, AreBatches, Stand, would_pass, Fits, GoesOn, StopIs, IsRun, IsBadAt}
+use Rattle.segment_file.proofs.Finding.{batch_found, head_kept, head_sized}
 use Rattle.segment_file.proofs.Standing.{same_head}
 use Rattle.segment_file.proofs.Joining.{consecutive_parts}
 use Rattle.segment_file.proofs.Placing.{placed_parts}
 use Rattle.log_steps.specs.Fronts.{Each}
 use Rattle.log_steps.specs.Opens.{IsPlaced}
-use Rattle.log_steps.proofs.Lists.{each_map, each_left, each_right}
+use Rattle.log_steps.proofs.Lists.{each_map, each_right}
 use Rattle.local_log.specs.Stored.{bytes_of, size_of, end_of, IsStored}
-use Rattle.local_log.specs.Reading.{HasNoRun, IsCut, passes}
-use Rattle.local_log.specs.declared.reading.RunOut.{RunOut}
+use Rattle.local_log.specs.Reading.{HasNoRun, passes}
 use Rattle.local_log.proofs.Pieces.{joined_append, stored_end}
-use Rattle.local_log.proofs.Heads.{headed_batch}
+use Rattle.local_log.proofs.Heads.{head_front, headed_batch}
+use Rattle.local_log.proofs.Reached.{Enough, front_whole}
 use Rattle.local_log.proofs.Edges.{Ends, from_skip}
 
 -- there is no run in nothing
@@ -68,6 +68,27 @@ front_same (x ∷ xs) (y ∷ ys) cs ds l e =
     let others : xs ++ cs ≡ ys ++ ds = cc in
     let rest = front_same xs ys cs ds (omega (arith, l)) others in
     (ap (λ z. z ∷ xs) first ∙ ap (λ zs. y ∷ zs) rest.0, rest.1)
+
+-- a head is told by the bytes in front alone
+headed_kept : (xs ys : List ℕ) → 61 ≤ length xs → headed (xs ++ ys) ≡ headed xs
+unfolding headed
+headed_kept xs ys long = rw (head_kept xs ys long, head_front xs ys long) refl
+
+headed_long : (xs : List ℕ) (head : Head) → headed xs ≡ Ok head → 61 ≤ length xs
+unfolding headed head_refusal
+headed_long xs head e = go (nat_lt (length xs) 61) refl
+  where
+    go : (t : Bool) → nat_lt (length xs) 61 ≡ t → 61 ≤ length xs
+    go true t = absurd (cc (rw t at e))
+    go false t = ltb-false (length xs) 61 t
+
+-- what would pass the limit does with more bytes behind
+passes_more : (limit size : ℕ) (xs ys : List ℕ) → would_pass limit size (headed xs) ≡ true → would_pass limit size (headed (xs ++ ys)) ≡ true
+passes_more limit size xs ys pass = go (headed xs) refl
+  where
+    go : (r : Result Head HeadRefusal) → headed xs ≡ r → would_pass limit size (headed (xs ++ ys)) ≡ true
+    go (Ok head) e = ap (would_pass limit size) (headed_kept xs ys (headed_long xs head e)) ∙ pass
+    go (Err why) e = absurd (cc (rw e at pass))
 
 -- bytes begin with one batch alone
 batch_same : (x y cs ds : List ℕ) → IsOk (checked x) → IsOk (checked y) → x ++ cs ≡ y ++ ds → (x ≡ y) × (cs ≡ ds)
@@ -192,10 +213,10 @@ module _ (f : Files) (line : List (ℕ × ℕ)) (g : Grown) (s : IsStored f line
   whole : IsConsecutive g.base (former ++ latter)
   whole = subst (IsConsecutive g.base) parted.parts s.stands.consecutive
 
-  row : IsConsecutive n latter
+  pub row : IsConsecutive n latter
   row = (consecutive_parts g.base former latter whole).1
 
-  oks : AreChecked latter
+  pub oks : AreChecked latter
   oks = each_right (λ (b : List ℕ). IsOk (checked b)) former latter (subst AreChecked parted.parts (each_map (λ (b : List ℕ) (p : IsPlaced line g.base b). p.is) s.batches s.stands.placed))
 
   end_is : end_of g ≡ end_from n latter
@@ -215,118 +236,158 @@ module _ (f : Files) (line : List (ℕ × ℕ)) (g : Grown) (s : IsStored f line
       let more : former ++ (p.0 ++ q.0) ≡ former ++ latter = sym (append_assoc former p.0 q.0) ∙ ap (λ (l : List (List ℕ)). l ++ q.0) p.1 ∙ q.1 in
       (p.0, (q.0, cancel former (p.0 ++ q.0) latter more), sym (end_append g.base former p.0) ∙ ap (end_from g.base) p.1 ∙ edge.2)
 
-  module _ (batches : List (List ℕ)) (rest : List ℕ) (at : ℕ) (stand : Stand offset (min mark piece) (drop position (bytes_of f g)) batches rest at) where
-    pub goes : Goes batches latter rest tail
-    goes = fronts None n offset (min mark piece) batches latter rest tail (λ x f. later) stand.follow oks row high (sym stand.parts ∙ bytes_are)
+  -- a part of them is read
+  module _ (part behind : List ℕ) (read : drop position (bytes_of f g) ≡ part ++ behind) where
+    module _ (batches : List (List ℕ)) (rest : List ℕ) (at : ℕ) (stand : Stand offset (min mark piece) part batches rest at) where
+      all_of : joined batches ++ (rest ++ behind) ≡ joined latter ++ tail
+      all_of = sym (append_assoc (joined batches) rest behind) ∙ ap (λ (l : List ℕ). l ++ behind) (sym stand.parts) ∙ sym read ∙ bytes_are
 
-  -- a run isn't missed
-  pub never_bad : (at : ℕ) → IsBadAt (drop position (bytes_of f g)) offset limit (min mark piece) at → ⊥
-  never_bad at bad = none (goes bad.batches bad.rest at bad.stand)
-    where
-      going : (fs : List (List ℕ)) → from_offset offset bad.batches ≡ fs → GoesOn limit (min mark piece) (end_after None bad.batches) fs bad.rest → end_from n bad.batches < min mark piece
-      going [] e on = let h = none_from n offset bad.batches early e in omega (arith, h, under, inside)
-      going (first ∷ run) e on =
-          let p = from_parts offset bad.batches in
-          let is : bad.batches ≡ p.0 ++ first ∷ run = p.1 ∙ ap (λ (l : List (List ℕ)). p.0 ++ l) e in
-          let one : end_after None bad.batches ≡ Some (end_from n (first ∷ run)) = ap (end_after None) is ∙ end_of_run None n p.0 first run in
-          let two : end_from n bad.batches ≡ end_from n (first ∷ run) = ap (end_from n) is ∙ end_append n p.0 (first ∷ run) in
-          let lt : end_from n (first ∷ run) < min mark piece = on.0 (end_from n (first ∷ run)) one in
-          subst (λ (k : ℕ). k < min mark piece) (sym two) lt
+      pub goes : Goes batches latter (rest ++ behind) tail
+      goes = fronts None n offset (min mark piece) batches latter (rest ++ behind) tail (λ x f. later) stand.follow oks row high all_of
 
-      lt : end_from n bad.batches < min mark piece
-      lt = going (from_offset offset bad.batches) refl bad.goes_on
+    -- the run isn't missed where the part is enough
+    pub never_bad : ((b : List ℕ) (more : List (List ℕ)) → latter ≡ b ∷ more → nat_lt (last_of b) offset ≡ false)
+        → ((xs : List (List ℕ)) (m : List ℕ) (ms : List (List ℕ)) → latter ≡ xs ++ m ∷ ms → end_from n xs < min mark piece → last_of m + 1 ≤ min mark piece → Fits limit xs → Enough limit xs m (length part))
+        → (at : ℕ) → IsBadAt part offset limit (min mark piece) at → ⊥
+    never_bad holds enough at bad = none (goes bad.batches bad.rest at bad.stand)
+      where
+        going : (fs : List (List ℕ)) → from_offset offset bad.batches ≡ fs → GoesOn limit (min mark piece) (end_after None bad.batches) fs bad.rest → end_from n bad.batches < min mark piece
+        going [] e on = let h = none_from n offset bad.batches early e in omega (arith, h, under, inside)
+        going (first ∷ run) e on =
+            let p = from_parts offset bad.batches in
+            let is : bad.batches ≡ p.0 ++ first ∷ run = p.1 ∙ ap (λ (l : List (List ℕ)). p.0 ++ l) e in
+            let one : end_after None bad.batches ≡ Some (end_from n (first ∷ run)) = ap (end_after None) is ∙ end_of_run None n p.0 first run in
+            let two : end_from n bad.batches ≡ end_from n (first ∷ run) = ap (end_from n) is ∙ end_append n p.0 (first ∷ run) in
+            let lt : end_from n (first ∷ run) < min mark piece = on.0 (end_from n (first ∷ run)) one in
+            subst (λ (k : ℕ). k < min mark piece) (sym two) lt
 
-      begins : (bs : List (List ℕ)) (m : List ℕ) (ms : List (List ℕ)) → IsConsecutive n (bs ++ m ∷ ms) → Begins (end_after None bs) offset (base_of m)
-      begins [] m ms c = omega (arith, c.0, early)
-      begins (x ∷ xs) m ms c = subst (λ (o : Option ℕ). Begins o offset (base_of m)) (sym (end_some (last_of x + 1) xs)) ((consecutive_parts n (x ∷ xs) (m ∷ ms) c).1.0)
+        lt : end_from n bad.batches < min mark piece
+        lt = going (from_offset offset bad.batches) refl bad.goes_on
 
-      next : (more : List (List ℕ)) → latter ≡ bad.batches ++ more → bad.rest ≡ joined more ++ tail → ⊥
-      next [] parts e =
-          let same : end_from n latter ≡ end_from n bad.batches = ap (end_from n) (parts ∙ append-nil bad.batches) in
-          absurd (omega (arith, same, lt, high))
-      next (m ∷ ms) parts e =
-          let row' = subst (IsConsecutive n) parts row in
-          let ok = each_right (λ (b : List ℕ). IsOk (checked b)) bad.batches (m ∷ ms) (subst AreChecked parts oks) in
-          let at_edge : end_from n edge'.0 ≡ min mark piece = edge'.2 in
-          let lt' : end_from n bad.batches < end_from n edge'.0 = omega (arith, at_edge, lt) in
-          let below = next_below n bad.batches m ms edge'.0 row' (subst (IsPrefix edge'.0) parts edge'.1) lt' in
-          bad.nothing m (joined ms ++ tail) (e ∙ append_assoc m (joined ms) tail) (record {
-            is = ok.0;
-            begins = begins bad.batches m ms row';
-            below = omega (arith, below, at_edge);
-          })
+        begins : (bs : List (List ℕ)) (m : List ℕ) (ms : List (List ℕ)) → IsConsecutive n (bs ++ m ∷ ms) → Begins (end_after None bs) offset (base_of m)
+        begins [] m ms c = omega (arith, c.0, early)
+        begins (x ∷ xs) m ms c = subst (λ (o : Option ℕ). Begins o offset (base_of m)) (sym (end_some (last_of x + 1) xs)) ((consecutive_parts n (x ∷ xs) (m ∷ ms) c).1.0)
 
-      none : Goes bad.batches latter bad.rest tail → ⊥
-      none h = next h.0 h.1 h.2
+        -- none of the batches is passed over
+        all_from : (bs more : List (List ℕ)) → latter ≡ bs ++ more → from_offset offset bs ≡ bs
+        all_from [] more e = refl
+        all_from (b ∷ bs) more e = rw (holds b (bs ++ more) e) refl
 
-  -- the run in terms of the segment's batches, and of others behind them
-  pub record Told (cut : Cutout) (r : IsRun (drop position (bytes_of f g)) offset limit mark piece cut) (beyond : List (List ℕ)) : Type 0 where
-    pub rest : List (List ℕ)
-    pub parts : from_offset offset (s.batches ++ beyond) ≡ r.first ∷ r.others ++ rest
-    pub bytes : slice_range (drop position (bytes_of f g)) cut.from cut.to ≡ joined (r.first ∷ r.others)
-    pub next : cut.next ≡ end_from offset (r.first ∷ r.others)
-    pub below : cut.next ≤ min mark piece
-    pub stop : StopIs cut.stop cut.next mark piece (passes limit (length (joined (r.first ∷ r.others))) rest)
+        from_is : (more : List (List ℕ)) → latter ≡ bad.batches ++ more → from_offset offset bad.batches ≡ bad.batches
+        from_is more e = all_from bad.batches more e
 
-  module _ (cut : Cutout) (r : IsRun (drop position (bytes_of f g)) offset limit mark piece cut) (beyond : List (List ℕ)) where
-    abbrev pub run : List (List ℕ)
-    run = r.first ∷ r.others
+        missed : (m : List ℕ) (more : List ℕ) → IsOk (checked m) → Follows (end_after None bad.batches) offset (min mark piece) m → bad.rest ++ behind ≡ m ++ more → length (joined bad.batches) + length m ≤ length part → ⊥
+        missed m more ok follows e long =
+            let size = ap length bad.stand.parts ∙ length-append (joined bad.batches) bad.rest in
+            let whole = front_whole bad.rest behind m more e (omega (arith, long, size)) in
+            bad.nothing m whole.0 whole.1 follows
 
-    h : Goes r.batches latter r.rest tail
-    h = goes r.batches r.rest cut.to r.stand
+        stops : (bs : List (List ℕ)) → bs ≢ [] → GoesOn limit (min mark piece) (end_after None bad.batches) bs bad.rest → would_pass limit (length (joined bs)) (headed bad.rest) ≡ false
+        stops [] some on = absurd (some refl)
+        stops (b ∷ bs) some on = on.1
 
-    p : (skipped : List (List ℕ)) × (r.batches ≡ skipped ++ from_offset offset r.batches)
-    p = from_parts offset r.batches
+        passed : (m : List ℕ) (more : List ℕ) → IsOk (checked m) → bad.rest ++ behind ≡ m ++ more → limit < length (joined bad.batches) + length m → length (joined bad.batches) + 61 ≤ length part
+            → would_pass limit (length (joined bad.batches)) (headed bad.rest) ≡ true
+        passed m more ok e over long =
+            let size = ap length bad.stand.parts ∙ length-append (joined bad.batches) bad.rest in
+            let head : headed bad.rest ≡ Ok (head_of m) = sym (headed_kept bad.rest behind (omega (arith, long, size))) ∙ (ap headed e ∙ headed_batch m more ok) in
+            ap (would_pass limit (length (joined bad.batches))) head
+            ∙ ap (λ (k : ℕ). nat_lt limit (length (joined bad.batches) + k)) (head_sized m ok)
+            ∙ lt-ltb limit (length (joined bad.batches) + length m) over
 
-    is : r.batches ≡ p.0 ++ run
-    is = p.1 ∙ ap (λ (l : List (List ℕ)). p.0 ++ l) r.run
+        next : (more : List (List ℕ)) → latter ≡ bad.batches ++ more → bad.rest ++ behind ≡ joined more ++ tail → ⊥
+        next [] parts e =
+            let same : end_from n latter ≡ end_from n bad.batches = ap (end_from n) (parts ∙ append-nil bad.batches) in
+            absurd (omega (arith, same, lt, high))
+        next (m ∷ ms) parts e =
+            let row' = subst (IsConsecutive n) parts row in
+            let ok = each_right (λ (b : List ℕ). IsOk (checked b)) bad.batches (m ∷ ms) (subst AreChecked parts oks) in
+            let at_edge : end_from n edge'.0 ≡ min mark piece = edge'.2 in
+            let lt' : end_from n bad.batches < end_from n edge'.0 = omega (arith, at_edge, lt) in
+            let below = next_below n bad.batches m ms edge'.0 row' (subst (IsPrefix edge'.0) parts edge'.1) lt' in
+            let bytes : bad.rest ++ behind ≡ m ++ (joined ms ++ tail) = e ∙ append_assoc m (joined ms) tail in
+            let fits = subst (Fits limit) (from_is (m ∷ ms) parts) bad.fits in
+            let on = subst (λ (l : List (List ℕ)). GoesOn limit (min mark piece) (end_after None bad.batches) l bad.rest) (from_is (m ∷ ms) parts) bad.goes_on in
+            elim (enough bad.batches m ms parts lt (omega (arith, below, at_edge)) fits) [
+              | inl fits' ↦ missed m (joined ms ++ tail) ok.0 (record {
+                is = ok.0;
+                begins = begins bad.batches m ms row';
+                below = omega (arith, below, at_edge);
+              }) bytes fits'
+              | inr head ↦ (let yes = passed m (joined ms ++ tail) ok.0 bytes head.1 head.2 in let no = stops bad.batches head.0 on in absurd (cc (yes, no)))
+            ]
 
-    next_is : cut.next ≡ end_from offset run
-    next_is = same_Some cut.next (end_from offset run) (sym r.ends ∙ ap (end_after None) is ∙ end_of_run None offset p.0 r.first r.others)
+        none : Goes bad.batches latter (bad.rest ++ behind) tail → ⊥
+        none h = next h.0 h.1 h.2
 
-    below_is : cut.next ≤ min mark piece
-    below_is = ends_within None offset (min mark piece) r.batches (λ y e. absurd (cc (e))) r.stand.follow cut.next r.ends
+    -- the run in terms of the segment's batches, and of others behind them
+    pub record Told (cut : Cutout) (r : IsRun part offset limit mark piece cut) (beyond : List (List ℕ)) : Type 0 where
+      pub rest : List (List ℕ)
+      pub parts : from_offset offset (s.batches ++ beyond) ≡ r.first ∷ r.others ++ rest
+      pub bytes : slice_range part cut.from cut.to ≡ joined (r.first ∷ r.others)
+      pub next : cut.next ≡ end_from offset (r.first ∷ r.others)
+      pub below : cut.next ≤ min mark piece
+      pub stop : StopIs cut.stop cut.next mark piece (passes limit (length (joined (r.first ∷ r.others))) rest)
 
-    parts_are : from_offset offset (s.batches ++ beyond) ≡ run ++ (h.0 ++ beyond)
-    parts_are =
-        ap (λ (l : List (List ℕ)). from_offset offset (l ++ beyond)) (parted.parts ∙ ap (λ (l : List (List ℕ)). former ++ l) h.1)
-        ∙ ap (from_offset offset) (append_assoc former (r.batches ++ h.0) beyond)
-        ∙ from_skip g.base offset former ((r.batches ++ h.0) ++ beyond) ((consecutive_parts g.base former latter whole).0) early
-        ∙ ap (from_offset offset) (append_assoc r.batches h.0 beyond)
-        ∙ from_more offset r.batches (h.0 ++ beyond) r.first r.others r.run
+    module _ (cut : Cutout) (r : IsRun part offset limit mark piece cut) (beyond : List (List ℕ)) where
+      abbrev pub run : List (List ℕ)
+      run = r.first ∷ r.others
 
-    from_is : cut.from ≡ length (joined p.0)
-    from_is =
-        let sum : length (joined r.batches) ≡ length (joined p.0) + length (joined run) = ap (λ (l : List (List ℕ)). length (joined l)) is ∙ ap length (joined_append p.0 run) ∙ length-append (joined p.0) (joined run) in
-        let place = r.stand.place in
-        let to = r.from in
-        omega (arith, sum, place, to)
+      h : Goes r.batches latter (r.rest ++ behind) tail
+      h = goes r.batches r.rest cut.to r.stand
 
-    bytes_cut : slice_range (drop position (bytes_of f g)) cut.from cut.to ≡ joined run
-    bytes_cut =
-        let long : cut.to - cut.from ≡ length (joined run) = (let to = r.from in omega (arith, to)) in
-        let there : drop position (bytes_of f g) ≡ joined p.0 ++ (joined run ++ r.rest) =
-        r.stand.parts ∙ ap (λ (l : List (List ℕ)). joined l ++ r.rest) is ∙ ap (λ (l : List ℕ). l ++ r.rest) (joined_append p.0 run) ∙ append_assoc (joined p.0) (joined run) r.rest in
-        ap (λ (l : List ℕ). slice_range l cut.from cut.to) there
-        ∙ ap (λ (k : ℕ). take k (drop cut.from (joined p.0 ++ (joined run ++ r.rest)))) long
-        ∙ ap (λ (k : ℕ). take (length (joined run)) (drop k (joined p.0 ++ (joined run ++ r.rest)))) from_is
-        ∙ ap (take (length (joined run))) (drop_at (joined p.0) (joined run ++ r.rest))
-        ∙ take_at (joined run) r.rest (length (joined run)) refl
+      p : (skipped : List (List ℕ)) × (r.batches ≡ skipped ++ from_offset offset r.batches)
+      p = from_parts offset r.batches
 
-    passed : (more : List (List ℕ)) → latter ≡ r.batches ++ more → r.rest ≡ joined more ++ tail → cut.next ≢ piece → would_pass limit (length (joined run)) (headed r.rest) ≡ true
-        → passes limit (length (joined run)) (more ++ beyond) ≡ true
-    passed [] parts e other pass =
-        let last : end_from n latter ≡ end_from offset run = ap (end_from n) (parts ∙ append-nil r.batches ∙ is) ∙ end_append n p.0 run in
-        absurd (other (omega (arith, last, next_is, below_is, low, end_is)))
-    passed (m ∷ ms) parts e other pass =
-        let ok = each_right (λ (b : List ℕ). IsOk (checked b)) r.batches (m ∷ ms) (subst AreChecked parts oks) in
-        let head : headed r.rest ≡ Ok (head_of m) = ap headed (e ∙ append_assoc m (joined ms) tail) ∙ headed_batch m (joined ms ++ tail) ok.0 in
-        sym (ap (would_pass limit (length (joined run))) head ∙ ap (λ (k : ℕ). nat_lt limit (length (joined run) + k)) (head_sized m ok.0)) ∙ pass
+      is : r.batches ≡ p.0 ++ run
+      is = p.1 ∙ ap (λ (l : List (List ℕ)). p.0 ++ l) r.run
 
-    stops : (stop : Stop) → StopIs stop cut.next mark piece (would_pass limit (length (joined run)) (headed r.rest)) → StopIs stop cut.next mark piece (passes limit (length (joined run)) (h.0 ++ beyond))
-    stops Mark why = why
-    stops Piece why = why
-    stops Limit why = (why.0, why.1, passed h.0 h.1 h.2 why.1 why.2)
+      next_is : cut.next ≡ end_from offset run
+      next_is = same_Some cut.next (end_from offset run) (sym r.ends ∙ ap (end_after None) is ∙ end_of_run None offset p.0 r.first r.others)
 
-    pub told : Told cut r beyond
-    told = record { rest = h.0 ++ beyond; parts = parts_are; bytes = bytes_cut; next = next_is; below = below_is; stop = stops cut.stop r.stop_is }
+      below_is : cut.next ≤ min mark piece
+      below_is = ends_within None offset (min mark piece) r.batches (λ y e. absurd (cc (e))) r.stand.follow cut.next r.ends
+
+      parts_are : from_offset offset (s.batches ++ beyond) ≡ run ++ (h.0 ++ beyond)
+      parts_are =
+          ap (λ (l : List (List ℕ)). from_offset offset (l ++ beyond)) (parted.parts ∙ ap (λ (l : List (List ℕ)). former ++ l) h.1)
+          ∙ ap (from_offset offset) (append_assoc former (r.batches ++ h.0) beyond)
+          ∙ from_skip g.base offset former ((r.batches ++ h.0) ++ beyond) ((consecutive_parts g.base former latter whole).0) early
+          ∙ ap (from_offset offset) (append_assoc r.batches h.0 beyond)
+          ∙ from_more offset r.batches (h.0 ++ beyond) r.first r.others r.run
+
+      from_is : cut.from ≡ length (joined p.0)
+      from_is =
+          let sum : length (joined r.batches) ≡ length (joined p.0) + length (joined run) = ap (λ (l : List (List ℕ)). length (joined l)) is ∙ ap length (joined_append p.0 run) ∙ length-append (joined p.0) (joined run) in
+          let place = r.stand.place in
+          let to = r.from in
+          omega (arith, sum, place, to)
+
+      bytes_cut : slice_range part cut.from cut.to ≡ joined run
+      bytes_cut =
+          let long : cut.to - cut.from ≡ length (joined run) = (let to = r.from in omega (arith, to)) in
+          let there : part ≡ joined p.0 ++ (joined run ++ r.rest) =
+          r.stand.parts ∙ ap (λ (l : List (List ℕ)). joined l ++ r.rest) is ∙ ap (λ (l : List ℕ). l ++ r.rest) (joined_append p.0 run) ∙ append_assoc (joined p.0) (joined run) r.rest in
+          ap (λ (l : List ℕ). slice_range l cut.from cut.to) there
+          ∙ ap (λ (k : ℕ). take k (drop cut.from (joined p.0 ++ (joined run ++ r.rest)))) long
+          ∙ ap (λ (k : ℕ). take (length (joined run)) (drop k (joined p.0 ++ (joined run ++ r.rest)))) from_is
+          ∙ ap (take (length (joined run))) (drop_at (joined p.0) (joined run ++ r.rest))
+          ∙ take_at (joined run) r.rest (length (joined run)) refl
+
+      passed : (more : List (List ℕ)) → latter ≡ r.batches ++ more → r.rest ++ behind ≡ joined more ++ tail → cut.next ≢ piece → would_pass limit (length (joined run)) (headed r.rest) ≡ true
+          → passes limit (length (joined run)) (more ++ beyond) ≡ true
+      passed [] parts e other pass =
+          let last : end_from n latter ≡ end_from offset run = ap (end_from n) (parts ∙ append-nil r.batches ∙ is) ∙ end_append n p.0 run in
+          absurd (other (omega (arith, last, next_is, below_is, low, end_is)))
+      passed (m ∷ ms) parts e other pass =
+          let ok = each_right (λ (b : List ℕ). IsOk (checked b)) r.batches (m ∷ ms) (subst AreChecked parts oks) in
+          let head : headed (r.rest ++ behind) ≡ Ok (head_of m) = ap headed (e ∙ append_assoc m (joined ms) tail) ∙ headed_batch m (joined ms ++ tail) ok.0 in
+          sym (ap (would_pass limit (length (joined run))) head ∙ ap (λ (k : ℕ). nat_lt limit (length (joined run) + k)) (head_sized m ok.0)) ∙ passes_more limit (length (joined run)) r.rest behind pass
+
+      stops : (stop : Stop) → StopIs stop cut.next mark piece (would_pass limit (length (joined run)) (headed r.rest)) → StopIs stop cut.next mark piece (passes limit (length (joined run)) (h.0 ++ beyond))
+      stops Mark why = why
+      stops Piece why = why
+      stops Limit why = (why.0, why.1, passed h.0 h.1 h.2 why.1 why.2)
+
+      pub told : Told cut r beyond
+      told = record { rest = h.0 ++ beyond; parts = parts_are; bytes = bytes_cut; next = next_is; below = below_is; stop = stops cut.stop r.stop_is }

@@ -24,6 +24,7 @@ pub mod Renewed
 pub mod Restarted
 pub mod Dropped
 pub mod Edges
+pub mod Reached
 pub mod CutOut
 pub mod RunsTold
 pub mod ClosedTold

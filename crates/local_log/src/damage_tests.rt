@@ -1,36 +1,38 @@
 //! Openings over files of any bytes: each is a log or the cause why there is none, with its place. Values worked by hand.
 
 use crate::OpenRefusal;
-use crate::trial::{names_flushed, open_files};
+use crate::trial::{leaves_names, open_files};
 use crate::vectors::{FLUSHED, SEGMENT};
 use bytes::Bytes;
 use disk_model::FileName;
 use std::alloc::{AllocError, Global};
-use std::test::Fail;
 
 const LOG: FileName = FileName::Log(0);
 
-/// The files of a log of one segment, if there is one.
+/// What an opening comes to: a log of an end, or why there is none.
+type Opened = Result<u64, OpenRefusal>;
+
+/// A file that is no log's.
+const OTHER: FileName = FileName::Notes;
+
+/// The manifest and another file.
 fn files(
     alloc: Global,
     manifest: &[u8],
-    segment: Option<&[u8]>,
+    name: FileName,
+    bytes: &[u8],
 ) -> Result<Vec<(FileName, Bytes)>, AllocError> {
-    let mut files = Vec::new(alloc);
-    files.push((FileName::Manifest, Bytes::copy_from_slice(alloc, manifest)?))?;
-    if let Some(bytes) = segment {
-        files.push((LOG, Bytes::copy_from_slice(alloc, bytes)?))?;
-    }
-    Ok(files)
+    let manifest = Bytes::copy_from_slice(alloc, manifest)?;
+    let bytes = Bytes::copy_from_slice(alloc, bytes)?;
+    Ok(vec![in alloc; (FileName::Manifest, manifest), (name, bytes)]?)
 }
 
-/// The end of the log that these files are.
-fn open(
-    alloc: Global,
-    manifest: &[u8],
-    segment: Option<&[u8]>,
-) -> Result<Result<u64, OpenRefusal>, AllocError> {
-    Ok(open_files(alloc, files(alloc, manifest, segment)?))
+/// What the opening of these files comes to.
+fn open(alloc: Global, manifest: &[u8], name: FileName, bytes: &[u8]) -> Opened {
+    match files(alloc, manifest, name, bytes) {
+        Ok(files) => open_files(alloc, files),
+        Err(AllocError) => Err(OpenRefusal::NoMemory),
+    }
 }
 
 /// The manifest with other bytes at a place.
@@ -42,90 +44,84 @@ fn with(alloc: Global, at: usize, other: &[u8]) -> Result<Vec<u8>, AllocError> {
     Ok(bytes)
 }
 
-/// A cause that tells the manifest's place.
-fn of_manifest(at: u64) -> Option<OpenRefusal> {
-    let file = FileName::Manifest;
-    Some(OpenRefusal::Damaged { file, at })
+/// What the opening comes to of a log whose manifest has other bytes at a place.
+fn open_with(alloc: Global, at: usize, other: &[u8]) -> Opened {
+    match with(alloc, at, other) {
+        Ok(manifest) => open(alloc, manifest.as_slice(), LOG, SEGMENT.as_slice()),
+        Err(AllocError) => Err(OpenRefusal::NoMemory),
+    }
+}
+
+/// What an opening tells that finds no log in a file.
+fn damaged(file: FileName, at: u64) -> Opened {
+    Err(OpenRefusal::Damaged { file, at })
 }
 
 #[test]
-fn a_manifest_of_another_kind_is_told(rt: HostRuntime) -> Result<(), Fail> {
+fn openings_tell_their_causes(rt: HostRuntime) {
     let alloc = rt.alloc();
-    let opened = open(alloc, [0x54, 0x4c, 0x4d, 0x32].as_slice(), None)?;
-    assert!(rt; opened.err() == of_manifest(0));
-    Ok(())
-}
-
-#[test]
-fn a_missing_segment_is_told(rt: HostRuntime) -> Result<(), Fail> {
-    let alloc = rt.alloc();
-    let opened = open(alloc, FLUSHED.as_slice(), None)?;
-    let damaged = OpenRefusal::Damaged { file: LOG, at: 0 };
-    assert!(rt; opened.err() == Some(damaged));
-    Ok(())
+    let opened = open(alloc, FLUSHED.as_slice(), LOG, SEGMENT.as_slice());
+    assert_eq!(rt; opened, Ok(2));
+    let opened = open(alloc, FLUSHED.as_slice(), OTHER, SEGMENT.as_slice());
+    assert_eq!(rt; opened, damaged(LOG, 0), "no segment");
+    let opened = open(alloc, b"TLM2", OTHER, b"");
+    assert_eq!(rt; opened, damaged(FileName::Manifest, 0), "another kind");
+    let opened = open_with(alloc, 4, [0xff; 4].as_slice());
+    assert_eq!(rt; opened, Err(OpenRefusal::LastIncarnation));
 }
 
 /// Whether an opening gave a log or told a place.
-fn is_told(opened: &Result<u64, OpenRefusal>) -> bool {
+fn is_told(opened: Opened) -> bool {
     matches!(opened, Ok(_) | Err(OpenRefusal::Damaged { .. }))
 }
 
 #[test]
-fn each_spoilt_byte_is_told_or_passes(rt: HostRuntime) -> Result<(), Fail> {
-    let alloc = rt.alloc();
+fn each_spoilt_byte_is_told_or_passes(rt: HostRuntime) {
     for at in 0..FLUSHED.len() {
-        let manifest = with(alloc, at, [0xff].as_slice())?;
-        let opened = open(alloc, manifest.as_slice(), Some(SEGMENT.as_slice()))?;
-        assert!(rt; is_told(&opened), "ff at {at}");
-        if at < 4 {
-            assert!(rt; opened.err() == of_manifest(0), "ff at {at}");
-        } else if at < 8 {
-            assert!(rt; opened.is_ok(), "ff at {at}");
-        }
+        let opened = open_with(rt.alloc(), at, [0xff].as_slice());
+        assert!(rt; is_told(opened), "ff at {at}");
+        assert!(rt;
+            at >= 4 || opened == damaged(FileName::Manifest, 0),
+            "ff at {at}"
+        );
+        assert!(rt; at < 4 || at >= 8 || opened == Ok(2), "ff at {at}");
     }
-    Ok(())
-}
-
-#[test]
-fn no_incarnation_follows_the_last(rt: HostRuntime) -> Result<(), Fail> {
-    let alloc = rt.alloc();
-    let manifest = with(alloc, 4, [0xff; 4].as_slice())?;
-    let opened = open(alloc, manifest.as_slice(), Some(SEGMENT.as_slice()))?;
-    assert!(rt; opened.err() == Some(OpenRefusal::LastIncarnation));
-    Ok(())
 }
 
 /// Whether an opening told a place in a file of the log.
-fn is_damaged(opened: &Result<u64, OpenRefusal>, name: FileName) -> bool {
-    matches!(opened, Err(OpenRefusal::Damaged { file, .. }) if *file == name)
+fn is_damaged(opened: Opened, name: FileName) -> bool {
+    matches!(opened, Err(OpenRefusal::Damaged { file, .. }) if file == name)
 }
 
 #[test]
-fn each_cut_manifest_is_told(rt: HostRuntime) -> Result<(), Fail> {
-    let alloc = rt.alloc();
+fn each_cut_file_is_told(rt: HostRuntime) {
     for len in 0..FLUSHED.len() {
-        let opened = open(alloc, &FLUSHED[..len], Some(SEGMENT.as_slice()))?;
-        assert!(rt; is_damaged(&opened, FileName::Manifest), "{len} bytes");
+        let opened = open(rt.alloc(), &FLUSHED[..len], LOG, SEGMENT.as_slice());
+        assert!(rt; is_damaged(opened, FileName::Manifest), "{len} bytes");
     }
-    Ok(())
-}
-
-#[test]
-fn each_cut_segment_is_told(rt: HostRuntime) -> Result<(), Fail> {
-    let alloc = rt.alloc();
     for len in 0..SEGMENT.len() {
-        let opened = open(alloc, FLUSHED.as_slice(), Some(&SEGMENT[..len]))?;
-        assert!(rt; is_damaged(&opened, LOG), "{len} bytes");
+        let opened = open(rt.alloc(), FLUSHED.as_slice(), LOG, &SEGMENT[..len]);
+        assert!(rt; is_damaged(opened, LOG), "{len} bytes");
     }
-    Ok(())
+}
+
+/// The files of the log, and a segment that the manifest doesn't list.
+fn with_stray(alloc: Global) -> Result<Vec<(FileName, Bytes)>, AllocError> {
+    let mut files = files(alloc, FLUSHED.as_slice(), LOG, SEGMENT.as_slice())?;
+    files.push((FileName::Log(2), Bytes::from_static(b"stray")))?;
+    Ok(files)
+}
+
+/// Whether the opened log leaves these names of the files with a stray segment.
+fn leaves_of_stray(alloc: Global, names: &[FileName]) -> bool {
+    match with_stray(alloc) {
+        Ok(files) => leaves_names(alloc, files, names),
+        Err(AllocError) => false,
+    }
 }
 
 #[test]
-fn a_stray_segment_goes_at_the_opening(rt: HostRuntime) -> Result<(), Fail> {
-    let alloc = rt.alloc();
-    let mut files = files(alloc, FLUSHED.as_slice(), Some(SEGMENT.as_slice()))?;
-    files.push((FileName::Log(2), Bytes::from_static(b"stray")))?;
-    let names = names_flushed(alloc, files)?;
-    assert_eq!(rt; names.as_slice(), [FileName::Manifest, LOG].as_slice());
-    Ok(())
+fn a_stray_segment_goes_at_the_opening(rt: HostRuntime) {
+    let names = [FileName::Manifest, LOG];
+    assert!(rt; leaves_of_stray(rt.alloc(), names.as_slice()));
 }

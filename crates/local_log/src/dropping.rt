@@ -13,7 +13,7 @@ ghost use Rattle.log_steps.specs.Opens.{Opens};
 ghost use Rattle.local_log.specs.declared.refusal.LogRefusal.TheVariants.{DiskFault, NoMemory};
 ghost use Rattle.local_log.specs.Listing.{front_to, manifest_of};
 ghost use Rattle.local_log.specs.Log.{Becomes, stable_log};
-ghost use Rattle.local_log.specs.Cutting.{closed_by, open_by};
+ghost use Rattle.local_log.specs.Cutting.{closed_by, open_by, OpensAsOr};
 ghost use Rattle.local_log.specs.Dropping.{rest_of, start_behind, IsFirstStable, SpansFirst, dropped, OpensDropped};
 
 use crate::log::{LocalLog, refused};
@@ -34,10 +34,15 @@ impl<D: Disk> LocalLog<D> {
 
         // A crash at any moment of the call leaves the stable log of before, or the one without the segment.
         ensures any_moment { LeavesOnly (D.content self.old.disk) (D.content self.new.disk) (OpensDropped self.old) }
+        // Each of these images opens as an image of before does, or as the log without the segment.
+        ensures opens { LeavesOnly (D.content self.old.disk) (D.content self.new.disk)
+            (OpensAsOr (D.content self.old.disk) (stable_log (dropped self.old))) }
 
         ensures others { OnErr result (IsErrOf result NoMemory ⊎ IsErrOf result DiskFault) }
         ensures no_memory { IsErrOf result NoMemory → Becomes D.content self.old self.new }
+        ensures no_image { IsErrOf result NoMemory → (c : Files) → Image (D.content self.new.disk) c → Image (D.content self.old.disk) c }
         ensures broken { IsErrOf result DiskFault → self.new.broken ≡ true }
+        ensures tells { (D.content self.new.disk).tells ≡ (D.content self.old.disk).tells }
         ensures control { Lasts (D.control self.old.disk) (D.control self.new.disk) }
         ensures cause { IsErrOf result DiskFault → Rose (D.control self.old.disk).faults (D.control self.new.disk).faults }
     {
@@ -86,9 +91,14 @@ impl<D: Disk> LocalLog<D> {
         ensures ok { OnOk result (Becomes D.content (dropped self.old) self.new) }
         ensures durable { OnOk result ((c : Files) → Image (D.content self.new.disk) c → Opens c (stable_log (dropped self.old))) }
         ensures any_moment { LeavesOnly (D.content self.old.disk) (D.content self.new.disk) (OpensDropped self.old) }
+        // Each of these images opens as an image of before does, or as the log without the segment.
+        ensures opens { LeavesOnly (D.content self.old.disk) (D.content self.new.disk)
+            (OpensAsOr (D.content self.old.disk) (stable_log (dropped self.old))) }
         ensures others { OnErr result (IsErrOf result NoMemory ⊎ IsErrOf result DiskFault) }
         ensures no_memory { IsErrOf result NoMemory → Becomes D.content self.old self.new }
+        ensures no_image { IsErrOf result NoMemory → (c : Files) → Image (D.content self.new.disk) c → Image (D.content self.old.disk) c }
         ensures broken { IsErrOf result DiskFault → self.new.broken ≡ true }
+        ensures tells { (D.content self.new.disk).tells ≡ (D.content self.old.disk).tells }
         ensures control { Lasts (D.control self.old.disk) (D.control self.new.disk) }
         ensures cause { IsErrOf result DiskFault → Rose (D.control self.old.disk).faults (D.control self.new.disk).faults }
     {

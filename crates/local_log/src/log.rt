@@ -464,7 +464,8 @@ impl<D: Disk> LocalLog<D> {
 
     /// The offset of the first batch.
     pub fn local_start(&self) -> u64
-        ensures { result ≡ self.now.local_start }
+        ensures is { result ≡ self.now.local_start }
+        ensures low { result ≤ 2 ^ 62 }
     {
         self.local_start
     }
@@ -513,7 +514,8 @@ impl<D: Disk> LocalLog<D> {
 
     /// How the log is cut into segments, and how dense its indexes are.
     pub fn settings(&self) -> &Settings
-        ensures { result.now ≡ self.now.settings }
+        ensures are { result.now ≡ self.now.settings }
+        ensures fit { AreSettings result.now }
     {
         &self.settings
     }

@@ -1,36 +1,55 @@
 //! Where a read of a log begins and ends, by what memory keeps of its segments.
+//!
+//! The segment that holds an offset, the batch that does, and the end of a run are found by halving.
 
-ghost use Rattle.std.specs.Prelude.{◌≡◌, ◌<◌, ◌^◌, option_map, unwrap_or};
+ghost use Rattle.std.specs.Prelude.{◌≡◌, ◌<◌, ◌≤◌, ◌+◌, ◌-◌, ◌^◌, min, length, option_map, unwrap_or};
 ghost use Rattle.segment_file.specs.Growing.{BeginsSearch};
-ghost use Rattle.local_log.specs.Reading.{first_past, is_edge, piece_end};
+ghost use Rattle.segment_file.specs.Reach.{reach_at};
+ghost use Rattle.local_log.specs.Listing.{AreSegmentsOf};
+ghost use Rattle.local_log.specs.Reading.{first_past, is_edge, piece_end, position_of};
 
+use crate::seeking::count_ended;
 use segment_file::Growing;
 
-/// A piece: the base of its segment, the position from which its file is read, and the offset at which it ends.
+/// A piece: the base of its segment, the position from which its file is read, how many bytes are, and the offset at which
+/// it ends.
 #[derive(Clone, Copy)]
 pub(crate) struct Piece {
     pub base: u64,
     pub from: u32,
+    pub most: u32,
     pub end: u64,
 }
 
-/// The first segment that ends past an offset.
-pub(crate) fn first_past(segments: &[Growing], offset: u64) -> Option<&Growing>
-    ensures { option_map (λ segment. segment.now) result ≡ first_past offset segments.now }
+/// The first closed segment that ends past an offset.
+pub(crate) fn first_past<'a>(
+    local_start: u64,
+    closed: &'a [Growing],
+    active: &Growing,
+    offset: u64,
+) -> Option<&'a Growing>
+    requires { AreSegmentsOf local_start closed.now active.now }
+    ensures { option_map (λ segment. segment.now) result ≡ first_past offset closed.now }
 {
-    for segment in segments {
-        if offset < segment.end() {
-            return Some(segment);
-        }
+    let ended = count_ended(local_start, closed, active, offset);
+    if ended < closed.len() {
+        Some(&closed[ended])
+    } else {
+        None
     }
-    None
 }
 
 /// The segment that holds an offset, or the open one.
-pub(crate) fn segment_at<'a>(closed: &'a [Growing], active: &'a Growing, offset: u64) -> &'a Growing
+pub(crate) fn segment_at<'a>(
+    local_start: u64,
+    closed: &'a [Growing],
+    active: &'a Growing,
+    offset: u64,
+) -> &'a Growing
+    requires { AreSegmentsOf local_start closed.now active.now }
     ensures { result.now ≡ unwrap_or (first_past offset closed.now) active.now }
 {
-    match first_past(closed, offset) {
+    match first_past(local_start, closed, active, offset) {
         Some(segment) => segment,
         None => active,
     }
@@ -55,15 +74,29 @@ fn piece_end(line: &[(u32, u64)], segment: &Growing, offset: u64) -> u64
     segment.end()
 }
 
-/// The piece that holds an offset of a segment.
-pub(crate) fn piece_at(segment: &Growing, line: &[(u32, u64)], offset: u64) -> Piece
+/// The piece that holds an offset of a segment, and what is read of it for the run there, up to a mark.
+pub(crate) fn piece_at(
+    segment: &Growing,
+    line: &[(u32, u64)],
+    offset: u64,
+    limit: u64,
+    mark: u64,
+) -> Piece
     ensures base { result.base ≡ segment.now.base }
-    ensures from { BeginsSearch segment.now.base segment.now.batches offset result.from }
+    ensures from { result.from ≡ position_of segment.now offset }
+    ensures search { BeginsSearch segment.now.base segment.now.batches offset result.from }
+    ensures most { result.from + result.most
+        ≡ reach_at (min mark result.end) (min (result.from + limit) (2 ^ 64 - 1)) offset segment.now.batches }
     ensures end { result.end ≡ piece_end line.now segment.now offset }
 {
+    let end = piece_end(line, segment, offset);
+    let (_, from) = segment.place_of(offset);
+    let top = (from as u64).saturating_add(limit);
+    let to = segment.reach(offset, mark.min(end), top);
     Piece {
         base: segment.base(),
-        from: segment.find(offset),
-        end: piece_end(line, segment, offset),
+        from,
+        most: to - from,
+        end,
     }
 }

@@ -1,15 +1,16 @@
-//! What is read of a log: a run of its batches, and a closed segment. Each is one read of a segment's file, and the bytes
-//! that are given are a part of what the disk handed.
+//! What is read of a log: a run of its batches, and a closed segment. Each is one read of a part of a segment's file, and the
+//! bytes that are given are a part of what the disk handed.
 //!
-//! What memory keeps says where the read begins and where the run must end, so that a batch is looked for from the index
-//! entry on and a mark that is no batch's end is found before the disk is asked.
+//! What memory keeps says where the run begins and ends, so that no other batch is read, and a mark that is no batch's end
+//! is found before the disk is asked. Of the batch at which the limit ends a run the head is read too, since the bytes
+//! are tested without what memory keeps.
 
-ghost use Rattle.std.specs.Prelude.{◌≡◌, ◌<◌, ◌≤◌, ◌+◌, ℕ, drop, option_map, min, false, true, ◌^◌, ◌↔◌, IfOk, IfErr, IfSome, IsOk, IsErrOf, IsTrue};
+ghost use Rattle.std.specs.Prelude.{◌≡◌, ◌<◌, ◌≤◌, ◌+◌, ℕ, option_map, min, false, true, ◌^◌, ◌↔◌, IfOk, IfErr, IfSome, IsOk, IsErrOf, IsTrue};
 ghost use Rattle.tier_base.specs.Counts.{Rose};
 ghost use Rattle.tier_base.specs.Device.{Lasts};
 ghost use Rattle.tier_base.specs.declared.plain.FileName.TheVariants as file;
 ghost use Rattle.tier_base.specs.Told.{bytes_in};
-ghost use Rattle.disk_model.specs.Content.{LeavesOnly, Keeps};
+ghost use Rattle.disk_model.specs.Content.{LeavesOnly, Keeps, part_of};
 ghost use Rattle.local_log.specs.declared.refusal.LogRefusal.TheVariants.{Damaged, DiskFault, NoMemory};
 ghost use Rattle.local_log.specs.Log.{Becomes, OpensStable};
 ghost use Rattle.local_log.specs.Reading.{segment_at, piece_of, is_edge, IsCut, IsRunOf, IsEdge, RunFails, CutFails, IsOfDevice, IsClosedFrom, ClosedFails, IsPartOf, IsFront, FrontFails};
@@ -59,7 +60,7 @@ impl<D: Disk> LocalLog<D> {
         ensures control { Lasts (D.control self.old.disk) (D.control self.new.disk) }
         ensures cause { IsErrOf result DiskFault → Rose (D.control self.old.disk).faults (D.control self.new.disk).faults }
     {
-        let marked = segment_at(self.closed.as_slice(), &self.active, mark);
+        let marked = segment_at(self.local_start, self.closed.as_slice(), &self.active, mark);
         let (end, at) = marked.place_of(mark);
         if end != mark {
             return Err(LogRefusal::Damaged {
@@ -67,10 +68,15 @@ impl<D: Disk> LocalLog<D> {
                 at: at as u64,
             });
         }
-        let segment = segment_at(self.closed.as_slice(), &self.active, offset);
-        let piece = piece_at(segment, self.line.entries(), offset);
-        let file = self.read_file(piece.base, piece.from)?;
-        run_in(piece, file, offset, limit, mark)
+        let segment = segment_at(
+            self.local_start,
+            self.closed.as_slice(),
+            &self.active,
+            offset,
+        );
+        let piece = piece_at(segment, self.line.entries(), offset, limit, mark);
+        let part = self.read_part(piece.base, piece.from, piece.most as u64)?;
+        run_in(piece, part, offset, limit, mark)
     }
 
     /// Reads the first closed segment that ends past an offset. There is none where the offset lies in the open segment, or
@@ -92,13 +98,18 @@ impl<D: Disk> LocalLog<D> {
         ensures control { Lasts (D.control self.old.disk) (D.control self.new.disk) }
         ensures cause { IsErrOf result DiskFault → Rose (D.control self.old.disk).faults (D.control self.new.disk).faults }
     {
-        let Some(segment) = first_past(self.closed.as_slice(), offset) else {
+        let Some(segment) = first_past(
+            self.local_start,
+            self.closed.as_slice(),
+            &self.active,
+            offset,
+        ) else {
             return Ok(None);
         };
         let base = segment.base();
         let size = segment.size();
-        let file = self.read_file(base, 0)?;
-        let closed = closed_in(self.alloc, base, size, file)?;
+        let part = self.read_part(base, 0, size)?;
+        let closed = closed_in(self.alloc, base, size, part)?;
         Ok(Some(closed))
     }
 
@@ -108,17 +119,22 @@ impl<D: Disk> LocalLog<D> {
         ensures told { self.now.broken ≡ false → IsTrue (D.content self.now.disk).tells → self.now.local_start ≤ offset
             → IsTrue result ↔ IsEdge self.now offset }
     {
-        let segment = segment_at(self.closed.as_slice(), &self.active, offset);
+        let segment = segment_at(
+            self.local_start,
+            self.closed.as_slice(),
+            &self.active,
+            offset,
+        );
         is_edge(segment, offset)
     }
 
-    /// Reads a segment's file from a position on.
-    fn read_file(&mut self, base: u64, from: u32) -> Result<Option<Bytes>, LogRefusal>
+    /// Reads so many bytes of a segment's file from a position on.
+    fn read_part(&mut self, base: u64, from: u32, most: u64) -> Result<Option<Bytes>, LogRefusal>
         requires { self.old.broken ≡ false }
         ensures log { Becomes D.content self.old self.new }
         ensures keeps { Keeps (D.content self.old.disk) (D.content self.new.disk) }
         ensures file { IsTrue (D.content self.old.disk).tells → IfOk result (λ held. held
-            ≡ option_map (drop from) ((D.content self.old.disk).files (file.Log base))) }
+            ≡ option_map (part_of from most) ((D.content self.old.disk).files (file.Log base))) }
         ensures bytes { IfOk result (λ held. (D.control self.new.disk).handed ≡ bytes_in held) }
         ensures any_moment { LeavesOnly (D.content self.old.disk) (D.content self.new.disk)
             (OpensStable self.old) }
@@ -126,7 +142,7 @@ impl<D: Disk> LocalLog<D> {
         ensures control { Lasts (D.control self.old.disk) (D.control self.new.disk) }
         ensures cause { IsErrOf result DiskFault → Rose (D.control self.old.disk).faults (D.control self.new.disk).faults }
     {
-        match self.disk.read(FileName::Log(base), from as u64) {
+        match self.disk.read_part(FileName::Log(base), from as u64, most) {
             Ok(file) => Ok(file),
             Err(Trouble::Failed) => Err(LogRefusal::DiskFault),
             Err(Trouble::NoMemory) => Err(LogRefusal::NoMemory),

@@ -1,4 +1,5 @@
-//! Where a log's batches end, found by halving its segments and then the batches of one of them.
+//! Where a log's batches end, and which segment holds an offset, found by halving its segments and then the batches of
+//! one of them.
 
 ghost use Rattle.std.specs.Prelude.{◌≡◌, ◌<◌, ◌≤◌, ◌^◌, ◌+◌, length};
 ghost use Rattle.local_log.specs.Listing.{AreSegmentsOf};
@@ -23,7 +24,7 @@ impl<D: Disk> LocalLog<D> {
 }
 
 /// How many closed segments end at or below an offset: those in front.
-fn count_ended(local_start: u64, closed: &[Growing], active: &Growing, end: u64) -> usize
+pub(crate) fn count_ended(local_start: u64, closed: &[Growing], active: &Growing, end: u64) -> usize
     requires { AreSegmentsOf local_start closed.now active.now }
     ensures { result ≡ length (closed_by end closed.now) }
 {

@@ -1,5 +1,5 @@
-//! A log on trial, over a disk in memory. Each call asks first whether it may be made, and tells whether it answered as it
-//! should; so a test knows nothing of a log but what it is told.
+//! A log on trial, over a disk in memory. Each call is a method without a contract: it asks first whether the call may be
+//! made, and tells what it answered. A test is a table of turns, and never holds a log.
 
 ghost use Rattle.std.specs.Prelude.{◌≡◌, ◌≤◌, None, IsTrue};
 ghost use Rattle.tier_base.specs.declared.plain.FileName.{FileName};
@@ -11,15 +11,14 @@ use crate::{CreateRefusal, LocalLog, LogRefusal, OpenRefusal};
 use bytes::Bytes;
 use disk_model::{DeafDisk, Disk, FileName, MemoryDisk, Planned};
 use epoch_line::Line;
-use record_batch::{Rec, build};
+use record_batch::stamp;
 use segment_file::Growing;
 use std::alloc::{AllocError, Global};
 use std::marker::Model;
-use std::test::Fail;
-use tier_base::{Blob, Row, Settings, Stop, Trouble};
+use tier_base::{Settings, Stop};
 
 /// A mebibyte a segment.
-const LARGE: u32 = 1_048_576;
+pub(crate) const LARGE: u32 = 1_048_576;
 
 /// A log over a disk in memory.
 #[derive(Drop)]
@@ -38,26 +37,24 @@ impl Model for Trial {
 }
 
 impl Trial {
-    /// Makes an empty log of large segments.
-    pub(crate) fn fresh(alloc: Global) -> Result<Trial, CreateRefusal> {
-        create(alloc, MemoryDisk::new(alloc, Vec::new(alloc)), LARGE)
-    }
-
-    /// Makes an empty log of segments that hold a batch.
-    pub(crate) fn small(alloc: Global) -> Result<Trial, CreateRefusal> {
-        create(alloc, MemoryDisk::new(alloc, Vec::new(alloc)), 100)
-    }
-
-    /// Makes an empty log over a disk with these planned faults.
-    pub(crate) fn planned(alloc: Global, plan: Vec<Planned>) -> Result<Trial, CreateRefusal> {
-        create(alloc, MemoryDisk::new(alloc, plan), LARGE)
-    }
-
-    /// Makes an empty log over a disk that lets so many calls pass.
-    pub(crate) fn fused(alloc: Global, calls: u64) -> Result<Trial, CreateRefusal> {
-        let mut disk = MemoryDisk::new(alloc, Vec::new(alloc));
-        disk.fuse(calls);
-        create(alloc, disk, LARGE)
+    /// Makes an empty log, of large segments or of segments that hold a batch, over a disk with these planned faults that
+    /// lets so many calls pass.
+    pub(crate) fn create(
+        alloc: Global,
+        segment_bytes: u32,
+        plan: &[Planned],
+        fuse: u64,
+    ) -> Option<Trial>
+        requires low { 100 ≤ segment_bytes }
+        requires high { segment_bytes ≤ 16777216 }
+    {
+        let plan = match plan.to_vec(alloc) {
+            Ok(plan) => plan,
+            Err(_) => return None,
+        };
+        let mut disk = MemoryDisk::new(alloc, plan);
+        disk.fuse(fuse);
+        create(alloc, disk, segment_bytes).ok()
     }
 
     /// Opens the log again after a crash.
@@ -71,80 +68,45 @@ impl Trial {
         }
     }
 
-    /// Gives the disk back.
-    pub(crate) fn close(self) -> MemoryDisk {
-        self.log.close()
+    /// Whether the closed log leaves a file of these bytes.
+    pub(crate) fn leaves(self, name: FileName, bytes: &[u8]) -> bool {
+        holds(self.log.close(), name, bytes)
     }
 
-    /// Whether the first batches of a run are appended, and have these offsets.
-    pub(crate) fn appends(&mut self, run: &[u8], first: u64, last: u64) -> bool {
-        if self.log.is_broken() || !self.log.takes(run) {
-            return false;
-        }
-        match self.log.append(run) {
-            Ok(answer) => answer.0 == first && answer.1 == last,
-            Err(_) => false,
-        }
-    }
-
-    /// Why a run isn't appended.
-    pub(crate) fn appends_not(&mut self, run: &[u8]) -> Option<LogRefusal> {
+    /// Appends the first batches of a run.
+    pub(crate) fn append(&mut self, run: &[u8]) -> Option<Result<(u64, u64), LogRefusal>> {
         if self.log.is_broken() || !self.log.takes(run) {
             return None;
         }
-        self.log.append(run).err()
+        Some(self.log.append(run))
     }
 
-    /// The next batch of the log, in its last epoch, of a record a letter.
-    fn next(&self, letters: &[&[u8]]) -> Option<Vec<u8>> {
+    /// The next batch of the log, in its last epoch: the bytes of a batch, stamped.
+    fn next(&self, batch: &[u8]) -> Option<Vec<u8>> {
         let epoch = self.log.line().last_epoch().unwrap_or(0);
-        batch_at(self.alloc, self.log.end(), epoch, letters)
+        stamped(self.alloc, batch, self.log.end(), epoch)
     }
 
-    /// Whether the next batch is appended, and has these offsets.
-    pub(crate) fn adds(&mut self, letters: &[&[u8]], first: u64, last: u64) -> bool {
-        match self.next(letters) {
-            Some(batch) => self.appends(batch.as_slice(), first, last),
-            None => false,
-        }
-    }
-
-    /// Why the next batch isn't appended.
-    pub(crate) fn adds_not(&mut self) -> Option<LogRefusal> {
-        match self.next(&[b"a"]) {
-            Some(batch) => self.appends_not(batch.as_slice()),
+    /// Appends the next batch, which is that of these bytes, stamped.
+    pub(crate) fn add(&mut self, batch: &[u8]) -> Option<Result<(u64, u64), LogRefusal>> {
+        match self.next(batch) {
+            Some(batch) => self.append(batch.as_slice()),
             None => None,
         }
     }
 
-    /// Whether all is flushed, up to an end.
-    pub(crate) fn flushes(&mut self, end: u64) -> bool {
-        if self.log.is_broken() {
-            return false;
-        }
-        match self.log.flush() {
-            Ok(flushed) => flushed == end,
-            Err(_) => false,
-        }
-    }
-
-    /// Whether the open segment is closed, and the next one begins there.
-    pub(crate) fn rolls(&mut self, base: u64) -> bool {
-        if self.log.is_broken() {
-            return false;
-        }
-        match self.log.roll() {
-            Ok(rolled) => rolled == base,
-            Err(_) => false,
-        }
-    }
-
-    /// Why the open segment isn't closed.
-    pub(crate) fn rolls_not(&mut self) -> Option<LogRefusal> {
+    pub(crate) fn flush(&mut self) -> Option<Result<u64, LogRefusal>> {
         if self.log.is_broken() {
             return None;
         }
-        self.log.roll().err()
+        Some(self.log.flush())
+    }
+
+    pub(crate) fn roll(&mut self) -> Option<Result<u64, LogRefusal>> {
+        if self.log.is_broken() {
+            return None;
+        }
+        Some(self.log.roll())
     }
 
     /// Whether the log enters an epoch, and is flushed up to an end.
@@ -174,64 +136,39 @@ impl Trial {
         self.log.restart_at(start, Line::new(self.alloc)).is_ok()
     }
 
-    /// Whether the first segment is dropped, and spans these offsets.
-    pub(crate) fn drops(&mut self, base: u64, last: u64) -> bool {
+    /// Drops the first segment.
+    pub(crate) fn drop_first(&mut self) -> Option<Result<(u64, u64), LogRefusal>> {
         if self.log.is_broken() || !is_first_stable(self.log.closed(), self.log.stable()) {
-            return false;
+            return None;
         }
-        match self.log.drop_first() {
-            Ok(answer) => answer.0 == base && answer.1 == last,
-            Err(_) => false,
-        }
+        Some(self.log.drop_first())
     }
 
-    /// Whether a read from an offset, with a limit and a mark, gives these bytes and ends so.
-    pub(crate) fn reads(
+    /// Reads from an offset, with a limit and a mark: whether these bytes come, the next offset, and why it stops.
+    pub(crate) fn read(
         &mut self,
         (offset, limit, mark): (u64, u64, u64),
         bytes: &[u8],
-        next: u64,
-        stop: Stop,
-    ) -> bool {
+    ) -> Option<Result<(bool, u64, Stop), LogRefusal>> {
         if self.log.is_broken() || offset < self.log.local_start() || mark <= offset {
-            return false;
-        }
-        match self.log.read_run(offset, limit, mark) {
-            Ok(run) => run.bytes.as_slice() == bytes && run.next == next && run.stop == stop,
-            Err(_) => false,
-        }
-    }
-
-    /// Why a read from 0 on to a mark gives nothing.
-    pub(crate) fn reads_not(&mut self, mark: u64) -> Option<LogRefusal> {
-        if self.log.is_broken() || self.log.local_start() > 0 || mark == 0 {
             return None;
         }
-        self.log.read_run(0, 1000, mark).err()
+        match self.log.read_run(offset, limit, mark) {
+            Ok(run) => Some(Ok((run.bytes.as_slice() == bytes, run.next, run.stop))),
+            Err(why) => Some(Err(why)),
+        }
     }
 
-    /// Whether the closed segment from an offset on is read, and spans these offsets.
-    pub(crate) fn reads_closed(&mut self, offset: u64, base: u64, last: u64) -> bool {
+    /// The first and the last offset of the closed segment from an offset on, if there is one.
+    pub(crate) fn closed_from(&mut self, offset: u64) -> Result<Option<(u64, u64)>, LogRefusal> {
         if self.log.is_broken() {
-            return false;
+            return Err(LogRefusal::NoMemory);
         }
         match self.log.closed_from(offset) {
-            Ok(Some(closed)) => closed.base() == base && closed.last() == last,
-            _ => false,
+            Ok(Some(closed)) => Ok(Some((closed.base(), closed.last()))),
+            Ok(None) => Ok(None),
+            Err(why) => Err(why),
         }
-    }
-
-    /// Whether there is no closed segment from an offset on.
-    pub(crate) fn has_none_closed(&mut self, offset: u64) -> bool {
-        if self.log.is_broken() {
-            return false;
-        }
-        matches!(self.log.closed_from(offset), Ok(None))
-    }
-
-    /// The end of the log.
-    pub(crate) fn end(&self) -> u64 {
-        self.log.end()
     }
 
     /// The end of the batches that end at or below an offset.
@@ -244,28 +181,26 @@ impl Trial {
         self.log.is_edge(offset)
     }
 
-    /// Whether the log was opened so often.
-    pub(crate) fn is_of(&self, incarnation: u32) -> bool {
-        self.log.incarnation() == incarnation
+    /// How often the log was opened.
+    pub(crate) fn incarnation(&self) -> u32 {
+        self.log.incarnation()
     }
 
-    /// Whether so many segments are closed.
-    pub(crate) fn counts(&self, closed: usize) -> bool {
-        self.log.closed().len() == closed
-    }
-
-    /// The bytes of the open segment.
-    pub(crate) fn open_size(&self) -> u64 {
-        self.log.open_size()
+    /// How many segments are closed, and the bytes of the open one.
+    pub(crate) fn sizes(&self) -> (usize, u64) {
+        (self.log.closed().len(), self.log.open_size())
     }
 
     /// Whether this was never broken by a fault of the disk, and has large segments.
     pub(crate) fn is_sound(&self) -> bool {
         self.log.stands();
         self.log.coheres();
-        !self.log.is_broken()
-            && self.log.disk().faults() == 0
-            && self.log.settings().segment_bytes == LARGE
+        let told = (
+            self.log.is_broken(),
+            self.log.disk().faults(),
+            self.log.settings().segment_bytes,
+        );
+        told == (false, 0, LARGE)
     }
 
     /// Has planned calls fail from now on.
@@ -273,9 +208,9 @@ impl Trial {
         self.log.arm();
     }
 
-    /// Whether the log has this start and these ends.
-    pub(crate) fn spans(&self, start: u64, stable: u64, end: u64) -> bool {
-        self.log.local_start() == start && self.log.stable() == stable && self.log.end() == end
+    /// The local start, the stable end and the end.
+    pub(crate) fn span(&self) -> (u64, u64, u64) {
+        (self.log.local_start(), self.log.stable(), self.log.end())
     }
 }
 
@@ -313,31 +248,17 @@ fn settings(segment_bytes: u32) -> Settings
     }
 }
 
-/// A record of a letter at 1000.
-fn letter(alloc: Global, value: &[u8]) -> Result<Rec, AllocError> {
-    Ok(Rec {
-        ts: 1000,
-        key: None,
-        value: Some(Blob::from_slice(alloc, value)?),
-        headers: Row::new(alloc),
-    })
-}
-
-/// A record a letter.
-fn recs_of(alloc: Global, letters: &[&[u8]]) -> Result<Vec<Rec>, AllocError> {
-    let mut recs = Vec::new(alloc);
-    for value in letters {
-        recs.push(letter(alloc, value)?)?;
+/// The bytes of a batch, with another base offset and leader epoch.
+fn stamped(alloc: Global, batch: &[u8], base: u64, epoch: u32) -> Option<Vec<u8>> {
+    let mut bytes = match batch.to_vec(alloc) {
+        Ok(bytes) => bytes,
+        Err(_) => return None,
+    };
+    if bytes.len() < 16 {
+        return None;
     }
-    Ok(recs)
-}
-
-/// The batch of a record a letter, if there is memory for it.
-fn batch_at(alloc: Global, base: u64, epoch: u32, letters: &[&[u8]]) -> Option<Vec<u8>> {
-    match recs_of(alloc, letters) {
-        Ok(recs) => build(alloc, base, epoch, recs.as_slice()).ok(),
-        Err(_) => None,
-    }
+    stamp(bytes.as_mut_slice(), base, epoch);
+    Some(bytes)
 }
 
 /// Opens the log of these files over a disk that tells nothing.
@@ -359,28 +280,45 @@ pub(crate) fn open_files(alloc: Global, files: Vec<(FileName, Bytes)>) -> Result
     }
 }
 
-/// The bytes of a file, none where it is absent.
-pub(crate) fn bytes_of(disk: &mut MemoryDisk, name: FileName) -> Result<Bytes, Trouble> {
-    match disk.read(name, 0)? {
-        Some(bytes) => Ok(bytes),
-        None => Ok(Bytes::new()),
-    }
-}
-
 /// The bytes between two places, as far as there are any.
 pub(crate) fn part(bytes: &[u8], from: usize, to: usize) -> &[u8] {
     let to = to.min(bytes.len());
     &bytes[from.min(to)..to]
 }
 
-/// The names of the files of a log that is opened, flushed and closed.
-pub(crate) fn names_flushed(
+/// Whether a log that is opened from these files and closed has files of these names.
+pub(crate) fn leaves_names(
     alloc: Global,
     files: Vec<(FileName, Bytes)>,
-) -> Result<Row<FileName>, Fail> {
-    let mut log = open_deaf(alloc, files)?;
-    if !log.is_broken() {
-        log.flush()?;
+    names: &[FileName],
+) -> bool {
+    match open_deaf(alloc, files) {
+        Ok(log) => lists(log.close(), names),
+        Err(_) => false,
     }
-    Ok(log.close().list()?)
+}
+
+/// Whether a disk holds a file of these bytes.
+fn holds<D: Disk>(disk: D, name: FileName, bytes: &[u8]) -> bool {
+    let mut disk = disk;
+    match disk.read(name, 0) {
+        Ok(held) => is_some_of(held, bytes),
+        Err(_) => false,
+    }
+}
+
+fn is_some_of(held: Option<Bytes>, bytes: &[u8]) -> bool {
+    match held {
+        Some(held) => held.as_slice() == bytes,
+        None => false,
+    }
+}
+
+/// Whether a disk lists these names.
+fn lists<D: Disk>(disk: D, names: &[FileName]) -> bool {
+    let mut disk = disk;
+    match disk.list() {
+        Ok(found) => found.as_slice() == names,
+        Err(_) => false,
+    }
 }

@@ -12,16 +12,13 @@ invariant_of-self g c =
     let o = c.taken-log.result in
     let n = c.append-outcome.new.self in
     let r = c.append-outcome.result in
-    let well = well_up content c.self.inside.place o c.taken-log.ensures c.self.invariant.placed in
-    record {
-      settings = c.self.invariant.settings;
-      placed = place_well content c.placed.result n c.is_fault.result c.placed.ensures.up c.placed.ensures.down c.placed.ensures.again
-          (λ clear. whole_by _ _ _ _ r c.append-outcome.ensures.ok c.append-outcome.ensures.others
-          (λ answer a. (let w = appended_whole content o n c.args.run.now answer a in (w.0 ∙ well.0, w.1 ∙ well.1)))
-          (λ kept. (let same = c.append-outcome.ensures.unchanged kept in (ap (λ (l : Log g.row.D.Denot). l.broken) same ∙ well.0, ap (λ (l : Log g.row.D.Denot). l.local_start) same ∙ well.1)))
-          (λ dry. (let b = c.append-outcome.ensures.no_memory dry in (ap (λ (l : Log g.row.D.Denot). l.broken) b.fields ∙ well.0, ap (λ (l : Log g.row.D.Denot). l.local_start) b.fields ∙ well.1)))
-          (λ fault. (let t = c.is_fault.ensures.1 fault in cc (t, clear))));
-    }
+    let well = well_up content c.self.inside.place o c.taken-log.ensures c.self.invariant in
+    place_well content c.placed.result c.settings-settings.result.now n c.is_fault.result c.settings-settings.ensures.fit c.placed.ensures.up c.placed.ensures.down c.placed.ensures.again
+    (λ clear. whole_by _ _ _ _ r c.append-outcome.ensures.ok c.append-outcome.ensures.others
+    (λ answer a. appended_whole content o n c.args.run.now answer a ∙ well)
+    (λ kept. ap (λ (l : Log g.row.D.Denot). l.broken) (c.append-outcome.ensures.unchanged kept) ∙ well)
+    (λ dry. ap (λ (l : Log g.row.D.Denot). l.broken) (c.append-outcome.ensures.no_memory dry).fields ∙ well)
+    (λ fault. (let t = c.is_fault.ensures.1 fault in cc (t, clear))))
 
 pub returns-clause-ok : goal.returns-clause-ok
 returns-clause-ok g c =
@@ -29,11 +26,11 @@ returns-clause-ok g c =
     let o = c.taken-log.result in
     let n = c.append-outcome.new.self in
     let r = c.append-outcome.result in
-    let well = well_up content c.self.inside.place o c.taken-log.ensures c.self.invariant.placed in
+    let well = well_up content c.self.inside.place o c.taken-log.ensures c.self.invariant in
     let now_is : c.args.self.now ≡ Up o = sym c.self.view_is ∙ c.taken-log.ensures in
     ok_open _ r c.is_fault.result c.is_fault.ensures (λ clear.
     rw (now_is, c.placed.ensures.up clear) (ok_both _ _ _ r
-    (λ answer a up. appends_by content o n (g.met.D.Disk.lawful n.disk) well.1 (c.coheres.ensures well.0) c.args.run.now answer a up c.append-outcome.ensures.opens)
+    (λ answer a up. appends_by content o n (g.met.D.Disk.lawful n.disk) (c.coheres.ensures well) c.args.run.now answer a up c.append-outcome.ensures.opens (c.placed.ensures.coheres clear))
     c.append-outcome.ensures.ok c.append-outcome.ensures.some))
 
 pub returns-clause-no_memory : goal.returns-clause-no_memory
@@ -54,5 +51,5 @@ returns-clause-fault g c =
     let n = c.append-outcome.new.self in
     let now_is : c.args.self.now ≡ Up o = sym c.self.view_is ∙ c.taken-log.ensures in
     λ fault.
-    rw (now_is, c.placed.ensures.down (c.is_fault.ensures.1 fault))
+    rw (now_is, c.placed.ensures.down (c.is_fault.ensures.1 fault), c.settings-settings.ensures.are)
     (breaks_unsaved content o n (g.met.D.Disk.lawful n.disk) (c.append-outcome.ensures.broken fault).tells c.append-outcome.ensures.opens)

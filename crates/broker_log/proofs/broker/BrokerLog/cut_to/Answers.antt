@@ -2,7 +2,7 @@ use Rattle.std.proofs.Common.{◌≡◌, ◌∙◌, ap, sym}
 use Rattle.local_log.specs.Log.{Log}
 use Rattle.broker_log.specs.Seen.{Up}
 use Rattle.broker_log.proofs.Placing.{dry_open, ended_ok, ended_err, ended_dry, ended_fault, well_up, place_well, whole_on}
-use Rattle.broker_log.proofs.Cuts.{cuts_by, cut_breaks, cut_whole}
+use Rattle.broker_log.proofs.Cuts.{cuts_by, cut_breaks, cut_same}
 use Rattle.broker_log.proofs.Showing.{stays_by}
 use Rattle.broker_log.proofs.broker.BrokerLog.cut_to.Goals as goal
 
@@ -12,15 +12,12 @@ invariant_of-self g c =
     let o = c.taken-log.result in
     let n = c.cut_to-outcome.new.self in
     let r = c.cut_to-outcome.result in
-    let well = well_up content c.self.inside.place o c.taken-log.ensures c.self.invariant.placed in
-    record {
-      settings = c.self.invariant.settings;
-      placed = place_well content c.placed.result n c.is_fault.result c.placed.ensures.up c.placed.ensures.down c.placed.ensures.again
-          (λ clear. whole_on _ _ _ _ r c.cut_to-outcome.ensures.ok c.cut_to-outcome.ensures.durable c.cut_to-outcome.ensures.others
-          (λ b durable. cut_whole content o n well.1 c.args.end (c.coheres.ensures well.0) well.0 b durable)
-          (λ dry. (let b = c.cut_to-outcome.ensures.no_memory dry in (ap (λ (l : Log g.row.D.Denot). l.broken) b.fields ∙ well.0, ap (λ (l : Log g.row.D.Denot). l.local_start) b.fields ∙ well.1)))
-          (λ fault. (let t = c.is_fault.ensures.1 fault in cc (t, clear))));
-    }
+    let well = well_up content c.self.inside.place o c.taken-log.ensures c.self.invariant in
+    place_well content c.placed.result c.settings-settings.result.now n c.is_fault.result c.settings-settings.ensures.fit c.placed.ensures.up c.placed.ensures.down c.placed.ensures.again
+    (λ clear. whole_on _ _ _ _ r c.cut_to-outcome.ensures.ok c.cut_to-outcome.ensures.durable c.cut_to-outcome.ensures.others
+    (λ b durable. ap (λ (l : Log g.row.D.Denot). l.broken) b.fields ∙ (cut_same o c.args.end).2 ∙ well)
+    (λ dry. ap (λ (l : Log g.row.D.Denot). l.broken) (c.cut_to-outcome.ensures.no_memory dry).fields ∙ well)
+    (λ fault. (let t = c.is_fault.ensures.1 fault in cc (t, clear))))
 
 pub returns-clause-ok : goal.returns-clause-ok
 returns-clause-ok g c =
@@ -28,10 +25,10 @@ returns-clause-ok g c =
     let o = c.taken-log.result in
     let n = c.cut_to-outcome.new.self in
     let r = c.cut_to-outcome.result in
-    let well = well_up content c.self.inside.place o c.taken-log.ensures c.self.invariant.placed in
+    let well = well_up content c.self.inside.place o c.taken-log.ensures c.self.invariant in
     let now_is : c.args.self.now ≡ Up o = sym c.self.view_is ∙ c.taken-log.ensures in
     ended_ok _ r c.ended.result c.end-now.result c.is_fault.result c.is_fault.ensures c.ended.ensures.ok c.ended.ensures.err c.cut_to-outcome.ensures.ok c.cut_to-outcome.ensures.durable (λ clear b durable.
-    rw (now_is, c.placed.ensures.up clear, c.end-now.ensures) (cuts_by content o n well.1 c.args.end (c.coheres.ensures well.0) well.0 b durable))
+    rw (now_is, c.placed.ensures.up clear, c.end-now.ensures) (cuts_by content o c.args.end (c.coheres.ensures well) n well b durable (cut_same o c.args.end).0 (cut_same o c.args.end).1 (cut_same o c.args.end).2 (c.placed.ensures.coheres clear)))
 
 pub returns-clause-refused : goal.returns-clause-refused
 returns-clause-refused g c = ended_err c.cut_to-outcome.result c.ended.result c.end-now.result c.ended.ensures.ok c.ended.ensures.err c.cut_to-outcome.ensures.others
@@ -42,7 +39,7 @@ returns-clause-no_memory g c =
     let o = c.taken-log.result in
     let n = c.cut_to-outcome.new.self in
     let r = c.cut_to-outcome.result in
-    let well = well_up content c.self.inside.place o c.taken-log.ensures c.self.invariant.placed in
+    let well = well_up content c.self.inside.place o c.taken-log.ensures c.self.invariant in
     let now_is : c.args.self.now ≡ Up o = sym c.self.view_is ∙ c.taken-log.ensures in
     λ dried.
     let dry = ended_dry r c.ended.result c.end-now.result c.ended.ensures.ok c.ended.ensures.err dried in
@@ -55,9 +52,9 @@ returns-clause-fault g c =
     let o = c.taken-log.result in
     let n = c.cut_to-outcome.new.self in
     let r = c.cut_to-outcome.result in
-    let well = well_up content c.self.inside.place o c.taken-log.ensures c.self.invariant.placed in
+    let well = well_up content c.self.inside.place o c.taken-log.ensures c.self.invariant in
     let now_is : c.args.self.now ≡ Up o = sym c.self.view_is ∙ c.taken-log.ensures in
     λ failed.
     let fault = ended_fault r c.ended.result c.end-now.result c.ended.ensures.ok c.ended.ensures.err failed in
-    rw (now_is, c.placed.ensures.down (c.is_fault.ensures.1 fault))
-    (cut_breaks content o n well.1 c.args.end (c.coheres.ensures well.0) c.cut_to-outcome.ensures.tells (g.met.D.Disk.lawful n.disk) c.cut_to-outcome.ensures.opens)
+    rw (now_is, c.placed.ensures.down (c.is_fault.ensures.1 fault), c.settings-settings.ensures.are)
+    (cut_breaks content o c.args.end (c.coheres.ensures well) n c.cut_to-outcome.ensures.tells (g.met.D.Disk.lawful n.disk) c.cut_to-outcome.ensures.opens (cut_same o c.args.end).1)

@@ -1,35 +1,30 @@
-use Rattle.std.proofs.Common.{◌≡◌, ◌∙◌, sym}
-use Rattle.local_log.proofs.RunsTold.{ok_more, err_more}
-use Rattle.broker_log.specs.Seen.{Up}
+use Rattle.std.proofs.Common.{◌≡◌, ◌∙◌, ◌≤◌, sym, subst}
+use Rattle.broker_log.specs.Seen.{Kept, Up, WhileUp}
 use Rattle.broker_log.proofs.Placing.{well_up}
-use Rattle.broker_log.proofs.Runs.{run_at, run_in, edge_at}
+use Rattle.broker_log.proofs.Runs.{ok_three, err_told, reads_by, misreads_by}
 use Rattle.broker_log.proofs.broker.BrokerLog.read_run.Goals as goal
 
-pub returns-clause-run : goal.returns-clause-run
-returns-clause-run g c =
+pub returns-clause-ok : goal.returns-clause-ok
+returns-clause-ok g c =
     let content = g.D.Disk.content in
     let o = c.taken-log.result in
+    let n = c.read_run-outcome.new.self in
+    let e = c.read_run-outcome.ensures in
+    let well = well_up content c.self.inside.place o c.taken-log.ensures c.self.invariant in
     let now_is : c.args.self.now ≡ Up o = sym c.self.view_is ∙ c.taken-log.ensures in
-    rw now_is (ok_more _ _ c.read_run-outcome.result
-    (λ out told s h. run_at content o s h c.args.offset c.args.limit c.args.mark out (told h.told))
-    c.read_run-outcome.ensures.run)
+    let from : o.local_start ≤ c.args.offset = subst (λ (k : Kept g.row.D.Denot). WhileUp k (λ log. log.local_start ≤ c.args.offset)) now_is c.requires.start in
+    rw now_is (ok_three _ _ _ _ c.read_run-outcome.result
+    (λ out run base part. reads_by content o n e.log e.keeps g.D.Disk.control c.args.offset c.args.limit c.args.mark from c.requires.below (c.coheres.ensures well) out run base part)
+    e.run e.base e.bytes)
 
-pub returns-clause-whole : goal.returns-clause-whole
-returns-clause-whole g c =
+pub returns-clause-damaged : goal.returns-clause-damaged
+returns-clause-damaged g c =
     let content = g.D.Disk.content in
     let o = c.taken-log.result in
-    let well = well_up content c.self.inside.place o c.taken-log.ensures c.self.invariant.placed in
+    let n = c.read_run-outcome.new.self in
+    let e = c.read_run-outcome.ensures in
     let now_is : c.args.self.now ≡ Up o = sym c.self.view_is ∙ c.taken-log.ensures in
-    rw now_is (err_more _ _ c.read_run-outcome.result
-    (λ e why s h ends. why h.told (edge_at content o s h c.args.mark (c.coheres.ensures well.0 h.told) ends))
-    c.read_run-outcome.ensures.whole)
-
-pub returns-clause-reads : goal.returns-clause-reads
-returns-clause-reads g c =
-    let content = g.D.Disk.content in
-    let o = c.taken-log.result in
-    let well = well_up content c.self.inside.place o c.taken-log.ensures c.self.invariant.placed in
-    let now_is : c.args.self.now ≡ Up o = sym c.self.view_is ∙ c.taken-log.ensures in
-    rw now_is (ok_more _ _ c.read_run-outcome.result
-    (λ out told s h ends. run_in content o s h (c.coheres.ensures well.0 h.told) c.args.offset c.args.limit c.args.mark out c.requires.below ends (run_at content o s h c.args.offset c.args.limit c.args.mark out (told h.told)))
-    c.read_run-outcome.ensures.run)
+    let from : o.local_start ≤ c.args.offset = subst (λ (k : Kept g.row.D.Denot). WhileUp k (λ log. log.local_start ≤ c.args.offset)) now_is c.requires.start in
+    λ name at is.
+    let told = err_told _ _ c.read_run-outcome.result _ e.err e.whole is in
+    rw now_is (misreads_by content o n e.log e.keeps g.D.Disk.control c.args.offset c.args.limit c.args.mark from c.requires.below name at told.0 told.1)

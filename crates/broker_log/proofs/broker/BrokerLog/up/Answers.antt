@@ -1,28 +1,29 @@
-use Rattle.std.proofs.Common.{◌≡◌, ◌∙◌, sym, ap, refl, Some}
+use Rattle.std.proofs.Common.{◌≡◌, ◌∙◌, sym, ap, Some}
 use Rattle.broker_log.specs.Seen.{Down}
-use Rattle.broker_log.proofs.Returning.{unseen}
+use Rattle.broker_log.proofs.Returning.{opens_by, intervals_of, stays_by_closing}
 use Rattle.broker_log.proofs.broker.BrokerLog.up.Goals as goal
 
 pub returns-in-Ok-clause-ok : goal.returns-in-Ok-clause-ok
 returns-in-Ok-clause-ok g c =
-    let now_is : c.args.self.now ≡ Down c.taken_disk-disk.result = sym c.self.view_is ∙ c.taken_disk-disk.ensures in
+    let content = g.D.Disk.content in
+    let settings = c.taken_disk-disk.result.0 in
+    let disk = c.taken_disk-disk.result.1 in
+    let log = c.in-Ok.log in
+    let e = c.in-Ok.ensures in
+    let now_is : c.args.self.now ≡ Down settings disk = sym c.self.view_is ∙ c.taken_disk-disk.ensures in
     record {
       end_is = ap Some (sym c.end-end.ensures);
-      stable_is = ap Some (c.in-Ok.ensures.log.2 ∙ sym c.end-end.ensures);
-      seen = rw (now_is, c.end-end.ensures) c.in-Ok.ensures.seen;
+      stable_is = ap Some (e.log.stable ∙ sym c.end-end.ensures);
+      settings = rw now_is (ap Some e.log.settings_are);
+      intervals = intervals_of settings log e.log;
+      seen = rw (now_is, c.end-end.ensures) (opens_by content settings disk (g.met.D.Disk.lawful disk) log e.tells e.log.stable e.log.broken e.opened (c.coheres.ensures e.log.broken) e.durable);
     }
 
 pub returns-in-Err-clause-stays : goal.returns-in-Err-clause-stays
 returns-in-Err-clause-stays g c =
-    let now_is : c.args.self.now ≡ Down c.taken_disk-disk.result = sym c.self.view_is ∙ c.taken_disk-disk.ensures in
-    rw now_is (record { up = refl; end = refl; stable = refl; line = refl; seen = c.in-Err.ensures.closed })
-
-pub returns-in-Err-clause-whole : goal.returns-in-Err-clause-whole
-returns-in-Err-clause-whole g c =
-    let now_is : c.args.self.now ≡ Down c.taken_disk-disk.result = sym c.self.view_is ∙ c.taken_disk-disk.ensures in
-    rw now_is c.in-Err.ensures.whole
-
-pub returns-in-Err-clause-unseen : goal.returns-in-Err-clause-unseen
-returns-in-Err-clause-unseen g c =
-    let now_is : c.args.self.now ≡ Down c.taken_disk-disk.result = sym c.self.view_is ∙ c.taken_disk-disk.ensures in
-    rw now_is (unseen g.D.Disk.content c.taken_disk-disk.result c.in-Err.refusal c.in-Err.ensures.sound c.in-Err.ensures.whole)
+    let content = g.D.Disk.content in
+    let settings = c.taken_disk-disk.result.0 in
+    let disk = c.taken_disk-disk.result.1 in
+    let e = c.in-Err.ensures in
+    let now_is : c.args.self.now ≡ Down settings disk = sym c.self.view_is ∙ c.taken_disk-disk.ensures in
+    rw now_is (stays_by_closing content settings disk (g.met.D.Disk.lawful disk) c.in-Err.disk (g.met.D.Disk.lawful c.in-Err.disk) e.tells_err e.any_moment_err)

@@ -1,13 +1,13 @@
-use Rattle.std.proofs.Common.{◌≡◌, ◌∙◌, ◌≤◌, ◌<◌, ◌^◌, ℕ, Bool, true, false, List, Option, Some, sym, ap, subst, arith, IsTrue, drop, option_map}
+use Rattle.std.proofs.Common.{◌≡◌, ◌∙◌, ℕ, false, Some, sym, ap, subst, arith, IsTrue, take, option_map}
 use Rattle.tier_base.specs.declared.plain.FileName.TheVariants as file
 use Rattle.tier_base.specs.Told.{bytes_in}
-use Rattle.disk_model.specs.Content.{Lawful}
+use Rattle.disk_model.specs.Content.{Lawful, part_of}
 use Rattle.segment_file.specs.Growing.{Grown}
 use Rattle.local_log.specs.Log.{Log}
 use Rattle.local_log.specs.Stored.{bytes_of, size_of}
 use Rattle.local_log.specs.Reading.{first_past, IsFront, IsPartOf, IsOfDevice}
 use Rattle.local_log.proofs.Having.{start_since}
-use Rattle.local_log.proofs.RunsTold.{file_bytes, err_on}
+use Rattle.local_log.proofs.RunsTold.{part_bytes, err_on}
 use Rattle.local_log.proofs.ClosedTold.{holder_low, found_some, found_holder, front_told, part_told}
 use Rattle.local_log.proofs.log.LocalLog.closed_from.Goals as goal
 
@@ -50,10 +50,12 @@ returns-in_err-closed-clause-whole g c =
     sym (ap (first_past c.args.offset) c.as_slice.ensures.value) ∙ sym c.first_past.ensures ∙ ap (λ o. option_map (λ x. x.now) o) c.in-Some.is in
     let unbroken : s.broken ≡ false = ap (λ (l : Log g.row.D.Denot). l.broken) c.self.view_is ∙ c.requires in
     let t : IsTrue (content s.disk).tells = subst (λ (l : Log g.row.D.Denot). IsTrue (content l.disk).tells) (sym c.self.view_is) there in
-    let file_is = subst (λ (l : Log g.row.D.Denot). c.in_ok-file.file ≡ option_map (drop 0) ((content l.disk).files (file.Log c.base-base.result))) (sym c.self.view_is) (c.in_ok-file.ensures.file there) in
-    let same : bytes_in c.in_ok-file.file ≡ bytes_of (content s.disk).files c.in-Some.segment.now =
-    ap bytes_in file_is ∙ file_bytes 0 ((content s.disk).files (file.Log c.base-base.result)) ∙ ap (λ (b : ℕ). bytes_in ((content s.disk).files (file.Log b))) c.base-base.ensures in
-    let why = front_told content s c.self.invariant unbroken t c.args.offset c.in-Some.segment.now found c.base-base.result c.size-size.result (bytes_in c.in_ok-file.file) c.in_err-closed.field-0.0 c.base-base.ensures c.size-size.ensures same c.in_err-closed.ensures.err in
+    let file_is = subst (λ (l : Log g.row.D.Denot). c.in_ok-part.part ≡ option_map (part_of 0 c.size-size.result) ((content l.disk).files (file.Log c.base-base.result))) (sym c.self.view_is) (c.in_ok-part.ensures.file there) in
+    let same : bytes_in c.in_ok-part.part ≡ take (size_of c.in-Some.segment.now) (bytes_of (content s.disk).files c.in-Some.segment.now) =
+    ap bytes_in file_is ∙ part_bytes 0 c.size-size.result ((content s.disk).files (file.Log c.base-base.result))
+    ∙ ap (λ (b : ℕ). take c.size-size.result (bytes_in ((content s.disk).files (file.Log b)))) c.base-base.ensures
+    ∙ ap (λ (n : ℕ). take n (bytes_of (content s.disk).files c.in-Some.segment.now)) c.size-size.ensures in
+    let why = front_told content s c.self.invariant unbroken t c.args.offset c.in-Some.segment.now found c.base-base.result c.size-size.result (bytes_in c.in_ok-part.part) c.in_err-closed.field-0.0 c.base-base.ensures c.size-size.ensures same c.in_err-closed.ensures.err in
     subst IsOfDevice (sym is) why
     )) c.from_residual-in_err-closed.ensures.1
 
@@ -66,10 +68,12 @@ returns-clause-part g c there =
     sym (ap (first_past c.args.offset) c.as_slice.ensures.value) ∙ sym c.first_past.ensures ∙ ap (λ o. option_map (λ x. x.now) o) c.in-Some.is in
     let unbroken : s.broken ≡ false = ap (λ (l : Log g.row.D.Denot). l.broken) c.self.view_is ∙ c.requires in
     let t : IsTrue (content s.disk).tells = subst (λ (l : Log g.row.D.Denot). IsTrue (content l.disk).tells) (sym c.self.view_is) there in
-    let file_is = subst (λ (l : Log g.row.D.Denot). c.in_ok-file.file ≡ option_map (drop 0) ((content l.disk).files (file.Log c.base-base.result))) (sym c.self.view_is) (c.in_ok-file.ensures.file there) in
-    let same : bytes_in c.in_ok-file.file ≡ bytes_of (content s.disk).files c.in-Some.segment.now =
-    ap bytes_in file_is ∙ file_bytes 0 ((content s.disk).files (file.Log c.base-base.result)) ∙ ap (λ (b : ℕ). bytes_in ((content s.disk).files (file.Log b))) c.base-base.ensures in
-    let front = subst (λ (n : ℕ). IsFront n (size_of c.in-Some.segment.now) (bytes_in c.in_ok-file.file) c.in_ok-closed.closed) c.base-base.ensures
-    (subst (λ (n : ℕ). IsFront c.base-base.result n (bytes_in c.in_ok-file.file) c.in_ok-closed.closed) c.size-size.ensures c.in_ok-closed.ensures.ok) in
+    let file_is = subst (λ (l : Log g.row.D.Denot). c.in_ok-part.part ≡ option_map (part_of 0 c.size-size.result) ((content l.disk).files (file.Log c.base-base.result))) (sym c.self.view_is) (c.in_ok-part.ensures.file there) in
+    let same : bytes_in c.in_ok-part.part ≡ take (size_of c.in-Some.segment.now) (bytes_of (content s.disk).files c.in-Some.segment.now) =
+    ap bytes_in file_is ∙ part_bytes 0 c.size-size.result ((content s.disk).files (file.Log c.base-base.result))
+    ∙ ap (λ (b : ℕ). take c.size-size.result (bytes_in ((content s.disk).files (file.Log b)))) c.base-base.ensures
+    ∙ ap (λ (n : ℕ). take n (bytes_of (content s.disk).files c.in-Some.segment.now)) c.size-size.ensures in
+    let front = subst (λ (n : ℕ). IsFront n (size_of c.in-Some.segment.now) (bytes_in c.in_ok-part.part) c.in_ok-closed.closed) c.base-base.ensures
+    (subst (λ (n : ℕ). IsFront c.base-base.result n (bytes_in c.in_ok-part.part) c.in_ok-closed.closed) c.size-size.ensures c.in_ok-closed.ensures.ok) in
     subst (λ (l : Log g.row.D.Denot). IsPartOf l c.in_ok-closed.closed) c.self.view_is
-    (part_told content s c.self.invariant unbroken t c.args.offset c.in-Some.segment.now found (bytes_in c.in_ok-file.file) c.in_ok-closed.closed same front)
+    (part_told content s c.self.invariant unbroken t c.args.offset c.in-Some.segment.now found (bytes_in c.in_ok-part.part) c.in_ok-closed.closed same front)

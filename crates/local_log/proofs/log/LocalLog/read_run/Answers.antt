@@ -1,15 +1,15 @@
-use Rattle.std.proofs.Common.{◌≡◌, ◌≢◌, ◌∙◌, ◌≤◌, ◌<◌, ◌==◌, ℕ, Bool, true, false, List, sym, ap, subst, arith, eq-eqb, IsTrue, drop, min, option_map}
+use Rattle.std.proofs.Common.{◌≡◌, ◌∙◌, ◌+◌, ◌≤◌, ℕ, true, false, List, sym, ap, subst, arith, eq-eqb, IsTrue, min, option_map}
 use Rattle.std.specs.Prelude.{unwrap_or}
 use Rattle.tier_base.specs.declared.plain.FileName.TheVariants as file
 use Rattle.tier_base.specs.Told.{bytes_in}
-use Rattle.disk_model.specs.Content.{Lawful}
-use Rattle.segment_file.specs.Growing.{Grown, BeginsSearch}
+use Rattle.disk_model.specs.Content.{Lawful, part_of}
+use Rattle.segment_file.specs.Growing.{Grown}
+use Rattle.segment_file.specs.Reach.{reach_at}
 use Rattle.local_log.specs.Log.{Log}
-use Rattle.local_log.specs.Stored.{bytes_of}
-use Rattle.local_log.specs.Reading.{first_past, begin_of, is_edge, piece_end, IsEdge, IsCut, IsRunOf, CutFails}
+use Rattle.local_log.specs.Reading.{first_past, begin_of, position_of, piece_end, IsEdge, IsCut, IsRunOf, CutFails}
 use Rattle.local_log.proofs.Having.{start_since}
 use Rattle.local_log.proofs.Edges.{holder}
-use Rattle.local_log.proofs.RunsTold.{ok_more, err_more, file_bytes, piece_past, edge_told, fails_told, run_told}
+use Rattle.local_log.proofs.RunsTold.{ok_more, err_more, part_bytes, piece_past, edge_told, fails_told, run_told}
 use Rattle.local_log.proofs.log.LocalLog.read_run.Goals as goal
 
 pub returns-then-end-mark-clause-any_moment : goal.returns-then-end-mark-clause-any_moment
@@ -73,14 +73,20 @@ returns-clause-run g c =
     let unbroken : s.broken ≡ false = ap (λ (l : Log g.row.D.Denot). l.broken) c.self.view_is ∙ c.requires.unbroken in
     let start : s.local_start ≤ c.args.offset = subst (λ (l : Log g.row.D.Denot). l.local_start ≤ c.args.offset) (sym c.self.view_is) c.requires.start in
     let from = c.piece_at-piece.result.from in
-    let search = subst (λ (x : Grown). BeginsSearch x.base x.batches c.args.offset from) seg_is c.piece_at-piece.ensures.from in
+    let most = c.piece_at-piece.result.most in
+    let top = min (from + c.args.limit) 18446744073709551615 in
+    let from_is : from ≡ position_of (holder c.args.offset s.closed.items s.active) c.args.offset = c.piece_at-piece.ensures.from ∙ ap (λ (x : Grown). position_of x c.args.offset) seg_is in
+    let reach_is : from + most ≡ reach_at (min c.args.mark (piece_end s.line (holder c.args.offset s.closed.items s.active) c.args.offset)) top c.args.offset (holder c.args.offset s.closed.items s.active).batches =
+    c.piece_at-piece.ensures.most
+    ∙ ap (λ (n : ℕ). reach_at (min c.args.mark n) top c.args.offset c.segment_at-segment.result.now.batches) end_is
+    ∙ ap (λ (x : Grown). reach_at (min c.args.mark (piece_end s.line (holder c.args.offset s.closed.items s.active) c.args.offset)) top c.args.offset x.batches) seg_is in
     ok_more _ _ c.run_in.result (λ out cut there. (
     let t : IsTrue (content s.disk).tells = subst (λ (l : Log g.row.D.Denot). IsTrue (content l.disk).tells) (sym c.self.view_is) there in
-    let file_is = subst (λ (l : Log g.row.D.Denot). c.in_ok-file.file ≡ option_map (drop from) ((content l.disk).files (file.Log c.piece_at-piece.result.base))) (sym c.self.view_is) (c.in_ok-file.ensures.file there) in
-    let bytes_are = ap bytes_in file_is ∙ file_bytes from ((content s.disk).files (file.Log c.piece_at-piece.result.base)) ∙ ap (λ (b : ℕ). drop from (bytes_in ((content s.disk).files (file.Log b)))) (c.piece_at-piece.ensures.base ∙ ap (λ (x : Grown). x.base) seg_is) in
-    let whole = subst (λ (n : ℕ). IsCut (bytes_in c.in_ok-file.file) c.args.offset c.args.limit c.args.mark n out) end_is cut in
+    let file_is = subst (λ (l : Log g.row.D.Denot). c.in_ok-part.part ≡ option_map (part_of from most) ((content l.disk).files (file.Log c.piece_at-piece.result.base))) (sym c.self.view_is) (c.in_ok-part.ensures.file there) in
+    let bytes_are = ap bytes_in file_is ∙ part_bytes from most ((content s.disk).files (file.Log c.piece_at-piece.result.base)) ∙ ap (λ (b : ℕ). part_of from most (bytes_in ((content s.disk).files (file.Log b)))) (c.piece_at-piece.ensures.base ∙ ap (λ (x : Grown). x.base) seg_is) in
+    let whole = subst (λ (n : ℕ). IsCut (bytes_in c.in_ok-part.part) c.args.offset c.args.limit c.args.mark n out) end_is cut in
     subst (λ (l : Log g.row.D.Denot). IsRunOf l c.args.offset c.args.limit c.args.mark out) c.self.view_is
-    (run_told content s c.self.invariant unbroken t c.args.offset c.args.limit c.args.mark from start c.requires.below edge search (bytes_in c.in_ok-file.file) out bytes_are whole)
+    (run_told content s c.self.invariant unbroken t c.args.offset c.args.limit c.args.mark from most start c.requires.below edge from_is reach_is (bytes_in c.in_ok-part.part) out bytes_are whole)
     )) c.run_in.ensures.ok
 
 pub returns-clause-whole : goal.returns-clause-whole
@@ -102,11 +108,17 @@ returns-clause-whole g c =
     let unbroken : s.broken ≡ false = ap (λ (l : Log g.row.D.Denot). l.broken) c.self.view_is ∙ c.requires.unbroken in
     let start : s.local_start ≤ c.args.offset = subst (λ (l : Log g.row.D.Denot). l.local_start ≤ c.args.offset) (sym c.self.view_is) c.requires.start in
     let from = c.piece_at-piece.result.from in
-    let search = subst (λ (x : Grown). BeginsSearch x.base x.batches c.args.offset from) seg_is c.piece_at-piece.ensures.from in
+    let most = c.piece_at-piece.result.most in
+    let top = min (from + c.args.limit) 18446744073709551615 in
+    let from_is : from ≡ position_of (holder c.args.offset s.closed.items s.active) c.args.offset = c.piece_at-piece.ensures.from ∙ ap (λ (x : Grown). position_of x c.args.offset) seg_is in
+    let reach_is : from + most ≡ reach_at (min c.args.mark (piece_end s.line (holder c.args.offset s.closed.items s.active) c.args.offset)) top c.args.offset (holder c.args.offset s.closed.items s.active).batches =
+    c.piece_at-piece.ensures.most
+    ∙ ap (λ (n : ℕ). reach_at (min c.args.mark n) top c.args.offset c.segment_at-segment.result.now.batches) end_is
+    ∙ ap (λ (x : Grown). reach_at (min c.args.mark (piece_end s.line (holder c.args.offset s.closed.items s.active) c.args.offset)) top c.args.offset x.batches) seg_is in
     err_more _ _ c.run_in.result (λ e fails there at_edge. (
     let t : IsTrue (content s.disk).tells = subst (λ (l : Log g.row.D.Denot). IsTrue (content l.disk).tells) (sym c.self.view_is) there in
-    let file_is = subst (λ (l : Log g.row.D.Denot). c.in_ok-file.file ≡ option_map (drop from) ((content l.disk).files (file.Log c.piece_at-piece.result.base))) (sym c.self.view_is) (c.in_ok-file.ensures.file there) in
-    let bytes_are = ap bytes_in file_is ∙ file_bytes from ((content s.disk).files (file.Log c.piece_at-piece.result.base)) ∙ ap (λ (b : ℕ). drop from (bytes_in ((content s.disk).files (file.Log b)))) (c.piece_at-piece.ensures.base ∙ ap (λ (x : Grown). x.base) seg_is) in
-    let whole = subst (λ (n : ℕ). CutFails c.piece_at-piece.result.base from (bytes_in c.in_ok-file.file) c.args.offset c.args.limit (min c.args.mark n) e) end_is fails in
-    fails_told content s c.self.invariant unbroken t c.args.offset c.args.limit c.args.mark from start c.requires.below edge search c.piece_at-piece.result.base (bytes_in c.in_ok-file.file) e bytes_are whole
+    let file_is = subst (λ (l : Log g.row.D.Denot). c.in_ok-part.part ≡ option_map (part_of from most) ((content l.disk).files (file.Log c.piece_at-piece.result.base))) (sym c.self.view_is) (c.in_ok-part.ensures.file there) in
+    let bytes_are = ap bytes_in file_is ∙ part_bytes from most ((content s.disk).files (file.Log c.piece_at-piece.result.base)) ∙ ap (λ (b : ℕ). part_of from most (bytes_in ((content s.disk).files (file.Log b)))) (c.piece_at-piece.ensures.base ∙ ap (λ (x : Grown). x.base) seg_is) in
+    let whole = subst (λ (n : ℕ). CutFails c.piece_at-piece.result.base from (bytes_in c.in_ok-part.part) c.args.offset c.args.limit (min c.args.mark n) e) end_is fails in
+    fails_told content s c.self.invariant unbroken t c.args.offset c.args.limit c.args.mark from most start c.requires.below edge from_is reach_is c.piece_at-piece.result.base (bytes_in c.in_ok-part.part) e bytes_are whole
     )) c.run_in.ensures.err

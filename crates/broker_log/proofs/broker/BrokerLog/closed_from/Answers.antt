@@ -1,0 +1,14 @@
+use Rattle.broker_log.proofs.Runs.{segment_of, some_more}
+use Rattle.local_log.proofs.RunsTold.{ok_more}
+use Rattle.broker_log.specs.Seen.{Up}
+use Rattle.std.proofs.Common.{◌≡◌, ◌∙◌, sym}
+use Rattle.broker_log.proofs.broker.BrokerLog.closed_from.Goals as goal
+
+pub returns-clause-part : goal.returns-clause-part
+returns-clause-part g c =
+    let content = g.D.Disk.content in
+    let o = c.taken-log.result in
+    let now_is : c.args.self.now ≡ Up o = sym c.self.view_is ∙ c.taken-log.ensures in
+    rw now_is (ok_more _ _ c.closed_from-outcome.result
+    (λ segment told s h. some_more _ _ segment (λ whole part. segment_of content o s h whole part) (told h.told))
+    c.closed_from-outcome.ensures.part)
