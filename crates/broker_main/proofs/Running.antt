@@ -13,13 +13,16 @@ use Rattle.plain_log.specs.declared.command.Pace.TheVariants.{Until}
 use Rattle.plain_log.specs.Fresh.{fresh}
 use Rattle.plain_log.specs.Orders.{AreListsFor, AreRising}
 use Rattle.plain_log.specs.Runs.{IsPlainRun, IsComplete}
-use Rattle.plain_log.specs.Laws.{RunsAreCommitted, RunsAreLed}
+use Rattle.plain_log.specs.Laws.{FreshIsSafe, ReplaysKeepSafe}
+use Rattle.plain_log.specs.Safe.{PlainSafe}
+use Rattle.plain_log.proofs.Grows.{replay_led, replay_runs}
 use Rattle.partition_world.specs.Whole.{Whole}
 use Rattle.partition_seen.specs.declared.seat.Seat.{Seat}
 use Rattle.partition_world.specs.Turn.{IsSeat, IsAtEnd}
 use Rattle.partition_world.specs.Central.{IsCentral}
 use Rattle.partition_world.specs.Calm.{AreUnplanned}
-use Rattle.partition_world.specs.Laws.{EndsAreComplete, ReachesLater, ReachesUnfailing, FreshIsUnfailing}
+use Rattle.partition_world.specs.InTurn.{IsInTurn}
+use Rattle.partition_world.specs.Laws.{EndsAreComplete, ReachesLater, ReachesInTurn, ReachesUnfailing, FreshIsUnfailing}
 use Rattle.partition_world.specs.Reaches.{GoesUntil, HasAnswered, Reaches}
 use Rattle.partition_seen.proofs.Lists.{one_list}
 use Rattle.partition_world.proofs.LaterLaw.{all_ended}
@@ -30,6 +33,7 @@ use Rattle.trace_text.specs.Trace.{journal_text, trace_of}
 use Rattle.broker_main.specs.Plans.{plan_of, ArePlanned}
 use Rattle.broker_main.specs.Headline.{StartsWith, IsRunOf, AreRunsOf}
 use Rattle.broker_main.specs.Running.{AddsRun, IsRunText, IsSoFar}
+use Rattle.broker_main.proofs.Planning.{disk_calm}
 
 -- what holds of all holds of the one that stands at a place
 all_at : {A : Type 0} (P : A → Type 0) (xs : List A) (i : ℕ) (x : A) → All P xs → slice_get xs i ≡ Some x → P x
@@ -73,14 +77,14 @@ module _ {D : Type 0} (content : D → Content) (control : D → Control call_co
   unplanned faults broker (disk ∷ disks) none p = (
     p.0.ruled,
     p.0.plan_is ∙ ap (λ (l : List Fault). plan_of broker l) none,
-    (let zero_is = p.0.unfailed in omega (arith, zero_is)),
+    disk_calm control (plan_of broker faults) disk p.0,
     unplanned faults (broker + 1) disks none p.1,
   )
 
   -- the journal of a world that was run by its schedule is a run of its partition
-  pub is_run_of : (config : Config) (part : PartScript) (w w' : Whole D) → EndsAreComplete content → ReachesLater content control → RunsAreLed → RunsAreCommitted → ReachesUnfailing content control → FreshIsUnfailing control → AreListsFor config part.lists → StepsToEnds part
+  pub is_run_of : (config : Config) (part : PartScript) (w w' : Whole D) → EndsAreComplete content → ReachesLater content control → ReachesInTurn content control → FreshIsSafe → ReplaysKeepSafe → ReachesUnfailing content control → FreshIsUnfailing control → AreListsFor config part.lists → StepsToEnds part
       → StartsWith content control part.partition config part.lists part.faults w → IsCentral content (fresh config) w → Reaches content control w part.schedule w' → IsRunOf content control config part (part.partition.0, w'.journal.items)
-  is_run_of config part w w' law goes led runs calm unfailing fit ends starts c reaches =
+  is_run_of config part w w' law goes turns opens keeps calm unfailing fit ends starts c reaches =
       let f = starts.fresh in
       let lists = part.lists in
       let later = goes w part.schedule w' reaches in
@@ -95,12 +99,15 @@ module _ {D : Type 0} (content : D → Content) (control : D → Control call_co
       let whole = law w' central ended in
       let run : IsPlainRun config lists w'.journal.items =
       subst (λ (k : Config). IsPlainRun k lists w'.journal.items) same (subst (λ (k : List ActorList). IsPlainRun w'.config k w'.journal.items) its whole.run) in
+      let safe : PlainSafe run.last = keeps lists (fresh config) w'.journal.items run.last run.replays (opens config) in
       record {
         partition = refl;
         plain = run;
+        safe = safe;
         complete = subst (λ (k : List ActorList). IsComplete k w'.journal.items) its whole.complete;
-        led = led config lists w'.journal.items run;
-        committed = runs config lists w'.journal.items run;
+        in_turn = subst (λ (k : List ActorList). IsInTurn k w'.journal.items) its (turns part.partition config lists starts.disks w part.schedule w' fit f reaches);
+        led = replay_led lists (fresh config) w'.journal.items run.last run.replays (opens config);
+        committed = λ clean. replay_runs lists (fresh config) w'.journal.items run.last run.replays (opens config) clean;
         faultless = λ none. (calm w part.schedule w' reaches (unfailing part.partition config lists starts.disks w f (unplanned part.faults 0 starts.disks none starts.planned))).journal;
         reached = record { first = w; last = w'; starts = starts; reaches = reaches; its = refl };
       }

@@ -4,6 +4,7 @@
 use Rattle.std.specs.Prelude.{◌≡◌, ℕ, false, List, [], ◌∷◌, Ok, Err}
 use Rattle.std.specs.declared.option.Option.{Option}
 use Rattle.std.specs.Io.KnownBytes.{Appends}
+use Rattle.std.specs.List.{AllByRecursion}
 use Rattle.tier_base.specs.declared.names.PartitionId.{PartitionId}
 use Rattle.tier_base.specs.Stream.{ReadsWhole, AppendsFront}
 use Rattle.tier_base.specs.Device.{Control}
@@ -13,10 +14,12 @@ use Rattle.plain_log.specs.declared.command.ActorList.{ActorList}
 use Rattle.plain_log.specs.declared.command.Config.{Config}
 use Rattle.plain_log.specs.declared.journal.JournalEntry.{JournalEntry}
 use Rattle.plain_log.specs.Runs.{IsPlainRun, IsComplete}
-use Rattle.plain_log.specs.Committed.{IsCommitted, IsLed}
+use Rattle.plain_log.specs.Committed.{IsCommittedRun, IsRunOfPath}
+use Rattle.plain_log.specs.Safe.{PlainSafe}
 use Rattle.partition_world.specs.Whole.{Whole}
 use Rattle.partition_world.specs.Calm.{AreFaultless}
 use Rattle.partition_world.specs.Fresh.{IsFresh, AllSeen}
+use Rattle.partition_world.specs.InTurn.{IsInTurn}
 use Rattle.partition_world.specs.Reaches.{Reaches}
 use Rattle.script_lang.specs.declared.fault.Fault.{Fault}
 use Rattle.script_lang.specs.declared.refusal.Why.{Why}
@@ -42,15 +45,18 @@ module _ {D : Type 0} (content : D → Content) (control : D → Control call_co
     pub reaches : Reaches content control first part.schedule last
     pub its : last.journal.items ≡ journal
 
-  -- a partition's number and journal: a run of the plain log over the partition's lists, by its schedule, each command
-  -- answered once and in order, each fetch out of the log of one leader epoch, and while elections are clean out of one
-  -- committed list; no disk fails unasked
+  -- a partition's number and journal: a run of the plain log over the partition's lists, by its schedule, which ends with
+  -- the safety rules; each command is answered once and in order, and begins at most once, right before its answer; each
+  -- fetch is given a part of the log of a leader epoch as the run ends, and while elections are clean of what is committed
+  -- then; no disk fails unasked
   pub record IsRunOf (config : Config) (part : PartScript) (run : ℕ × List JournalEntry) : Type 0 where
     pub partition : run.0 ≡ part.partition.0
     pub plain : IsPlainRun config part.lists run.1
+    pub safe : PlainSafe plain.last
     pub complete : IsComplete part.lists run.1
-    pub led : IsLed part.lists run.1
-    pub committed : plain.last.unclean ≡ false → IsCommitted part.lists run.1
+    pub in_turn : IsInTurn part.lists run.1
+    pub led : AllByRecursion (IsRunOfPath part.lists plain.last.paths) run.1
+    pub committed : plain.last.unclean ≡ false → AllByRecursion (IsCommittedRun part.lists plain.last.committed) run.1
     pub faultless : part.faults ≡ [] → AreFaultless run.1
     pub reached : IsReached config part run.1
 

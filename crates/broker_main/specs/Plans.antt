@@ -42,10 +42,11 @@ plan_of broker [] = []
 plan_of broker (fault ∷ faults) = planned_of broker fault ++ plan_of broker faults
 
 module _ {D : Type 0} (control : D → Control call_code) where
-  -- the disk's plan is this, nothing else decides which of its calls fail, and none has failed
+  -- the disk's plan is this, nothing else decides which of its calls fail once it is in force, none can before, and none has
   pub record IsPlanned (plan : List (Planned DiskCall)) (disk : D) : Type 0 where
     pub plan_is : (control disk).plan ≡ plan
     pub ruled : IsTrue (control disk).ruled
+    pub calm : IsTrue (control disk).calm
     pub unfailed : (control disk).faults ≡ 0
 
   -- the disks of the brokers from this one on have their faults

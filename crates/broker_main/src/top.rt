@@ -21,9 +21,10 @@ use crate::disks::disks;
 use crate::status::Status;
 use disk_model::{Disk, MemoryDisk};
 use partition_world::{
-    World, ends_are_complete, fresh_is_unfailing, reaches_later, reaches_unfailing, run_in_order,
+    World, WorldRefusal, ends_are_complete, fresh_is_unfailing, reaches_in_turn, reaches_later,
+    reaches_unfailing, run_in_order,
 };
-use plain_log::{ActorList, Config, runs_are_committed, runs_are_led};
+use plain_log::{ActorList, Config, fresh_is_safe, replays_keep_safe};
 use script_lang::{Fault, PartScript, ScriptRefusal, Why, parse};
 use std::alloc::{AllocError, Global};
 use tier_base::{PartitionId, ReadRefusal, Row, Sink, Source, read_all, write_all};
@@ -49,8 +50,9 @@ fn fresh_world(
     let disks = disks(alloc, config.brokers, faults)?;
     match World::fresh(alloc, partition, config, lists, disks) {
         Ok(world) => Ok(world),
-        // No disk fails a call before the world is made, so it was memory.
-        Err(_) => Err(AllocError),
+        Err((_, WorldRefusal::NoMemory)) => Err(AllocError),
+        // No call of these disks can fail before the world is made.
+        Err((_, WorldRefusal::DiskFault)) => unreachable!(),
     }
 }
 
@@ -70,10 +72,11 @@ fn run_part(
 {
     ends_are_complete::<MemoryDisk>();
     reaches_later::<MemoryDisk>();
+    reaches_in_turn::<MemoryDisk>();
     reaches_unfailing::<MemoryDisk>();
     fresh_is_unfailing::<MemoryDisk>();
-    runs_are_led();
-    runs_are_committed();
+    fresh_is_safe();
+    replays_keep_safe();
     let PartScript {
         partition,
         lists,

@@ -1,5 +1,5 @@
 -- A write that fails stops its broker, as the plain log's.
-use Rattle.std.proofs.Common.{◌≡◌, ◌∙◌, ap, subst, refl, ℕ, List, slice_get, Some, Option}
+use Rattle.std.proofs.Common.{◌≡◌, ◌∙◌, ap, subst, refl, ℕ, ◌≤◌, slice_get, Some, Option, arith}
 use Rattle.epoch_line.specs.Line.{last_entry}
 use Rattle.registry.specs.declared.registry.Replica.{Replica}
 use Rattle.plain_log.specs.declared.answer.Answer.{Answer}
@@ -8,23 +8,23 @@ use Rattle.plain_log.specs.declared.state.Noted.{Noted}
 use Rattle.plain_log.specs.declared.state.State.{State}
 use Rattle.plain_log.specs.State.{breaks}
 use Rattle.plain_log.specs.Rows.{row}
-use Rattle.partition_seen.specs.Seen.{Node, Held}
-use Rattle.partition_seen.specs.Held.{broker_of, put_node, broken}
+use Rattle.partition_seen.specs.Seen.{Back, Node, Held}
+use Rattle.partition_seen.specs.Held.{broker_of, put_node, back_of, broken}
 use Rattle.partition_seen.specs.Central.{AreTaken}
 use Rattle.partition_seen.specs.Sound.{IsBack}
 use Rattle.partition_seen.proofs.NodeLaw.{stable_back, node_broken}
 use Rattle.partition_seen.proofs.Standing.{Standing, Allowed, Puts, put, wider_self, keeps_self}
 
 -- what a write that failed may have left: an end of the log, with a line whose leads were taken, and which ends as both
--- of the broker's lines do where these end alike
-pub record IsTold (p : State) (x : Node) (end : ℕ) (line : List (ℕ × ℕ)) : Type 0 where
-  pub is : IsBack x (end, line)
-  pub taken : AreTaken p.paths p.broken line
-  pub last : (entry : ℕ × ℕ) → last_entry x.log.line ≡ Some entry → last_entry x.saved ≡ Some entry → last_entry line ≡ Some entry
+-- of the broker's lines do where these end alike, with an entry that is stable
+pub record IsTold (p : State) (x : Node) (back : Back) : Type 0 where
+  pub is : IsBack x back
+  pub taken : AreTaken p.paths p.broken back.1
+  pub last : (entry : ℕ × ℕ) → entry.1 ≤ x.stable → last_entry x.log.line ≡ Some entry → last_entry x.saved ≡ Some entry → last_entry back.1 ≡ Some entry
 
-pub break_puts : (h : Held) (p : State) (b : ℕ) (x : Node) (s : Replica) (end : ℕ) (line : List (ℕ × ℕ)) → Standing h p b x s → IsTold p x end line
-    → Puts h p (breaks p b (broker_of x)) b (broken x end line)
-break_puts h p b x s end line st t =
+pub break_puts : (h : Held) (p : State) (b : ℕ) (x : Node) (s : Replica) (back : Back) → Standing h p b x s → IsTold p x back
+    → Puts h p (breaks p b (broker_of x)) b x (broken x back)
+break_puts h p b x s back st t =
     let l = st.lines.each b x st.at in
     record {
       registry = refl;
@@ -33,10 +33,10 @@ break_puts h p b x s end line st t =
       paths = wider_self p.paths;
       broken = keeps_self p.broken;
       keys = λ other has. has;
-      sound = node_broken x end line l.sound t.is;
+      sound = node_broken x back l.sound t.is;
       paths_are = λ safe. l.paths_are;
       saved_are = λ safe. l.saved_are;
-      back_are = λ safe back is. (let same : (end, line) ≡ back = cc (is) in subst (λ (k : ℕ × List (ℕ × ℕ)). AreTaken p.paths p.broken k.1) same t.taken);
+      back_are = λ safe other is. (let same : back ≡ other = cc (is) in subst (λ (k : Back). AreTaken p.paths p.broken k.1) same t.taken);
       joined = λ e j. absurd cc;
       leader = λ it has.
           let k = st.lines.leader x (ap (λ (c : ℕ). slice_get h.nodes c) it ∙ st.at) has in (
@@ -44,26 +44,28 @@ break_puts h p b x s end line st t =
             k.1,
             k.2,
             k.3,
-            λ back is.
-                let same : (end, line) ≡ back = cc (is) in
-                subst (λ (n : ℕ × List (ℕ × ℕ)). last_entry n.1 ≡ Some (h.registry.epoch, k.0)) same (t.last (h.registry.epoch, k.0) k.1 k.2),
+            λ other is.
+                let same : back ≡ other = cc (is) in
+                subst (λ (n : Back). last_entry n.1 ≡ Some (h.registry.epoch, k.0)) same (t.last (h.registry.epoch, k.0) k.3 k.1 k.2),
+            k.5,
           );
       followers = λ f. absurd cc;
+      steady = λ it. omega arith;
     }
 
-pub break_allowed : (h : Held) (p : State) (b : ℕ) (x : Node) (s : Replica) (end : ℕ) (line : List (ℕ × ℕ)) (noted : Option Noted) (command : Command) (answer : Answer) (h' : Held)
-    → Standing h p b x s → IsTold p x end line → row p b (broker_of x) s noted command answer ≡ Some (breaks p b (broker_of x)) → h' ≡ put_node h b (broken x end line)
+pub break_allowed : (h : Held) (p : State) (b : ℕ) (x : Node) (s : Replica) (back : Back) (noted : Option Noted) (command : Command) (answer : Answer) (h' : Held)
+    → Standing h p b x s → IsTold p x back → row p b (broker_of x) s noted command answer ≡ Some (breaks p b (broker_of x)) → h' ≡ put_node h b (broken x back)
     → Allowed p b x s noted command answer h'
-break_allowed h p b x s end line noted command answer h' st t is same =
-    put h p (breaks p b (broker_of x)) b x (broken x end line) s noted command answer h' st is (break_puts h p b x s end line st t) same
+break_allowed h p b x s back noted command answer h' st t is same =
+    put h p (breaks p b (broker_of x)) b x (broken x back) s noted command answer h' st is (break_puts h p b x s back st t) same
 
 -- nothing but what is stable
-pub stable_told : (h : Held) (p : State) (b : ℕ) (x : Node) (s : Replica) → Standing h p b x s → IsTold p x x.stable x.saved
+pub stable_told : (h : Held) (p : State) (b : ℕ) (x : Node) (s : Replica) → Standing h p b x s → IsTold p x (back_of x)
 stable_told h p b x s st =
     let l = st.lines.each b x st.at in
-    record { is = stable_back x l.sound; taken = l.saved_are; last = λ entry one two. two }
+    record { is = stable_back x l.sound; taken = l.saved_are; last = λ entry low one two. two }
 
 pub stable_breaks : (h : Held) (p : State) (b : ℕ) (x : Node) (s : Replica) (noted : Option Noted) (command : Command) (answer : Answer) (h' : Held) → Standing h p b x s
-    → row p b (broker_of x) s noted command answer ≡ Some (breaks p b (broker_of x)) → h' ≡ put_node h b (broken x x.stable x.saved) → Allowed p b x s noted command answer h'
+    → row p b (broker_of x) s noted command answer ≡ Some (breaks p b (broker_of x)) → h' ≡ put_node h b (broken x (back_of x)) → Allowed p b x s noted command answer h'
 stable_breaks h p b x s noted command answer h' st is same =
-    break_allowed h p b x s x.stable x.saved noted command answer h' st (stable_told h p b x s st) is same
+    break_allowed h p b x s (back_of x) noted command answer h' st (stable_told h p b x s st) is same

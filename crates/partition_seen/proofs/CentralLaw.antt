@@ -1,15 +1,15 @@
 -- Each turn keeps the central fact.
 use Rattle.std.proofs.Common.{◌≡◌, ◌∙◌, sym, ap, subst, refl, ℕ, ◌+◌, List, [], ◌∷◌, ◌++◌, length, slice_get, Some, None, Option, true, arith}
-use Rattle.std.specs.Prelude.{map}
-use Rattle.log_terms.proofs.Lists.{length-slice_set, look, within, set-same}
+use Rattle.log_terms.proofs.Lists.{length-slice_set, look, within}
 use Rattle.registry.specs.declared.registry.Replica.{Replica}
 use Rattle.plain_log.specs.declared.answer.Answer.{Answer}
 use Rattle.plain_log.specs.declared.command.ActorList.{ActorList}
-use Rattle.plain_log.specs.declared.command.Command.{Command}
 use Rattle.plain_log.specs.declared.command.Order.{Order}
-use Rattle.plain_log.specs.declared.journal.Event.TheVariants.{Answers as Answered, Begins as Began}
+use Rattle.plain_log.specs.declared.journal.Event.TheVariants.{Answers as Answered}
 use Rattle.plain_log.specs.declared.journal.JournalEntry.{JournalEntry}
 use Rattle.plain_log.specs.declared.state.Actor.{Actor}
+use Rattle.plain_log.specs.declared.state.Broker.{Broker}
+use Rattle.log_terms.specs.Log.{end_of}
 use Rattle.plain_log.specs.declared.state.Noted.{Noted}
 use Rattle.plain_log.specs.declared.state.State.{State}
 use Rattle.plain_log.specs.State.{actor_at, put_actor, with_actor, put_broker}
@@ -17,14 +17,14 @@ use Rattle.plain_log.specs.Orders.{AreRising}
 use Rattle.plain_log.specs.Rows.{row}
 use Rattle.plain_log.specs.Runs.{order_of, entry_step, replay}
 use Rattle.plain_log.specs.Safe.{PlainSafe}
-use Rattle.plain_log.specs.Step.{begins, is_noted, noted_of as noted_by, step}
+use Rattle.plain_log.specs.Step.{is_noted, noted_of as noted_by, step}
 use Rattle.plain_log.proofs.Replays.{replay_more}
 use Rattle.plain_log.proofs.StepLaw.{actor_put, step_safe}
 use Rattle.plain_log.proofs.Wider.{Wider}
 use Rattle.partition_seen.specs.declared.begun.Begun.{Begun}
 use Rattle.partition_seen.specs.declared.begun.Turned.{Turned}
 use Rattle.partition_seen.specs.declared.begun.Turned.TheVariants.{Answers, Begins}
-use Rattle.partition_seen.specs.Seen.{Node, Held}
+use Rattle.partition_seen.specs.Seen.{Node}
 use Rattle.partition_seen.specs.declared.seat.Seat.{Seat}
 use Rattle.partition_seen.specs.declared.seat.Stepped.{Stepped}
 use Rattle.partition_seen.specs.declared.seat.Stepped.TheVariants.{Ran, Done, Nothing, NoMemory}
@@ -35,19 +35,20 @@ use Rattle.partition_seen.specs.Turn.{IsTurn, seat_after, event_of, Steps}
 use Rattle.partition_seen.specs.Whole.{Whole}
 use Rattle.partition_seen.proofs.Lists.{orders_at}
 use Rattle.partition_seen.proofs.BoolTests.{some_of}
-use Rattle.partition_seen.proofs.Standing.{Standing, Allowed, broker_at, wider_self}
-use Rattle.partition_seen.proofs.TurnRows.{first_allowed, first_starts, later_follows, later_allowed, no_later}
-use Rattle.partition_seen.proofs.SeatLaw.{noted_none, noted_some, answer_steps, begin_steps, noted_its, going, answered_seat, begun_seat, desk_goes}
+use Rattle.partition_seen.proofs.Standing.{Standing, Allowed, Steady, steady_self, broker_at, wider_self}
+use Rattle.partition_seen.proofs.TurnRows.{first_allowed, first_starts, later_same, later_allowed, no_later}
+use Rattle.partition_seen.proofs.SeatLaw.{noted_none, noted_some, answer_steps, begin_steps, noted_its, going, begun_goes, answered_seat, begun_seat, desk_goes}
 
 -- the step of the plain log that a turn is
 record StepsTo (w : Whole) (a : ℕ) (turned : Turned) (w' : Whole) (p : State) (t : IsTurn w a turned w') : Type 0 where
   state : State
   actor : Actor
-  step_is : step p t.order (record { actor = t.list.actor; number = t.seat.number; event = event_of turned }) ≡ Some state
+  step_is : step p t.order (record { actor = t.list.actor; number = t.seat.number; event = event_of turned t.order.command }) ≡ Some state
   held : HeldStands w'.held state
   lines : PlainSafe state → LinesStand w'.held state.paths state.broken
   actors : state.actors ≡ put_actor p.actors t.list.actor.0 actor
   wide : Wider p.paths state.paths
+  steady : Steady p state
   seat : SeatStands state t.list (seat_after t.seat turned)
 
 -- what a turn starts from
@@ -76,8 +77,13 @@ answer_to w a answer w' p t x s noted st at its k =
       lines = λ safe. k.lines (λ c z is. (safe.brokers c z is).log);
       actors = ap (λ (ys : List Actor). put_actor ys n y) k.actors;
       wide = k.paths;
+      steady = k.steady;
       seat = answered_seat (with_actor n y k.state) t.list t.seat answer (actor_put k.state.actors n y);
     }
+
+-- what is noted of an order
+noted_same : (p : State) (order : Order) (z : Broker) (g : Begun) → g.stops ≡ z.stops → g.role ≡ z.role → g.end ≡ end_of z.log → g.start ≡ p.registry.start → noted_by p order z ≡ noted_of order g
+noted_same p order z g stops role end start = rw (stops, role, end, start) refl
 
 -- a beginning
 begin_to : (w : Whole) (a : ℕ) (g : Begun) (w' : Whole) (p : State) (t : IsTurn w a (Begins g) w') (x : Node) (s : Replica)
@@ -87,23 +93,21 @@ begin_to w a g w' p t x s st at row =
     let b = t.order.broker.0 in
     let k = first_starts w.held p b x s t.order.command g w'.held st row in
     let n = t.list.actor.0 in
-    let noted : noted_by p t.order (broker_of x) ≡ noted_of t.order g = rw (k.starts.stops, k.starts.role, k.starts.end, k.starts.start) refl in
+    let noted = noted_same p t.order k.broker g k.stops k.role k.end k.start in
     let y : Actor = record { number = t.seat.number; begun = Some (noted_of t.order g) } in
-    let bx = broker_at w.held p b x st.held st.at in
-    let begun = subst (λ (c : Command). begins p (broker_of x) c None ≡ Some (broker_of x)) (sym k.is) k.starts.is in
+    let q = put_broker p b k.broker in
     record {
-      state = with_actor n y (put_broker p b (broker_of x));
+      state = with_actor n y q;
       actor = y;
-      step_is = begin_steps p t.order n t.seat.number (broker_of x) s (record { actor = t.list.actor; number = t.seat.number; event = Began None }) bx st.replica at refl refl refl begun
-          ∙ ap (λ (m : Noted). Some (with_actor n (record { number = t.seat.number; begun = Some m }) (put_broker p b (broker_of x)))) noted;
-      held = record {
-        registry = st.held.registry ∙ ap (λ (h : Held). h.registry) (sym k.starts.same);
-        brokers = set-same p.brokers b (broker_of x) bx ∙ (st.held.brokers ∙ ap (λ (h : Held). map broker_of h.nodes) (sym k.starts.same));
-      };
-      lines = λ safe. subst (λ (h : Held). LinesStand h p.paths p.broken) (sym k.starts.same) st.lines;
+      step_is = begin_steps p t.order n t.seat.number (broker_of x) k.broker s (record { actor = t.list.actor; number = t.seat.number; event = event_of (Begins g) t.order.command }) k.cut
+          (broker_at w.held p b x st.held st.at) st.replica at refl refl k.event k.is
+          ∙ ap (λ (m : Noted). Some (with_actor n (record { number = t.seat.number; begun = Some m }) q)) noted;
+      held = record { registry = k.registry; brokers = k.brokers };
+      lines = λ safe. k.lines (λ c z is. (safe.brokers c z is).log);
       actors = refl;
       wide = wider_self p.paths;
-      seat = begun_seat (with_actor n y (put_broker p b (broker_of x))) t.list t.seat t.order k.limit g (actor_put p.actors n y) t.next k.is k.starts.run;
+      steady = k.steady;
+      seat = begun_seat (with_actor n y q) t.list t.seat t.order g (actor_put p.actors n y) t.next (begun_goes q (with_actor n y q) t.order.command g (wider_self p.paths) (steady_self q) (λ e log is. (st.safe.paths e log is).log_safe.consecutive) k.seat);
     }
 
 -- a turn, whether its command has begun or not
@@ -117,11 +121,10 @@ steps_to w a (Begins g) w' p t x s None st at is row =
     let noted = at.actor ∙ ap (λ (o : Option Noted). record { number = t.seat.number; begun = o }) (noted_none t.list.orders t.seat is) in
     begin_to w a g w' p t x s st noted row
 steps_to w a (Answers answer) w' p t x s (Some g) st at is row =
-    let f = later_follows w.held t.order.broker.0 x t.order.command g (Answers answer) w'.held row in
     let noted = at.actor ∙ ap (λ (o : Option Noted). record { number = t.seat.number; begun = o }) (noted_some t.list.orders t.seat t.order g t.next is) in
-    let k = going p x t.order t.list t.seat f.0 g st.safe at t.next is (broker_at w.held p t.order.broker.0 x st.held st.at) f.1 in
-    answer_to w a answer w' p t x s (Some (noted_of t.order g)) st noted (noted_its t.order g f.0 f.1)
-    (later_allowed w.held p t.order.broker.0 x s t.order f.0 t.order.command g answer w'.held st f.1 k row)
+    let k = going p x t.order t.list t.seat g st.safe at t.next is (broker_at w.held p t.order.broker.0 x st.held st.at) in
+    answer_to w a answer w' p t x s (Some (noted_of t.order g)) st noted (noted_its t.order g (later_same w.held t.order.broker.0 x t.order.command g (Answers answer) w'.held row))
+    (later_allowed w.held p t.order.broker.0 x s t.order t.order.command g answer w'.held st k row)
 steps_to w a (Begins h) w' p t x s (Some g) st at is row =
     absurd (no_later w.held t.order.broker.0 x t.order.command g h w'.held row)
 
@@ -137,7 +140,7 @@ turn_central opening w a turned w' t c =
     let x = some_of _ (slice_get w.held.nodes t.order.broker.0) t.row in
     let s = standing w a turned w' p t c.safe c.stands x.0 x.1 in
     let k = steps_to w a turned w' p t x.0 s.0 t.seat.begun s.1 (c.stands.desk t.place t.list t.seat t.at.list t.at.seat_is) refl x.2 in
-    let entry : JournalEntry = record { actor = t.list.actor; number = t.seat.number; event = event_of turned } in
+    let entry : JournalEntry = record { actor = t.list.actor; number = t.seat.number; event = event_of turned t.order.command } in
     let order : order_of w.lists entry ≡ Some t.order = ap (λ (l : List Order). slice_get l t.seat.number) (orders_at w.lists t.place t.list c.stands.rising t.at.list) ∙ t.next in
     let taken : entry_step w.lists p entry ≡ Some k.state = rw order k.step_is in
     let safe = step_safe p t.order entry k.state k.step_is c.safe in
@@ -148,7 +151,7 @@ turn_central opening w a turned w' t c =
       stands = record {
         held = k.held;
         lines = k.lines safe;
-        desk = desk_goes w a turned w' p k.state k.actor t c.stands k.actors k.wide k.seat;
+        desk = desk_goes w a turned w' p k.state k.actor t c.stands k.actors k.wide k.steady (λ e log is. (safe.paths e log is).log_safe.consecutive) k.seat;
         rising = subst AreRising (sym t.lists) c.stands.rising;
         seats = ap (λ (l : List Seat). length l) t.desk
             ∙ (length-slice_set w.desk t.place (seat_after t.seat turned) ∙ (c.stands.seats ∙ ap (λ (l : List ActorList). length l) (sym t.lists)));

@@ -76,7 +76,7 @@ fresh_line n some (suc b) x at =
 fresh_lines : (n : ℕ) → 1 ≤ n → LinesStand (fresh_held n) fresh_paths []
 fresh_lines n some = record {
   each = fresh_line n some;
-  leader = λ x at has. (let is : fresh_node (Leads 0) ((0, 0) ∷ []) ≡ x = cc in subst (λ (y : Node). LeaderStands fresh_paths 0 y) is (λ h. (0, refl, refl, omega arith, λ back b. absurd cc)) has);
+  leader = λ x at has. (let is : fresh_node (Leads 0) ((0, 0) ∷ []) ≡ x = cc in subst (λ (y : Node). LeaderStands fresh_paths 0 y) is (λ h. (0, refl, refl, omega arith, λ back b. absurd cc, ([], refl, ([], refl)))) has);
   followers = λ b x at f. other b x at f;
 }
   where
@@ -90,7 +90,7 @@ fresh_lines n some = record {
 seat_stands : (p : State) (l : ActorList) (seat : Seat) → p.actors ≡ [] → fresh_seat ≡ seat → SeatStands p l seat
 seat_stands p l seat none is = subst (SeatStands p l) is (record {
   actor = ap (λ (ys : List Actor). actor_at ys l.actor.0) none ∙ ap (λ (o : Option Noted). record { number = 0; begun = o }) (sym (noted_none l.orders fresh_seat refl));
-  follow = λ g e. absurd cc;
+  begun = λ g e. absurd cc;
 })
 
 pub fresh_central : (partition : PartitionId) (config : Config) (lists : List ActorList) (w : Whole) → IsConfig config → AreListsFor config lists

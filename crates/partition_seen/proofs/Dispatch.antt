@@ -3,7 +3,7 @@ use Rattle.std.proofs.Common.{ℕ, Option, Some, None, slice_get}
 use Rattle.std.specs.Prelude.{IsSomeAnd}
 use Rattle.plain_log.specs.declared.answer.Answer.{Answer}
 use Rattle.plain_log.specs.declared.command.Command.{Command}
-use Rattle.plain_log.specs.declared.command.Command.TheVariants.{Follow}
+use Rattle.plain_log.specs.declared.command.Command.TheVariants.{Follow, Join, Trim}
 use Rattle.partition_seen.specs.declared.begun.Turned.TheVariants.{Answers}
 use Rattle.partition_seen.specs.Seen.{Node, Held}
 use Rattle.partition_seen.specs.Held.{AtNode}
@@ -16,6 +16,8 @@ some_more P Q (Some x) f h = f x h
 
 first_row : (h : Held) (b : ℕ) (x : Node) (command : Command) (answer : Answer) (h' : Held) → AnswerRow h b x command answer h' → FirstRow h b x command (Answers answer) h'
 first_row h b x (Follow limit) answer h' r = absurd r
+first_row h b x Join answer h' r = absurd r
+first_row h b x Trim answer h' r = absurd r
 first_row h b x other answer h' r = r
 
 -- a command of one turn is answered at its first

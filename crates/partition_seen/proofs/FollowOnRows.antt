@@ -167,7 +167,7 @@ within_front limit (b ∷ c ∷ more) rest some w =
     let all : length (joined_bytes (front ++ rest)) ≤ limit = grind (arith, nat_tests, w) in
     le_true (length (joined_bytes front)) limit (omega (arith, size, all))
 
-goes_true : (h : Held) (p : State) (x : Node) (order : Order) (g : Begun) → HeldStands h p → GoesOn h x g → g.end ≡ end_of x.log.batches → goes_on p (broker_of x) (noted_of order g) ≡ true
+pub goes_true : (h : Held) (p : State) (x : Node) (order : Order) (g : Begun) → HeldStands h p → GoesOn h x g → g.end ≡ end_of x.log.batches → goes_on p (broker_of x) (noted_of order g) ≡ true
 goes_true h p x order g st on end =
     and_true _ _ (and_true _ _ (eq_same g.stops x.stops on.0) (not_false _ (stale_false h p (followed g.role) st on.1))) (eq_same (end_of x.log.batches) g.end (sym end))
 
@@ -208,6 +208,7 @@ copy_on h p b x s limit order g n e h' st k on can first w =
       joined = λ f j. node.1;
       leader = λ it. absurd (o.now_is.other it);
       followers = λ f. o.now_is.other;
+      steady = λ it. absurd (o.now_is.other it);
     }) w.after
 
 pub follow_on_allowed : (h : Held) (p : State) (b : ℕ) (x : Node) (s : Replica) (limit : ℕ) (order : Order) (g : Begun) (answer : Answer) (h' : Held) → Standing h p b x s

@@ -6,12 +6,16 @@ use Rattle.std.proofs.lemmas.Bool.{cases_lt}
 use mathlib.Core.List.{IsPrefix}
 use Rattle.log_terms.specs.Batch.{last_of}
 use Rattle.log_terms.specs.Log.{end_from, end_of, up_to, from_offset, EndsAt}
-use Rattle.log_terms.proofs.Logs.{end_append, up_to_end, prefix_end}
+use Rattle.log_terms.proofs.Lists.{get-set}
+use Rattle.log_terms.specs.Line.{line_of}
+use Rattle.epoch_line.specs.Line.{cut_end}
+use Rattle.log_terms.proofs.Logs.{end_append, ends_below, up_to_end, up_to_prefix, prefix_end}
+use Rattle.partition_seen.proofs.Lines.{cut_line}
 use Rattle.registry.specs.declared.registry.Replica.{Replica}
 use Rattle.registry.specs.declared.registry.Registry.{Registry}
 use Rattle.registry.specs.Calls.{when}
 use Rattle.plain_log.specs.declared.answer.Answer.{Answer}
-use Rattle.plain_log.specs.declared.answer.Answer.TheVariants.{Down, NotFollower, StaleEpoch, NoLeader, Cut, DiskFault, DiskFaultAt, NotJoined, Level}
+use Rattle.plain_log.specs.declared.answer.Answer.TheVariants.{Down, NotFollower, StaleEpoch, NoLeader, Cut, DiskFault, DiskFaultAt, NotJoined, Level, Moved}
 use Rattle.plain_log.specs.declared.command.Command.TheVariants.{Join, Follow}
 use Rattle.plain_log.specs.declared.state.State.{State}
 use Rattle.plain_log.specs.declared.state.Broker.{Broker}
@@ -25,15 +29,15 @@ use Rattle.plain_log.specs.Safe.{RoleSafe}
 use Rattle.plain_log.proofs.AppendRow.{leads_in_is}
 use Rattle.partition_seen.specs.declared.begun.Begun.{Begun}
 use Rattle.partition_seen.specs.declared.begun.Turned.TheVariants.{Answers, Begins}
-use Rattle.partition_seen.specs.Seen.{Node, Held}
-use Rattle.partition_seen.specs.Held.{broker_of, put_node, torn, the_leader}
-use Rattle.partition_seen.specs.Log.{cut_at}
-use Rattle.partition_seen.specs.Central.{HeldStands, AreTaken, RunStands}
-use Rattle.partition_seen.specs.RowsOfFollowers.{IsStale, IsFresh, IsMeet, cut_node, JoinRow, FollowRow}
+use Rattle.partition_seen.specs.Seen.{Back, Node, Held}
+use Rattle.partition_seen.specs.Held.{broker_of, put_node, back_of, torn, the_leader}
+use Rattle.partition_seen.specs.Central.{HeldStands, AreTaken, RunStands, RebuildStands}
+use Rattle.partition_seen.specs.Sound.{NodeSound}
+use Rattle.partition_seen.specs.RowsOfFollowers.{IsStale, IsFresh, IsMeet, cut_node, cut_back, JoinRow, FollowRow}
 use Rattle.partition_seen.proofs.Meets.{meet_common}
-use Rattle.partition_seen.proofs.BoolTests.{some_of, and_true, not_false, when_true, eq_same, eq_differs, lt_true, lt_false}
+use Rattle.partition_seen.proofs.BoolTests.{some_of, and_true, not_false, when_true, eq_same, eq_differs, le_true, lt_true, lt_false}
 use Rattle.partition_seen.proofs.NodeLaw.{joined_is, none_back, node_cut, torn_below, torn_above, node_torn}
-use Rattle.partition_seen.proofs.Standing.{Standing, Allowed, silent, put, broker_at, wider_self, keeps_self, followed_below}
+use Rattle.partition_seen.proofs.Standing.{Standing, Allowed, Puts, silent, put, broker_at, wider_self, keeps_self, followed_below}
 use Rattle.partition_seen.proofs.OwnRows.{filter_taken}
 
 -- the registry's leader
@@ -61,13 +65,13 @@ leader_as h p st =
     go (Some y) = by (y.up && leads_in h.registry.epoch y.role) y
 
 -- what there is to the leader
-record IsLeading (h : Held) (p : State) (y : Node) : Type 0 where
-  at : slice_get h.nodes h.registry.leader.0 ≡ Some y
-  leads : y.role ≡ Leads h.registry.epoch
-  path : path_of p.paths p.registry.epoch ≡ Some y.log.batches
-  is : leader_of p ≡ Some (broker_of y)
+pub record IsLeading (h : Held) (p : State) (y : Node) : Type 0 where
+  pub at : slice_get h.nodes h.registry.leader.0 ≡ Some y
+  pub leads : y.role ≡ Leads h.registry.epoch
+  pub path : path_of p.paths p.registry.epoch ≡ Some y.log.batches
+  pub is : leader_of p ≡ Some (broker_of y)
 
-leading : (h : Held) (p : State) (b : ℕ) (x : Node) (s : Replica) (y : Node) → Standing h p b x s → the_leader h ≡ Some y → IsLeading h p y
+pub leading : (h : Held) (p : State) (b : ℕ) (x : Node) (s : Replica) (y : Node) → Standing h p b x s → the_leader h ≡ Some y → IsLeading h p y
 leading h p b x s y st e = go (slice_get h.nodes h.registry.leader.0) refl
   where
     both_of : (a c : Bool) (z : Node) → when (a && c) z ≡ Some y → (c ≡ true) × (z ≡ y)
@@ -150,12 +154,23 @@ cut_is h p b x s y m st l w =
     (st.safe.brokers b (broker_of x) (broker_at h p b x st.held st.at)).log (st.safe.brokers h.registry.leader.0 (broker_of y) (broker_at h p h.registry.leader.0 y st.held l.at)).log
     (record { mine_for = mine.line_is; mine_rises = mine.rises; theirs_for = theirs.line_is; theirs_rises = theirs.rises }) w).1
 
+-- that is an end of the follower's log
+pub meet_ends : (h : Held) (p : State) (b : ℕ) (x : Node) (s : Replica) (y : Node) (m : ℕ) → Standing h p b x s → the_leader h ≡ Some y → IsMeet x y m → EndsAt m x.log.batches
+meet_ends h p b x s y m st e w =
+    let l = leading h p b x s y st e in
+    let mine = (st.lines.each b x st.at).sound.log in
+    let theirs = (st.lines.each h.registry.leader.0 y l.at).sound.log in
+    let k = meet_common p.paths x.log.line y.log.line x.log.batches y.log.batches m (λ e log is. (st.safe.paths e log is).log_safe.consecutive)
+    (st.safe.brokers b (broker_of x) (broker_at h p b x st.held st.at)).log (st.safe.brokers h.registry.leader.0 (broker_of y) (broker_at h p h.registry.leader.0 y st.held l.at)).log
+    (record { mine_for = mine.line_is; mine_rises = mine.rises; theirs_for = theirs.line_is; theirs_rises = theirs.rises }) w in
+    (up_to m x.log.batches, up_to_prefix m x.log.batches, ap end_of k.1 ∙ sym k.0)
+
 -- a follower's log that is cut to where it meets its leader's
-record Cuts (h : Held) (p : State) (b : ℕ) (x : Node) (e m n : ℕ) : Type 0 where
-  log : List (List ℕ)
-  is : log ≡ up_to m x.log.batches
-  other : h.registry.leader.0 ≢ b
-  to : cut_to p (broker_of x) n ≡ Some (record (broker_of x) { role = Joined e; log = log; stable = n; known = min x.known n })
+pub record Cuts (h : Held) (p : State) (b : ℕ) (x : Node) (e m n : ℕ) : Type 0 where
+  pub log : List (List ℕ)
+  pub is : log ≡ up_to m x.log.batches
+  pub other : h.registry.leader.0 ≢ b
+  pub to : cut_to p (broker_of x) n ≡ Some (record (broker_of x) { role = Joined e; log = log; stable = n; known = min x.known n })
 
 cuts : (h : Held) (p : State) (b : ℕ) (x : Node) (s : Replica) (y : Node) (e m n : ℕ) → Standing h p b x s → IsLeading h p y → x.up ≡ true
     → followed x.role ≡ Some e → h.registry.epoch ≤ e → IsMeet x y m → n ≡ end_of (up_to m x.log.batches) → Cuts h p b x e m n
@@ -175,14 +190,13 @@ cuts h p b x s y e m n st l up is le w n_is =
       to = rw (is, path) (when_true _ z test);
     }
 
-join_cut : (h : Held) (p : State) (b : ℕ) (x : Node) (s : Replica) (e m n : ℕ) (h' : Held) → Standing h p b x s → x.up ≡ true
-    → Cuts h p b x e m n → n ≡ end_of (up_to m x.log.batches) → h' ≡ put_node h b (cut_node x e m) → Allowed p b x s None Join (Cut n) h'
-join_cut h p b x s e m n h' st up k n_is same =
+pub cut_puts : (h : Held) (p : State) (b : ℕ) (x : Node) (s : Replica) (e m n : ℕ) → Standing h p b x s → x.up ≡ true → (k : Cuts h p b x e m n) → n ≡ end_of (up_to m x.log.batches)
+    → Puts h p (put_broker p b (record (broker_of x) { role = Joined e; log = k.log; stable = n; known = min x.known n })) b x (cut_node x e m)
+cut_puts h p b x s e m n st up k n_is =
     let bx = broker_of x in
-    let z : Broker = record bx { role = Joined e; log = k.log; stable = n; known = min x.known n } in
     let line = (st.lines.each b x st.at) in
     let node = node_cut x e m line.sound up in
-    put h p (put_broker p b z) b x (cut_node x e m) s None Join (Cut n) h' st (ap (option_map (put_broker p b)) k.to) (record {
+    record {
       registry = refl;
       brokers = ap (λ (log : List (List ℕ)). slice_set p.brokers b (record bx { role = Joined e; log = log; stable = n; known = min x.known n })) k.is
           ∙ ap (λ (k : ℕ). slice_set p.brokers b (record bx { role = Joined e; log = up_to m x.log.batches; stable = k; known = min x.known k })) n_is;
@@ -197,65 +211,73 @@ join_cut h p b x s e m n h' st up k n_is same =
       joined = λ f j. node.1;
       leader = λ it. absurd (k.other it);
       followers = λ f. k.other;
-    }) same
+      steady = λ it. absurd (k.other it);
+    }
+
+join_cut : (h : Held) (p : State) (b : ℕ) (x : Node) (s : Replica) (e m n : ℕ) (h' : Held) → Standing h p b x s → x.up ≡ true
+    → Cuts h p b x e m n → n ≡ end_of (up_to m x.log.batches) → h' ≡ put_node h b (cut_node x e m) → Allowed p b x s None Join (Cut n) h'
+join_cut h p b x s e m n h' st up k n_is same =
+    let z : Broker = record (broker_of x) { role = Joined e; log = k.log; stable = n; known = min x.known n } in
+    put h p (put_broker p b z) b x (cut_node x e m) s None Join (Cut n) h' st (ap (option_map (put_broker p b)) k.to) (cut_puts h p b x s e m n st up k n_is) same
 
 -- a cut that failed
 record TearsTo (p : State) (x y : Node) (n : ℕ) : Type 0 where
   is : broker_of y ≡ record (stopped_broker (record (broker_of x) { stable = min x.stable n })) { loose = true }
   lines : AreTaken p.paths p.broken y.log.line
   saved : AreTaken p.paths p.broken y.saved
-  back : (back : ℕ × List (ℕ × ℕ)) → y.loose ≡ Some back → AreTaken p.paths p.broken back.1
+  back : (back : Back) → y.loose ≡ Some back → AreTaken p.paths p.broken back.1
   role : y.role ≡ Idle
 
-tears_to : (p : State) (x : Node) (n : ℕ) (line : List (ℕ × ℕ)) → AreTaken p.paths p.broken x.log.line → AreTaken p.paths p.broken x.saved → AreTaken p.paths p.broken line
-    → TearsTo p x (torn x n line) n
-tears_to p x n line lines saved cut = elim (cases_lt n x.stable) [
+tears_to : (p : State) (x : Node) (back : Back) → AreTaken p.paths p.broken x.log.line → AreTaken p.paths p.broken x.saved → AreTaken p.paths p.broken back.1
+    → TearsTo p x (torn x back) back.0
+tears_to p x back lines saved cut = elim (cases_lt back.0 x.stable) [
   | inl less ↦
-      let low : min x.stable n ≡ n = omega (arith, less) in
-      subst (λ (y : Node). TearsTo p x y n) (sym (torn_below x n line (lt_true n x.stable less))) (record {
+      let low : min x.stable back.0 ≡ back.0 = omega (arith, less) in
+      subst (λ (y : Node). TearsTo p x y back.0) (sym (torn_below x back (lt_true back.0 x.stable less))) (record {
         is = ap (λ (k : ℕ). record (stopped_broker (record (broker_of x) { stable = k })) { loose = true }) (sym low);
         lines = lines;
         saved = cut;
-        back = λ back b. (let one : (x.stable, x.saved) ≡ back = cc (b) in subst (λ (k : ℕ × List (ℕ × ℕ)). AreTaken p.paths p.broken k.1) one saved);
+        back = λ other b. (let one : back_of x ≡ other = cc (b) in subst (λ (k : Back). AreTaken p.paths p.broken k.1) one saved);
         role = refl;
       })
   | inr more ↦
-      let high : min x.stable n ≡ x.stable = omega (arith, more) in
-      subst (λ (y : Node). TearsTo p x y n) (sym (torn_above x n line (lt_false n x.stable more))) (record {
+      let high : min x.stable back.0 ≡ x.stable = omega (arith, more) in
+      subst (λ (y : Node). TearsTo p x y back.0) (sym (torn_above x back (lt_false back.0 x.stable more))) (record {
         is = ap (λ (k : ℕ). record (stopped_broker (record (broker_of x) { stable = k })) { loose = true }) (sym high);
         lines = lines;
         saved = saved;
-        back = λ back b. (let one : (n, line) ≡ back = cc (b) in subst (λ (k : ℕ × List (ℕ × ℕ)). AreTaken p.paths p.broken k.1) one cut);
+        back = λ other b. (let one : back ≡ other = cc (b) in subst (λ (k : Back). AreTaken p.paths p.broken k.1) one cut);
         role = refl;
       })
 ]
 
 join_torn : (h : Held) (p : State) (b : ℕ) (x : Node) (s : Replica) (e m n : ℕ) (h' : Held) → Standing h p b x s
-    → Cuts h p b x e m n → n ≡ end_of (up_to m x.log.batches) → h' ≡ put_node h b (torn x n (cut_at x.log m).line) → Allowed p b x s None Join (DiskFaultAt n) h'
+    → Cuts h p b x e m n → n ≡ end_of (up_to m x.log.batches) → h' ≡ put_node h b (torn x (cut_back x m)) → Allowed p b x s None Join (DiskFaultAt n) h'
 join_torn h p b x s e m n h' st k n_is same =
     let bx = broker_of x in
     let l = st.lines.each b x st.at in
-    let line = (cut_at x.log m).line in
-    let y = torn x n line in
-    let t = tears_to p x n line l.paths_are l.saved_are (filter_taken p.paths p.broken x.log.line (end_of (up_to m x.log.batches)) l.paths_are) in
+    let y = torn x (cut_back x m) in
+    let t = tears_to p x (cut_back x m) l.paths_are l.saved_are (filter_taken p.paths p.broken x.log.line (end_of (up_to m x.log.batches)) l.paths_are) in
     let q = breaks p b (record bx { stable = min x.stable n }) in
     put h p q b x y s None Join (DiskFaultAt n) h' st (ap (option_map (λ (z : Broker). q)) k.to) (record {
       registry = refl;
-      brokers = ap (λ (z : Broker). slice_set p.brokers b z) (sym t.is);
+      brokers = ap (λ (m : ℕ). slice_set p.brokers b (record (stopped_broker (record bx { stable = min x.stable m })) { loose = true })) n_is
+          ∙ ap (λ (z : Broker). slice_set p.brokers b z) (sym t.is);
       actors = refl;
       paths = wider_self p.paths;
       broken = keeps_self p.broken;
       keys = λ other has. has;
-      sound = node_torn x m n l.sound n_is;
+      sound = node_torn x m l.sound;
       paths_are = λ safe. t.lines;
       saved_are = λ safe. t.saved;
       back_are = λ safe. t.back;
       joined = λ f j. absurd (let no : Idle ≡ Joined f = sym t.role ∙ j in cc);
       leader = λ it. absurd (k.other it);
       followers = λ f. k.other;
+      steady = λ it. absurd (k.other it);
     }) same
 
-pub join_allowed : (h : Held) (p : State) (b : ℕ) (x : Node) (s : Replica) (answer : Answer) (h' : Held) → Standing h p b x s → JoinRow h b x answer h' → Allowed p b x s None Join answer h'
+pub join_allowed : (h : Held) (p : State) (b : ℕ) (x : Node) (s : Replica) (answer : Answer) (h' : Held) → Standing h p b x s → JoinRow h b x (Answers answer) h' → Allowed p b x s None Join answer h'
 join_allowed h p b x s Down h' st w = silent h p b x s None Join Down h' st (rw w.0 refl) w.1
 join_allowed h p b x s NotFollower h' st w = silent h p b x s None Join NotFollower h' st (rw (w.0, w.1) refl) w.2
 join_allowed h p b x s (StaleEpoch n) h' st w =
@@ -268,7 +290,7 @@ join_allowed h p b x s (Cut n) h' st w =
     let k = y.2 in
     let one : o.0 ≡ k.0 = cc (o.1, k.2) in
     let cut = cuts h p b x s y.0 k.0 k.1 n st (leading h p b x s y.0 st y.1) w.0 k.2 (omega (arith, o.2, one)) k.3 k.4 in
-    join_cut h p b x s k.0 k.1 n h' st w.0 cut k.4 k.5
+    join_cut h p b x s k.0 k.1 n h' st w.0 cut k.4 k.6
 join_allowed h p b x s (DiskFaultAt n) h' st w =
     let y = some_of _ (the_leader h) w.2 in
     let o = fresh_of h (followed x.role) w.1 in
@@ -277,6 +299,69 @@ join_allowed h p b x s (DiskFaultAt n) h' st w =
     let cut = cuts h p b x s y.0 k.0 k.1 n st (leading h p b x s y.0 st y.1) w.0 k.2 (omega (arith, o.2, one)) k.3 k.4 in
     join_torn h p b x s k.0 k.1 n h' st cut k.4 k.5
 join_allowed h p b x s other h' st w = elim w [ ]
+
+-- a join that goes on after the cut
+pub record JoinStarts (h : Held) (p : State) (b : ℕ) (x : Node) (s : Replica) (g : Begun) (h' : Held) : Type 0 where
+  pub broker : Broker
+  pub node : Node
+  pub is : begins p (broker_of x) Join (Some g.end) ≡ Some broker
+  pub stops : g.stops ≡ broker.stops
+  pub role : g.role ≡ broker.role
+  pub end : g.end ≡ end_of broker.log
+  pub start : g.start ≡ p.registry.start
+  pub puts : Puts h p (put_broker p b broker) b x node
+  pub after : h' ≡ put_node h b node
+  pub rebuild : RebuildStands (put_broker p b broker) g
+
+pub join_starts : (h : Held) (p : State) (b : ℕ) (x : Node) (s : Replica) (g : Begun) (h' : Held) → Standing h p b x s → JoinRow h b x (Begins g) h' → JoinStarts h p b x s g h'
+join_starts h p b x s g h' st w =
+    let y = some_of _ (the_leader h) w.2 in
+    let o = fresh_of h (followed x.role) w.1 in
+    let k = y.2 in
+    let wants = k.4 in
+    let one : o.0 ≡ k.0 = cc (o.1, k.2) in
+    let le : h.registry.epoch ≤ k.0 = omega (arith, o.2, one) in
+    let l = leading h p b x s y.0 st y.1 in
+    let cut = cuts h p b x s y.0 k.0 k.1 g.end st l w.0 k.2 le k.3 wants.end in
+    let now_is = now h p b x s k.0 st k.2 le in
+    let their = (st.lines.each h.registry.leader.0 y.0 l.at).sound in
+    let z : Broker = record (broker_of x) { role = Joined k.0; log = cut.log; stable = g.end; known = min x.known g.end } in
+    record {
+      broker = z;
+      node = cut_node x k.0 k.1;
+      is = cut.to;
+      stops = wants.stops;
+      role = wants.role;
+      end = wants.end ∙ ap end_of (sym cut.is);
+      start = wants.start ∙ ap (λ (r : Registry). r.start) (sym st.held.registry);
+      puts = cut_puts h p b x s k.0 k.1 g.end st w.0 cut wants.end;
+      after = k.5;
+      rebuild = record {
+        epoch = k.0;
+        role = wants.role;
+        path = y.0.log.batches;
+        path_is = ap (path_of p.paths) now_is.plain ∙ l.path;
+        ends = subst (λ (n : ℕ). EndsAt n y.0.log.batches) (sym wants.wanted) their.begins;
+        line = wants.line ∙ line_there y.0 their g.wanted (subst (λ (n : ℕ). EndsAt n y.0.log.batches) (sym wants.wanted) their.begins);
+        above = wants.above;
+        leader = λ same v at. stable_of y.0 l their wants.wanted z v (
+            ap (λ (n : ℕ). slice_get (slice_set p.brokers b z) n) (ap (λ (r : Registry). r.leader.0) (sym st.held.registry)) ∙ at
+            ) now_is.other;
+      };
+    }
+  where
+    line_there : (y : Node) → NodeSound y → (n : ℕ) → EndsAt n y.log.batches → cut_end y.log.line n ≡ line_of (up_to n y.log.batches)
+    line_there y their n ends =
+        ap (cut_end y.log.line) (sym (up_to_end n y.log.batches their.log.consecutive ends))
+        ∙ cut_line y.log.line (up_to n y.log.batches) y.log.batches their.log.consecutive their.log.line_is (up_to_prefix n y.log.batches)
+
+    stable_of : (y : Node) → IsLeading h p y → NodeSound y → g.wanted ≡ y.local → (z v : Broker) → slice_get (slice_set p.brokers b z) h.registry.leader.0 ≡ Some v → h.registry.leader.0 ≢ b → g.wanted ≤ v.stable
+    stable_of y l their is z v at other = elim (get-set p.brokers b z h.registry.leader.0 v at) [
+      | inl one ↦ absurd (other one.0)
+      | inr rest ↦
+          let same : broker_of y ≡ v = cc (broker_at h p h.registry.leader.0 y st.held l.at, rest.1) in
+          subst (λ (k : Broker). g.wanted ≤ k.stable) same (omega (arith, is, their.within))
+    ]
 
 -- follow, first turn
 
@@ -320,10 +405,19 @@ follow_allowed h p b x s limit Level h' st w =
     let low = prefix_end x.log.batches y.0.log.batches (st.lines.each h.registry.leader.0 y.0 l.at).sound.log.consecutive front in
     let ends : end_of x.log.batches ≡ leader_end p = omega (arith, low, y.2, leader_ends h p y.0 l) in
     silent h p b x s None (Follow limit) Level h' st (when_true _ p (and_true _ _ (follow_true h p x y.0 st.held l w.0 w.1) (eq_same _ _ ends))) w.3
+follow_allowed h p b x s limit (Moved n) h' st w =
+    let y = some_of _ (the_leader h) w.2 in
+    let l = leading h p b x s y.0 st y.1 in
+    let ends = leader_ends h p y.0 l in
+    let their = (st.lines.each h.registry.leader.0 y.0 l.at).sound in
+    let high = ends_below y.0.local y.0.log.batches their.log.consecutive their.begins in
+    let differs : end_of x.log.batches ≢ leader_end p = λ e. omega (arith, e, y.2.0, ends) in
+    silent h p b x s None (Follow limit) (Moved n) h' st (when_true _ p (and_true _ _ (and_true _ _ (and_true _ _ (follow_true h p x y.0 st.held l w.0 w.1) (not_false _ (eq_differs _ _ differs)))
+    (lt_true (end_of x.log.batches) n (omega (arith, y.2.1, y.2.2)))) (le_true n (leader_end p) (omega (arith, y.2.2, high, ends))))) w.3
 follow_allowed h p b x s limit DiskFault h' st w =
     let y = some_of _ (the_leader h) w.2 in
     let l = leading h p b x s y.0 st y.1 in
-    let differs : end_of x.log.batches ≢ leader_end p = λ e. omega (arith, e, y.2, leader_ends h p y.0 l) in
+    let differs : end_of x.log.batches ≢ leader_end p = λ e. omega (arith, e, y.2.0, leader_ends h p y.0 l) in
     silent h p b x s None (Follow limit) DiskFault h' st (when_true _ p (and_true _ _ (follow_true h p x y.0 st.held l w.0 w.1) (not_false _ (eq_differs _ _ differs)))) w.3
 follow_allowed h p b x s limit other h' st w = elim w [ ]
 
@@ -354,7 +448,7 @@ follow_starts h p b x s limit g h' st w =
     let k = now h p b x s o.0 st (joined_followed x.role o.0 o.1) o.2 in
     let front = begins_leader h p b x s y.0 o.0 st l o.1 o.2 in
     let log = (st.lines.each h.registry.leader.0 y.0 l.at).sound.log in
-    let takes = y.2.1 in
+    let takes = y.2.2 in
     let run = takes.run in
     let ends : EndsAt g.end y.0.log.batches = (x.log.batches, front, sym takes.end) in
     let at = up_to_end g.end y.0.log.batches log.consecutive ends in

@@ -28,6 +28,8 @@ leader_sound = record {
   known = ends_at_zero [];
   saved = inr (0, refl);
   saved_rises = (omega arith, omega arith, tt, tt);
+  begins = ends_at_zero [];
+  within = omega arith;
   back = λ back is. absurd cc;
   tight = λ up. refl;
   leads = λ e is. (let same : 0 ≡ e = cc (is) in ap Some same);
@@ -41,6 +43,8 @@ follower_sound = record {
   known = ends_at_zero [];
   saved = inl refl;
   saved_rises = tt;
+  begins = ends_at_zero [];
+  within = omega arith;
   back = λ back is. absurd cc;
   tight = λ up. refl;
   leads = λ e is. absurd (cc (is));

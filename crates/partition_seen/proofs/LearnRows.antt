@@ -1,5 +1,5 @@
 -- The rows of a broker that acknowledges, or learns of an election, are the plain log's.
-use Rattle.std.proofs.Common.{◌≡◌, inl, inr, ◌∙◌, sym, ap, subst, refl, ℕ, ◌+◌, ◌^◌, ◌<◌, ◌≤◌, ◌==◌, List, [], ◌∷◌, ◌++◌, slice_get, slice_set, Some, None, Option, Ok as Done, Err, Bool, true, false, not, ◌&&◌, min, arith}
+use Rattle.std.proofs.Common.{◌≡◌, inl, inr, ◌∙◌, sym, ap, subst, refl, ℕ, ◌^◌, ◌<◌, ◌≤◌, ◌==◌, List, [], ◌∷◌, ◌++◌, slice_get, slice_set, Some, None, Option, Ok as Done, Err, Bool, true, false, not, ◌&&◌, min, arith}
 use Rattle.std.specs.Prelude.{is_some, map, option_map, if◌then◌else◌}
 use Rattle.std.specs.List.{AllByRecursion}
 use Rattle.std.proofs.lemmas.Bool.{cases_lt}
@@ -7,10 +7,9 @@ use Rattle.std.proofs.lemmas.Bool.Decides.{nat_tests}
 use Rattle.std.proofs.lemmas.List.Elements.{All-from_recursion, recursion_from_All}
 use mathlib.Core.List.{IsPrefix}
 use Rattle.log_terms.specs.Line.{line_of}
-use Rattle.log_terms.specs.Batch.{last_of}
-use Rattle.log_terms.specs.Log.{IsConsecutive, end_from, end_of, up_to, EndsAt}
+use Rattle.log_terms.specs.Log.{IsConsecutive, end_of, up_to, EndsAt}
 use Rattle.log_terms.proofs.Lists.{prefix_self}
-use Rattle.log_terms.proofs.Logs.{end_above, consecutive_prefix, up_to_prefix, up_to_end, nested}
+use Rattle.log_terms.proofs.Logs.{up_to_prefix, nested, ends_below}
 use Rattle.epoch_line.specs.Line.{last_entry, last_epoch, assign}
 use Rattle.registry.specs.declared.registry.Replica.{Replica}
 use Rattle.registry.specs.declared.registry.Registry.{Registry}
@@ -33,33 +32,24 @@ use Rattle.plain_log.specs.Safe.{Has, RoleSafe, PlainSafe}
 use Rattle.plain_log.proofs.Options.{when_some, both, eq_of, not_true}
 use Rattle.plain_log.proofs.Wider.{Wider}
 use Rattle.plain_log.proofs.StepLaw.{row_keeps}
-use Rattle.partition_seen.specs.Seen.{Node, Held}
+use Rattle.partition_seen.specs.Seen.{Back, Node, Held}
 use Rattle.partition_seen.specs.Held.{broker_of, put_node, broken}
 use Rattle.partition_seen.specs.Central.{HeldStands, was_taken, AreTaken, LinesStand}
 use Rattle.partition_seen.specs.RowsOfElections.{IsKnown, IsNew, led, LearnRow, acked, AckRow}
 use Rattle.partition_seen.proofs.Lines.{by_last, assign_line}
-use Rattle.partition_seen.proofs.BoolTests.{some_of, and_true, not_false, when_true, eq_same, eq_differs, lt_true}
+use Rattle.partition_seen.proofs.BoolTests.{some_of, and_true, not_false, when_true, eq_same, eq_differs}
 use Rattle.partition_seen.proofs.NodeLaw.{none_back, node_told, node_follows, node_led, lead_back, node_broken}
 use Rattle.partition_seen.proofs.RegistryLaw.{Moves, ack_moves}
-use Rattle.partition_seen.proofs.Standing.{Standing, Allowed, LogsSafe, Keeps, silent, put, leaves, get_put, broker_at, map_set, wider_self, keeps_self, path_taken, broken_taken, by_taken, line_wide, log_taken, lines_put, lines_same}
+use Rattle.partition_seen.proofs.Standing.{Standing, Allowed, LogsSafe, Keeps, silent, put, leaves, get_put, broker_at, map_set, wider_self, keeps_self, path_taken, broken_taken, by_taken, line_wide, log_taken, lines_put, lines_same, steady_set}
 use Rattle.partition_seen.proofs.ElectionRows.{replica_is}
 
 -- ack
 
--- a log that ends at or below an offset is all up to it
-up_to_all : (n m : ℕ) (log : List (List ℕ)) → IsConsecutive n log → end_from n log ≤ m → up_to m log ≡ log
-up_to_all n m [] c le = refl
-up_to_all n m (x ∷ xs) c le =
-    let above = end_above (last_of x + 1) xs c.1 in
-    rw (lt_true (last_of x) m (omega (arith, above, le))) (ap (λ (l : List (List ℕ)). x ∷ l) (up_to_all (last_of x + 1) m xs c.1 le))
-
--- how far a beginning of a log goes up to an end of the log
-told_is : (m : ℕ) (log path : List (List ℕ)) → IsConsecutive 0 path → IsPrefix log path → EndsAt m path → end_of (up_to m log) ≡ min m (end_of log)
-told_is m log path c p h = elim (cases_lt (end_of log) m) [
-  | inl less ↦ ap end_of (up_to_all 0 m log (consecutive_prefix 0 log path p c) (omega (arith, less))) ∙ omega (arith, less)
-  | inr more ↦
-      let q = nested 0 h.0 log path c h.1 p (omega (arith, h.2, more)) in
-      up_to_end m log (consecutive_prefix 0 log path p c) (h.0, q, h.2) ∙ omega (arith, more)
+-- as much of an end of a path as a beginning of the path has is an end of that beginning
+told_at : (m : ℕ) (log path : List (List ℕ)) → IsConsecutive 0 path → IsPrefix log path → EndsAt m path → EndsAt (min m (end_of log)) log
+told_at m log path c p h = elim (cases_lt (end_of log) m) [
+  | inl less ↦ (log, prefix_self log, omega (arith, less))
+  | inr more ↦ (h.0, nested 0 h.0 log path c h.1 p (omega (arith, h.2, more)), h.2 ∙ omega (arith, more))
 ]
 
 -- a broker that may acknowledge has a path of the registry's epoch, which its log begins
@@ -133,28 +123,28 @@ ack_given h p b x s e mark h' st w =
     let is : row p b (broker_of x) s None Ack (OkAt mark) ≡ Some q = rw path.1 (when_true _ q test) in
     let after = (row_keeps p b (broker_of x) s None Ack (OkAt mark) q bx st.replica tt is st.safe).safe in
     let ends : EndsAt r.mark path.0 = (up_to r.mark path.0, up_to_prefix r.mark path.0, after.marks.ends) in
-    let told = told_is r.mark x.log.batches path.0 (st.safe.paths p.registry.epoch path.0 path.1).log_safe.consecutive path.2 ends in
-    let y : Node = record x { known = end_of (up_to r.mark x.log.batches) } in
+    let told = told_at r.mark x.log.batches path.0 (st.safe.paths p.registry.epoch path.0 path.1).log_safe.consecutive path.2 ends in
+    let y : Node = record x { known = min r.mark (end_of x.log.batches) } in
     let l = st.lines.each b x st.at in
     let put : LinesStand (put_node h b y) p.paths p.broken = lines_put h p.paths p.paths p.broken p.broken b y st.lines (wider_self p.paths) (keeps_self p.broken) (λ other has. has)
-    (record { sound = node_told x r.mark l.sound w.up; paths_are = l.paths_are; saved_are = l.saved_are; back_are = l.back_are; joined = l.joined })
+    (record { sound = node_told x (min r.mark (end_of x.log.batches)) l.sound w.up told; paths_are = l.paths_are; saved_are = l.saved_are; back_are = l.back_are; joined = l.joined })
     (λ it has. st.lines.leader x (ap (λ (c : ℕ). slice_get h.nodes c) it ∙ st.at) has) (λ f. st.lines.followers b x st.at f) in
     record {
       state = q;
       is = is;
       registry = ap (λ (k : Held). k.registry) (sym w.after);
       brokers = ap (λ (k : List Broker). slice_set k b (record (broker_of x) { known = min r.mark (end_of x.log.batches) })) st.held.brokers
-          ∙ (ap (λ (m : ℕ). slice_set (map broker_of h.nodes) b (record (broker_of x) { known = m })) (sym told)
-          ∙ (sym (map_set broker_of h.nodes b y) ∙ ap (λ (k : Held). map broker_of k.nodes) (sym w.after)));
+          ∙ (sym (map_set broker_of h.nodes b y) ∙ ap (λ (k : Held). map broker_of k.nodes) (sym w.after));
       actors = refl;
       paths = wider_self p.paths;
       lines = λ _. subst (λ (k : Held). LinesStand k p.paths p.broken) (sym w.after) (same put);
+      steady = steady_set p q b (broker_of x) (record (broker_of x) { known = min r.mark (end_of x.log.batches) }) bx refl refl refl (λ it. omega arith);
     }
   where
-    same : LinesStand (put_node h b (record x { known = end_of (up_to (with_ack p.registry b s x.stable).mark x.log.batches) })) p.paths p.broken
+    same : LinesStand (put_node h b (record x { known = min (with_ack p.registry b s x.stable).mark (end_of x.log.batches) })) p.paths p.broken
         → LinesStand (acked h b x (with_ack p.registry b s x.stable)) p.paths p.broken
     same l = elim w.moves.epoch [
-      | inl k ↦ lines_same (put_node h b (record x { known = end_of (up_to (with_ack p.registry b s x.stable).mark x.log.batches) })) p.paths p.broken (with_ack p.registry b s x.stable) l k
+      | inl k ↦ lines_same (put_node h b (record x { known = min (with_ack p.registry b s x.stable).mark (end_of x.log.batches) })) p.paths p.broken (with_ack p.registry b s x.stable) l k
       | inr k ↦ absurd (omega (arith, k.epoch, ap (λ (q : Registry). q.epoch) st.held.registry))
     ]
 
@@ -283,8 +273,9 @@ learn_leads h p b x s n h' st w =
     when_true _ q (and_true _ _ (and_true _ _ (learns_true h p x n st.held w.0 w.1 w.3) leader) (not_false _ free)) in
     let after = (row_keeps p b (broker_of x) s None Learn (Leads n) q bx st.replica tt is st.safe).safe in
     let z = after.brokers b (record (broker_of x) { role = LeadsIn n; stable = end_of x.log.batches; known = p.registry.mark }) (get_put p.brokers b (broker_of x) _ bx) in
-    let mark : end_of (up_to h.registry.mark x.log.batches) ≡ p.registry.mark =
-    ap (λ (k : Registry). end_of (up_to k.mark x.log.batches)) (sym reg) ∙ up_to_end p.registry.mark x.log.batches l.sound.log.consecutive z.known in
+    let high = ends_below p.registry.mark x.log.batches l.sound.log.consecutive z.known in
+    let mark : min h.registry.mark (end_of x.log.batches) ≡ p.registry.mark =
+    ap (λ (k : Registry). min k.mark (end_of x.log.batches)) (sym reg) ∙ omega (arith, high) in
     let epoch : h.registry.epoch < 2 ^ 31 = small p.registry.epoch h.registry.epoch epoch_limit st.safe.marks.epoch (ap (λ (k : Registry). k.epoch) reg) refl in
     let line = assign_line x.log.line x.log.batches n l.sound.log.consecutive l.sound.log.line_is in
     let paths : LogsSafe q → AreTaken q.paths p.broken (led h x n).log.line = λ safe.
@@ -300,13 +291,14 @@ learn_leads h p b x s n h' st w =
       paths = path_new p n x.log.batches free;
       broken = keeps_self p.broken;
       keys = λ other. absurd (other w.2);
-      sound = node_led h x n l.sound w.0 w.4 (subst (λ (k : ℕ). k < 2 ^ 31) (sym w.3) epoch);
+      sound = node_led h x n l.sound w.0 w.4 (subst (λ (k : ℕ). k < 2 ^ 31) (sym w.3) epoch) (subst (λ (k : ℕ). EndsAt k x.log.batches) (sym mark) z.known);
       paths_are = paths;
       saved_are = paths;
       back_are = λ safe back b. absurd (none_back x back l.sound w.0 b);
       joined = λ e j. absurd cc;
-      leader = λ it has. (end_of x.log.batches, last, last, omega arith, λ back b. absurd (none_back x back l.sound w.0 b));
+      leader = λ it has. (end_of x.log.batches, last, last, omega arith, λ back b. absurd (none_back x back l.sound w.0 b), subst (λ (k : ℕ). Has q.paths k x.log.batches) w.3 (x.log.batches, new_path p.paths n x.log.batches, prefix_self x.log.batches));
       followers = λ f. absurd cc;
+      steady = λ it. ends_below x.stable x.log.batches l.sound.log.consecutive l.sound.stable;
     }) w.5
 
 -- the taking of a lead that broke off
@@ -331,22 +323,23 @@ learn_breaks h p b x s h' st w =
     let now : was_taken p.paths (m ∷ p.broken) n ≡ true = broken_taken p.paths (m ∷ p.broken) n (rw (eq_same m n same) refl) in
     let taken : AreTaken p.paths (m ∷ p.broken) line =
     led_taken p.paths (m ∷ p.broken) line x.log.batches n end line_is (log_taken p.paths (m ∷ p.broken) x.log.batches (st.safe.brokers b (broker_of x) bx).log) now in
-    put h p q b x (broken x end line) s None Learn DiskFault h' st is (record {
+    put h p q b x (broken x (end, line, x.local)) s None Learn DiskFault h' st is (record {
       registry = refl;
       brokers = refl;
       actors = refl;
       paths = wider_self p.paths;
       broken = keeps;
       keys = λ other has. has;
-      sound = node_broken x end line l.sound (lead_back x n l.sound w.3 fits);
+      sound = node_broken x (end, line, x.local) l.sound (lead_back x n l.sound w.3 fits);
       paths_are = λ safe. line_wide p.paths p.paths p.broken (m ∷ p.broken) x.log.line (wider_self p.paths) keeps l.paths_are;
       saved_are = λ safe. line_wide p.paths p.paths p.broken (m ∷ p.broken) x.saved (wider_self p.paths) keeps l.saved_are;
-      back_are = λ safe back e. (let one : (end, line) ≡ back = cc (e) in subst (λ (k : ℕ × List (ℕ × ℕ)). AreTaken p.paths (m ∷ p.broken) k.1) one taken);
+      back_are = λ safe back e. (let one : (end, line, x.local) ≡ back = cc (e) in subst (λ (k : Back). AreTaken p.paths (m ∷ p.broken) k.1) one taken);
       joined = λ e j. absurd cc;
       leader = λ it has.
           let had : is_some (path_of p.paths m) ≡ true = subst (λ (k : ℕ). is_some (path_of p.paths k) ≡ true) (sym same) has in
           absurd (let no : true ≡ false = sym had ∙ free in cc);
       followers = λ f. absurd cc;
+      steady = λ it. omega arith;
     }) w.4
   where
     new_at : (x : Node) (n m : ℕ) → n ≡ m → IsNew x n → IsNew x m
@@ -378,6 +371,7 @@ learn_follows h p b x s n h' st w =
       joined = λ e j. absurd cc;
       leader = λ it. absurd (w.2 it);
       followers = λ f. w.2;
+      steady = λ it. omega arith;
     }) w.4
 
 pub learn_allowed : (h : Held) (p : State) (b : ℕ) (x : Node) (s : Replica) (answer : Answer) (h' : Held) → Standing h p b x s → LearnRow h b x answer h' → Allowed p b x s None Learn answer h'

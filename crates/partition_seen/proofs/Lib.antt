@@ -11,18 +11,19 @@ pub mod NodeLaw
 pub mod SoundLaw
 pub mod Lists
 pub mod FreshSound
-pub mod WorldSound
 pub mod LaterLaw
 pub mod Chains
 pub mod Standing
 mod BreakRows
 mod OwnRows
 mod ElectionRows
-mod LearnRows
-mod FollowRows
+pub mod LearnRows
+pub mod FollowRows
 mod FollowOnRows
-mod TurnRows
+pub mod TurnRows
 pub mod SeatLaw
 pub mod CentralLaw
 mod ReachesLaw
 pub mod CompleteLaw
+pub mod RebuildRows
+pub mod TrimRows

@@ -1,5 +1,5 @@
 -- The line of a log goes on through all that is done to the log, and says in which epoch each of its offsets was appended.
-use Rattle.std.proofs.Common.{◌≡◌, ◌≢◌, ◌⊎◌, inl, inr, ◌∙◌, sym, ap, subst, refl, ℕ, ◌+◌, ◌^◌, ◌<◌, ◌≤◌, ◌==◌, List, [], ◌∷◌, ◌++◌, Some, None, Option, Bool, true, false, arith, append-nil}
+use Rattle.std.proofs.Common.{◌≡◌, ◌≢◌, ◌⊎◌, inl, inr, ◌∙◌, sym, ap, subst, refl, ℕ, ◌+◌, ◌^◌, ◌<◌, ◌≤◌, ◌==◌, List, [], ◌∷◌, ◌++◌, Some, None, Option, Bool, true, false, arith, append-nil, append_assoc}
 use Rattle.std.specs.Prelude.{nat_lt}
 use Rattle.std.specs.Option.{ForSome}
 use Rattle.std.specs.List.{All, AllByRecursion}
@@ -9,9 +9,10 @@ use Rattle.std.proofs.lemmas.List.Elements.{filter-append, recursion_from_All}
 use mathlib.Core.List.{IsPrefix}
 use Rattle.log_terms.specs.Batch.{base_of, epoch_of, last_of}
 use Rattle.log_terms.specs.Line.{line_of, line_after, epoch_at, epoch_holding}
-use Rattle.log_terms.specs.Log.{IsConsecutive, end_from, end_of, up_to}
-use Rattle.log_terms.proofs.Logs.{end_above, end_append, consecutive_prefix, up_to_prefix}
-use Rattle.epoch_line.specs.Line.{IsLine, last_epoch, assign, cut_end}
+use Rattle.log_terms.specs.Log.{EndsAt, IsConsecutive, end_from, end_of, up_to}
+use Rattle.log_terms.proofs.Lists.{prefix_self}
+use Rattle.log_terms.proofs.Logs.{end_above, end_append, consecutive_prefix, up_to_prefix, up_to_end, up_to_is, ends_below}
+use Rattle.epoch_line.specs.Line.{IsLine, last_epoch, last_entry, assign, cut_end}
 use Rattle.epoch_line.proofs.Parts.{IsLine-filter, IsLine-assign}
 use Rattle.epoch_line.proofs.Diverging.{epoch_at-front}
 use Rattle.partition_seen.specs.Log.{IsLineFor, MayTake, entered}
@@ -361,3 +362,110 @@ line_at line log offset c (inl is) rises high = ap (λ (l : List (ℕ × ℕ)). 
 line_at line log offset c (inr h) rises high =
     ap (λ (l : List (ℕ × ℕ)). epoch_at l offset) h.1
     ∙ (epoch_at-front (line_of log) (h.0, end_of log) offset (subst IsLine h.1 rises) high ∙ own_at log offset c high)
+
+-- a line that is cut twice
+
+cut_less : (line : List (ℕ × ℕ)) (a b : ℕ) → b ≤ a → cut_end (cut_end line b) a ≡ cut_end line b
+cut_less [] a b le = refl
+cut_less (x ∷ xs) a b le = elim (cases_lt x.1 b) [
+  | inl lt ↦ rw (lt-ltb x.1 b lt, lt-ltb x.1 a (omega (arith, lt, le))) (ap (λ (l : List (ℕ × ℕ)). x ∷ l) (cut_less xs a b le))
+  | inr ge ↦ rw (le-ltb x.1 b ge) (cut_less xs a b le)
+]
+
+cut_more : (line : List (ℕ × ℕ)) (a b : ℕ) → b ≤ a → cut_end (cut_end line a) b ≡ cut_end line b
+cut_more [] a b le = refl
+cut_more (x ∷ xs) a b le = elim (cases_lt x.1 b) [
+  | inl lt ↦ rw (lt-ltb x.1 a (omega (arith, lt, le)), lt-ltb x.1 b lt) (ap (λ (l : List (ℕ × ℕ)). x ∷ l) (cut_more xs a b le))
+  | inr ge ↦ elim (cases_lt x.1 a) [
+    | inl lt ↦ rw (lt-ltb x.1 a lt, le-ltb x.1 b ge) (cut_more xs a b le)
+    | inr past ↦ rw (le-ltb x.1 a past, le-ltb x.1 b ge) (cut_more xs a b le)
+  ]
+]
+
+-- the line of a log has what starts at its end or before
+pub own_cut : (front : List (List ℕ)) → IsConsecutive 0 front → cut_end (line_of front) (end_of front + 1) ≡ line_of front
+own_cut front c =
+    let nil = append-nil front in
+    let own : cut_end (line_of front) (end_of front) ≡ line_of front =
+    ap (λ (l : List (List ℕ)). cut_end (line_of l) (end_of front)) (sym nil) ∙ cut_front front [] (subst (IsConsecutive 0) (sym nil) c) in
+    ap (λ (l : List (ℕ × ℕ)). cut_end l (end_of front + 1)) (sym own) ∙ (cut_less (line_of front) (end_of front + 1) (end_of front) (omega arith) ∙ own)
+
+-- an entry that starts there stays
+pushed_cut : (line : List (ℕ × ℕ)) (e n : ℕ) → cut_end line (n + 1) ≡ line → cut_end (line ++ (e, n) ∷ []) (n + 1) ≡ line ++ (e, n) ∷ []
+pushed_cut line e n is =
+    filter-append (λ (entry : ℕ × ℕ). nat_lt entry.1 (n + 1)) line ((e, n) ∷ [])
+    ∙ (ap (λ (l : List (ℕ × ℕ)). l ++ cut_end ((e, n) ∷ []) (n + 1)) is ∙ ap (λ (l : List (ℕ × ℕ)). line ++ l) (rw (lt-ltb n (n + 1) (omega arith)) refl))
+
+-- one more batch, and what starts where it begins or before
+next_cut : (front : List (List ℕ)) (b : List ℕ) → IsConsecutive 0 front → base_of b ≡ end_of front → IsLineFor (cut_end (line_of (front ++ b ∷ [])) (end_of front + 1)) front
+next_cut front b c base = elim (by_last (line_of front)) [
+  | inl none ↦ differs (λ h. absurd (cc (h, none)))
+  | inr some ↦ elim (cases_eq some.0 (epoch_of b)) [
+    | inl same ↦
+        let last : last_epoch (line_of front) ≡ Some (epoch_of b) = some.1 ∙ ap (λ (k : ℕ). Some k) same in
+        inl (ap (λ (l : List (ℕ × ℕ)). cut_end l (end_of front + 1)) (line_same front (epoch_of b) (b ∷ []) last (refl, tt)) ∙ own_cut front c)
+    | inr other ↦ differs (λ h. other (cc (h, some.1)))
+  ]
+]
+  where
+    differs : (last_epoch (line_of front) ≡ Some (epoch_of b) → ⊥) → IsLineFor (cut_end (line_of (front ++ b ∷ [])) (end_of front + 1)) front
+    differs ne = inr (
+      epoch_of b,
+      ap (λ (l : List (ℕ × ℕ)). cut_end l (end_of front + 1)) (line_more front (epoch_of b) b [] base refl tt ne) ∙ pushed_cut (line_of front) (epoch_of b) (end_of front) (own_cut front c),
+    )
+
+kept_own : (front rest : List (List ℕ)) → IsConsecutive 0 (front ++ rest) → IsLineFor (cut_end (line_of (front ++ rest)) (end_of front + 1)) front
+kept_own front [] c =
+    let nil = append-nil front in
+    inl (ap (λ (l : List (List ℕ)). cut_end (line_of l) (end_of front + 1)) nil ∙ own_cut front (subst (IsConsecutive 0) nil c))
+kept_own front (b ∷ more) c =
+    let back = consecutive_back 0 front (b ∷ more) c in
+    let one : (front ++ b ∷ []) ++ more ≡ front ++ b ∷ more = append_assoc front (b ∷ []) more in
+    let end : end_of (front ++ b ∷ []) ≡ last_of b + 1 = end_append 0 front (b ∷ []) in
+    let cut : cut_end (line_of (front ++ b ∷ more)) (end_of (front ++ b ∷ [])) ≡ line_of (front ++ b ∷ []) =
+    ap (λ (l : List (List ℕ)). cut_end (line_of l) (end_of (front ++ b ∷ []))) (sym one) ∙ cut_front (front ++ b ∷ []) more (subst (IsConsecutive 0) (sym one) c) in
+    let same : cut_end (line_of (front ++ b ∷ more)) (end_of front + 1) ≡ cut_end (line_of (front ++ b ∷ [])) (end_of front + 1) =
+    sym (cut_more (line_of (front ++ b ∷ more)) (end_of (front ++ b ∷ [])) (end_of front + 1) (omega (arith, end, back.0)))
+    ∙ ap (λ (l : List (ℕ × ℕ)). cut_end l (end_of front + 1)) cut in
+    subst (λ (l : List (ℕ × ℕ)). IsLineFor l front) (sym same) (next_cut front b (consecutive_prefix 0 front (front ++ b ∷ more) (b ∷ more, refl) c) back.0)
+
+-- the line of what is up to an end of the log, with an epoch that starts where that ends
+pub kept_line_for : (line : List (ℕ × ℕ)) (log : List (List ℕ)) (n : ℕ) → IsConsecutive 0 log → IsLineFor line log → EndsAt n log → IsLineFor (cut_end line (n + 1)) (up_to n log)
+kept_line_for line log n c h ends =
+    let front = up_to n log in
+    let p = up_to_prefix n log in
+    let end : end_of front ≡ n = up_to_end n log c ends in
+    let own : IsLineFor (cut_end (line_of log) (n + 1)) front =
+    subst (λ (k : ℕ). IsLineFor (cut_end (line_of log) (k + 1)) front) end
+    (subst (λ (l : List (List ℕ)). IsLineFor (cut_end (line_of l) (end_of front + 1)) front) p.1 (kept_own front p.0 (subst (IsConsecutive 0) (sym p.1) c))) in
+    by h own
+  where
+    by : IsLineFor line log → IsLineFor (cut_end (line_of log) (n + 1)) (up_to n log) → IsLineFor (cut_end line (n + 1)) (up_to n log)
+    by (inl is) own = subst (λ (l : List (ℕ × ℕ)). IsLineFor (cut_end l (n + 1)) (up_to n log)) (sym is) own
+    by (inr k) own = elim (cases_lt n (end_of log)) [
+      | inl below ↦
+          subst (λ (l : List (ℕ × ℕ)). IsLineFor l (up_to n log)) (sym (ap (λ (l : List (ℕ × ℕ)). cut_end l (n + 1)) k.1 ∙ cut_past (line_of log) k.0 (end_of log) (n + 1) (omega (arith, below)))) own
+      | inr past ↦
+          let high = ends_below n log c ends in
+          let is : end_of log ≡ n = omega (arith, past, high) in
+          let all : up_to n log ≡ log = up_to_is 0 n log log c (prefix_self log) is in
+          subst (λ (l : List (List ℕ)). IsLineFor (cut_end line (n + 1)) l) (sym all) (inr (
+            k.0,
+            ap (λ (l : List (ℕ × ℕ)). cut_end l (n + 1)) k.1
+                ∙ (ap (λ (m : ℕ). cut_end (line_of log ++ (k.0, end_of log) ∷ []) (m + 1)) (sym is) ∙ pushed_cut (line_of log) k.0 (end_of log) (own_cut log c)),
+          ))
+    ]
+
+-- a line whose last entry starts before an offset is whole there
+last_above : (x : ℕ × ℕ) (line : List (ℕ × ℕ)) (entry : ℕ × ℕ) → IsLine (x ∷ line) → last_entry (x ∷ line) ≡ Some entry → x.1 ≤ entry.1
+last_above x [] entry h is = let same : x ≡ entry = cc (is) in subst (λ (k : ℕ × ℕ). x.1 ≤ k.1) same (omega arith)
+last_above x (y ∷ line) entry h is = let up = last_above y line entry h.3 is in omega (arith, up, h.2.1)
+
+pub cut_whole : (line : List (ℕ × ℕ)) (entry : ℕ × ℕ) (n : ℕ) → IsLine line → last_entry line ≡ Some entry → entry.1 < n → cut_end line n ≡ line
+cut_whole [] entry n h is lt = absurd (cc (is))
+cut_whole (x ∷ []) entry n h is lt =
+    let low = last_above x [] entry h is in
+    rw (lt-ltb x.1 n (omega (arith, low, lt))) refl
+cut_whole (x ∷ y ∷ line) entry n h is lt =
+    let low = last_above x (y ∷ line) entry h is in
+    rw (lt-ltb x.1 n (omega (arith, low, lt))) (ap (λ (l : List (ℕ × ℕ)). x ∷ l) (cut_whole (y ∷ line) entry n h.3 is lt))

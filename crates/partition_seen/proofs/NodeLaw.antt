@@ -4,24 +4,27 @@ use Rattle.std.specs.Prelude.{IsSome}
 use Rattle.std.specs.List.{All, AllByRecursion}
 use Rattle.std.proofs.lemmas.Bool.{cases_lt, lt-ltb, le-ltb}
 use Rattle.std.proofs.lemmas.List.Elements.{All-from_recursion, recursion_from_All}
+use mathlib.Core.List.{IsPrefix}
 use Rattle.log_terms.specs.Batch.{base_of, epoch_of, last_of}
 use Rattle.log_terms.specs.Line.{line_of}
 use Rattle.log_terms.specs.Log.{IsConsecutive, end_from, end_of, up_to, EndsAt}
 use Rattle.log_terms.proofs.Lists.{prefix_self, prefix_trans}
-use Rattle.log_terms.proofs.Logs.{end_above, end_append, consecutive_prefix, consecutive_snoc, nested, prefix_end, up_to_is, up_to_prefix, ends_more, ends_at_zero, ends_at_end, ends_below}
+use Rattle.log_terms.proofs.Logs.{end_above, end_append, consecutive_prefix, consecutive_snoc, nested, prefix_end, up_to_end, up_to_is, up_to_prefix, ends_more, ends_at_zero, ends_at_end, ends_below}
 use Rattle.epoch_line.specs.Line.{IsLine, last_epoch, assign, cut_end}
+use Rattle.epoch_line.proofs.Parts.{IsLine-filter}
 use Rattle.plain_log.specs.declared.state.Role.{Role}
 use Rattle.plain_log.specs.declared.state.Role.TheVariants.{Idle, Leads, Follows, Joined}
 use Rattle.plain_log.specs.State.{joined}
 use Rattle.partition_seen.specs.declared.begun.Begun.{Begun}
-use Rattle.partition_seen.specs.Seen.{Node, Held}
-use Rattle.partition_seen.specs.Held.{stopped, broken, torn}
+use Rattle.partition_seen.specs.Seen.{Back, Node, Held}
+use Rattle.partition_seen.specs.Held.{back_of, kept_line, stopped, broken, torn}
 use Rattle.partition_seen.specs.Log.{IsLineFor, MayTake, cut_at, with_batch, epoch_in}
 use Rattle.partition_seen.specs.RowsOfElections.{IsNew, led}
-use Rattle.partition_seen.specs.RowsOfFollowers.{cut_node, CanExtend, extended}
+use Rattle.partition_seen.specs.RowsOfLog.{MayBegin}
+use Rattle.partition_seen.specs.RowsOfFollowers.{cut_node, cut_back, CanExtend, extended, rebuilt, unbuilt}
 use Rattle.partition_seen.specs.Rows.{MayComeBack, opened}
 use Rattle.partition_seen.specs.Sound.{IsBack, NodeSound}
-use Rattle.partition_seen.proofs.Lines.{consecutive_back, cut_at_line, lead_line, with_batch_line, with_batches_line, last_of_push, entered_same}
+use Rattle.partition_seen.proofs.Lines.{consecutive_back, kept_line_for, cut_at_line, lead_line, with_batch_line, with_batches_line, last_of_push, entered_same}
 
 -- what a role says of itself
 pub joined_is : (r : Role) (e : ℕ) → joined r ≡ Some e → r ≡ Joined e
@@ -63,8 +66,8 @@ joined_up x s j = role_up x s (λ idle. idle_joined x.role idle j)
     idle_joined (Joined f) is j = absurd cc
 
 -- no other end may come back of a node that is up
-pub none_back : (x : Node) (back : ℕ × List (ℕ × ℕ)) → NodeSound x → x.up ≡ true → x.loose ≡ Some back → ⊥
-none_back x back s up is = let no : ◌≡◌ {A = Option (ℕ × List (ℕ × ℕ))} None (Some back) = sym (s.tight up) ∙ is in absurd cc
+pub none_back : (x : Node) (back : Back) → NodeSound x → x.up ≡ true → x.loose ≡ Some back → ⊥
+none_back x back s up is = let no : ◌≡◌ {A = Option Back} None (Some back) = sym (s.tight up) ∙ is in absurd cc
 
 -- the last epoch of a line fits
 pub last_fits : (line : List (ℕ × ℕ)) (e : ℕ) → IsLine line → last_epoch line ≡ Some e → e < 2 ^ 31
@@ -125,6 +128,8 @@ node_appended x placed e s leads base epoch small =
         known = ends_more x.known x.log.batches (x.log.batches ++ placed ∷ []) s.known (placed ∷ [], refl);
         saved = saved_more x (placed ∷ []) s follow;
         saved_rises = s.saved_rises;
+        begins = ends_more x.local x.log.batches (x.log.batches ++ placed ∷ []) s.begins (placed ∷ [], refl);
+        within = s.within;
         back = λ back is. absurd (none_back x back s (leads_up x e s leads) is);
         tight = s.tight;
         leads = λ f is.
@@ -143,6 +148,8 @@ node_flushed x n s up is = record {
   known = s.known;
   saved = subst (λ (m : ℕ). IsLineFor x.log.line (up_to m x.log.batches)) (sym is) (saved_all x.log.line x.log.batches s.log.consecutive s.log.line_is);
   saved_rises = s.log.rises;
+  begins = s.begins;
+  within = (let high = ends_below x.stable x.log.batches s.log.consecutive s.stable in omega (arith, s.within, high, is));
   back = λ back b. absurd (none_back x back s up b);
   tight = s.tight;
   leads = s.leads;
@@ -150,13 +157,15 @@ node_flushed x n s up is = record {
 }
 
 -- the high watermark, as far as the log goes
-pub node_told : (x : Node) (mark : ℕ) → NodeSound x → x.up ≡ true → NodeSound (record x { known = end_of (up_to mark x.log.batches) })
-node_told x mark s up = record {
+pub node_told : (x : Node) (known : ℕ) → NodeSound x → x.up ≡ true → EndsAt known x.log.batches → NodeSound (record x { known = known })
+node_told x known s up ends = record {
   log = s.log;
   stable = s.stable;
-  known = (up_to mark x.log.batches, up_to_prefix mark x.log.batches, refl);
+  known = ends;
   saved = s.saved;
   saved_rises = s.saved_rises;
+  begins = s.begins;
+  within = s.within;
   back = λ back is. absurd (none_back x back s up is);
   tight = s.tight;
   leads = s.leads;
@@ -171,6 +180,8 @@ node_follows x n s up = record {
   known = s.known;
   saved = s.saved;
   saved_rises = s.saved_rises;
+  begins = s.begins;
+  within = s.within;
   back = λ back is. absurd (none_back x back s up is);
   tight = s.tight;
   leads = λ e is. absurd cc;
@@ -178,15 +189,17 @@ node_follows x n s up = record {
 }
 
 -- a new epoch to lead
-pub node_led : (h : Held) (x : Node) (n : ℕ) → NodeSound x → x.up ≡ true → IsNew x n → n < 2 ^ 31 → NodeSound (led h x n)
-node_led h x n s up new fits =
+pub node_led : (h : Held) (x : Node) (n : ℕ) → NodeSound x → x.up ≡ true → IsNew x n → n < 2 ^ 31 → EndsAt (led h x n).known x.log.batches → NodeSound (led h x n)
+node_led h x n s up new fits ends =
     let k = lead_line x.log.line x.log.batches n s.log.consecutive s.log.line_is s.log.rises fits (omega (arith, s.log.small)) new in
     record {
       log = record { consecutive = s.log.consecutive; line_is = k.0; rises = k.1; ends = refl; small = s.log.small };
       stable = ends_at_end x.log.batches;
-      known = (up_to h.registry.mark x.log.batches, up_to_prefix h.registry.mark x.log.batches, refl);
+      known = ends;
       saved = saved_all (led h x n).saved x.log.batches s.log.consecutive k.0;
       saved_rises = k.1;
+      begins = s.begins;
+      within = (let high = ends_below x.stable x.log.batches s.log.consecutive s.stable in omega (arith, s.within, high));
       back = λ back is. absurd (none_back x back s up is);
       tight = s.tight;
       leads = λ e is. last_of_push (cut_end x.log.line (end_of x.log.batches)) (n, end_of x.log.batches) ∙ ap (λ (m : ℕ). Some m) (cc (is));
@@ -211,6 +224,8 @@ node_cut x e n s up =
         known = ends_cut x.known n x.log.batches s.log.consecutive s.known;
         saved = saved_all (cut_node x e n).saved (up_to n x.log.batches) follow (inl k.0);
         saved_rises = k.1;
+        begins = ends_cut x.local n x.log.batches s.log.consecutive s.begins;
+        within = omega arith;
         back = λ back is. absurd (none_back x back s up is);
         tight = s.tight;
         leads = λ f is. absurd cc;
@@ -267,6 +282,8 @@ node_extended x g (b ∷ more) rest e s w first parts some =
         known = ends_more x.known x.log.batches (x.log.batches ++ b ∷ more) s.known (b ∷ more, refl);
         saved = saved_more x (b ∷ more) s follow;
         saved_rises = s.saved_rises;
+        begins = ends_more x.local x.log.batches (x.log.batches ++ b ∷ more) s.begins (b ∷ more, refl);
+        within = s.within;
         back = λ back is. absurd (none_back x back s (joined_up x s w.joined) is);
         tight = s.tight;
         leads = λ n is. absurd (joined_only x.role n w.joined is);
@@ -283,7 +300,9 @@ node_stopped x s = record {
   known = ends_at_zero x.log.batches;
   saved = s.saved;
   saved_rises = s.saved_rises;
-  back = λ back is. (let k = s.back back is in record { above = k.above; ends = k.ends; line = k.line; rises = k.rises });
+  begins = s.begins;
+  within = s.within;
+  back = λ back is. (let k = s.back back is in record { above = k.above; ends = k.ends; line = k.line; rises = k.rises; begins = k.begins; within = k.within });
   tight = λ up. absurd cc;
   leads = λ e is. absurd cc;
   down = λ d. (refl, refl);
@@ -292,20 +311,22 @@ node_stopped x s = record {
 -- what a write that fails was to leave
 
 -- what is stable
-pub stable_back : (x : Node) → NodeSound x → IsBack x (x.stable, x.saved)
-stable_back x s = record { above = omega arith; ends = s.stable; line = s.saved; rises = s.saved_rises }
+pub stable_back : (x : Node) → NodeSound x → IsBack x (back_of x)
+stable_back x s = record { above = omega arith; ends = s.stable; line = s.saved; rises = s.saved_rises; begins = s.begins; within = s.within }
 
 -- all of the log
-pub flush_back : (x : Node) → NodeSound x → IsBack x (end_of x.log.batches, x.log.line)
+pub flush_back : (x : Node) → NodeSound x → IsBack x (end_of x.log.batches, x.log.line, x.local)
 flush_back x s = record {
   above = ends_below x.stable x.log.batches s.log.consecutive s.stable;
   ends = ends_at_end x.log.batches;
   line = saved_all x.log.line x.log.batches s.log.consecutive s.log.line_is;
   rises = s.log.rises;
+  begins = s.begins;
+  within = (let high = ends_below x.stable x.log.batches s.log.consecutive s.stable in omega (arith, s.within, high));
 }
 
 -- all of the log, with an epoch to lead
-pub lead_back : (x : Node) (n : ℕ) → NodeSound x → IsNew x n → n < 2 ^ 31 → IsBack x (end_of x.log.batches, assign x.log.line n (end_of x.log.batches))
+pub lead_back : (x : Node) (n : ℕ) → NodeSound x → IsNew x n → n < 2 ^ 31 → IsBack x (end_of x.log.batches, assign x.log.line n (end_of x.log.batches), x.local)
 lead_back x n s new fits =
     let k = lead_line x.log.line x.log.batches n s.log.consecutive s.log.line_is s.log.rises fits (omega (arith, s.log.small)) new in
     record {
@@ -313,57 +334,100 @@ lead_back x n s new fits =
       ends = ends_at_end x.log.batches;
       line = saved_all (assign x.log.line n (end_of x.log.batches)) x.log.batches s.log.consecutive k.0;
       rises = k.1;
+      begins = s.begins;
+      within = (let high = ends_below x.stable x.log.batches s.log.consecutive s.stable in omega (arith, s.within, high));
     }
 
+-- a local log that begins further on
+pub trim_back : (x : Node) (start : ℕ) → NodeSound x → MayBegin x start → IsBack x (x.stable, kept_line x, start)
+trim_back x start s may = record {
+  above = omega arith;
+  ends = s.stable;
+  line = kept_line_for x.log.line x.log.batches x.stable s.log.consecutive s.log.line_is s.stable;
+  rises = IsLine-filter (λ (entry : ℕ × ℕ). nat_lt entry.1 (x.stable + 1)) x.log.line s.log.rises;
+  begins = may.ends;
+  within = may.stable;
+}
+
+pub node_trimmed : (x : Node) (start : ℕ) → NodeSound x → x.up ≡ true → MayBegin x start → NodeSound (record x { local = start; saved = kept_line x })
+node_trimmed x start s up may = record {
+  log = s.log;
+  stable = s.stable;
+  known = s.known;
+  saved = kept_line_for x.log.line x.log.batches x.stable s.log.consecutive s.log.line_is s.stable;
+  saved_rises = IsLine-filter (λ (entry : ℕ × ℕ). nat_lt entry.1 (x.stable + 1)) x.log.line s.log.rises;
+  begins = may.ends;
+  within = may.stable;
+  back = λ back is. absurd (none_back x back s up is);
+  tight = s.tight;
+  leads = s.leads;
+  down = s.down;
+}
+
 -- a write that failed
-pub node_broken : (x : Node) (end : ℕ) (line : List (ℕ × ℕ)) → NodeSound x → IsBack x (end, line) → NodeSound (broken x end line)
-node_broken x end line s k = record {
+pub node_broken : (x : Node) (back : Back) → NodeSound x → IsBack x back → NodeSound (broken x back)
+node_broken x back s k = record {
   log = s.log;
   stable = s.stable;
   known = ends_at_zero x.log.batches;
   saved = s.saved;
   saved_rises = s.saved_rises;
-  back = λ back is.
-      let same : (end, line) ≡ back = cc (is) in
-      subst (λ (b : ℕ × List (ℕ × ℕ)). IsBack (broken x end line) b) same (record { above = k.above; ends = k.ends; line = k.line; rises = k.rises });
+  begins = s.begins;
+  within = s.within;
+  back = λ other is.
+      let same : back ≡ other = cc (is) in
+      subst (λ (b : Back). IsBack (broken x back) b) same (record { above = k.above; ends = k.ends; line = k.line; rises = k.rises; begins = k.begins; within = k.within });
   tight = λ up. absurd cc;
   leads = λ e is. absurd cc;
   down = λ d. (refl, refl);
 }
 
 -- a node after a cut that failed, where the cut was below the stable end
-abbrev pub torn_low : Node → ℕ → List (ℕ × ℕ) → Node
-torn_low x end line = record (stopped x) { stable = end; saved = line; loose = Some (x.stable, x.saved) }
+abbrev pub torn_low : Node → Back → Node
+torn_low x back = record (stopped x) { stable = back.0; saved = back.1; local = back.2; loose = Some (back_of x) }
 
-pub torn_below : (x : Node) (end : ℕ) (line : List (ℕ × ℕ)) → nat_lt end x.stable ≡ true → torn x end line ≡ torn_low x end line
-torn_below x end line t = rw t refl
+pub torn_below : (x : Node) (back : Back) → nat_lt back.0 x.stable ≡ true → torn x back ≡ torn_low x back
+torn_below x back t = rw t refl
 
-pub torn_above : (x : Node) (end : ℕ) (line : List (ℕ × ℕ)) → nat_lt end x.stable ≡ false → torn x end line ≡ broken x end line
-torn_above x end line t = rw t refl
+pub torn_above : (x : Node) (back : Back) → nat_lt back.0 x.stable ≡ false → torn x back ≡ broken x back
+torn_above x back t = rw t refl
 
 -- the log up to an offset is the log up to where that ends
 up_to_end_of : (m n : ℕ) (log : List (List ℕ)) → IsConsecutive 0 log → n ≡ end_of (up_to m log) → up_to n log ≡ up_to m log
 up_to_end_of m n log c is = up_to_is 0 n (up_to m log) log c (up_to_prefix m log) (sym is)
 
+-- the smaller of two ends of a log is one
+ends_min : (a b : ℕ) (log : List (List ℕ)) → EndsAt a log → EndsAt b log → EndsAt (min a b) log
+ends_min a b log one two = elim (cases_lt a b) [
+  | inl less ↦ subst (λ (m : ℕ). EndsAt m log) (omega (arith, less)) one
+  | inr more ↦ subst (λ (m : ℕ). EndsAt m log) (omega (arith, more)) two
+]
+
 -- a cut that failed
-pub node_torn : (x : Node) (m n : ℕ) → NodeSound x → n ≡ end_of (up_to m x.log.batches) → NodeSound (torn x n (cut_at x.log m).line)
-node_torn x m n s is = elim (cases_lt n x.stable) [
-  | inl less ↦ subst NodeSound (sym (torn_below x n line (lt-ltb n x.stable less))) (record {
+pub node_torn : (x : Node) (m : ℕ) → NodeSound x → NodeSound (torn x (cut_back x m))
+node_torn x m s = elim (cases_lt n x.stable) [
+  | inl less ↦ subst NodeSound (sym (torn_below x (cut_back x m) (lt-ltb n x.stable less))) (record {
     log = s.log;
     stable = ends;
     known = ends_at_zero x.log.batches;
     saved = line_is;
     saved_rises = k.1;
+    begins = begins;
+    within = omega arith;
     back = λ back b.
-        let same : (x.stable, x.saved) ≡ back = cc (b) in
-        subst (λ (b : ℕ × List (ℕ × ℕ)). IsBack (torn_low x n line) b) same (record { above = omega (arith, less); ends = s.stable; line = s.saved; rises = s.saved_rises });
+        let same : back_of x ≡ back = cc (b) in
+        subst (λ (b : Back). IsBack (torn_low x (cut_back x m)) b) same (record { above = omega (arith, less); ends = s.stable; line = s.saved; rises = s.saved_rises; begins = s.begins; within = s.within });
     tight = λ up. absurd cc;
     leads = λ e is. absurd cc;
     down = λ d. (refl, refl);
   })
-  | inr more ↦ subst NodeSound (sym (torn_above x n line (le-ltb n x.stable more))) (node_broken x n line s (record { above = more; ends = ends; line = line_is; rises = k.1 }))
+  | inr more ↦ subst NodeSound (sym (torn_above x (cut_back x m) (le-ltb n x.stable more)))
+      (node_broken x (cut_back x m) s (record { above = more; ends = ends; line = line_is; rises = k.1; begins = begins; within = omega arith }))
 ]
   where
+    n : ℕ
+    n = end_of (up_to m x.log.batches)
+
     line : List (ℕ × ℕ)
     line = (cut_at x.log m).line
 
@@ -371,18 +435,81 @@ node_torn x m n s is = elim (cases_lt n x.stable) [
     k = cut_at_line x.log.line x.log.batches m s.log.consecutive s.log.line_is s.log.rises
 
     ends : EndsAt n x.log.batches
-    ends = (up_to m x.log.batches, up_to_prefix m x.log.batches, sym is)
+    ends = (up_to m x.log.batches, up_to_prefix m x.log.batches, refl)
+
+    begins : EndsAt (min x.local n) x.log.batches
+    begins = ends_min x.local n x.log.batches s.begins ends
 
     line_is : IsLineFor line (up_to n x.log.batches)
-    line_is = inl (k.0 ∙ ap line_of (sym (up_to_end_of m n x.log.batches s.log.consecutive is)))
+    line_is = inl (k.0 ∙ ap line_of (sym (up_to_end_of m n x.log.batches s.log.consecutive refl)))
+
+-- a log that is begun anew: batches that it begins, and that end further on
+pub record IsWhole (x : Node) (whole : List (List ℕ)) (n : ℕ) : Type 0 where
+  pub consecutive : IsConsecutive 0 whole
+  pub begins : IsPrefix x.log.batches whole
+  pub ends : end_of whole ≡ n
+  pub above : end_of x.log.batches < n
+  pub rises : IsLine (line_of whole)
+  pub small : n ≤ 4611686018427387904
+
+pub node_rebuilt : (x : Node) (whole : List (List ℕ)) (n : ℕ) → NodeSound x → x.up ≡ true → IsSome (joined x.role) → IsWhole x whole n → NodeSound (rebuilt x whole n)
+node_rebuilt x whole n s up j w =
+    let end : EndsAt n whole = (whole, prefix_self whole, w.ends) in
+    record {
+      log = record { consecutive = w.consecutive; line_is = inl refl; rises = w.rises; ends = refl; small = omega (arith, w.ends, w.small) };
+      stable = end;
+      known = ends_more x.known x.log.batches whole s.known w.begins;
+      saved = subst (λ (m : ℕ). IsLineFor (line_of whole) (up_to m whole)) w.ends (saved_all (line_of whole) whole w.consecutive (inl refl));
+      saved_rises = w.rises;
+      begins = end;
+      within = omega arith;
+      back = λ back is. absurd (none_back x back s up is);
+      tight = s.tight;
+      leads = λ e is. absurd (joined_only x.role e j is);
+      down = λ d. up_down x.up up d;
+    }
+
+-- a rebuild that failed
+pub node_unbuilt : (x : Node) (whole : List (List ℕ)) (n : ℕ) → NodeSound x → IsWhole x whole n → NodeSound (unbuilt x whole n)
+node_unbuilt x whole n s w =
+    let end : EndsAt n whole = (whole, prefix_self whole, w.ends) in
+    let high = ends_below x.stable x.log.batches s.log.consecutive s.stable in
+    let all : IsConsecutive 0 (x.log.batches ++ w.begins.0) = subst (IsConsecutive 0) (sym w.begins.1) w.consecutive in
+    let made : IsBack (unbuilt x whole n) (n, line_of whole, n) = record {
+      above = omega (arith, high, w.above);
+      ends = end;
+      line = subst (λ (m : ℕ). IsLineFor (line_of whole) (up_to m whole)) w.ends (saved_all (line_of whole) whole w.consecutive (inl refl));
+      rises = w.rises;
+      begins = end;
+      within = omega arith;
+    } in
+    record {
+      log = record { consecutive = w.consecutive; line_is = inl refl; rises = w.rises; ends = refl; small = omega (arith, w.ends, w.small) };
+      stable = ends_more x.stable x.log.batches whole s.stable w.begins;
+      known = ends_at_zero whole;
+      saved = subst (λ (log : List (List ℕ)). IsLineFor x.saved (up_to x.stable log)) w.begins.1 (saved_more x w.begins.0 s all);
+      saved_rises = s.saved_rises;
+      begins = ends_more x.local x.log.batches whole s.begins w.begins;
+      within = s.within;
+      back = λ other is. (let same : (n, line_of whole, n) ≡ other = cc (is) in subst (λ (b : Back). IsBack (unbuilt x whole n) b) same made);
+      tight = λ up. absurd cc;
+      leads = λ e is. absurd cc;
+      down = λ d. (refl, refl);
+    }
 
 -- what may come back is an end of the log, with a line of what ends there
-pub may_back : (x : Node) (back : ℕ × List (ℕ × ℕ)) → NodeSound x → MayComeBack x back → IsBack x back
-may_back x back s (inl is) = subst (λ (b : ℕ × List (ℕ × ℕ)). IsBack x b) (sym is) (stable_back x s)
+pub may_back : (x : Node) (back : Back) → NodeSound x → MayComeBack x back → IsBack x back
+may_back x back s (inl is) = subst (λ (b : Back). IsBack x b) (sym is) (stable_back x s)
 may_back x back s (inr is) = s.back back is
 
+-- an end of a log at or below another is an end of what ends there
+ends_within : (a b : ℕ) (log : List (List ℕ)) → IsConsecutive 0 log → EndsAt a log → EndsAt b log → a ≤ b → EndsAt a (up_to b log)
+ends_within a b log c one two le =
+    let at = up_to_end b log c two in
+    subst (λ (m : ℕ). EndsAt m (up_to b log)) (omega (arith, at, le)) (ends_cut a b log c one)
+
 -- a node that comes up
-pub node_opened : (x : Node) (back : ℕ × List (ℕ × ℕ)) → NodeSound x → x.up ≡ false → MayComeBack x back → NodeSound (opened x back)
+pub node_opened : (x : Node) (back : Back) → NodeSound x → x.up ≡ false → MayComeBack x back → NodeSound (opened x back)
 node_opened x back s off may =
     let k = may_back x back s may in
     let low = prefix_end (up_to back.0 x.log.batches) x.log.batches s.log.consecutive (up_to_prefix back.0 x.log.batches) in
@@ -394,6 +521,8 @@ node_opened x back s off may =
       known = subst (λ (n : ℕ). EndsAt n (up_to back.0 x.log.batches)) (sym none.1) (ends_at_zero (up_to back.0 x.log.batches));
       saved = saved_all back.1 (up_to back.0 x.log.batches) follow k.line;
       saved_rises = k.rises;
+      begins = ends_within back.2 back.0 x.log.batches s.log.consecutive k.begins k.ends k.within;
+      within = (let at = up_to_end back.0 x.log.batches s.log.consecutive k.ends in omega (arith, at, k.within));
       back = λ other is. absurd cc;
       tight = λ up. refl;
       leads = λ e is. (let idle : Idle ≡ Leads e = sym none.0 ∙ is in absurd cc);

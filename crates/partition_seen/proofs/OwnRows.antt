@@ -1,6 +1,6 @@
 -- The rows of a broker's own log, and of its stops, are the plain log's.
 use Rattle.std.proofs.Common.{◌≡◌, ◌⊎◌, inl, inr, ◌∙◌, sym, ap, subst, refl, ℕ, suc, ◌+◌, ◌-◌, ◌<◌, ◌≤◌, ◌==◌, nat_lt, List, [], ◌∷◌, ◌++◌, length, take, slice_get, slice_set, Some, None, Option, Result, Ok as Done, Err, IsOk, Bool, true, false, not, ◌&&◌, arith, append-nil, length-append}
-use Rattle.std.specs.Prelude.{nat_le, is_some}
+use Rattle.std.specs.Prelude.{nat_le, is_some, option_map}
 use Rattle.std.proofs.lemmas.Slice.Eq.{bytes_eq-Decides}
 use Rattle.std.proofs.lemmas.List.Elements.{All-from_recursion, recursion_from_All}
 use Rattle.epoch_line.proofs.Parts.{filter-all}
@@ -8,8 +8,9 @@ use Rattle.tier_base.specs.declared.plain.Stop.{Stop}
 use Rattle.tier_base.specs.declared.plain.Stop.TheVariants.{Mark, Piece, Limit}
 use Rattle.log_terms.specs.Batch.{epoch_of}
 use Rattle.log_terms.specs.Log.{EndsAt, end_of, joined, from_offset, up_to}
-use Rattle.log_terms.proofs.Logs.{up_to_end, ends_below}
-use Rattle.epoch_line.specs.Line.{last_entry, cut_end}
+use Rattle.log_terms.proofs.Lists.{prefix_self, prefix_trans}
+use Rattle.log_terms.proofs.Logs.{up_to_end, up_to_prefix, ends_below}
+use Rattle.epoch_line.specs.Line.{last_entry, last_epoch, cut_end}
 use Rattle.record_batch.specs.declared.refusal.BatchRefusal.{BatchRefusal}
 use Rattle.record_batch.specs.declared.refusal.BatchRefusal.TheVariants.{Short, BadMagic, BadLength, BadCrc, Compressed, Transactional, Control, BadRecords}
 use Rattle.record_batch.specs.Check.{Batch, checked}
@@ -17,7 +18,8 @@ use Rattle.record_batch.specs.Stamp.{stamped}
 use Rattle.registry.specs.declared.registry.Replica.{Replica}
 use Rattle.registry.specs.declared.registry.Registry.{Registry}
 use Rattle.plain_log.specs.declared.answer.Answer.{Answer}
-use Rattle.plain_log.specs.declared.answer.Answer.TheVariants.{Ok, OkAt, OkSpan, Down, NotLeader, Refused, LastOffset, TooManySegments, EmptySegment, DiskFault, OutOfRange, Empty, Run, IsUp, LastIncarnation, Up}
+use Rattle.plain_log.specs.declared.answer.Answer.TheVariants.{Ok, OkAt, OkSpan, Down, NotLeader, Refused, LastOffset, TooManySegments, EmptySegment, DiskFault, OutOfRange, Empty, Run, Damaged, IsUp, LastIncarnation, Up}
+use Rattle.plain_log.specs.declared.answer.Place.TheVariants.{Meta}
 use Rattle.plain_log.specs.declared.command.Command.{Command}
 use Rattle.plain_log.specs.declared.command.Command.TheVariants.{Raw, Flush, Roll, Stop as StopCommand, Up as UpCommand, Fetch}
 use Rattle.plain_log.specs.declared.state.State.{State}
@@ -30,8 +32,9 @@ use Rattle.plain_log.specs.Causes.{same_cause}
 use Rattle.plain_log.specs.Fetch.{in_range, fitting, run_of, stops_rightly, is_run}
 use Rattle.plain_log.specs.RowsOfLog.{offset_limit, gained, append_row, raw_row, may_open_at, opened as opened_broker}
 use Rattle.plain_log.specs.Rows.{row}
-use Rattle.plain_log.proofs.AppendRow.{longer_wider, longer_other}
-use Rattle.partition_seen.specs.Seen.{Node, Held}
+use Rattle.plain_log.specs.Safe.{Has, RoleSafe}
+use Rattle.plain_log.proofs.AppendRow.{longer_wider, longer_other, longer_same}
+use Rattle.partition_seen.specs.Seen.{Back, Node, Held}
 use Rattle.partition_seen.specs.Held.{broker_of, stopped}
 use Rattle.partition_seen.specs.Log.{HasBytes, StopIs, with_batch}
 use Rattle.partition_seen.specs.Central.{HeldStands, was_taken, AreTaken}
@@ -77,11 +80,24 @@ leader_follows r e f is h = let none : ◌≡◌ {A = Option ℕ} None (Some f) 
 leader_joined : (r : Role) (e f : ℕ) → r ≡ Leads e → r ≡ Joined f → ⊥
 leader_joined r e f is h = let one : Leads e ≡ Joined f = sym is ∙ h in absurd cc
 
+-- the path that a leader appends to
+path_grows : (h : Held) (p : State) (x : Node) (e : ℕ) (placed : List ℕ) (start : ℕ) → last_entry x.log.line ≡ Some (h.registry.epoch, start) → last_epoch x.log.line ≡ Some e
+    → RoleSafe p.paths p.registry.epoch x.role x.log.batches → x.role ≡ Leads e → Has (longer p.paths e placed) h.registry.epoch (x.log.batches ++ placed ∷ [])
+path_grows h p x e placed start last leads safe role =
+    let epoch : Some h.registry.epoch ≡ Some e = sym (ap (option_map (λ (k : ℕ × ℕ). k.0)) last) ∙ leads in
+    let same : h.registry.epoch ≡ e = cc (epoch) in
+    let path = (subst (λ (r : Role). RoleSafe p.paths p.registry.epoch r x.log.batches) role safe).1 in
+    subst (λ (n : ℕ). Has (longer p.paths e placed) n (x.log.batches ++ placed ∷ [])) (sym same) (x.log.batches ++ placed ∷ [], longer_same p.paths e placed x.log.batches path, prefix_self (x.log.batches ++ placed ∷ []))
+
+-- what is up to an offset begins the path too
+pub cut_has : (ps : List Path) (e : ℕ) (log : List (List ℕ)) (n : ℕ) → Has ps e log → Has ps e (up_to n log)
+cut_has ps e log n k = (k.0, k.1, prefix_trans (up_to n log) log k.0 (up_to_prefix n log) k.2)
+
 -- append
 
 append_puts : (h : Held) (p : State) (b : ℕ) (x : Node) (s : Replica) (batch : List ℕ) (base e : ℕ) → Standing h p b x s → 61 ≤ length batch → x.up ≡ true → x.role ≡ Leads e
     → end_with x batch ≤ offset_limit → base ≡ end_of x.log.batches
-    → Puts h p (gained p b (broker_of x) e (stamped batch base e)) b (record x { log = with_batch x.log (stamped batch base e) })
+    → Puts h p (gained p b (broker_of x) e (stamped batch base e)) b x (record x { log = with_batch x.log (stamped batch base e) })
 append_puts h p b x s batch base e st long up leads fits is =
     let placed = stamped batch base e in
     let l = st.lines.each b x st.at in
@@ -104,8 +120,9 @@ append_puts h p b x s batch base e st long up leads fits is =
       joined = λ f j. absurd (leader_joined x.role e f leads j);
       leader = λ it has.
           let k = st.lines.leader x (ap (λ (c : ℕ). slice_get h.nodes c) it ∙ st.at) (longer_keys p.paths e placed h.registry.epoch has) in
-          (k.0, ap last_entry same ∙ k.1, k.2, k.3, k.4);
+          (k.0, ap last_entry same ∙ k.1, k.2, k.3, k.4, path_grows h p x e placed k.0 k.1 (l.sound.leads e leads) (st.safe.brokers b (broker_of x) bx).role leads);
       followers = λ f. absurd (leader_follows x.role e h.registry.epoch leads f);
+      steady = λ it. omega arith;
     }
 
 pub append_allowed : (h : Held) (p : State) (b : ℕ) (x : Node) (s : Replica) (command : Command) (batch : List ℕ) (answer : Answer) (h' : Held) → Standing h p b x s
@@ -175,7 +192,7 @@ raw_allowed h p b x s bytes other h' st w = elim w [ ]
 -- flush
 
 flush_puts : (h : Held) (p : State) (b : ℕ) (x : Node) (s : Replica) (n : ℕ) → Standing h p b x s → x.up ≡ true → n ≡ end_of x.log.batches
-    → Puts h p (put_broker p b (record (broker_of x) { stable = n })) b (record x { stable = n; saved = x.log.line })
+    → Puts h p (put_broker p b (record (broker_of x) { stable = n })) b x (record x { stable = n; saved = x.log.line })
 flush_puts h p b x s n st up is =
     let l = st.lines.each b x st.at in
     record {
@@ -192,20 +209,21 @@ flush_puts h p b x s n st up is =
       joined = l.joined;
       leader = λ it has.
           let k = st.lines.leader x (ap (λ (c : ℕ). slice_get h.nodes c) it ∙ st.at) has in
-          (k.0, k.1, k.1, omega (arith, k.3, is, ends_below x.stable x.log.batches l.sound.log.consecutive l.sound.stable), k.4);
+          (k.0, k.1, k.1, omega (arith, k.3, is, ends_below x.stable x.log.batches l.sound.log.consecutive l.sound.stable), k.4, k.5);
       followers = λ f. st.lines.followers b x st.at f;
+      steady = λ it. (let high = ends_below x.stable x.log.batches l.sound.log.consecutive l.sound.stable in omega (arith, is, high));
     }
 
 -- a flush that fails may have left all of the log stable
-flush_told : (h : Held) (p : State) (b : ℕ) (x : Node) (s : Replica) → Standing h p b x s → IsTold p x (end_of x.log.batches) x.log.line
+flush_told : (h : Held) (p : State) (b : ℕ) (x : Node) (s : Replica) → Standing h p b x s → IsTold p x (end_of x.log.batches, x.log.line, x.local)
 flush_told h p b x s st =
     let l = st.lines.each b x st.at in
-    record { is = flush_back x l.sound; taken = l.paths_are; last = λ entry one two. one }
+    record { is = flush_back x l.sound; taken = l.paths_are; last = λ entry low one two. one }
 
 pub flush_allowed : (h : Held) (p : State) (b : ℕ) (x : Node) (s : Replica) (answer : Answer) (h' : Held) → Standing h p b x s → FlushRow h b x answer h' → Allowed p b x s None Flush answer h'
 flush_allowed h p b x s Down h' st w = silent h p b x s None Flush Down h' st (rw w.0 refl) w.1
 flush_allowed h p b x s DiskFault h' st w =
-    break_allowed h p b x s (end_of x.log.batches) x.log.line None Flush DiskFault h' st (flush_told h p b x s st) (when_true _ (breaks p b (broker_of x)) w.0) w.1
+    break_allowed h p b x s (end_of x.log.batches, x.log.line, x.local) None Flush DiskFault h' st (flush_told h p b x s st) (when_true _ (breaks p b (broker_of x)) w.0) w.1
 flush_allowed h p b x s (OkAt n) h' st w =
     put h p (put_broker p b (record (broker_of x) { stable = n })) b x (record x { stable = n; saved = x.log.line }) s None Flush (OkAt n) h' st
     (when_true _ (put_broker p b (record (broker_of x) { stable = n })) (and_true _ _ w.0 (eq_same _ _ w.1))) (flush_puts h p b x s n st w.0 w.1) w.2
@@ -223,7 +241,7 @@ roll_allowed h p b x s other h' st w = elim w [ ]
 
 -- stop
 
-stop_puts : (h : Held) (p : State) (b : ℕ) (x : Node) (s : Replica) → Standing h p b x s → Puts h p (put_broker p b (stopped_broker (broker_of x))) b (stopped x)
+stop_puts : (h : Held) (p : State) (b : ℕ) (x : Node) (s : Replica) → Standing h p b x s → Puts h p (put_broker p b (stopped_broker (broker_of x))) b x (stopped x)
 stop_puts h p b x s st =
     let l = st.lines.each b x st.at in
     record {
@@ -240,6 +258,7 @@ stop_puts h p b x s st =
       joined = λ e j. absurd cc;
       leader = λ it has. st.lines.leader x (ap (λ (c : ℕ). slice_get h.nodes c) it ∙ st.at) has;
       followers = λ f. absurd cc;
+      steady = λ it. omega arith;
     }
 
 pub stop_allowed : (h : Held) (p : State) (b : ℕ) (x : Node) (s : Replica) (answer : Answer) (h' : Held) → Standing h p b x s → StopRow h b x answer h' → Allowed p b x s None StopCommand answer h'
@@ -258,34 +277,34 @@ filter_taken ps bs line end h =
     )
 
 -- the lead of each epoch of the line that comes back was taken
-back_taken : (h : Held) (p : State) (b : ℕ) (x : Node) (s : Replica) (back : ℕ × List (ℕ × ℕ)) → Standing h p b x s → MayComeBack x back → AreTaken p.paths p.broken back.1
-back_taken h p b x s back st (inl is) = subst (λ (k : ℕ × List (ℕ × ℕ)). AreTaken p.paths p.broken k.1) (sym is) (st.lines.each b x st.at).saved_are
+back_taken : (h : Held) (p : State) (b : ℕ) (x : Node) (s : Replica) (back : Back) → Standing h p b x s → MayComeBack x back → AreTaken p.paths p.broken back.1
+back_taken h p b x s back st (inl is) = subst (λ (k : Back). AreTaken p.paths p.broken k.1) (sym is) (st.lines.each b x st.at).saved_are
 back_taken h p b x s back st (inr is) = (st.lines.each b x st.at).back_are back is
 
 -- and a leader's ends with its epoch
-back_last : (x : Node) (back : ℕ × List (ℕ × ℕ)) (entry : ℕ × ℕ) → MayComeBack x back → last_entry x.saved ≡ Some entry
-    → ((back : ℕ × List (ℕ × ℕ)) → x.loose ≡ Some back → last_entry back.1 ≡ Some entry) → last_entry back.1 ≡ Some entry
-back_last x back entry (inl is) one other = subst (λ (k : ℕ × List (ℕ × ℕ)). last_entry k.1 ≡ Some entry) (sym is) one
+back_last : (x : Node) (back : Back) (entry : ℕ × ℕ) → MayComeBack x back → last_entry x.saved ≡ Some entry
+    → ((back : Back) → x.loose ≡ Some back → last_entry back.1 ≡ Some entry) → last_entry back.1 ≡ Some entry
+back_last x back entry (inl is) one other = subst (λ (k : Back). last_entry k.1 ≡ Some entry) (sym is) one
 back_last x back entry (inr is) one other = other back is
 
 -- the log may end there
-may_open : (x : Node) (back : ℕ × List (ℕ × ℕ)) (n : ℕ) → NodeSound x → MayComeBack x back → n ≡ back.0 → may_open_at (broker_of x) n ≡ true
+may_open : (x : Node) (back : Back) (n : ℕ) → NodeSound x → MayComeBack x back → n ≡ back.0 → may_open_at (broker_of x) n ≡ true
 may_open x back n s may is = go x.loose refl may
   where
     k : IsBack x back
     k = may_back x back s may
 
-    go : (o : Option (ℕ × List (ℕ × ℕ))) → x.loose ≡ o → MayComeBack x back → may_open_at (broker_of x) n ≡ true
-    go None none (inl same) = rw none (eq_same n x.stable (is ∙ ap (λ (b : ℕ × List (ℕ × ℕ)). b.0) same))
-    go None none (inr some) = absurd (let no : ◌≡◌ {A = Option (ℕ × List (ℕ × ℕ))} None (Some back) = sym none ∙ some in cc)
+    go : (o : Option Back) → x.loose ≡ o → MayComeBack x back → may_open_at (broker_of x) n ≡ true
+    go None none (inl same) = rw none (eq_same n x.stable (is ∙ ap (λ (b : Back). b.0) same))
+    go None none (inr some) = absurd (let no : ◌≡◌ {A = Option Back} None (Some back) = sym none ∙ some in cc)
     go (Some other) some _ =
         let ends : EndsAt n x.log.batches = subst (λ (m : ℕ). EndsAt m x.log.batches) (sym is) k.ends in
         let at = up_to_end n x.log.batches s.log.consecutive ends in
         let low = ends_below n x.log.batches s.log.consecutive ends in
         rw some (and_true _ _ (and_true _ _ (eq_same _ _ at) (le_true x.stable n (omega (arith, is, k.above)))) (le_true n (end_of x.log.batches) low))
 
-up_puts : (h : Held) (p : State) (b : ℕ) (x : Node) (s : Replica) (back : ℕ × List (ℕ × ℕ)) (n : ℕ) → Standing h p b x s → x.up ≡ false → MayComeBack x back
-    → n ≡ end_of (up_to back.0 x.log.batches) → n ≡ back.0 → Puts h p (put_broker p b (opened_broker (broker_of x) n)) b (opened x back)
+up_puts : (h : Held) (p : State) (b : ℕ) (x : Node) (s : Replica) (back : Back) (n : ℕ) → Standing h p b x s → x.up ≡ false → MayComeBack x back
+    → n ≡ end_of (up_to back.0 x.log.batches) → n ≡ back.0 → Puts h p (put_broker p b (opened_broker (broker_of x) n)) b x (opened x back)
 up_puts h p b x s back n st off may is at =
     let l = st.lines.each b x st.at in
     let above = (may_back x back l.sound may).above in
@@ -307,8 +326,9 @@ up_puts h p b x s back n st off may is at =
       leader = λ it has.
           let k = st.lines.leader x (ap (λ (c : ℕ). slice_get h.nodes c) it ∙ st.at) has in
           let last = back_last x back (h.registry.epoch, k.0) may k.2 k.4 in
-          (k.0, last, last, omega (arith, k.3, above, is, at), λ other b. absurd cc);
+          (k.0, last, last, omega (arith, k.3, above, is, at), λ other b. absurd cc, cut_has p.paths h.registry.epoch x.log.batches back.0 k.5);
       followers = λ f. absurd (let no : ◌≡◌ {A = Option ℕ} None (Some h.registry.epoch) = ap followed (sym idle) ∙ f in cc);
+      steady = λ it. omega (arith, above, is, at);
     }
 
 pub up_allowed : (h : Held) (p : State) (b : ℕ) (x : Node) (s : Replica) (answer : Answer) (h' : Held) → Standing h p b x s → UpRow h b x answer h' → Allowed p b x s None UpCommand answer h'
@@ -392,9 +412,12 @@ fetch_allowed h p b x s offset limit Empty h' st w =
     (when_true _ p (and_true _ _ (and_true _ _ (and_true _ _ w.0 w.1) (in_range_of h p x offset st.held w.2)) (le_true x.known offset w.3))) w.4
 fetch_allowed h p b x s offset limit DiskFault h' st w =
     silent h p b x s None (Fetch offset limit) DiskFault h' st
-    (when_true _ p (and_true _ _ (and_true _ _ (and_true _ _ w.0 w.1) (in_range_of h p x offset st.held w.2)) (lt_true offset x.known w.3))) w.4
+    (when_true _ p (and_true _ _ (and_true _ _ (and_true _ _ w.0 w.1) (in_range_of h p x offset st.held w.2.0)) (lt_true offset x.known w.3))) w.4
+fetch_allowed h p b x s offset limit (Damaged Meta at) h' st w =
+    silent h p b x s None (Fetch offset limit) (Damaged Meta at) h' st
+    (when_true _ p (and_true _ _ (and_true _ _ (and_true _ _ w.0 w.1) (in_range_of h p x offset st.held w.2)) (lt_true offset x.known w.3))) w.5
 fetch_allowed h p b x s offset limit (Run tier size stop bytes) h' st w =
     silent h p b x s None (Fetch offset limit) (Run tier size stop bytes) h' st
-    (when_true _ p (and_true _ _ (and_true _ _ (and_true _ _ (and_true _ _ w.0 w.1) (in_range_of h p x offset st.held w.2)) (lt_true offset x.known w.3))
+    (when_true _ p (and_true _ _ (and_true _ _ (and_true _ _ (and_true _ _ w.0 w.1) (in_range_of h p x offset st.held w.2.0)) (lt_true offset x.known w.3))
     (run_allowed x offset limit size stop bytes w.5))) w.6
 fetch_allowed h p b x s offset limit other h' st w = elim w [ ]

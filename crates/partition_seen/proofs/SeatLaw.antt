@@ -1,13 +1,18 @@
 -- The seats, the steps of the plain log that their turns are, and how the desk stands after a turn.
-use Rattle.std.proofs.Common.{◌≡◌, ◌≢◌, inl, inr, ◌∙◌, sym, ap, subst, refl, ℕ, ◌+◌, List, slice_get, slice_set, Some, None, Option, true}
+use Rattle.std.proofs.Common.{◌≡◌, ◌≢◌, inl, inr, ◌∙◌, sym, ap, subst, refl, ℕ, ◌+◌, List, slice_get, slice_set, Some, None, Option, true, arith}
 use Rattle.std.specs.Prelude.{option_map}
 use Rattle.std.specs.Option.{option_and_then}
 use Rattle.log_terms.proofs.Lists.{get-set, prefix_trans}
+use Rattle.log_terms.proofs.Logs.{ends_more, consecutive_prefix, up_to_is}
+use Rattle.log_terms.specs.Line.{line_of}
+use Rattle.log_terms.specs.Log.{EndsAt, IsConsecutive, up_to}
+use mathlib.Core.List.{IsPrefix}
+use Rattle.plain_log.specs.State.{path_of}
 use Rattle.registry.specs.declared.registry.Replica.{Replica}
 use Rattle.plain_log.specs.declared.answer.Answer.{Answer}
 use Rattle.plain_log.specs.declared.command.ActorList.{ActorList}
 use Rattle.plain_log.specs.declared.command.Command.{Command}
-use Rattle.plain_log.specs.declared.command.Command.TheVariants.{Follow}
+use Rattle.plain_log.specs.declared.command.Command.TheVariants.{Follow, Join, Trim}
 use Rattle.plain_log.specs.declared.command.Order.{Order}
 use Rattle.plain_log.specs.declared.journal.Event.TheVariants.{Answers as Answered, Begins as Began}
 use Rattle.plain_log.specs.declared.journal.JournalEntry.{JournalEntry}
@@ -18,7 +23,7 @@ use Rattle.plain_log.specs.declared.state.Path.{Path}
 use Rattle.plain_log.specs.declared.state.State.{State}
 use Rattle.plain_log.specs.State.{actor_at, put_actor, with_actor, put_broker}
 use Rattle.plain_log.specs.Rows.{row}
-use Rattle.plain_log.specs.Safe.{NotedSafe, PlainSafe, is_followers}
+use Rattle.plain_log.specs.Safe.{NotedSafe, PlainSafe}
 use Rattle.plain_log.specs.Step.{begins, is_noted, same_command, noted_of as noted_by, step}
 use Rattle.plain_log.proofs.StepLaw.{actor_kept}
 use Rattle.plain_log.proofs.Wider.{Wider}
@@ -28,12 +33,13 @@ use Rattle.partition_seen.specs.declared.begun.Turned.TheVariants.{Answers, Begi
 use Rattle.partition_seen.specs.Seen.{Node}
 use Rattle.partition_seen.specs.declared.seat.Seat.{Seat}
 use Rattle.partition_seen.specs.Held.{broker_of, noted_of}
-use Rattle.partition_seen.specs.Central.{noted_at, RunStands, SeatStands, Stands}
+use Rattle.partition_seen.specs.Central.{noted_at, RunStands, RebuildStands, BegunStands, SeatStands, Stands}
 use Rattle.partition_seen.specs.Turn.{IsTurn, seat_after}
 use Rattle.partition_seen.specs.Whole.{Whole}
 use Rattle.partition_seen.proofs.Lists.{one_list}
 use Rattle.partition_seen.proofs.BoolTests.{and_true, eq_same}
-use Rattle.partition_seen.proofs.FollowOnRows.{Going}
+use Rattle.partition_seen.proofs.Standing.{Steady}
+use Rattle.partition_seen.proofs.TurnRows.{GoingOn}
 
 -- a run goes on with longer paths
 pub run_wide : (ps qs : List Path) (limit : ℕ) (g : Begun) → Wider ps qs → RunStands ps limit g → RunStands qs limit g
@@ -52,6 +58,42 @@ run_wide ps qs limit g w r =
       epochs = r.epochs;
       small = r.small;
     }
+
+-- each path's batches are consecutive
+abbrev pub ArePaths : State → Type 0
+ArePaths q = (e : ℕ) (log : List (List ℕ)) → path_of q.paths e ≡ Some log → IsConsecutive 0 log
+
+-- what is up to an end of a path is so of a longer one
+up_to_longer : (n : ℕ) (log whole : List (List ℕ)) → IsConsecutive 0 whole → EndsAt n log → IsPrefix log whole → up_to n whole ≡ up_to n log
+up_to_longer n log whole c ends p =
+    up_to_is 0 n ends.0 whole c (prefix_trans ends.0 log whole ends.1 p) ends.2
+    ∙ sym (up_to_is 0 n ends.0 log (consecutive_prefix 0 log whole p c) ends.1 ends.2)
+
+-- and a rebuild
+rebuild_goes : (p q : State) (g : Begun) → Wider p.paths q.paths → Steady p q → ArePaths q → RebuildStands p g → RebuildStands q g
+rebuild_goes p q g w steady safe r =
+    let k = w r.epoch r.path r.path_is in
+    record {
+      epoch = r.epoch;
+      role = r.role;
+      path = k.0;
+      path_is = k.1;
+      ends = ends_more g.wanted r.path k.0 r.ends k.2;
+      line = r.line ∙ ap line_of (sym (up_to_longer g.wanted r.path k.0 (safe r.epoch k.0 k.1) r.ends k.2));
+      above = r.above;
+      leader = λ is z at.
+          let s = steady r.epoch (rw r.path_is refl) is in
+          let y = s.1 z at in
+          let low = r.leader s.0 y.0 y.1 in
+          omega (arith, low, y.2);
+    }
+
+-- what is kept of a command goes on
+pub begun_goes : (p q : State) (command : Command) (g : Begun) → Wider p.paths q.paths → Steady p q → ArePaths q → BegunStands p command g → BegunStands q command g
+begun_goes p q (Follow limit) g w steady safe r = run_wide p.paths q.paths limit g w r
+begun_goes p q Join g w steady safe r = rebuild_goes p q g w steady safe r
+begun_goes p q Trim g w steady safe r = tt
+begun_goes p q command g w steady safe r = elim r [ ]
 
 -- what is noted at a seat
 
@@ -74,48 +116,44 @@ answer_steps p order a n x s noted entry answer q bx br at is_its actor number e
     rw (bx, br, actor, event, at, number, eq_same n n refl, is_its, is) refl
 
 -- and a beginning
-pub begin_steps : (p : State) (order : Order) (a n : ℕ) (x : Broker) (s : Replica) (entry : JournalEntry)
+pub begin_steps : (p : State) (order : Order) (a n : ℕ) (x z : Broker) (s : Replica) (entry : JournalEntry) (cut : Option ℕ)
     → slice_get p.brokers order.broker.0 ≡ Some x → slice_get p.registry.replicas order.broker.0 ≡ Some s → actor_at p.actors a ≡ record { number = n; begun = None }
-    → entry.actor.0 ≡ a → entry.number ≡ n → entry.event ≡ Began None → begins p x order.command None ≡ Some x
-    → step p order entry ≡ Some (with_actor a (record { number = n; begun = Some (noted_by p order x) }) (put_broker p order.broker.0 x))
-begin_steps p order a n x s entry bx br at actor number event is =
+    → entry.actor.0 ≡ a → entry.number ≡ n → entry.event ≡ Began cut → begins p x order.command cut ≡ Some z
+    → step p order entry ≡ Some (with_actor a (record { number = n; begun = Some (noted_by p order z) }) (put_broker p order.broker.0 z))
+begin_steps p order a n x z s entry cut bx br at actor number event is =
     rw (bx, br, actor, event, at, number, eq_same n n refl, is) refl
 
 -- a command that has begun is the seat's
-pub noted_its : (order : Order) (g : Begun) (limit : ℕ) → order.command ≡ Follow limit → is_noted (Some (noted_of order g)) order ≡ true
-noted_its order g limit is = and_true _ _ (eq_same order.broker.0 order.broker.0 refl) (subst (λ (c : Command). same_command c c ≡ true) (sym is) (eq_same limit limit refl))
+pub noted_its : (order : Order) (g : Begun) → same_command order.command order.command ≡ true → is_noted (Some (noted_of order g)) order ≡ true
+noted_its order g is = and_true _ _ (eq_same order.broker.0 order.broker.0 refl) is
 
--- what holds of a follow that has begun
-pub going : (p : State) (x : Node) (order : Order) (l : ActorList) (seat : Seat) (limit : ℕ) (g : Begun) → PlainSafe p → SeatStands p l seat
-    → slice_get l.orders seat.number ≡ Some order → seat.begun ≡ Some g → slice_get p.brokers order.broker.0 ≡ Some (broker_of x) → order.command ≡ Follow limit → Going p x limit order g
-going p x order l seat limit g safe st at begun bx is =
-    let f = st.follow g begun in
-    let same : f.0 ≡ order = cc (f.2, at) in
-    let one : f.1 ≡ limit = limits f.1 limit (sym f.3 ∙ (ap (λ (o : Order). o.command) same ∙ is)) in
+-- what holds of a command that has begun
+pub going : (p : State) (x : Node) (order : Order) (l : ActorList) (seat : Seat) (g : Begun) → PlainSafe p → SeatStands p l seat
+    → slice_get l.orders seat.number ≡ Some order → seat.begun ≡ Some g → slice_get p.brokers order.broker.0 ≡ Some (broker_of x) → GoingOn p x order order.command g
+going p x order l seat g safe st at begun bx =
+    let f = st.begun g begun in
+    let same : f.0 ≡ order = cc (f.1, at) in
     let noted : (actor_at p.actors l.actor.0).begun ≡ Some (noted_of order g) = ap (λ (y : Actor). y.begun) st.actor ∙ noted_some l.orders seat order g at begun in
     let k : NotedSafe p.paths p.registry.epoch (noted_of order g) (broker_of x) = safe.noted l.actor.0 (noted_of order g) (broker_of x) noted bx in
     record {
-      run = subst (λ (n : ℕ). RunStands p.paths n g) one f.4;
-      noted = k.joined (subst (λ (c : Command). is_followers c ≡ true) (sym is) refl);
+      stands = subst (λ (o : Order). BegunStands p o.command g) same f.2;
+      joined = k.joined;
     }
-  where
-    limits : (a b : ℕ) → Follow a ≡ Follow b → a ≡ b
-    limits a b e = cc (e)
 
 -- a seat after an answer
 pub answered_seat : (q : State) (l : ActorList) (seat : Seat) (answer : Answer) → actor_at q.actors l.actor.0 ≡ record { number = seat.number + 1; begun = None }
     → SeatStands q l (seat_after seat (Answers answer))
 answered_seat q l seat answer at = record {
   actor = at ∙ ap (λ (o : Option Noted). record { number = seat.number + 1; begun = o }) (sym (noted_none l.orders (record { number = seat.number + 1; begun = None }) refl));
-  follow = λ g e. absurd cc;
+  begun = λ g e. absurd cc;
 }
 
 -- and after a beginning
-pub begun_seat : (q : State) (l : ActorList) (seat : Seat) (order : Order) (limit : ℕ) (g : Begun) → actor_at q.actors l.actor.0 ≡ record { number = seat.number; begun = Some (noted_of order g) }
-    → slice_get l.orders seat.number ≡ Some order → order.command ≡ Follow limit → RunStands q.paths limit g → SeatStands q l (seat_after seat (Begins g))
-begun_seat q l seat order limit g at next is run = record {
+pub begun_seat : (q : State) (l : ActorList) (seat : Seat) (order : Order) (g : Begun) → actor_at q.actors l.actor.0 ≡ record { number = seat.number; begun = Some (noted_of order g) }
+    → slice_get l.orders seat.number ≡ Some order → BegunStands q order.command g → SeatStands q l (seat_after seat (Begins g))
+begun_seat q l seat order g at next stands = record {
   actor = at ∙ ap (λ (o : Option Noted). record { number = seat.number; begun = o }) (sym (noted_some l.orders (record { number = seat.number; begun = Some g }) order g next refl));
-  follow = λ f e. (order, limit, next, is, subst (λ (k : Begun). RunStands q.paths limit k) (some_is g f e) run);
+  begun = λ f e. (order, next, subst (λ (k : Begun). BegunStands q order.command k) (some_is g f e) stands);
 }
   where
     some_is : (g f : Begun) → Some g ≡ Some f → g ≡ f
@@ -123,9 +161,9 @@ begun_seat q l seat order limit g at next is run = record {
 
 -- the other seats stand as they did
 pub desk_goes : (w : Whole) (a : ℕ) (turned : Turned) (w' : Whole) (p q : State) (y : Actor) → (t : IsTurn w a turned w') → Stands w p → q.actors ≡ put_actor p.actors t.list.actor.0 y
-    → Wider p.paths q.paths → SeatStands q t.list (seat_after t.seat turned)
+    → Wider p.paths q.paths → Steady p q → ArePaths q → SeatStands q t.list (seat_after t.seat turned)
     → (place : ℕ) (l : ActorList) (seat : Seat) → slice_get w'.lists place ≡ Some l → slice_get w'.desk place ≡ Some seat → SeatStands q l seat
-desk_goes w a turned w' p q y t st actors wide mine place l seat ll ss =
+desk_goes w a turned w' p q y t st actors wide steady safe mine place l seat ll ss =
     let old : slice_get w.lists place ≡ Some l = ap (λ (k : List ActorList). slice_get k place) (sym t.lists) ∙ ll in
     let new : slice_get (slice_set w.desk t.place (seat_after t.seat turned)) place ≡ Some seat = ap (λ (k : List Seat). slice_get k place) (sym t.desk) ∙ ss in
     elim (get-set w.desk t.place (seat_after t.seat turned) place seat new) [
@@ -137,6 +175,6 @@ desk_goes w a turned w' p q y t st actors wide mine place l seat ll ss =
           let k = st.desk place l seat old other.1 in
           record {
             actor = ap (λ (ys : List Actor). actor_at ys l.actor.0) actors ∙ (actor_kept p.actors t.list.actor.0 y l.actor.0 differs ∙ k.actor);
-            follow = λ g e. (let f = k.follow g e in (f.0, f.1, f.2, f.3, run_wide p.paths q.paths f.1 g wide f.4));
+            begun = λ g e. (let f = k.begun g e in (f.0, f.1, begun_goes p q f.0.command g wide steady safe f.2));
           }
     ]

@@ -5,7 +5,7 @@ use Rattle.std.specs.List.{AllByRecursion}
 use Rattle.std.proofs.lemmas.List.Elements.{All-from_recursion}
 use Rattle.log_terms.specs.Batch.{epoch_of}
 use Rattle.log_terms.specs.Line.{line_of, line_after}
-use Rattle.log_terms.proofs.Lists.{get-set, prefix_self}
+use Rattle.log_terms.proofs.Lists.{get-set, prefix_self, prefix_trans}
 use Rattle.registry.specs.declared.registry.Replica.{Replica}
 use Rattle.registry.specs.declared.registry.Registry.{Registry}
 use Rattle.plain_log.specs.declared.answer.Answer.{Answer}
@@ -18,9 +18,9 @@ use Rattle.plain_log.specs.declared.state.Role.TheVariants.{Idle, Leads, Follows
 use Rattle.plain_log.specs.declared.state.State.{State}
 use Rattle.plain_log.specs.State.{path_of, followed, is_in}
 use Rattle.plain_log.specs.Rows.{row}
-use Rattle.plain_log.specs.Safe.{LogSafe, RoleSafe, PlainSafe}
+use Rattle.plain_log.specs.Safe.{Has, LogSafe, RoleSafe, PlainSafe}
 use Rattle.plain_log.proofs.Wider.{Wider}
-use Rattle.partition_seen.specs.Seen.{Node, Held}
+use Rattle.partition_seen.specs.Seen.{Back, Node, Held}
 use Rattle.partition_seen.specs.Held.{broker_of, put_node}
 use Rattle.partition_seen.specs.Central.{HeldStands, was_taken, AreTaken, LineStands, LeaderStands, LinesStand}
 use Rattle.partition_seen.specs.Sound.{NodeSound}
@@ -38,6 +38,31 @@ pub record Standing (h : Held) (p : State) (b : ℕ) (x : Node) (s : Replica) : 
 abbrev pub LogsSafe : State → Type 0
 LogsSafe q = (b : ℕ) (x : Broker) → slice_get q.brokers b ≡ Some x → LogSafe q.paths x.log
 
+-- while an epoch with a path stays the registry's, its leader has no less stable
+abbrev pub Steady : State → State → Type 0
+Steady p q = (e : ℕ) → is_some (path_of p.paths e) ≡ true → q.registry.epoch ≡ e
+    → (p.registry.epoch ≡ e) × ((z : Broker) → slice_get q.brokers q.registry.leader.0 ≡ Some z
+    → (y : Broker) × (slice_get p.brokers p.registry.leader.0 ≡ Some y) × (y.stable ≤ z.stable))
+
+pub steady_self : (p : State) → Steady p p
+steady_self p = λ e has is. (is, λ z at. (z, at, omega arith))
+
+-- a broker has changed
+pub steady_set : (p q : State) (b : ℕ) (x z : Broker) → slice_get p.brokers b ≡ Some x → q.brokers ≡ slice_set p.brokers b z → q.registry.epoch ≡ p.registry.epoch → q.registry.leader.0 ≡ p.registry.leader.0
+    → (p.registry.leader.0 ≡ b → x.stable ≤ z.stable) → Steady p q
+steady_set p q b x z at brokers epoch leader up = λ e has is. (
+  sym epoch ∙ is,
+  λ y there.
+      let now : slice_get (slice_set p.brokers b z) p.registry.leader.0 ≡ Some y = ap (λ (n : ℕ). slice_get (slice_set p.brokers b z) n) (sym leader) ∙ (ap (λ (k : List Broker). slice_get k q.registry.leader.0) (sym brokers) ∙ there) in
+      elim (get-set p.brokers b z p.registry.leader.0 y now) [
+        | inl one ↦
+            let le = up one.0 in
+            let same : y ≡ z = one.1 in
+            (x, ap (λ (n : ℕ). slice_get p.brokers n) one.0 ∙ at, subst (λ (k : Broker). x.stable ≤ k.stable) (sym same) le)
+        | inr other ↦ (y, other.1, omega arith)
+      ],
+)
+
 -- the plain log allows the answer, and stands to the partition afterwards
 pub record Allowed (p : State) (b : ℕ) (x : Node) (s : Replica) (noted : Option Noted) (command : Command) (answer : Answer) (h' : Held) : Type 0 where
   pub state : State
@@ -47,6 +72,7 @@ pub record Allowed (p : State) (b : ℕ) (x : Node) (s : Replica) (noted : Optio
   pub actors : state.actors ≡ p.actors
   pub paths : Wider p.paths state.paths
   pub lines : LogsSafe state → LinesStand h' state.paths state.broken
+  pub steady : Steady p state
 
 -- the nodes as brokers
 
@@ -146,7 +172,7 @@ pub line_taken : (paths : List Path) (broken : List ℕ) (line : List (ℕ × �
 line_taken paths broken line log is s = subst (AreTaken paths broken) (sym is) (log_taken paths broken log s)
 
 -- the lines of the nodes, after a node has changed
-pub record Puts (h : Held) (p q : State) (b : ℕ) (y : Node) : Type 0 where
+pub record Puts (h : Held) (p q : State) (b : ℕ) (x y : Node) : Type 0 where
   pub registry : q.registry ≡ p.registry
   pub brokers : q.brokers ≡ slice_set p.brokers b (broker_of y)
   pub actors : q.actors ≡ p.actors
@@ -156,10 +182,15 @@ pub record Puts (h : Held) (p q : State) (b : ℕ) (y : Node) : Type 0 where
   pub sound : NodeSound y
   pub paths_are : LogsSafe q → AreTaken q.paths q.broken y.log.line
   pub saved_are : LogsSafe q → AreTaken q.paths q.broken y.saved
-  pub back_are : LogsSafe q → (back : ℕ × List (ℕ × ℕ)) → y.loose ≡ Some back → AreTaken q.paths q.broken back.1
+  pub back_are : LogsSafe q → (back : Back) → y.loose ≡ Some back → AreTaken q.paths q.broken back.1
   pub joined : (e : ℕ) → y.role ≡ Joined e → y.log.line ≡ line_of y.log.batches
   pub leader : h.registry.leader.0 ≡ b → LeaderStands q.paths h.registry.epoch y
   pub followers : followed y.role ≡ Some h.registry.epoch → h.registry.leader.0 ≢ b
+  pub steady : h.registry.leader.0 ≡ b → x.stable ≤ y.stable
+
+-- what begins a path begins a longer one
+begins_wide : (ps qs : List Path) (e : ℕ) (log : List (List ℕ)) → Wider ps qs → Has ps e log → Has qs e log
+begins_wide ps qs e log w k = let m = w e k.0 k.1 in (m.0, m.1, prefix_trans log k.0 m.0 k.2 m.2)
 
 pub lines_put : (h : Held) (ps qs : List Path) (bs cs : List ℕ) (b : ℕ) (y : Node) → LinesStand h ps bs → Wider ps qs → Keeps bs cs
     → (h.registry.leader.0 ≢ b → is_some (path_of qs h.registry.epoch) ≡ true → is_some (path_of ps h.registry.epoch) ≡ true) → LineStands qs cs y
@@ -179,7 +210,7 @@ lines_put h ps qs bs cs b y s wide keeps keys line leader followers = record {
   ];
   leader = λ z at. elim (get-set h.nodes b y h.registry.leader.0 z at) [
     | inl one ↦ subst (LeaderStands qs h.registry.epoch) (sym one.1) (leader one.0)
-    | inr other ↦ λ has. s.leader z other.1 (keys other.0 has)
+    | inr other ↦ λ has. (let k = s.leader z other.1 (keys other.0 has) in (k.0, k.1, k.2, k.3, k.4, begins_wide ps qs h.registry.epoch z.log.batches wide k.5))
   ];
   followers = λ c z at f. elim (get-set h.nodes b y c z at) [
     | inl one ↦ λ e. followers (ap (λ (k : Node). followed k.role) (sym one.1) ∙ f) (e ∙ one.0)
@@ -187,8 +218,8 @@ lines_put h ps qs bs cs b y s wide keeps keys line leader followers = record {
   ];
 }
 
-pub put_lines : (h : Held) (p q : State) (b : ℕ) (y : Node) → LinesStand h p.paths p.broken → Puts h p q b y → LogsSafe q → LinesStand (put_node h b y) q.paths q.broken
-put_lines h p q b y s w safe =
+pub put_lines : (h : Held) (p q : State) (b : ℕ) (x y : Node) → LinesStand h p.paths p.broken → Puts h p q b x y → LogsSafe q → LinesStand (put_node h b y) q.paths q.broken
+put_lines h p q b x y s w safe =
     lines_put h p.paths q.paths p.broken q.broken b y s w.paths w.broken w.keys
     (record { sound = w.sound; paths_are = w.paths_are safe; saved_are = w.saved_are safe; back_are = w.back_are safe; joined = w.joined }) w.leader w.followers
 
@@ -243,11 +274,18 @@ silent h p b x s noted command answer h' st is same = record {
   actors = refl;
   paths = wider_self p.paths;
   lines = λ safe. subst (λ (k : Held). LinesStand k p.paths p.broken) (sym same) st.lines;
+  steady = steady_self p;
 }
+
+pub put_steady : (h : Held) (p q : State) (b : ℕ) (x y : Node) (s : Replica) → Standing h p b x s → Puts h p q b x y → Steady p q
+put_steady h p q b x y s st w =
+    steady_set p q b (broker_of x) (broker_of y) (broker_at h p b x st.held st.at) w.brokers
+    (ap (λ (r : Registry). r.epoch) w.registry) (ap (λ (r : Registry). r.leader.0) w.registry)
+    (λ it. w.steady (ap (λ (r : Registry). r.leader.0) (sym st.held.registry) ∙ it))
 
 -- a row that changes the broker
 pub put : (h : Held) (p q : State) (b : ℕ) (x y : Node) (s : Replica) (noted : Option Noted) (command : Command) (answer : Answer) (h' : Held) → Standing h p b x s
-    → row p b (broker_of x) s noted command answer ≡ Some q → Puts h p q b y → h' ≡ put_node h b y → Allowed p b x s noted command answer h'
+    → row p b (broker_of x) s noted command answer ≡ Some q → Puts h p q b x y → h' ≡ put_node h b y → Allowed p b x s noted command answer h'
 put h p q b x y s noted command answer h' st is w same = record {
   state = q;
   is = is;
@@ -256,8 +294,21 @@ put h p q b x y s noted command answer h' st is w same = record {
       ∙ (sym (map_set broker_of h.nodes b y) ∙ ap (λ (k : Held). map broker_of k.nodes) (sym same)));
   actors = w.actors;
   paths = w.paths;
-  lines = λ safe. subst (λ (k : Held). LinesStand k q.paths q.broken) (sym same) (put_lines h p q b y st.lines w safe);
+  lines = λ safe. subst (λ (k : Held). LinesStand k q.paths q.broken) (sym same) (put_lines h p q b x y st.lines w safe);
+  steady = put_steady h p q b x y s st w;
 }
+
+moved_steady : (h : Held) (p q : State) (r : Registry) → PlainSafe p → HeldStands h p → q.registry ≡ r → q.brokers ≡ p.brokers → Moves h.registry r → Steady p q
+moved_steady h p q r safe st registry brokers m = elim m.epoch [
+  | inl k ↦
+      let epoch : q.registry.epoch ≡ p.registry.epoch = ap (λ (n : Registry). n.epoch) registry ∙ (k.epoch ∙ ap (λ (n : Registry). n.epoch) (sym st.registry)) in
+      let leader : q.registry.leader.0 ≡ p.registry.leader.0 = ap (λ (n : Registry). n.leader.0) registry ∙ (ap (λ l. l.0) k.leader ∙ ap (λ (n : Registry). n.leader.0) (sym st.registry)) in
+      λ e has is. (sym epoch ∙ is, λ z at. (z, ap (λ (n : ℕ). slice_get p.brokers n) (sym leader) ∙ (ap (λ (ys : List Broker). slice_get ys q.registry.leader.0) (sym brokers) ∙ at), omega arith))
+  | inr k ↦
+      λ e has is.
+      let above : p.registry.epoch < e = omega (arith, k.epoch, is, ap (λ (n : Registry). n.epoch) registry, ap (λ (n : Registry). n.epoch) st.registry) in
+      absurd (no_path p e safe above has)
+]
 
 -- a row that changes the registry
 pub leaves : (h : Held) (p q : State) (b : ℕ) (x : Node) (s : Replica) (r : Registry) (noted : Option Noted) (command : Command) (answer : Answer) (h' : Held) → Standing h p b x s
@@ -275,4 +326,5 @@ leaves h p q b x s r noted command answer h' st is registry brokers actors paths
       subst (λ (k : Held). LinesStand k q.paths q.broken) (sym same)
       (subst (λ (k : List Path). LinesStand (record h { registry = r }) k q.broken) (sym paths)
       (subst (λ (k : List ℕ). LinesStand (record h { registry = r }) p.paths k) (sym broken) moved));
+  steady = moved_steady h p q r st.safe st.held registry brokers moves;
 }

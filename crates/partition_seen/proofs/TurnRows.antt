@@ -1,5 +1,5 @@
 -- A turn of any command is one that the plain log allows.
-use Rattle.std.proofs.Common.{◌≡◌, ◌∙◌, sym, ap, subst, refl, ℕ, ℤ, Some, None}
+use Rattle.std.proofs.Common.{◌≡◌, ◌∙◌, sym, ap, subst, refl, ℕ, ℤ, List, slice_set, Option, Some, None, true, arith}
 use Rattle.std.specs.Prelude.{map}
 use Rattle.record_batch.specs.Build.{built}
 use Rattle.record_batch.proofs.BuildLaws.{built_long}
@@ -7,22 +7,34 @@ use Rattle.registry.specs.declared.registry.Replica.{Replica}
 use Rattle.plain_log.specs.declared.answer.Answer.{Answer}
 use Rattle.plain_log.specs.declared.answer.Answer.TheVariants.{Ok}
 use Rattle.plain_log.specs.declared.command.Command.{Command}
-use Rattle.plain_log.specs.declared.command.Command.TheVariants.{Append, Raw, Flush, Roll, Elect, Unclean, Learn, Join, Follow, Ack, Shrink, Expand, Raise, Clock, Stop as StopCommand, Up as UpCommand, Fetch}
+use Rattle.plain_log.specs.declared.command.Command.TheVariants.{Append, Raw, Flush, Roll, Elect, Unclean, Learn, Join, Follow, Trim, Ack, Shrink, Expand, Raise, Clock, Stop as StopCommand, Up as UpCommand, Fetch}
 use Rattle.plain_log.specs.declared.command.Order.{Order}
+use Rattle.plain_log.specs.declared.journal.Event.TheVariants.{Begins as Began}
+use Rattle.plain_log.specs.declared.state.Broker.{Broker}
 use Rattle.plain_log.specs.declared.state.State.{State}
+use Rattle.plain_log.specs.State.{put_broker}
+use Rattle.plain_log.specs.Safe.{is_followers, HasJoined}
+use Rattle.plain_log.specs.Step.{begins, same_command}
+use Rattle.registry.specs.declared.registry.Registry.{Registry}
+use Rattle.log_terms.specs.Log.{end_of}
+use Rattle.log_terms.proofs.Lists.{set-same}
+use Rattle.partition_seen.specs.Turn.{event_of}
 use Rattle.partition_seen.specs.declared.begun.Begun.{Begun}
 use Rattle.partition_seen.specs.declared.begun.Turned.{Turned}
 use Rattle.partition_seen.specs.declared.begun.Turned.TheVariants.{Answers, Begins}
 use Rattle.partition_seen.specs.Seen.{Node, Held}
 use Rattle.partition_seen.specs.Held.{broker_of, noted_of}
-use Rattle.partition_seen.specs.Central.{LinesStand}
+use Rattle.partition_seen.specs.Central.{LinesStand, BegunStands}
 use Rattle.partition_seen.specs.Rows.{ClockRow, AnswerRow, FirstRow, LaterRow}
-use Rattle.partition_seen.proofs.Standing.{Standing, Allowed, wider_self}
+use Rattle.partition_seen.proofs.BoolTests.{eq_same, when_true}
+use Rattle.partition_seen.proofs.Standing.{Standing, Allowed, LogsSafe, Steady, steady_self, steady_set, put_steady, put_lines, map_set, broker_at, wider_self}
 use Rattle.partition_seen.proofs.OwnRows.{append_allowed, raw_allowed, flush_allowed, roll_allowed, stop_allowed, up_allowed, fetch_allowed}
 use Rattle.partition_seen.proofs.ElectionRows.{elect_allowed, unclean_allowed, shrink_allowed, expand_allowed, raise_allowed}
 use Rattle.partition_seen.proofs.LearnRows.{ack_allowed, learn_allowed}
-use Rattle.partition_seen.proofs.FollowRows.{join_allowed, follow_allowed, Starts, follow_starts}
-use Rattle.partition_seen.proofs.FollowOnRows.{Going, follow_on_allowed}
+use Rattle.partition_seen.proofs.FollowRows.{join_allowed, join_starts, follow_allowed, follow_starts}
+use Rattle.partition_seen.proofs.RebuildRows.{join_on_allowed}
+use Rattle.partition_seen.proofs.TrimRows.{trim_allowed, trim_on_allowed}
+use Rattle.partition_seen.proofs.FollowOnRows.{follow_on_allowed}
 
 -- the clock is no part of the plain log
 clock_allowed : (h : Held) (p : State) (b : ℕ) (x : Node) (s : Replica) (ms : ℤ) (answer : Answer) (h' : Held) → Standing h p b x s → ClockRow h ms answer h'
@@ -35,6 +47,7 @@ clock_allowed h p b x s ms Ok h' st w = record {
   actors = refl;
   paths = wider_self p.paths;
   lines = λ safe. subst (λ (k : Held). LinesStand k p.paths p.broken) (sym w) (record { each = st.lines.each; leader = st.lines.leader; followers = st.lines.followers });
+  steady = steady_self p;
 }
 clock_allowed h p b x s ms other h' st w = elim w [ ]
 
@@ -47,7 +60,6 @@ one_turn h p b x s Roll answer h' st w = roll_allowed h p b x s answer h' st w
 one_turn h p b x s Elect answer h' st w = elect_allowed h p b x s answer h' st w
 one_turn h p b x s Unclean answer h' st w = unclean_allowed h p b x s answer h' st w
 one_turn h p b x s Learn answer h' st w = learn_allowed h p b x s answer h' st w
-one_turn h p b x s Join answer h' st w = join_allowed h p b x s answer h' st w
 one_turn h p b x s Ack answer h' st w = ack_allowed h p b x s answer h' st w
 one_turn h p b x s Shrink answer h' st w = shrink_allowed h p b x s answer h' st w
 one_turn h p b x s Expand answer h' st w = expand_allowed h p b x s answer h' st w
@@ -62,32 +74,97 @@ one_turn h p b x s other answer h' st w = elim w [ ]
 pub first_allowed : (h : Held) (p : State) (b : ℕ) (x : Node) (s : Replica) (command : Command) (answer : Answer) (h' : Held) → Standing h p b x s
     → FirstRow h b x command (Answers answer) h' → Allowed p b x s None command answer h'
 first_allowed h p b x s (Follow limit) answer h' st w = follow_allowed h p b x s limit answer h' st w
+first_allowed h p b x s Join answer h' st w = join_allowed h p b x s answer h' st w
+first_allowed h p b x s Trim answer h' st w = trim_allowed h p b x s answer h' st w
 first_allowed h p b x s command answer h' st w = one_turn h p b x s command answer h' st w
 
--- a beginning is a follow's
-pub record BeginsFollow (h : Held) (p : State) (x : Node) (command : Command) (g : Begun) (h' : Held) : Type 0 where
-  pub limit : ℕ
-  pub is : command ≡ Follow limit
-  pub starts : Starts h p x limit g h'
+-- a beginning, as the plain log's
+pub record Starting (h : Held) (p : State) (b : ℕ) (x : Node) (command : Command) (g : Begun) (h' : Held) : Type 0 where
+  pub cut : Option ℕ
+  pub event : event_of (Begins g) command ≡ Began cut
+  pub broker : Broker
+  pub is : begins p (broker_of x) command cut ≡ Some broker
+  pub stops : g.stops ≡ broker.stops
+  pub role : g.role ≡ broker.role
+  pub end : g.end ≡ end_of broker.log
+  pub start : g.start ≡ p.registry.start
+  pub registry : p.registry ≡ h'.registry
+  pub brokers : slice_set p.brokers b broker ≡ map broker_of h'.nodes
+  pub lines : LogsSafe (put_broker p b broker) → LinesStand h' p.paths p.broken
+  pub steady : Steady p (put_broker p b broker)
+  pub seat : BegunStands (put_broker p b broker) command g
+
+-- one that changes nothing
+quiet : (h : Held) (p : State) (b : ℕ) (x : Node) (s : Replica) (command : Command) (g : Begun) (h' : Held) → Standing h p b x s → event_of (Begins g) command ≡ Began None
+    → begins p (broker_of x) command None ≡ Some (broker_of x) → g.stops ≡ x.stops → g.role ≡ x.role → g.end ≡ end_of x.log.batches → g.start ≡ p.registry.start → h' ≡ h
+    → BegunStands (put_broker p b (broker_of x)) command g → Starting h p b x command g h'
+quiet h p b x s command g h' st event is stops role end start same seat =
+    let bx = broker_at h p b x st.held st.at in
+    record {
+      cut = None;
+      event = event;
+      broker = broker_of x;
+      is = is;
+      stops = stops;
+      role = role;
+      end = end;
+      start = start;
+      registry = st.held.registry ∙ ap (λ (k : Held). k.registry) (sym same);
+      brokers = set-same p.brokers b (broker_of x) bx ∙ (st.held.brokers ∙ ap (λ (k : Held). map broker_of k.nodes) (sym same));
+      lines = λ safe. subst (λ (k : Held). LinesStand k p.paths p.broken) (sym same) st.lines;
+      steady = steady_set p (put_broker p b (broker_of x)) b (broker_of x) (broker_of x) bx refl refl refl (λ it. omega arith);
+      seat = seat;
+    }
 
 pub first_starts : (h : Held) (p : State) (b : ℕ) (x : Node) (s : Replica) (command : Command) (g : Begun) (h' : Held) → Standing h p b x s → FirstRow h b x command (Begins g) h'
-    → BeginsFollow h p x command g h'
-first_starts h p b x s (Follow limit) g h' st w = record { limit = limit; is = refl; starts = follow_starts h p b x s limit g h' st w }
+    → Starting h p b x command g h'
+first_starts h p b x s (Follow limit) g h' st w =
+    let k = follow_starts h p b x s limit g h' st w in
+    quiet h p b x s (Follow limit) g h' st refl k.is k.stops k.role k.end k.start k.same k.run
+first_starts h p b x s Join g h' st w =
+    let k = join_starts h p b x s g h' st w in
+    record {
+      cut = Some g.end;
+      event = refl;
+      broker = k.broker;
+      is = k.is;
+      stops = k.stops;
+      role = k.role;
+      end = k.end;
+      start = k.start;
+      registry = st.held.registry ∙ ap (λ (n : Held). n.registry) (sym k.after);
+      brokers = k.puts.brokers ∙ (ap (λ (ys : List Broker). slice_set ys b (broker_of k.node)) st.held.brokers
+          ∙ (sym (map_set broker_of h.nodes b k.node) ∙ ap (λ (n : Held). map broker_of n.nodes) (sym k.after)));
+      lines = λ safe. subst (λ (n : Held). LinesStand n p.paths p.broken) (sym k.after) (put_lines h p (put_broker p b k.broker) b x k.node st.lines k.puts safe);
+      steady = put_steady h p (put_broker p b k.broker) b x k.node s st k.puts;
+      seat = k.rebuild;
+    }
+first_starts h p b x s Trim g h' st w =
+    quiet h p b x s Trim g h' st refl (when_true _ (broker_of x) w.0) w.1.stops w.1.role w.1.end (w.1.start ∙ ap (λ (r : Registry). r.start) (sym st.held.registry)) w.2 tt
 first_starts h p b x s command g h' st w = elim w [ ]
 
--- a later turn is a follow's, and answers it
-pub later_follows : (h : Held) (b : ℕ) (x : Node) (command : Command) (g : Begun) (turned : Turned) (h' : Held) → LaterRow h b x command g turned h'
-    → (limit : ℕ) × (command ≡ Follow limit)
-later_follows h b x (Follow limit) g turned h' w = (limit, refl)
-later_follows h b x command g turned h' w = elim w [ ]
+-- what holds of a command that has begun
+pub record GoingOn (p : State) (x : Node) (order : Order) (command : Command) (g : Begun) : Type 0 where
+  pub stands : BegunStands p command g
+  pub joined : is_followers command ≡ true → HasJoined p.registry.epoch (noted_of order g) (broker_of x)
 
-pub later_allowed : (h : Held) (p : State) (b : ℕ) (x : Node) (s : Replica) (order : Order) (limit : ℕ) (command : Command) (g : Begun) (answer : Answer) (h' : Held) → Standing h p b x s
-    → command ≡ Follow limit → Going p x limit order g → LaterRow h b x command g (Answers answer) h' → Allowed p b x s (Some (noted_of order g)) command answer h'
-later_allowed h p b x s order limit command g answer h' st is k w =
-    subst (λ (c : Command). Allowed p b x s (Some (noted_of order g)) c answer h') (sym is)
-    (follow_on_allowed h p b x s limit order g answer h' st k (subst (λ (c : Command). LaterRow h b x c g (Answers answer) h') is w))
+-- a command that goes on is one of several turns
+pub later_same : (h : Held) (b : ℕ) (x : Node) (command : Command) (g : Begun) (turned : Turned) (h' : Held) → LaterRow h b x command g turned h' → same_command command command ≡ true
+later_same h b x (Follow limit) g turned h' w = eq_same limit limit refl
+later_same h b x Join g turned h' w = refl
+later_same h b x Trim g turned h' w = refl
+later_same h b x command g turned h' w = elim w [ ]
+
+pub later_allowed : (h : Held) (p : State) (b : ℕ) (x : Node) (s : Replica) (order : Order) (command : Command) (g : Begun) (answer : Answer) (h' : Held) → Standing h p b x s
+    → GoingOn p x order command g → LaterRow h b x command g (Answers answer) h' → Allowed p b x s (Some (noted_of order g)) command answer h'
+later_allowed h p b x s order (Follow limit) g answer h' st k w = follow_on_allowed h p b x s limit order g answer h' st (record { run = k.stands; noted = k.joined refl }) w
+later_allowed h p b x s order Join g answer h' st k w = join_on_allowed h p b x s order g answer h' st (record { run = k.stands; noted = k.joined refl }) w
+later_allowed h p b x s order Trim g answer h' st k w = trim_on_allowed h p b x s order g answer h' st w
+later_allowed h p b x s order command g answer h' st k w = elim w [ ]
 
 -- it doesn't begin again
 pub no_later : (h : Held) (b : ℕ) (x : Node) (command : Command) (g f : Begun) (h' : Held) → LaterRow h b x command g (Begins f) h' → ⊥
 no_later h b x (Follow limit) g f h' w = w
+no_later h b x Join g f h' w = w
+no_later h b x Trim g f h' w = w
 no_later h b x command g f h' w = w

@@ -1,15 +1,17 @@
 -- The central fact, which holds between any two turns: the world is the plain log after the world's own journal.
-use Rattle.std.specs.Prelude.{◌≡◌, ◌≢◌, ℕ, ◌≤◌, Option, Some, List, ◌++◌, length, map, slice_get, option_map, is_some, Bool, ◌||◌, true, IsOk, All}
+use Rattle.std.specs.Prelude.{◌≡◌, ◌≢◌, ℕ, ◌<◌, ◌≤◌, Option, Some, List, ◌++◌, length, map, slice_get, option_map, is_some, Bool, ◌||◌, true, IsOk, All}
 use Rattle.std.specs.Option.{option_and_then}
 use mathlib.Core.List.{IsPrefix}
 use Rattle.log_terms.specs.Line.{line_of}
 use Rattle.log_terms.specs.Batch.{epoch_of}
-use Rattle.log_terms.specs.Log.{end_of, end_from}
+use Rattle.log_terms.specs.Log.{EndsAt, end_of, end_from, up_to}
 use Rattle.epoch_line.specs.Line.{last_entry}
 use Rattle.record_batch.specs.Check.{checked}
 use Rattle.plain_log.specs.declared.command.ActorList.{ActorList}
-use Rattle.plain_log.specs.declared.command.Command.TheVariants.{Follow}
+use Rattle.plain_log.specs.declared.command.Command.{Command}
+use Rattle.plain_log.specs.declared.command.Command.TheVariants.{Follow, Join, Trim}
 use Rattle.plain_log.specs.declared.command.Order.{Order}
+use Rattle.plain_log.specs.declared.state.Broker.{Broker}
 use Rattle.plain_log.specs.declared.state.Noted.{Noted}
 use Rattle.plain_log.specs.declared.state.Path.{Path}
 use Rattle.plain_log.specs.declared.state.Role.TheVariants.{Joined}
@@ -18,9 +20,9 @@ use Rattle.plain_log.specs.State.{actor_at, path_of, followed, is_in}
 use Rattle.plain_log.specs.Fetch.{is_within}
 use Rattle.plain_log.specs.Orders.{AreRising}
 use Rattle.plain_log.specs.Runs.{replay}
-use Rattle.plain_log.specs.Safe.{PlainSafe}
+use Rattle.plain_log.specs.Safe.{Has, PlainSafe}
 use Rattle.partition_seen.specs.declared.begun.Begun.{Begun}
-use Rattle.partition_seen.specs.Seen.{Node, Held}
+use Rattle.partition_seen.specs.Seen.{Back, Node, Held}
 use Rattle.partition_seen.specs.declared.seat.Seat.{Seat}
 use Rattle.partition_seen.specs.Held.{broker_of, noted_of}
 use Rattle.partition_seen.specs.Log.{epoch_in}
@@ -50,15 +52,16 @@ pub record LineStands (paths : List Path) (broken : List ℕ) (x : Node) : Type 
   pub sound : NodeSound x
   pub paths_are : AreTaken paths broken x.log.line
   pub saved_are : AreTaken paths broken x.saved
-  pub back_are : (back : ℕ × List (ℕ × ℕ)) → x.loose ≡ Some back → AreTaken paths broken back.1
+  pub back_are : (back : Back) → x.loose ≡ Some back → AreTaken paths broken back.1
   pub joined : (e : ℕ) → x.role ≡ Joined e → x.log.line ≡ line_of x.log.batches
 
 -- the leader of the registry's epoch, once it has led it: its line ends with that epoch, from a stable offset on, and
--- so do the lines that may come back
+-- so do the lines that may come back; and its log begins the epoch's path
 abbrev pub LeaderStands : List Path → ℕ → Node → Type 0
 LeaderStands paths epoch x = is_some (path_of paths epoch) ≡ true
     → (start : ℕ) × (last_entry x.log.line ≡ Some (epoch, start)) × (last_entry x.saved ≡ Some (epoch, start))
-    × (start ≤ x.stable) × ((back : ℕ × List (ℕ × ℕ)) → x.loose ≡ Some back → last_entry back.1 ≡ Some (epoch, start))
+    × (start ≤ x.stable) × ((back : Back) → x.loose ≡ Some back → last_entry back.1 ≡ Some (epoch, start))
+    × Has paths epoch x.log.batches
 
 -- the lines of the nodes; and no follower of the registry's epoch is its leader
 pub record LinesStand (h : Held) (paths : List Path) (broken : List ℕ) : Type 0 where
@@ -82,12 +85,30 @@ pub record RunStands (paths : List Path) (limit : ℕ) (g : Begun) : Type 0 wher
   pub epochs : All (λ batch. Some (epoch_of batch) ≡ epoch_in g.batches) g.batches
   pub small : end_from g.end g.batches ≤ 4611686018427387904
 
--- the seats: the plain log's actors have come as far, and what follows keep are runs
+-- a rebuild that a join has begun: the path that it follows has an end at the wanted point, past the log's, and the line
+-- is the path's up to there; and the leader has that much stable while its epoch is the registry's
+pub record RebuildStands (p : State) (g : Begun) : Type 0 where
+  pub epoch : ℕ
+  pub role : g.role ≡ Joined epoch
+  pub path : List (List ℕ)
+  pub path_is : path_of p.paths epoch ≡ Some path
+  pub ends : EndsAt g.wanted path
+  pub line : g.line ≡ line_of (up_to g.wanted path)
+  pub above : g.end < g.wanted
+  pub leader : p.registry.epoch ≡ epoch → (y : Broker) → slice_get p.brokers p.registry.leader.0 ≡ Some y → g.wanted ≤ y.stable
+
+-- what is kept of a command that has begun
+abbrev pub BegunStands : State → Command → Begun → Type 0
+BegunStands p (Follow limit) g = RunStands p.paths limit g
+BegunStands p Join g = RebuildStands p g
+BegunStands p Trim g = Unit {0}
+BegunStands p other g = ⊥
+
+-- the seats: the plain log's actors have come as far, and what commands keep stands
 pub record SeatStands (p : State) (l : ActorList) (seat : Seat) : Type 0 where
   pub actor : actor_at p.actors l.actor.0 ≡ record { number = seat.number; begun = noted_at l.orders seat }
-  pub follow : (g : Begun) → seat.begun ≡ Some g
-      → (order : Order) × (limit : ℕ) × (slice_get l.orders seat.number ≡ Some order) × (order.command ≡ Follow limit)
-      × RunStands p.paths limit g
+  pub begun : (g : Begun) → seat.begun ≡ Some g
+      → (order : Order) × (slice_get l.orders seat.number ≡ Some order) × BegunStands p order.command g
 
 -- the world's registry, nodes and desk are those of a state of the plain log
 pub record Stands (w : Whole) (p : State) : Type 0 where

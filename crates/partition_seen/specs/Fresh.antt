@@ -20,6 +20,7 @@ fresh_node role line = record {
   stable = 0;
   known = 0;
   saved = line;
+  local = 0;
   loose = None;
 }
 

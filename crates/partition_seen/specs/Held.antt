@@ -5,10 +5,11 @@ use Rattle.plain_log.specs.declared.command.Order.{Order}
 use Rattle.plain_log.specs.declared.state.Broker.{Broker}
 use Rattle.plain_log.specs.declared.state.Noted.{Noted}
 use Rattle.plain_log.specs.declared.state.Role.TheVariants.{Idle}
+use Rattle.epoch_line.specs.Line.{cut_end}
 use Rattle.registry.specs.Calls.{when}
 use Rattle.plain_log.specs.State.{leads_in}
 use Rattle.partition_seen.specs.declared.begun.Begun.{Begun}
-use Rattle.partition_seen.specs.Seen.{Node, Held}
+use Rattle.partition_seen.specs.Seen.{Back, Node, Held}
 
 -- a node as a broker of the plain log
 abbrev pub broker_of : Node → Broker
@@ -34,15 +35,23 @@ AtNode h b P = IsSomeAnd (slice_get h.nodes b) P
 abbrev pub stopped : Node → Node
 stopped x = record x { up = false; stops = x.stops + 1; role = Idle; known = 0 }
 
--- a node after a write that failed, which was to leave this end stable, with this line
-abbrev pub broken : Node → ℕ → List (ℕ × ℕ) → Node
-broken x end line = record (stopped x) { loose = Some (end, line) }
+-- what comes back of a node's log where no write fails
+abbrev pub back_of : Node → Back
+back_of x = (x.stable, x.saved, x.local)
 
--- a node after a cut that failed, to this end, with this line: the smaller end is stable
-abbrev pub torn : Node → ℕ → List (ℕ × ℕ) → Node
-torn x end line =
-    if nat_lt end x.stable then record (stopped x) { stable = end; saved = line; loose = Some (x.stable, x.saved) }
-    else broken x end line
+-- a node's line without the entries that start past what is stable
+abbrev pub kept_line : Node → List (ℕ × ℕ)
+kept_line x = cut_end x.log.line (x.stable + 1)
+
+-- a node after a write that failed, which was to make this come back
+abbrev pub broken : Node → Back → Node
+broken x back = record (stopped x) { loose = Some back }
+
+-- a node after a cut that failed, which was to make this come back: the smaller end is stable
+abbrev pub torn : Node → Back → Node
+torn x back =
+    if nat_lt back.0 x.stable then record (stopped x) { stable = back.0; saved = back.1; local = back.2; loose = Some (back_of x) }
+    else broken x back
 
 -- the registry's leader, where it is up and leads the registry's epoch
 abbrev pub the_leader : Held → Option Node

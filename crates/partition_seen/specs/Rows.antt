@@ -1,22 +1,22 @@
 -- What a turn of each command comes to: its answer's cause, or what its seat keeps, and what it does to the partition.
 --
--- A row says for each answer exactly when it is given, the tests in their order, and the partition afterwards. Follow
--- is the one command of two turns.
-use Rattle.std.specs.Prelude.{◌≡◌, ◌⊎◌, ℕ, ℤ, true, false, List, Option, None, Some}
+-- A row says for each answer exactly when it is given, the tests in their order, and the partition afterwards. Follow,
+-- trim and some joins take more than one turn.
+use Rattle.std.specs.Prelude.{◌≡◌, ◌⊎◌, ℕ, ℤ, true, false, Option, None, Some}
 use Rattle.log_terms.specs.Log.{end_of, up_to}
 use Rattle.record_batch.specs.Build.{built}
 use Rattle.plain_log.specs.declared.answer.Answer.{Answer}
 use Rattle.plain_log.specs.declared.answer.Answer.TheVariants.{Ok, Down, IsUp, DiskFault, LastIncarnation, Up}
 use Rattle.plain_log.specs.declared.command.Command.{Command}
-use Rattle.plain_log.specs.declared.command.Command.TheVariants.{Append, Raw, Flush, Roll, Elect, Unclean, Learn, Join, Follow, Ack, Shrink, Expand, Raise, Clock, Stop as StopCommand, Up as UpCommand, Fetch}
+use Rattle.plain_log.specs.declared.command.Command.TheVariants.{Append, Raw, Flush, Roll, Elect, Unclean, Learn, Join, Follow, Trim, Ack, Shrink, Expand, Raise, Clock, Stop as StopCommand, Up as UpCommand, Fetch}
 use Rattle.partition_seen.specs.declared.begun.Begun.{Begun}
 use Rattle.partition_seen.specs.declared.begun.Turned.{Turned}
 use Rattle.partition_seen.specs.declared.begun.Turned.TheVariants.{Answers, Begins}
-use Rattle.partition_seen.specs.Seen.{Node, Held}
-use Rattle.partition_seen.specs.Held.{put_node, stopped}
-use Rattle.partition_seen.specs.RowsOfLog.{AppendRow, RawRow, FlushRow, RollRow, FetchRow}
+use Rattle.partition_seen.specs.Seen.{Back, Node, Held}
+use Rattle.partition_seen.specs.Held.{put_node, back_of, stopped}
+use Rattle.partition_seen.specs.RowsOfLog.{AppendRow, RawRow, FlushRow, RollRow, TrimRow, TrimOnRow, FetchRow}
 use Rattle.partition_seen.specs.RowsOfElections.{ElectRow, UncleanRow, LearnRow, AckRow, ShrinkRow, ExpandRow, RaiseRow}
-use Rattle.partition_seen.specs.RowsOfFollowers.{JoinRow, FollowRow, FollowOnRow}
+use Rattle.partition_seen.specs.RowsOfFollowers.{JoinRow, JoinOnRow, FollowRow, FollowOnRow}
 
 -- stop
 abbrev pub StopRow : Held → ℕ → Node → Answer → Held → Type 0
@@ -24,17 +24,18 @@ StopRow h b x Down h' = (x.up ≡ false) × (h' ≡ h)
 StopRow h b x Ok h' = (x.up ≡ true) × (h' ≡ put_node h b (stopped x))
 StopRow h b x other h' = ⊥
 
--- what comes back of a node's log: what is stable, or after a write that failed the other end and line
-abbrev pub MayComeBack : Node → ℕ × List (ℕ × ℕ) → Type 0
-MayComeBack x back = (back ≡ (x.stable, x.saved)) ⊎ (x.loose ≡ Some back)
+-- what comes back of a node's log: what is stable, or after a write that failed the other
+abbrev pub MayComeBack : Node → Back → Type 0
+MayComeBack x back = (back ≡ back_of x) ⊎ (x.loose ≡ Some back)
 
--- a node that comes up with this end and this line
-abbrev pub opened : Node → ℕ × List (ℕ × ℕ) → Node
+-- a node that comes up so
+abbrev pub opened : Node → Back → Node
 opened x back = record x {
   up = true;
   log = record { batches = up_to back.0 x.log.batches; line = back.1 };
   stable = end_of (up_to back.0 x.log.batches);
   saved = back.1;
+  local = back.2;
   loose = None;
 }
 
@@ -43,7 +44,7 @@ abbrev pub UpRow : Held → ℕ → Node → Answer → Held → Type 0
 UpRow h b x IsUp h' = (x.up ≡ true) × (h' ≡ h)
 UpRow h b x DiskFault h' = (x.up ≡ false) × (h' ≡ h)
 UpRow h b x LastIncarnation h' = (x.up ≡ false) × (h' ≡ h)
-UpRow h b x (Up n) h' = (x.up ≡ false) × ((back : ℕ × List (ℕ × ℕ)) × MayComeBack x back
+UpRow h b x (Up n) h' = (x.up ≡ false) × ((back : Back) × MayComeBack x back
     × (n ≡ end_of (up_to back.0 x.log.batches)) × (h' ≡ put_node h b (opened x back)))
 UpRow h b x other h' = ⊥
 
@@ -61,7 +62,6 @@ AnswerRow h b x Roll answer h' = RollRow h b x answer h'
 AnswerRow h b x Elect answer h' = ElectRow h b x answer h'
 AnswerRow h b x Unclean answer h' = UncleanRow h b x answer h'
 AnswerRow h b x Learn answer h' = LearnRow h b x answer h'
-AnswerRow h b x Join answer h' = JoinRow h b x answer h'
 AnswerRow h b x Ack answer h' = AckRow h b x answer h'
 AnswerRow h b x Shrink answer h' = ShrinkRow h b answer h'
 AnswerRow h b x Expand answer h' = ExpandRow h b x answer h'
@@ -75,12 +75,16 @@ AnswerRow h b x other answer h' = ⊥
 -- a first turn
 abbrev pub FirstRow : Held → ℕ → Node → Command → Turned → Held → Type 0
 FirstRow h b x (Follow limit) turned h' = FollowRow h b x limit turned h'
+FirstRow h b x Join turned h' = JoinRow h b x turned h'
+FirstRow h b x Trim turned h' = TrimRow h x turned h'
 FirstRow h b x command (Answers answer) h' = AnswerRow h b x command answer h'
 FirstRow h b x command (Begins g) h' = ⊥
 
 -- a later turn
 abbrev pub LaterRow : Held → ℕ → Node → Command → Begun → Turned → Held → Type 0
 LaterRow h b x (Follow limit) g (Answers answer) h' = FollowOnRow h b x g answer h'
+LaterRow h b x Join g (Answers answer) h' = JoinOnRow h b x g answer h'
+LaterRow h b x Trim g (Answers answer) h' = TrimOnRow h b x g answer h'
 LaterRow h b x command g turned h' = ⊥
 
 -- a turn of a command of broker b, of which so much has begun

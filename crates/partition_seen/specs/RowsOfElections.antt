@@ -2,9 +2,9 @@
 -- expand, raise.
 --
 -- The registry's own calls say what it answers and what it is afterwards.
-use Rattle.std.specs.Prelude.{◌≡◌, ◌≢◌, ℕ, ◌<◌, true, false, Option, Some, None, Ok as Done, Err, IsSomeAnd}
+use Rattle.std.specs.Prelude.{◌≡◌, ◌≢◌, ℕ, ◌<◌, true, false, Option, Some, None, Ok as Done, Err, IsSomeAnd, min}
 use Rattle.std.specs.Option.{ForSome}
-use Rattle.log_terms.specs.Log.{end_of, up_to}
+use Rattle.log_terms.specs.Log.{end_of}
 use Rattle.epoch_line.specs.Line.{last_epoch, assign}
 use Rattle.registry.specs.declared.registry.Registry.{Registry}
 use Rattle.registry.specs.declared.refusal.RegRefusal.{RegRefusal}
@@ -65,7 +65,7 @@ led h x n = record x {
   role = LeadsIn n;
   log = record x.log { line = assign x.log.line n (end_of x.log.batches) };
   stable = end_of x.log.batches;
-  known = end_of (up_to h.registry.mark x.log.batches);
+  known = min h.registry.mark (end_of x.log.batches);
   saved = assign x.log.line n (end_of x.log.batches);
 }
 
@@ -83,12 +83,12 @@ LearnRow h b x (Leads n) h' =
     × (h' ≡ put_node h b (led h x n))
 LearnRow h b x DiskFault h' =
     (x.up ≡ true) × ¬ IsKnown h x × (h.registry.leader.0 ≡ b) × IsNew x h.registry.epoch
-    × (h' ≡ put_node h b (broken x (end_of x.log.batches) (assign x.log.line h.registry.epoch (end_of x.log.batches))))
+    × (h' ≡ put_node h b (broken x (end_of x.log.batches, assign x.log.line h.registry.epoch (end_of x.log.batches), x.local)))
 LearnRow h b x other h' = ⊥
 
 -- the partition after an acknowledgement, which leaves this registry: the broker knows the high watermark, as far as its log goes
 abbrev pub acked : Held → ℕ → Node → Registry → Held
-acked h b x r = record (put_node h b (record x { known = end_of (up_to r.mark x.log.batches) })) { registry = r }
+acked h b x r = record (put_node h b (record x { known = min r.mark (end_of x.log.batches) })) { registry = r }
 
 -- ack: the registry takes the broker's stable end
 abbrev pub AckRow : Held → ℕ → Node → Answer → Held → Type 0

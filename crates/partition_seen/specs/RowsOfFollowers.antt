@@ -1,21 +1,27 @@
 -- What a turn of a follower's command comes to: join, follow.
 --
--- A follower's log meets the leader's where their lines of leader epochs still agree. A follow takes a run of the
--- leader's log at its first turn, which a seat keeps, and puts as much of it at the end of its own at the second as
--- stands in one segment.
+-- A follower's log meets the leader's where their lines of leader epochs still agree. Where that lies below the leader's
+-- local log, a join goes on after the cut, and its last turn begins the follower's log anew, empty, where the leader's
+-- local log began. It is seen as the leader's log up to there then, of which nothing stands on the follower's disk. The
+-- leader may be down by then: while its epoch is the registry's its log has what was stable when the join began.
+--
+-- A follow takes a run of the leader's local log at its first turn, which a seat keeps, and puts as much of it at the end
+-- of its own at the second as stands in one segment.
 use Rattle.std.specs.Prelude.{◌≡◌, ◌≢◌, ℕ, ◌^◌, ◌<◌, ◌≤◌, true, false, min, List, ◌++◌, length, Option, None, Some, IsSome, IsSomeAnd, IsOk, All}
 use Rattle.tier_base.specs.declared.plain.Stop.{Stop}
 use Rattle.log_terms.specs.Batch.{epoch_of}
+use Rattle.log_terms.specs.Line.{line_of}
 use Rattle.log_terms.specs.Log.{IsConsecutive, end_of, end_from, up_to}
+use Rattle.epoch_line.specs.Line.{cut_end}
 use Rattle.epoch_line.specs.Meet.{IsMeetBelow}
 use Rattle.record_batch.specs.Check.{checked}
 use Rattle.plain_log.specs.declared.answer.Answer.{Answer}
-use Rattle.plain_log.specs.declared.answer.Answer.TheVariants.{Down, NotFollower, StaleEpoch, NoLeader, Cut, DiskFault, DiskFaultAt, NotJoined, Level, Stopped, Passed, TooManySegments, Copied}
+use Rattle.plain_log.specs.declared.answer.Answer.TheVariants.{Down, NotFollower, StaleEpoch, NoLeader, Cut, DiskFault, DiskFaultAt, NotJoined, Level, Moved, Stopped, Passed, BelowStart, MetaFault, StoreFault, Damaged, Rebuilt, TooManySegments, Copied}
 use Rattle.plain_log.specs.declared.state.Role.TheVariants.{Joined}
 use Rattle.plain_log.specs.State.{followed, joined}
 use Rattle.partition_seen.specs.declared.begun.Begun.{Begun}
-use Rattle.partition_seen.specs.Seen.{Node, Held}
-use Rattle.partition_seen.specs.Held.{put_node, the_leader, broken, torn}
+use Rattle.partition_seen.specs.Seen.{Back, Node, Held}
+use Rattle.partition_seen.specs.Held.{AtNode, put_node, the_leader, back_of, broken, torn}
 use Rattle.partition_seen.specs.Log.{IsRunOf, MayTake, cut_at, with_batches, epoch_in}
 use Rattle.partition_seen.specs.declared.begun.Turned.{Turned}
 use Rattle.partition_seen.specs.declared.begun.Turned.TheVariants.{Answers, Begins}
@@ -40,20 +46,39 @@ cut_node x e n = record x {
   stable = end_of (up_to n x.log.batches);
   known = min x.known (end_of (up_to n x.log.batches));
   saved = (cut_at x.log n).line;
+  local = min x.local (end_of (up_to n x.log.batches));
 }
 
--- join: the log is cut to where it meets the leader's, durably
-abbrev pub JoinRow : Held → ℕ → Node → Answer → Held → Type 0
-JoinRow h b x Down h' = (x.up ≡ false) × (h' ≡ h)
-JoinRow h b x NotFollower h' = (x.up ≡ true) × (followed x.role ≡ None) × (h' ≡ h)
-JoinRow h b x (StaleEpoch n) h' = (x.up ≡ true) × IsStale h (followed x.role) × (n ≡ h.registry.epoch) × (h' ≡ h)
-JoinRow h b x NoLeader h' = (x.up ≡ true) × IsFresh h (followed x.role) × (the_leader h ≡ None) × (h' ≡ h)
-JoinRow h b x (Cut n) h' = (x.up ≡ true) × IsFresh h (followed x.role) × IsSomeAnd (the_leader h) (λ y.
-    (e m : ℕ) × (followed x.role ≡ Some e) × IsMeet x y m × (n ≡ end_of (up_to m x.log.batches))
+-- what was to come back of it where the cut failed
+abbrev pub cut_back : Node → ℕ → Back
+cut_back x n = (end_of (up_to n x.log.batches), (cut_at x.log n).line, min x.local (end_of (up_to n x.log.batches)))
+
+-- what a join's seat keeps after its first turn, where the logs meet below the leader's local log: what was noted of the
+-- log that was cut, and where the leader's local log begins
+pub record Wants (h : Held) (x y : Node) (g : Begun) : Type 0 where
+  pub stops : g.stops ≡ x.stops
+  pub role : g.role ≡ x.role
+  pub end : g.end ≡ end_of x.log.batches
+  pub start : g.start ≡ h.registry.start
+  pub wanted : g.wanted ≡ y.local
+  pub line : g.line ≡ cut_end y.log.line g.wanted
+  pub above : g.end < g.wanted
+
+-- join, first turn: the log is cut to where it meets the leader's, durably
+abbrev pub JoinRow : Held → ℕ → Node → Turned → Held → Type 0
+JoinRow h b x (Answers Down) h' = (x.up ≡ false) × (h' ≡ h)
+JoinRow h b x (Answers NotFollower) h' = (x.up ≡ true) × (followed x.role ≡ None) × (h' ≡ h)
+JoinRow h b x (Answers (StaleEpoch n)) h' = (x.up ≡ true) × IsStale h (followed x.role) × (n ≡ h.registry.epoch) × (h' ≡ h)
+JoinRow h b x (Answers NoLeader) h' = (x.up ≡ true) × IsFresh h (followed x.role) × (the_leader h ≡ None) × (h' ≡ h)
+JoinRow h b x (Answers (Cut n)) h' = (x.up ≡ true) × IsFresh h (followed x.role) × IsSomeAnd (the_leader h) (λ y.
+    (e m : ℕ) × (followed x.role ≡ Some e) × IsMeet x y m × (n ≡ end_of (up_to m x.log.batches)) × (y.local ≤ n)
     × (h' ≡ put_node h b (cut_node x e m)))
-JoinRow h b x (DiskFaultAt n) h' = (x.up ≡ true) × IsFresh h (followed x.role) × IsSomeAnd (the_leader h) (λ y.
+JoinRow h b x (Answers (DiskFaultAt n)) h' = (x.up ≡ true) × IsFresh h (followed x.role) × IsSomeAnd (the_leader h) (λ y.
     (e m : ℕ) × (followed x.role ≡ Some e) × IsMeet x y m × (n ≡ end_of (up_to m x.log.batches))
-    × (h' ≡ put_node h b (torn x n (cut_at x.log m).line)))
+    × (h' ≡ put_node h b (torn x (cut_back x m))))
+JoinRow h b x (Begins g) h' = (x.up ≡ true) × IsFresh h (followed x.role) × IsSomeAnd (the_leader h) (λ y.
+    (e m : ℕ) × (followed x.role ≡ Some e) × IsMeet x y m × Wants h (cut_node x e m) y g
+    × (h' ≡ put_node h b (cut_node x e m)))
 JoinRow h b x other h' = ⊥
 
 -- what a follow's seat keeps after its first turn: what was noted, and a run of the leader's log from the follower's end on
@@ -96,6 +121,47 @@ pub record Extends (h : Held) (b : ℕ) (x : Node) (g : Begun) (n e : ℕ) (h' :
   pub end : n ≡ end_from g.end front
   pub after : h' ≡ put_node h b (extended x front e)
 
+-- the follower has joined, and its log ends as it was cut
+abbrev pub IsAsCut : Node → Begun → Type 0
+IsAsCut x g = (g.end ≡ end_of x.log.batches) × IsSome (joined x.role)
+
+-- a rebuild may end: nothing has come between, and the log start hasn't reached the wanted point since it began
+abbrev pub MayRebuild : Held → Node → Begun → Type 0
+MayRebuild h x g = GoesOn h x g × IsAsCut x g × ((g.start < g.wanted) × (g.wanted ≤ h.registry.start) → ⊥)
+
+-- the node's log is these batches, which end at n, and nothing of it is in its local log
+abbrev pub rebuilt : Node → List (List ℕ) → ℕ → Node
+rebuilt x whole n = record x {
+  log = record { batches = whole; line = line_of whole };
+  stable = n;
+  saved = line_of whole;
+  local = n;
+}
+
+-- the node after a rebuild that failed: what was stable comes back, or all of these batches
+abbrev pub unbuilt : Node → List (List ℕ) → ℕ → Node
+unbuilt x whole n = record (broken x (n, line_of whole, n)) { log = record { batches = whole; line = line_of whole } }
+
+-- the log of the registry's leader up to an offset, whether it is up or not
+abbrev pub FromLeader : Held → ℕ → (List (List ℕ) → Type 0) → Type 0
+FromLeader h n P = AtNode h h.registry.leader.0 (λ y. P (up_to n y.log.batches))
+
+-- join, later turns: of the remote tier nothing is seen but that it failed, which comes as it is
+abbrev pub JoinOnRow : Held → ℕ → Node → Begun → Answer → Held → Type 0
+JoinOnRow h b x g Stopped h' = (g.stops ≢ x.stops) × (h' ≡ h)
+JoinOnRow h b x g (StaleEpoch n) h' = (g.stops ≡ x.stops) × IsStale h (followed g.role) × (n ≡ h.registry.epoch) × (h' ≡ h)
+JoinOnRow h b x g (Passed n) h' = GoesOn h x g × (n ≡ end_of x.log.batches) × (IsAsCut x g → ⊥) × (h' ≡ h)
+JoinOnRow h b x g (BelowStart start) h' = GoesOn h x g × IsAsCut x g × (start ≡ h.registry.start)
+    × (g.start < g.wanted) × (g.wanted ≤ start) × (h' ≡ h)
+JoinOnRow h b x g MetaFault h' = GoesOn h x g × IsAsCut x g × (h' ≡ h)
+JoinOnRow h b x g StoreFault h' = GoesOn h x g × IsAsCut x g × (h' ≡ h)
+JoinOnRow h b x g (Damaged place at) h' = GoesOn h x g × IsAsCut x g × (h' ≡ h)
+JoinOnRow h b x g (DiskFaultAt n) h' = MayRebuild h x g × (n ≡ g.wanted)
+    × FromLeader h n (λ whole. h' ≡ put_node h b (unbuilt x whole n))
+JoinOnRow h b x g (Rebuilt n) h' = MayRebuild h x g × (n ≡ g.wanted)
+    × FromLeader h n (λ whole. h' ≡ put_node h b (rebuilt x whole n))
+JoinOnRow h b x g other h' = ⊥
+
 -- follow, first turn
 abbrev pub FollowRow : Held → ℕ → Node → ℕ → Turned → Held → Type 0
 FollowRow h b x limit (Answers Down) h' = (x.up ≡ false) × (h' ≡ h)
@@ -104,10 +170,13 @@ FollowRow h b x limit (Answers (StaleEpoch n)) h' = (x.up ≡ true) × IsStale h
 FollowRow h b x limit (Answers NoLeader) h' = (x.up ≡ true) × IsFresh h (joined x.role) × (the_leader h ≡ None) × (h' ≡ h)
 FollowRow h b x limit (Answers Level) h' = (x.up ≡ true) × IsFresh h (joined x.role)
     × IsSomeAnd (the_leader h) (λ y. end_of y.log.batches ≤ end_of x.log.batches) × (h' ≡ h)
+FollowRow h b x limit (Answers (Moved n)) h' = (x.up ≡ true) × IsFresh h (joined x.role)
+    × IsSomeAnd (the_leader h) (λ y. (end_of x.log.batches < end_of y.log.batches) × (end_of x.log.batches < y.local) × (n ≡ y.local)) × (h' ≡ h)
 FollowRow h b x limit (Answers DiskFault) h' = (x.up ≡ true) × IsFresh h (joined x.role)
-    × IsSomeAnd (the_leader h) (λ y. end_of x.log.batches < end_of y.log.batches) × (h' ≡ h)
+    × IsSomeAnd (the_leader h) (λ y. (end_of x.log.batches < end_of y.log.batches) × (y.local ≤ end_of x.log.batches)) × (h' ≡ h)
 FollowRow h b x limit (Begins g) h' = (x.up ≡ true) × IsFresh h (joined x.role)
-    × IsSomeAnd (the_leader h) (λ y. (end_of x.log.batches < end_of y.log.batches) × Takes h x y limit g) × (h' ≡ h)
+    × IsSomeAnd (the_leader h) (λ y. (end_of x.log.batches < end_of y.log.batches) × (y.local ≤ end_of x.log.batches)
+    × Takes h x y limit g) × (h' ≡ h)
 FollowRow h b x limit other h' = ⊥
 
 -- follow, second turn
@@ -116,7 +185,7 @@ FollowOnRow h b x g Stopped h' = (g.stops ≢ x.stops) × (h' ≡ h)
 FollowOnRow h b x g (StaleEpoch n) h' = (g.stops ≡ x.stops) × IsStale h (followed g.role) × (n ≡ h.registry.epoch) × (h' ≡ h)
 FollowOnRow h b x g (Passed n) h' = GoesOn h x g × (n ≡ end_of x.log.batches) × (CanExtend x g → ⊥) × (h' ≡ h)
 FollowOnRow h b x g TooManySegments h' = GoesOn h x g × CanExtend x g × (h' ≡ h)
-FollowOnRow h b x g DiskFault h' = GoesOn h x g × CanExtend x g × (h' ≡ put_node h b (broken x x.stable x.saved))
+FollowOnRow h b x g DiskFault h' = GoesOn h x g × CanExtend x g × (h' ≡ put_node h b (broken x (back_of x)))
 FollowOnRow h b x g (Copied n) h' =
     GoesOn h x g × CanExtend x g × IsSomeAnd (epoch_in g.batches) (λ e. Extends h b x g n e h')
 FollowOnRow h b x g other h' = ⊥

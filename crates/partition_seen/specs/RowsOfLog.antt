@@ -1,22 +1,26 @@
--- What a turn of a command on a broker's own log comes to: append, raw, flush, roll, fetch.
+-- What a turn of a command on a broker's own log comes to: append, raw, flush, roll, trim, fetch.
 --
 -- A row says for each answer exactly when it is given, the tests in their order, and the partition afterwards. Of a
 -- log's segments nothing is seen: that there are too many, that the open one is empty, or which one a run lies in, is
 -- answered as it comes. So is a fault of the disk, which stops the broker where it failed in a write.
-use Rattle.std.specs.Prelude.{◌≡◌, ◌+◌, ℕ, ◌<◌, ◌≤◌, ◌⊎◌, true, false, List, length, Err, IsOk}
+use Rattle.std.specs.Prelude.{◌≡◌, ◌≢◌, ◌+◌, ℕ, ◌<◌, ◌≤◌, ◌⊎◌, true, false, List, length, Err, IsOk}
 use Rattle.tier_base.specs.declared.plain.Stop.{Stop}
 use Rattle.log_terms.specs.Batch.{last_offset_delta_of}
-use Rattle.log_terms.specs.Log.{end_of, joined}
+use Rattle.log_terms.specs.Log.{EndsAt, end_of, joined}
 use Rattle.record_batch.specs.Check.{checked}
 use Rattle.record_batch.specs.Stamp.{stamped}
 use Rattle.plain_log.specs.declared.answer.Answer.{Answer}
-use Rattle.plain_log.specs.declared.answer.Answer.TheVariants.{OkAt, OkSpan, Down, NotLeader, Refused, LastOffset, TooManySegments, EmptySegment, DiskFault, OutOfRange, Empty, Run}
+use Rattle.plain_log.specs.declared.answer.Answer.TheVariants.{OkAt, OkSpan, Down, NotLeader, Refused, LastOffset, TooManySegments, EmptySegment, DiskFault, OutOfRange, Empty, Run, Damaged, Stopped, Kept, Dropped}
+use Rattle.plain_log.specs.declared.answer.Place.TheVariants.{Meta}
 use Rattle.plain_log.specs.declared.answer.Tier.TheVariants.{Local}
 use Rattle.plain_log.specs.declared.state.Role.TheVariants.{Leads}
 use Rattle.plain_log.specs.State.{leads}
 use Rattle.plain_log.specs.RowsOfLog.{offset_limit}
+use Rattle.partition_seen.specs.declared.begun.Begun.{Begun}
+use Rattle.partition_seen.specs.declared.begun.Turned.{Turned}
+use Rattle.partition_seen.specs.declared.begun.Turned.TheVariants.{Answers, Begins}
 use Rattle.partition_seen.specs.Seen.{Node, Held}
-use Rattle.partition_seen.specs.Held.{put_node, broken}
+use Rattle.partition_seen.specs.Held.{put_node, back_of, kept_line, broken}
 use Rattle.partition_seen.specs.Log.{with_batch, IsRunOf}
 
 -- where the log would end with the batch
@@ -31,7 +35,7 @@ AppendRow h b x batch LastOffset h' = (x.up ≡ true) × (leads x.role ≡ true)
 AppendRow h b x batch TooManySegments h' =
     (x.up ≡ true) × (leads x.role ≡ true) × (end_with x batch ≤ offset_limit) × (h' ≡ h)
 AppendRow h b x batch DiskFault h' =
-    (x.up ≡ true) × (leads x.role ≡ true) × (end_with x batch ≤ offset_limit) × (h' ≡ put_node h b (broken x x.stable x.saved))
+    (x.up ≡ true) × (leads x.role ≡ true) × (end_with x batch ≤ offset_limit) × (h' ≡ put_node h b (broken x (back_of x)))
 AppendRow h b x batch (OkSpan base last e) h' =
     (x.up ≡ true) × (x.role ≡ Leads e) × (end_with x batch ≤ offset_limit) × (base ≡ end_of x.log.batches)
     × (last ≡ base + last_offset_delta_of batch)
@@ -51,7 +55,7 @@ RawRow h b x bytes answer h' = AppendRow h b x bytes answer h'
 abbrev pub FlushRow : Held → ℕ → Node → Answer → Held → Type 0
 FlushRow h b x Down h' = (x.up ≡ false) × (h' ≡ h)
 FlushRow h b x DiskFault h' =
-    (x.up ≡ true) × (h' ≡ put_node h b (broken x (end_of x.log.batches) x.log.line))
+    (x.up ≡ true) × (h' ≡ put_node h b (broken x (end_of x.log.batches, x.log.line, x.local)))
 FlushRow h b x (OkAt n) h' =
     (x.up ≡ true) × (n ≡ end_of x.log.batches) × (h' ≡ put_node h b (record x { stable = n; saved = x.log.line }))
 FlushRow h b x other h' = ⊥
@@ -61,9 +65,37 @@ abbrev pub RollRow : Held → ℕ → Node → Answer → Held → Type 0
 RollRow h b x Down h' = (x.up ≡ false) × (h' ≡ h)
 RollRow h b x EmptySegment h' = (x.up ≡ true) × (h' ≡ h)
 RollRow h b x TooManySegments h' = (x.up ≡ true) × (h' ≡ h)
-RollRow h b x DiskFault h' = (x.up ≡ true) × (h' ≡ put_node h b (broken x x.stable x.saved))
+RollRow h b x DiskFault h' = (x.up ≡ true) × (h' ≡ put_node h b (broken x (back_of x)))
 RollRow h b x (OkAt n) h' = (x.up ≡ true) × (n ≡ end_of x.log.batches) × (h' ≡ h)
 RollRow h b x other h' = ⊥
+
+-- the local log may begin at this offset instead: it is an end of the log, and stable
+pub record MayBegin (x : Node) (start : ℕ) : Type 0 where
+  pub stable : start ≤ x.stable
+  pub ends : EndsAt start x.log.batches
+
+-- what a trim's seat keeps after its first turn
+pub record NotesTrim (h : Held) (x : Node) (g : Begun) : Type 0 where
+  pub stops : g.stops ≡ x.stops
+  pub role : g.role ≡ x.role
+  pub end : g.end ≡ end_of x.log.batches
+  pub start : g.start ≡ h.registry.start
+
+-- trim, first turn
+abbrev pub TrimRow : Held → Node → Turned → Held → Type 0
+TrimRow h x (Answers Down) h' = (x.up ≡ false) × (h' ≡ h)
+TrimRow h x (Begins g) h' = (x.up ≡ true) × NotesTrim h x g × (h' ≡ h)
+TrimRow h x other h' = ⊥
+
+-- trim, later turns: the local log's first segment goes. When it may is decided elsewhere
+abbrev pub TrimOnRow : Held → ℕ → Node → Begun → Answer → Held → Type 0
+TrimOnRow h b x g Stopped h' = (g.stops ≢ x.stops) × (h' ≡ h)
+TrimOnRow h b x g Kept h' = (g.stops ≡ x.stops) × (h' ≡ h)
+TrimOnRow h b x g DiskFault h' = (g.stops ≡ x.stops) × (x.up ≡ true)
+    × ((start : ℕ) × MayBegin x start × (h' ≡ put_node h b (broken x (x.stable, kept_line x, start))))
+TrimOnRow h b x g (Dropped base last) h' = (g.stops ≡ x.stops) × (x.up ≡ true) × (base ≡ x.local) × MayBegin x (last + 1)
+    × (h' ≡ put_node h b (record x { local = last + 1; saved = kept_line x }))
+TrimOnRow h b x g other h' = ⊥
 
 -- the offset lies between the log start offset and the log end offset
 abbrev pub IsInLog : Held → Node → ℕ → Type 0
@@ -76,7 +108,11 @@ pub record GivesRun (x : Node) (offset limit size : ℕ) (stop : Stop) (bytes : 
   pub spelled : bytes ≡ joined run
   pub size_is : size ≡ length bytes
 
--- fetch: nothing changes
+-- the offset lies in the local log
+abbrev pub IsLocal : Held → Node → ℕ → Type 0
+IsLocal h x offset = IsInLog h x offset × (x.local ≤ offset)
+
+-- fetch from the local log: nothing changes. What lies below it isn't found elsewhere yet
 abbrev pub FetchRow : Held → Node → ℕ → ℕ → Answer → Held → Type 0
 FetchRow h x offset limit Down h' = (x.up ≡ false) × (h' ≡ h)
 FetchRow h x offset limit NotLeader h' = (x.up ≡ true) × (leads x.role ≡ false) × (h' ≡ h)
@@ -85,8 +121,10 @@ FetchRow h x offset limit (OutOfRange start end) h' =
     × (end ≡ end_of x.log.batches) × (h' ≡ h)
 FetchRow h x offset limit Empty h' = (x.up ≡ true) × (leads x.role ≡ true) × IsInLog h x offset × (x.known ≤ offset) × (h' ≡ h)
 FetchRow h x offset limit DiskFault h' =
-    (x.up ≡ true) × (leads x.role ≡ true) × IsInLog h x offset × (offset < x.known) × (h' ≡ h)
+    (x.up ≡ true) × (leads x.role ≡ true) × IsLocal h x offset × (offset < x.known) × (h' ≡ h)
 FetchRow h x offset limit (Run tier size stop bytes) h' =
-    (x.up ≡ true) × (leads x.role ≡ true) × IsInLog h x offset × (offset < x.known)
+    (x.up ≡ true) × (leads x.role ≡ true) × IsLocal h x offset × (offset < x.known)
     × ((segment : ℕ) × (tier ≡ Local segment)) × GivesRun x offset limit size stop bytes × (h' ≡ h)
+FetchRow h x offset limit (Damaged Meta at) h' =
+    (x.up ≡ true) × (leads x.role ≡ true) × IsInLog h x offset × (offset < x.known) × (offset < x.local) × (h' ≡ h)
 FetchRow h x offset limit other h' = ⊥

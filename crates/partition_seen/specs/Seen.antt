@@ -1,16 +1,24 @@
 -- A partition as it is seen, whatever its brokers' logs stand on: the registry, the brokers with their logs, and the
 -- clock.
 --
--- After a stop a broker comes up with the batches up to its stable end, and with the line that was saved. A write that
--- failed may have been done or not, so after one it may come up with another end and another line instead.
+-- A log is seen whole, from offset 0 on, also where its local log begins later. What is below its local start stands on
+-- no disk of that broker; it is what the local log was, or what the leader's is.
+--
+-- After a stop a broker comes up with the batches up to its stable end, with the line that was saved, and with its local
+-- start. A write that failed may have been done or not, so after one it may come up with another end, another line and
+-- another local start instead.
 use Rattle.std.specs.Prelude.{ℕ, ℤ, Bool, List, Option}
 use Rattle.registry.specs.declared.registry.Registry.{Registry}
 use Rattle.plain_log.specs.declared.state.Role.{Role}
 use Rattle.partition_seen.specs.Log.{Lined}
 
+-- what comes back of a log after a stop: its end, its line and its local start
+abbrev pub Back : Type 0
+Back = ℕ × List (ℕ × ℕ) × ℕ
+
 -- a broker: how often it has stopped, its log, the offset up to which the log survives a stop, the high watermark that
--- it knows, as far as its log goes, the line that comes back after a stop, and after a write that failed the other end
--- and line that may come back
+-- it knows, as far as its log goes, the line that comes back after a stop, the offset at which its local log begins, and
+-- after a write that failed what may come back instead
 pub record Node : Type 0 where
   pub up : Bool
   pub stops : ℕ
@@ -19,7 +27,8 @@ pub record Node : Type 0 where
   pub stable : ℕ
   pub known : ℕ
   pub saved : List (ℕ × ℕ)
-  pub loose : Option (ℕ × List (ℕ × ℕ))
+  pub local : ℕ
+  pub loose : Option Back
 
 -- the registry, the brokers, and the partition's clock in milliseconds
 pub record Held : Type 0 where

@@ -7,27 +7,32 @@ use Rattle.plain_log.specs.declared.command.Config.{Config}
 use Rattle.plain_log.specs.declared.command.Order.{Order}
 use Rattle.plain_log.specs.declared.state.Role.TheVariants.{Leads, Idle}
 use Rattle.plain_log.specs.Orders.{AreListsFor, IsConfig}
-use Rattle.partition_seen.specs.Seen.{Node, Held}
+use Rattle.partition_seen.specs.Seen.{Back, Node, Held}
 use Rattle.partition_seen.specs.declared.seat.Seat.{Seat}
 use Rattle.partition_seen.specs.Log.{IsLog, IsLineFor}
 
--- the other end that may come back is an end of the log at or past the stable one, and the line is that of what ends there
-pub record IsBack (x : Node) (back : ℕ × List (ℕ × ℕ)) : Type 0 where
+-- the other end that may come back is an end of the log at or past the stable one, the line is that of what ends there,
+-- and the local start is an end of the log at or below it
+pub record IsBack (x : Node) (back : Back) : Type 0 where
   pub above : x.stable ≤ back.0
   pub ends : EndsAt back.0 x.log.batches
   pub line : IsLineFor back.1 (up_to back.0 x.log.batches)
   pub rises : IsLine back.1
+  pub begins : EndsAt back.2 x.log.batches
+  pub within : back.2 ≤ back.0
 
 -- a node's log is one, its stable end and the high watermark that it knows are 0 or ends of its batches, the saved line
--- is that of what is stable, a leader's line ends with its epoch, and a node that is down is idle and knows no high
--- watermark; more than one end may come back only while it is down
+-- is that of what is stable, the local log begins at such an end that is stable, a leader's line ends with its epoch,
+-- and a node that is down is idle and knows no high watermark; more than one end may come back only while it is down
 pub record NodeSound (x : Node) : Type 0 where
   pub log : IsLog (end_of x.log.batches) x.log
   pub stable : EndsAt x.stable x.log.batches
   pub known : EndsAt x.known x.log.batches
   pub saved : IsLineFor x.saved (up_to x.stable x.log.batches)
   pub saved_rises : IsLine x.saved
-  pub back : (back : ℕ × List (ℕ × ℕ)) → x.loose ≡ Some back → IsBack x back
+  pub begins : EndsAt x.local x.log.batches
+  pub within : x.local ≤ x.stable
+  pub back : (back : Back) → x.loose ≡ Some back → IsBack x back
   pub tight : x.up ≡ true → x.loose ≡ None
   pub leads : (e : ℕ) → x.role ≡ Leads e → last_epoch x.log.line ≡ Some e
   pub down : x.up ≡ false → (x.role ≡ Idle) × (x.known ≡ 0)

@@ -2,6 +2,8 @@
 use Rattle.std.specs.Prelude.{◌≡◌, ℕ, ◌+◌, ◌≤◌, Some, None, [], ◌∷◌, ◌++◌, length, slice_get, slice_set}
 use Rattle.plain_log.specs.declared.answer.Answer.{Answer}
 use Rattle.plain_log.specs.declared.command.ActorList.{ActorList}
+use Rattle.plain_log.specs.declared.command.Command.{Command}
+use Rattle.plain_log.specs.declared.command.Command.TheVariants.{Join}
 use Rattle.plain_log.specs.declared.command.Order.{Order}
 use Rattle.plain_log.specs.declared.journal.Event.{Event}
 use Rattle.partition_seen.specs.declared.begun.Begun.{Begun}
@@ -25,10 +27,11 @@ abbrev pub seat_after : Seat → Turned → Seat
 seat_after seat (Answers answer) = record { number = seat.number + 1; begun = None }
 seat_after seat (Begins g) = record { number = seat.number; begun = Some g }
 
--- what the journal says of a turn
-abbrev pub event_of : Turned → Event
-event_of (Answers answer) = Event.Answers answer
-event_of (Begins g) = Event.Begins None
+-- what the journal says of a turn: of a join that begins also where the log was cut
+abbrev pub event_of : Turned → Command → Event
+event_of (Answers answer) command = Event.Answers answer
+event_of (Begins g) Join = Event.Begins (Some g.end)
+event_of (Begins g) command = Event.Begins None
 
 -- a turn of the actor's next order, which begins or is answered, and is entered into the journal
 pub record IsTurn (w : Whole) (a : ℕ) (turned : Turned) (w' : Whole) : Type 0 where
@@ -41,7 +44,7 @@ pub record IsTurn (w : Whole) (a : ℕ) (turned : Turned) (w' : Whole) : Type 0 
   pub row : AtNode w.held order.broker.0 (λ x. Row w.held order.broker.0 x seat.begun order.command turned w'.held)
   pub desk : w'.desk ≡ slice_set w.desk place (seat_after seat turned)
   pub entered : w'.journal.items
-      ≡ w.journal.items ++ record { actor = list.actor; number = seat.number; event = event_of turned } ∷ []
+      ≡ w.journal.items ++ record { actor = list.actor; number = seat.number; event = event_of turned order.command } ∷ []
   pub partition : w'.partition ≡ w.partition
   pub config : w'.config ≡ w.config
   pub lists : w'.lists ≡ w.lists

@@ -1,6 +1,8 @@
 //! What is kept of a command between its turns.
 
+use crate::local_start::LocalStart;
 use crate::taken::Taken;
+use epoch_line::Line;
 use plain_log::{Answer, Role};
 
 /// What was noted where a command began, and what its next turn takes up.
@@ -16,6 +18,9 @@ pub struct Begun {
     pub start: u64,
     /// The run of the leader's log that a follow has taken.
     pub batches: Taken,
+    /// Where a join is to begin the log anew, and the line of leader epochs up to there.
+    pub wanted: LocalStart,
+    pub line: Line,
 }
 
 /// What a turn of a command came to.

@@ -17,6 +17,7 @@
 
 mod begun;
 mod laws;
+mod local_start;
 mod seat;
 mod taken;
 
@@ -24,5 +25,6 @@ pub use begun::{Begun, Turned};
 pub use laws::{
     ends_are_complete, fresh_is_central, joined_come_apart, reaches_later, steps_keep_central,
 };
+pub use local_start::LocalStart;
 pub use seat::{Seat, Stepped};
 pub use taken::Taken;

@@ -1,25 +1,23 @@
 -- While no call of the brokers' disks can fail, none does: each row without a fault keeps that, and a row with one is impossible.
-use Rattle.std.proofs.Common.{◌≡◌, ◌∙◌, inl, inr, sym, ap, subst, refl, ℕ, zero, suc, ◌+◌, ◌<◌, ◌≤◌, List, [], ◌∷◌, ◌++◌, slice_get, slice_set, Some, None, Option, Ok as Done, Err, Bool, true, false, arith}
+use Rattle.std.proofs.Common.{◌≡◌, inl, inr, sym, subst, refl, ℕ, zero, suc, ◌+◌, ◌<◌, ◌≤◌, List, [], ◌∷◌, ◌++◌, slice_get, slice_set, Some, None, Option, Ok as Done, Bool, true, false, arith}
 use Rattle.std.specs.Prelude.{◌-◌, ◌^◌, min, ℤ, IsTrue}
 use Rattle.tier_base.specs.Counts.{Rose}
 use Rattle.tier_base.specs.declared.names.PartitionId.{PartitionId}
 use Rattle.tier_base.specs.Device.{Control, Lasts}
-use Rattle.tier_base.proofs.Lasting.{lasts_same}
 use Rattle.disk_model.specs.Call.{call_code}
 use Rattle.disk_model.specs.Content.{Content}
 use Rattle.registry.specs.declared.registry.Registry.{Registry}
 use Rattle.registry.specs.Calls.{after_ack}
 use Rattle.record_batch.specs.Build.{built}
 use Rattle.plain_log.specs.declared.answer.Answer.{Answer}
-use Rattle.plain_log.specs.declared.answer.Answer.TheVariants.{Ok, OkAt, OkSpan, Down, NotLeader, Refused, LastOffset, TooManySegments, EmptySegment, DiskFault, DiskFaultAt, Damaged, OutOfRange, Empty, Run, LastEpoch, NotInSync, DownBroker, BehindStart, Known, Follows, NeedsElection, Leads, NotJoined, StaleEpoch, IsLeader, Behind, NotAbove, AboveMark, NotFollower, NoLeader, Cut, Level, Stopped, Passed, Copied, IsUp, LastIncarnation, Up as IsOpen}
-use Rattle.plain_log.specs.declared.answer.Place.TheVariants.{File}
+use Rattle.plain_log.specs.declared.answer.Answer.TheVariants.{Ok, OkAt, OkSpan, Down, NotLeader, Refused, LastOffset, TooManySegments, EmptySegment, DiskFault, DiskFaultAt, Damaged, OutOfRange, Empty, Run, LastEpoch, NotInSync, DownBroker, BehindStart, Known, Follows, NeedsElection, Leads, NotJoined, StaleEpoch, IsLeader, Behind, NotAbove, AboveMark, NotFollower, NoLeader, Cut, Level, Stopped, Passed, Copied, IsUp, LastIncarnation, Up as IsOpen, Moved, BelowStart, Rebuilt, Kept as Remains, Dropped}
+use Rattle.plain_log.specs.declared.answer.Place.TheVariants.{File, Meta}
 use Rattle.plain_log.specs.declared.command.ActorList.{ActorList}
 use Rattle.plain_log.specs.declared.command.Command.{Command}
-use Rattle.plain_log.specs.declared.command.Command.TheVariants.{Append, Raw, Flush, Roll, Elect, Unclean, Learn, Join, Follow, Ack, Shrink, Expand, Raise, Clock, Stop as StopCommand, Up as UpCommand, Fetch}
+use Rattle.plain_log.specs.declared.command.Command.TheVariants.{Append, Raw, Flush, Roll, Elect, Unclean, Learn, Join, Follow, Trim, Ack, Shrink, Expand, Raise, Clock, Stop as StopCommand, Up as UpCommand, Fetch}
 use Rattle.plain_log.specs.declared.command.Config.{Config}
 use Rattle.plain_log.specs.declared.command.Pace.{Pace}
 use Rattle.plain_log.specs.declared.command.Pace.TheVariants.{Until, Times}
-use Rattle.plain_log.specs.declared.journal.Event.{Event}
 use Rattle.plain_log.specs.declared.journal.JournalEntry.{JournalEntry}
 use Rattle.plain_log.specs.State.{acking}
 use Rattle.broker_log.specs.Seen.{Kept, Up, Down as Closed, Away, OnDisk, Lasting, Faulted}
@@ -31,15 +29,15 @@ use Rattle.partition_seen.specs.Turn.{event_of}
 use Rattle.partition_seen.proofs.BoolTests.{some_of}
 use Rattle.partition_world.specs.declared.held.Node.{Node}
 use Rattle.partition_world.specs.declared.held.Held.{Held}
-use Rattle.partition_world.specs.Held.{put_node, stable_of, the_leader, Rests, Fails, Breaks, IsCalm}
+use Rattle.partition_world.specs.Held.{put_node, end_of, stable_of, the_leader, Rests, Fails, Breaks, IsCalm, BreaksBy}
 use Rattle.partition_world.specs.Calm.{AreCalm, AreUnplanned, IsFaultless, HasNoFault, AreFaultless, IsUnfailing}
 use Rattle.partition_world.specs.Fresh.{IsArmed, AreFreshFrom, IsFresh}
-use Rattle.partition_world.specs.Turn.{IsTurn, IsAtEnd}
+use Rattle.partition_world.specs.Turn.{IsTurn}
 use Rattle.partition_world.specs.Turns.{ClockRow, StopRow, UpRow, AnswerRow, FirstRow, LaterRow, Row}
-use Rattle.partition_world.specs.TurnsOfLog.{Gains, AppendRow, RawRow, FlushRow, RollRow}
+use Rattle.partition_world.specs.TurnsOfLog.{Gains, AppendRow, RawRow, FlushRow, RollRow, TrimRow, TrimOnRow}
 use Rattle.partition_world.specs.TurnsOfFetch.{FetchRow}
 use Rattle.partition_world.specs.TurnsOfElections.{Leaves, ElectRow, UncleanRow, LearnRow, AckRow, ShrinkRow, ExpandRow, RaiseRow}
-use Rattle.partition_world.specs.TurnsOfFollowers.{JoinRow, FollowRow, FollowOnRow}
+use Rattle.partition_world.specs.TurnsOfFollowers.{JoinRow, JoinOnRow, FollowRow, FollowOnRow}
 use Rattle.partition_world.specs.Reaches.{Goes, GoesTimes, GoesUntil, Paces, Reaches}
 use Rattle.partition_world.specs.Whole.{Whole}
 use Rattle.partition_world.proofs.SoundLaw.{leader_at}
@@ -54,11 +52,11 @@ module _ {D : Type 0} (control : D → Control call_code) where
 
       go : (old new : Kept D) → Lasting control old new → OnDisk old (λ d. IsCalm (control d)) → OnDisk new (λ d. IsCalm (control d))
       go (Up m) (Up n) l c = one m.disk n.disk l c
-      go (Up m) (Closed e) l c = one m.disk e l c
+      go (Up m) (Closed j e) l c = one m.disk e l c
       go (Up m) Away l c = absurd l
-      go (Closed d) (Up n) l c = one d n.disk l c
-      go (Closed d) (Closed e) l c = one d e l c
-      go (Closed d) Away l c = absurd l
+      go (Closed i d) (Up n) l c = one d n.disk l c
+      go (Closed i d) (Closed j e) l c = one d e l c
+      go (Closed i d) Away l c = absurd l
       go Away new l c = absurd c
 
   -- while a disk is calm nothing fails
@@ -73,11 +71,11 @@ module _ {D : Type 0} (control : D → Control call_code) where
 
       go : (old new : Kept D) → Lasting control old new → Faulted control old new → OnDisk old (λ d. IsCalm (control d)) → ⊥
       go (Up m) (Up n) l f c = one m.disk n.disk l f c
-      go (Up m) (Closed e) l f c = one m.disk e l f c
+      go (Up m) (Closed j e) l f c = one m.disk e l f c
       go (Up m) Away l f c = absurd l
-      go (Closed d) (Up n) l f c = one d n.disk l f c
-      go (Closed d) (Closed e) l f c = one d e l f c
-      go (Closed d) Away l f c = absurd l
+      go (Closed i d) (Up n) l f c = one d n.disk l f c
+      go (Closed i d) (Closed j e) l f c = one d e l f c
+      go (Closed i d) Away l f c = absurd l
       go Away new l f c = absurd c
 
   pub calm_get : (xs : List (Node D)) (i : ℕ) (x : Node D) → AreCalm control xs → slice_get xs i ≡ Some x → OnDisk x.log (λ d. IsCalm (control d))
@@ -129,8 +127,8 @@ module _ {D : Type 0} (content : D → Content) (control : D → Control call_co
   append_calm h b x batch NotLeader h' at c w = (calm_same control h h' w.2 c, tt)
   append_calm h b x batch LastOffset h' at c w = (calm_same control h h' w.3 c, tt)
   append_calm h b x batch TooManySegments h' at c w = (calm_same control h h' w.4 c, tt)
-  append_calm h b x batch DiskFault h' at c w = calm_breaks h b x _ h' at c w.3
-  append_calm h b x batch (OkSpan base last e) h' at c w = (calm_gains h b x _ h' at c w.5, tt)
+  append_calm h b x batch DiskFault h' at c w = calm_breaks h b x _ h' at c w.4
+  append_calm h b x batch (OkSpan base last e) h' at c w = (calm_gains h b x _ h' at c w.6, tt)
   append_calm h b x batch other h' at c w = elim w [ ]
 
   raw_calm : (h : Held D) (b : ℕ) (x : Node D) (bytes : List ℕ) (answer : Answer) (h' : Held D) → slice_get h.nodes b ≡ Some x → AreCalm control h.nodes → RawRow content control h b x bytes answer h' → Calmly h' answer
@@ -153,8 +151,8 @@ module _ {D : Type 0} (content : D → Content) (control : D → Control call_co
   roll_calm h b x Down h' at c w = (calm_same control h h' w.1 c, tt)
   roll_calm h b x EmptySegment h' at c w = (calm_same control h h' w.2 c, tt)
   roll_calm h b x TooManySegments h' at c w = (calm_same control h h' w.2 c, tt)
-  roll_calm h b x DiskFault h' at c w = calm_breaks h b x _ h' at c w.1
-  roll_calm h b x (OkAt n) h' at c w = (calm_rests h b x h' at c w.2, tt)
+  roll_calm h b x DiskFault h' at c w = calm_breaks h b x _ h' at c w.2
+  roll_calm h b x (OkAt n) h' at c w = (calm_put control h b x (record x { log = w.3.0 }) h' at c w.3.2 w.3.3, tt)
   roll_calm h b x other h' at c w = elim w [ ]
 
   fetch_calm : (h : Held D) (b : ℕ) (x : Node D) (offset limit : ℕ) (answer : Answer) (h' : Held D) → slice_get h.nodes b ≡ Some x → AreCalm control h.nodes
@@ -165,7 +163,8 @@ module _ {D : Type 0} (content : D → Content) (control : D → Control call_co
   fetch_calm h b x offset limit Empty h' at c w = (calm_same control h h' w.4 c, tt)
   fetch_calm h b x offset limit (Run tier size stop bytes) h' at c w = (calm_put control h b x (record x { log = w.4.kept }) h' at c w.4.lasts w.4.after, tt)
   fetch_calm h b x offset limit DiskFault h' at c w = calm_fails h b x h' at c w.4
-  fetch_calm h b x offset limit (Damaged (File name) from) h' at c w = (calm_rests h b x h' at c w.5, tt)
+  fetch_calm h b x offset limit (Damaged (File name) from) h' at c w = (calm_put control h b x (record x { log = w.4.kept }) h' at c w.4.lasts w.4.after, tt)
+  fetch_calm h b x offset limit (Damaged Meta from) h' at c w = (calm_same control h h' w.5 c, tt)
   fetch_calm h b x offset limit other h' at c w = elim w [ ]
 
   elect_calm : (h : Held D) (b : ℕ) (x : Node D) (answer : Answer) (h' : Held D) → AreCalm control h.nodes → ElectRow h b x answer h' → Calmly h' answer
@@ -191,7 +190,7 @@ module _ {D : Type 0} (content : D → Content) (control : D → Control call_co
   learn_calm h b x DiskFault h' at c w = calm_breaks h b x _ h' at c w.4
   learn_calm h b x other h' at c w = elim w [ ]
 
-  ack_calm : (h : Held D) (b : ℕ) (x : Node D) (answer : Answer) (h' : Held D) → slice_get h.nodes b ≡ Some x → AreCalm control h.nodes → AckRow content control h b x answer h' → Calmly h' answer
+  ack_calm : (h : Held D) (b : ℕ) (x : Node D) (answer : Answer) (h' : Held D) → slice_get h.nodes b ≡ Some x → AreCalm control h.nodes → AckRow h b x answer h' → Calmly h' answer
   ack_calm h b x Down h' at c w = (calm_same control h h' w.1 c, tt)
   ack_calm h b x NotJoined h' at c w = (calm_same control h h' w.2 c, tt)
   ack_calm h b x (StaleEpoch e) h' at c w =
@@ -202,8 +201,9 @@ module _ {D : Type 0} (content : D → Content) (control : D → Control call_co
       let o = some_of _ (acking x.role) w.1 in
       let t = some_of _ (slice_get h.registry.replicas b) o.2 in
       let r = some_of _ (after_ack h.registry b t.0 o.0 (stable_of x) (Done mark)) t.2 in
-      let put = calm_keeps control h b x (record x { known = r.2.0 }) (put_node h b (record x { known = r.2.0 })) at c refl refl in
-      (calm_same control (record (put_node h b (record x { known = r.2.0 })) { registry = r.0 }) h' r.2.2 put, tt)
+      let y = record x { known = min r.0.mark (end_of x) } in
+      let put = calm_keeps control h b x y (put_node h b y) at c refl refl in
+      (calm_same control (record (put_node h b y) { registry = r.0 }) h' r.2 put, tt)
   ack_calm h b x other h' at c w = elim w [ ]
 
   shrink_calm : (h : Held D) (b : ℕ) (answer : Answer) (h' : Held D) → AreCalm control h.nodes → ShrinkRow h b answer h' → Calmly h' answer
@@ -227,15 +227,6 @@ module _ {D : Type 0} (content : D → Content) (control : D → Control call_co
   raise_calm h b x wanted (OkAt start) h' c w = (calm_leaves control h _ h' c w.1.2, tt)
   raise_calm h b x wanted other h' c w = elim w [ ]
 
-  join_calm : (h : Held D) (b : ℕ) (x : Node D) (answer : Answer) (h' : Held D) → slice_get h.nodes b ≡ Some x → AreCalm control h.nodes → JoinRow content control h b x answer h' → Calmly h' answer
-  join_calm h b x Down h' at c w = (calm_same control h h' w.1 c, tt)
-  join_calm h b x NotFollower h' at c w = (calm_same control h h' w.2 c, tt)
-  join_calm h b x (StaleEpoch e) h' at c w = (calm_same control h h' w.3 c, tt)
-  join_calm h b x NoLeader h' at c w = (calm_same control h h' w.3 c, tt)
-  join_calm h b x (Cut n) h' at c w = let g = (some_of _ (the_leader h) w.2).2.4 in (calm_put control h b x _ h' at c g.lasts g.after, tt)
-  join_calm h b x (DiskFaultAt n) h' at c w = calm_breaks h b x _ h' at c (some_of _ (the_leader h) w.2).2.4.1
-  join_calm h b x other h' at c w = elim w [ ]
-
   stop_calm : (h : Held D) (b : ℕ) (x : Node D) (answer : Answer) (h' : Held D) → slice_get h.nodes b ≡ Some x → AreCalm control h.nodes → StopRow content control h b x answer h' → Calmly h' answer
   stop_calm h b x Down h' at c w = (calm_same control h h' w.1 c, tt)
   stop_calm h b x Ok h' at c w = (calm_put control h b x _ h' at c w.1.2 w.1.3, tt)
@@ -245,8 +236,8 @@ module _ {D : Type 0} (content : D → Content) (control : D → Control call_co
   up_calm h b x IsUp h' at c w = (calm_same control h h' w.1 c, tt)
   up_calm h b x (IsOpen n) h' at c w = (calm_put control h b x _ h' at c w.1.2 w.1.3, tt)
   up_calm h b x DiskFault h' at c w = calm_fails h b x h' at c w.1
-  up_calm h b x (Damaged (File name) from) h' at c w = (calm_rests h b x h' at c w.2, tt)
-  up_calm h b x LastIncarnation h' at c w = (calm_rests h b x h' at c w.2, tt)
+  up_calm h b x (Damaged (File name) from) h' at c w = (calm_put control h b x _ h' at c w.1.2 w.1.3, tt)
+  up_calm h b x LastIncarnation h' at c w = (calm_put control h b x _ h' at c w.1.2 w.1.3, tt)
   up_calm h b x other h' at c w = elim w [ ]
 
   clock_calm : (h : Held D) (ms : ℤ) (answer : Answer) (h' : Held D) → AreCalm control h.nodes → ClockRow h ms answer h' → Calmly h' answer
@@ -262,7 +253,6 @@ module _ {D : Type 0} (content : D → Content) (control : D → Control call_co
   answer_calm h b x Elect answer h' at c w = elect_calm h b x answer h' c w
   answer_calm h b x Unclean answer h' at c w = unclean_calm h b x answer h' c w
   answer_calm h b x Learn answer h' at c w = learn_calm h b x answer h' at c w
-  answer_calm h b x Join answer h' at c w = join_calm h b x answer h' at c w
   answer_calm h b x Ack answer h' at c w = ack_calm h b x answer h' at c w
   answer_calm h b x Shrink answer h' at c w = shrink_calm h b answer h' c w
   answer_calm h b x Expand answer h' at c w = expand_calm h b x answer h' c w
@@ -273,9 +263,54 @@ module _ {D : Type 0} (content : D → Content) (control : D → Control call_co
   answer_calm h b x (Fetch offset limit) answer h' at c w = fetch_calm h b x offset limit answer h' at c w
   answer_calm h b x other answer h' at c w = elim w [ ]
 
+  -- a turn tells of no fault
+  abbrev HasNone : Turned → Type 0
+  HasNone (Answers answer) = IsFaultless answer
+  HasNone (Begins g) = Unit {0}
+
+  no_fault : (turned : Turned) (command : Command) → HasNone turned → HasNoFault (event_of turned command)
+  no_fault (Answers answer) command n = n
+  no_fault (Begins g) Join n = tt
+  no_fault (Begins g) command n = tt
+
   -- what a turn of any command leaves
   abbrev CalmAfter : Held D → Turned → Type 0
-  CalmAfter h' turned = AreCalm control h'.nodes × HasNoFault (event_of turned)
+  CalmAfter h' turned = AreCalm control h'.nodes × HasNone turned
+
+  -- a write that fails, whatever it makes of the log
+  calm_broken : {A : Type 0} (h : Held D) (b : ℕ) (x : Node D) (B : Kept D → Kept D → Type 0) (h' : Held D) → slice_get h.nodes b ≡ Some x → AreCalm control h.nodes → BreaksBy content control h b x B h' → A
+  calm_broken h b x B h' at c k = absurd (calm_fault control x.log k.kept k.lasts k.cause (calm_get control h.nodes b x c at))
+
+  join_calm : (h : Held D) (b : ℕ) (x : Node D) (turned : Turned) (h' : Held D) → slice_get h.nodes b ≡ Some x → AreCalm control h.nodes → JoinRow content control h b x turned h' → CalmAfter h' turned
+  join_calm h b x (Answers Down) h' at c w = (calm_same control h h' w.1 c, tt)
+  join_calm h b x (Answers NotFollower) h' at c w = (calm_same control h h' w.2 c, tt)
+  join_calm h b x (Answers (StaleEpoch e)) h' at c w = (calm_same control h h' w.3 c, tt)
+  join_calm h b x (Answers NoLeader) h' at c w = (calm_same control h h' w.3 c, tt)
+  join_calm h b x (Answers (Cut n)) h' at c w = let g = (some_of _ (the_leader h) w.2).2.5 in (calm_put control h b x _ h' at c g.lasts g.after, tt)
+  join_calm h b x (Answers (DiskFaultAt n)) h' at c w = calm_broken h b x _ h' at c (some_of _ (the_leader h) w.2).2.4.1
+  join_calm h b x (Begins g) h' at c w = let k = (some_of _ (the_leader h) w.2).2.4.cuts in (calm_put control h b x _ h' at c k.lasts k.after, tt)
+  join_calm h b x other h' at c w = elim w [ ]
+
+  join_on_calm : (h : Held D) (b : ℕ) (x : Node D) (g : Begun) (answer : Answer) (h' : Held D) → slice_get h.nodes b ≡ Some x → AreCalm control h.nodes → JoinOnRow content control h b x g answer h' → Calmly h' answer
+  join_on_calm h b x g Stopped h' at c w = (calm_same control h h' w.1 c, tt)
+  join_on_calm h b x g (StaleEpoch e) h' at c w = (calm_same control h h' w.3 c, tt)
+  join_on_calm h b x g (Passed n) h' at c w = (calm_same control h h' w.3 c, tt)
+  join_on_calm h b x g (BelowStart start) h' at c w = (calm_same control h h' w.5 c, tt)
+  join_on_calm h b x g (DiskFaultAt n) h' at c w = calm_broken h b x _ h' at c w.2
+  join_on_calm h b x g (Rebuilt n) h' at c w = (calm_put control h b x (record x { log = w.2.kept }) h' at c w.2.lasts w.2.after, tt)
+  join_on_calm h b x g other h' at c w = elim w [ ]
+
+  trim_calm : (h : Held D) (x : Node D) (turned : Turned) (h' : Held D) → AreCalm control h.nodes → TrimRow content control h x turned h' → CalmAfter h' turned
+  trim_calm h x (Answers Down) h' c w = (calm_same control h h' w.1 c, tt)
+  trim_calm h x (Begins g) h' c w = (calm_same control h h' w.2 c, tt)
+  trim_calm h x other h' c w = elim w [ ]
+
+  trim_on_calm : (h : Held D) (b : ℕ) (x : Node D) (g : Begun) (answer : Answer) (h' : Held D) → slice_get h.nodes b ≡ Some x → AreCalm control h.nodes → TrimOnRow content control h b x g answer h' → Calmly h' answer
+  trim_on_calm h b x g Stopped h' at c w = (calm_same control h h' w.1 c, tt)
+  trim_on_calm h b x g Remains h' at c w = (calm_same control h h' w.1 c, tt)
+  trim_on_calm h b x g DiskFault h' at c w = calm_broken h b x _ h' at c w.2
+  trim_on_calm h b x g (Dropped base last) h' at c w = (calm_put control h b x (record x { log = w.2.0 }) h' at c w.2.2 w.2.3, tt)
+  trim_on_calm h b x g other h' at c w = elim w [ ]
 
   follow_calm : (h : Held D) (b : ℕ) (x : Node D) (limit : ℕ) (turned : Turned) (h' : Held D) → AreCalm control h.nodes → FollowRow content control h b x limit turned h' → CalmAfter h' turned
   follow_calm h b x limit (Answers Down) h' c w = (calm_same control h h' w.1 c, tt)
@@ -285,13 +320,14 @@ module _ {D : Type 0} (content : D → Content) (control : D → Control call_co
   follow_calm h b x limit (Answers Level) h' c w = (calm_same control h h' w.3 c, tt)
   follow_calm h b x limit (Answers DiskFault) h' c w =
       let y = some_of _ (the_leader h) w.2 in
-      calm_fails h h.registry.leader.0 y.0 h' (leader_at h y.0 y.1) c y.2.1
+      calm_fails h h.registry.leader.0 y.0 h' (leader_at h y.0 y.1) c y.2.2
+  follow_calm h b x limit (Answers (Moved n)) h' c w = (calm_same control h h' w.3 c, tt)
   follow_calm h b x limit (Answers (Damaged (File name) from)) h' c w =
       let y = some_of _ (the_leader h) w.2 in
-      (calm_rests h h.registry.leader.0 y.0 h' (leader_at h y.0 y.1) c y.2.2, tt)
+      (calm_put control h h.registry.leader.0 y.0 (record y.0 { log = y.2.2.kept }) h' (leader_at h y.0 y.1) c y.2.2.lasts y.2.2.after, tt)
   follow_calm h b x limit (Begins g) h' c w =
       let y = some_of _ (the_leader h) w.2 in
-      (calm_put control h h.registry.leader.0 y.0 (record y.0 { log = y.2.1.kept }) h' (leader_at h y.0 y.1) c y.2.1.lasts y.2.1.after, tt)
+      (calm_put control h h.registry.leader.0 y.0 (record y.0 { log = y.2.2.kept }) h' (leader_at h y.0 y.1) c y.2.2.lasts y.2.2.after, tt)
   follow_calm h b x limit other h' c w = elim w [ ]
 
   follow_on_calm : (h : Held D) (b : ℕ) (x : Node D) (g : Begun) (answer : Answer) (h' : Held D) → slice_get h.nodes b ≡ Some x → AreCalm control h.nodes
@@ -300,19 +336,23 @@ module _ {D : Type 0} (content : D → Content) (control : D → Control call_co
   follow_on_calm h b x g (StaleEpoch e) h' at c w = (calm_same control h h' w.3 c, tt)
   follow_on_calm h b x g (Passed n) h' at c w = (calm_same control h h' w.3 c, tt)
   follow_on_calm h b x g TooManySegments h' at c w = (calm_same control h h' w.3 c, tt)
-  follow_on_calm h b x g DiskFault h' at c w = calm_breaks h b x _ h' at c w.2
-  follow_on_calm h b x g (Copied n) h' at c w = (calm_put control h b x (record x { log = w.2.kept }) h' at c w.2.lasts w.2.after, tt)
+  follow_on_calm h b x g DiskFault h' at c w = calm_breaks h b x _ h' at c w.3
+  follow_on_calm h b x g (Copied n) h' at c w = (calm_put control h b x (record x { log = w.3.kept }) h' at c w.3.lasts w.3.after, tt)
   follow_on_calm h b x g other h' at c w = elim w [ ]
 
   first_calm : (h : Held D) (b : ℕ) (x : Node D) (command : Command) (turned : Turned) (h' : Held D) → slice_get h.nodes b ≡ Some x → AreCalm control h.nodes
       → FirstRow content control h b x command turned h' → CalmAfter h' turned
   first_calm h b x (Follow limit) turned h' at c w = follow_calm h b x limit turned h' c w
+  first_calm h b x Join turned h' at c w = join_calm h b x turned h' at c w
+  first_calm h b x Trim turned h' at c w = trim_calm h x turned h' c w
   first_calm h b x command (Answers answer) h' at c w = answer_calm h b x command answer h' at c w
   first_calm h b x command (Begins g) h' at c w = elim w [ ]
 
   later_calm : (h : Held D) (b : ℕ) (x : Node D) (command : Command) (g : Begun) (turned : Turned) (h' : Held D) → slice_get h.nodes b ≡ Some x → AreCalm control h.nodes
       → LaterRow content control h b x command g turned h' → CalmAfter h' turned
   later_calm h b x (Follow limit) g (Answers answer) h' at c w = follow_on_calm h b x g answer h' at c w
+  later_calm h b x Join g (Answers answer) h' at c w = join_on_calm h b x g answer h' at c w
+  later_calm h b x Trim g (Answers answer) h' at c w = trim_on_calm h b x g answer h' at c w
   later_calm h b x command g turned h' at c w = elim w [ ]
 
   row_calm : (h : Held D) (b : ℕ) (x : Node D) (begun : Option Begun) (command : Command) (turned : Turned) (h' : Held D) → slice_get h.nodes b ≡ Some x → AreCalm control h.nodes
@@ -328,7 +368,7 @@ module _ {D : Type 0} (content : D → Content) (control : D → Control call_co
   turn_unfailing w a turned w' t u =
       let x = some_of _ (slice_get w.held.nodes t.order.broker.0) t.row in
       let k = row_calm w.held t.order.broker.0 x.0 t.seat.begun t.order.command turned w'.held x.1 u.calm x.2 in
-      record { calm = k.0; journal = subst AreFaultless (sym t.entered) (faultless_more w.journal.items _ u.journal k.1) }
+      record { calm = k.0; journal = subst AreFaultless (sym t.entered) (faultless_more w.journal.items _ u.journal (no_fault turned t.order.command k.1)) }
 
   same_unfailing : (w w' : Whole D) → w' ≡ w → IsUnfailing control w → IsUnfailing control w'
   same_unfailing w w' is u = subst (IsUnfailing control) (sym is) u
@@ -354,12 +394,12 @@ module _ {D : Type 0} (content : D → Content) (control : D → Control call_co
   reaches_unfailing w (pace ∷ schedule) w' r u = reaches_unfailing r.0 schedule w' r.2 (paces_unfailing w pace r.0 r.1 u)
 
 module _ {D : Type 0} (control : D → Control call_code) where
-  armed_calm : (given now : Control call_code) → IsTrue given.ruled → given.plan ≡ [] → given.faults < 2 ^ 64 - 1 → IsArmed given now → IsCalm now
-  armed_calm given now ruled none few a = record { calm = a.calm ruled none; few = omega (arith, few, a.faults) }
+  armed_calm : (given now : Control call_code) → IsTrue given.ruled → given.plan ≡ [] → IsCalm given → IsArmed given now → IsCalm now
+  armed_calm given now ruled none c a = record { calm = a.still_calm c.calm ruled none; few = omega (arith, c.few, a.no_fault c.calm) }
 
   on_disk : (P Q : D → Type 0) (k : Kept D) → ((d : D) → P d → Q d) → OnDisk k P → OnDisk k Q
   on_disk P Q (Up l) f p = f l.disk p
-  on_disk P Q (Closed d) f p = f d p
+  on_disk P Q (Closed i d) f p = f d p
   on_disk P Q Away f p = absurd p
 
   nodes_calm : (leads : Bool) (disks : List D) (xs : List (Node D)) → AreFreshFrom control leads disks xs → AreUnplanned control disks → AreCalm control xs

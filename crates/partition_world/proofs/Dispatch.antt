@@ -6,7 +6,7 @@ use Rattle.disk_model.specs.Call.{call_code}
 use Rattle.disk_model.specs.Content.{Content}
 use Rattle.plain_log.specs.declared.answer.Answer.{Answer}
 use Rattle.plain_log.specs.declared.command.Command.{Command}
-use Rattle.plain_log.specs.declared.command.Command.TheVariants.{Follow}
+use Rattle.plain_log.specs.declared.command.Command.TheVariants.{Follow, Join, Trim}
 use Rattle.partition_seen.specs.declared.begun.Turned.TheVariants.{Answers}
 use Rattle.partition_world.specs.declared.held.Node.{Node}
 use Rattle.partition_world.specs.declared.held.Held.{Held}
@@ -21,6 +21,8 @@ some_more P Q (Some x) f h = f x h
 module _ {D : Type 0} (content : D → Content) (control : D → Control call_code) where
   first_row : (h : Held D) (b : ℕ) (x : Node D) (command : Command) (answer : Answer) (h' : Held D) → AnswerRow content control h b x command answer h' → FirstRow content control h b x command (Answers answer) h'
   first_row h b x (Follow limit) answer h' r = absurd r
+  first_row h b x Join answer h' r = absurd r
+  first_row h b x Trim answer h' r = absurd r
   first_row h b x other answer h' r = r
 
   -- a command of one turn is answered at its first

@@ -1,10 +1,10 @@
 -- The turns of commands to the registry, and of those that learn of it, are rows of what is seen.
-use Rattle.std.proofs.Common.{◌≡◌, ◌∙◌, sym, ap, subst, refl, ℕ, ◌<◌, List, Some, Option, Result, Ok as Done, Err, IsSomeAnd, Bool, true, false, not, ◌&&◌, slice_get}
+use Rattle.std.proofs.Common.{◌≡◌, ◌∙◌, sym, ap, subst, refl, ℕ, ◌<◌, List, Some, Option, Result, Ok as Done, Err, IsSomeAnd, Bool, true, false, not, ◌&&◌, slice_get, min}
 use Rattle.std.specs.Option.{ForSome}
 use Rattle.tier_base.specs.Device.{Control}
 use Rattle.disk_model.specs.Call.{call_code}
 use Rattle.disk_model.specs.Content.{Content}
-use Rattle.log_terms.specs.Log.{up_to, end_of as end_of_log}
+use Rattle.log_terms.specs.Log.{end_of as end_of_log}
 use Rattle.epoch_line.specs.Line.{last_epoch, assign}
 use Rattle.registry.specs.declared.registry.Registry.{Registry}
 use Rattle.registry.specs.declared.registry.Replica.{Replica}
@@ -25,9 +25,9 @@ use Rattle.partition_seen.specs.RowsOfElections as seen_rows
 use Rattle.partition_seen.proofs.BoolTests.{some_of}
 use Rattle.partition_world.specs.declared.held.Node.{Node}
 use Rattle.partition_world.specs.declared.held.Held.{Held}
-use Rattle.partition_world.specs.Held.{is_up, stable_of, node_of, ShowsHeld}
+use Rattle.partition_world.specs.Held.{is_up, end_of, stable_of, node_of, ShowsHeld}
 use Rattle.partition_world.specs.TurnsOfElections.{Leaves, ElectRow, UncleanRow, IsKnown, IsNew, ShrinkRow, ExpandRow, RaiseRow, LearnRow, Acks, AckRow}
-use Rattle.partition_world.proofs.Shown.{Sees, Refines, refines_more, some_at, shown_set, stays, puts, leaves, breaks, broken_node, stable_shown, line_shown, up_of_end}
+use Rattle.partition_world.proofs.Shown.{Sees, Refines, refines_more, some_at, shown_set, stays, puts, leaves, breaks, broken_node, stable_shown, line_shown, end_shown, end_told, up_of_end}
 
 -- a broker that is down has no stable end that counts
 unclean_stable : (r : Registry) (b : ℕ) (up : Bool) (one two : ℕ) (answer : Result ℕ RegRefusal) → (up ≡ true → one ≡ two) → after_unclean r b up one answer ≡ after_unclean r b up two answer
@@ -46,12 +46,12 @@ unclean_stable r b false one two answer same = down answer
     down other = refl
 
 module _ {D : Type 0} where
-  learned_node : (x : Node D) (kept : Kept D) (s s' : log.Seen) (n epoch known mark : ℕ) → is_open kept ≡ is_up x → s' ≡ settled s (assign s.line epoch (end_of_log s.batches)) → n ≡ epoch → known ≡ end_of_log (up_to mark s.batches)
+  learned_node : (x : Node D) (kept : Kept D) (s s' : log.Seen) (n epoch known mark : ℕ) → is_open kept ≡ is_up x → s' ≡ settled s (assign s.line epoch (end_of_log s.batches)) → n ≡ epoch → known ≡ min mark (end_of_log s.batches)
       → record (node_of x s) {
         role = LeadsIn n;
         log = record { batches = s.batches; line = assign s.line n (end_of_log s.batches) };
         stable = end_of_log s.batches;
-        known = end_of_log (up_to mark s.batches);
+        known = min mark (end_of_log s.batches);
         saved = assign s.line n (end_of_log s.batches);
       } ≡ node_of (record x { role = LeadsIn epoch; log = kept; known = known }) s'
   learned_node x kept s s' n epoch known mark up is same end = rw (up, is, same, end) refl
@@ -159,10 +159,10 @@ module _ {D : Type 0} (content : D → Content) (control : D → Control call_co
   learn_refined h a b x s (Leads n) h' v w =
       let g = w.4.1 in
       let t = g.settles.seen s v.shows in
-      let known : g.known ≡ end_of_log (up_to a.registry.mark s.batches) =
-      g.known_is.is t.0 t.1 ∙ (ap (λ (k : log.Seen). end_of_log (up_to h.registry.mark k.batches)) t.2 ∙ ap (λ (r : Registry). end_of_log (up_to r.mark s.batches)) (sym v.held.registry)) in
-      puts content control h a b x s h' _ (record x { role = LeadsIn h.registry.epoch; log = g.kept; known = g.known }) t.0 (seen_rows.led a (node_of x s) n) v t.1
-      (learned_node x g.kept s t.0 n h.registry.epoch g.known a.registry.mark (up_of_end content g.kept g.end g.settles.end_is ∙ sym w.0) t.2 w.4.0 known) g.after (
+      let known : min h.registry.mark g.end ≡ min a.registry.mark (end_of_log s.batches) =
+      ap (λ (r : Registry). min r.mark g.end) (sym v.held.registry) ∙ ap (λ (n : ℕ). min a.registry.mark n) (sym (end_told content x g.end g.settles.base_is) ∙ end_shown content x s w.0 v.shows) in
+      puts content control h a b x s h' _ (record x { role = LeadsIn h.registry.epoch; log = g.kept; known = min h.registry.mark g.end }) t.0 (seen_rows.led a (node_of x s) n) v t.1
+      (learned_node x g.kept s t.0 n h.registry.epoch (min h.registry.mark g.end) a.registry.mark (up_of_end content g.kept g.end g.settles.end_is ∙ sym w.0) t.2 w.4.0 known) g.after (
         w.0,
         unknown_shown h a x s v.held w.1,
         ap (λ (r : Registry). r.leader.0) v.held.registry ∙ w.2,
@@ -172,9 +172,9 @@ module _ {D : Type 0} (content : D → Content) (control : D → Control call_co
       )
   learn_refined h a b x s DiskFault h' v w =
       let epoch : h.registry.epoch ≡ a.registry.epoch = ap (λ (r : Registry). r.epoch) (sym v.held.registry) in
-      breaks content control h a b x s (λ s. loosened s (end_of_log s.batches) (assign s.line h.registry.epoch (end_of_log s.batches))) h' _
-      (seen_held.broken (node_of x s) (end_of_log s.batches) (assign s.line a.registry.epoch (end_of_log s.batches))) v w.4
-      (λ kept down. rw (sym epoch) (broken_node x kept s (end_of_log s.batches) (assign s.line h.registry.epoch (end_of_log s.batches)) down)) (
+      breaks content control h a b x s (λ s. loosened s (end_of_log s.batches, assign s.line h.registry.epoch (end_of_log s.batches), s.local)) h' _
+      (seen_held.broken (node_of x s) (end_of_log s.batches, assign s.line a.registry.epoch (end_of_log s.batches), s.local)) v w.4
+      (λ kept down. rw (sym epoch) (broken_node x kept s (end_of_log s.batches, assign s.line h.registry.epoch (end_of_log s.batches), s.local) down)) (
         w.0,
         unknown_shown h a x s v.held w.1,
         ap (λ (r : Registry). r.leader.0) v.held.registry ∙ w.2,
@@ -185,15 +185,15 @@ module _ {D : Type 0} (content : D → Content) (control : D → Control call_co
 
   -- ack
 
-  acks_refined : (h : Held D) (a : seen.Held) (b : ℕ) (x : Node D) (s : log.Seen) (r : Registry) (h' : Held D) → Sees content control h a b x s → Acks content control h b x r h'
+  acks_refined : (h : Held D) (a : seen.Held) (b : ℕ) (x : Node D) (s : log.Seen) (r : Registry) (h' : Held D) → Sees content control h a b x s → is_up x ≡ true → Acks h b x r h'
       → Refines content control h' (λ c. c ≡ seen_rows.acked a b (node_of x s) r)
-  acks_refined h a b x s r h' v k =
-      let known = k.1.is s v.shows in
-      subst (λ (g : Held D). Refines content control g (λ c. c ≡ seen_rows.acked a b (node_of x s) r)) (sym k.2) (record {
+  acks_refined h a b x s r h' v up k =
+      let known = ap (λ (n : ℕ). min r.mark n) (end_shown content x s up v.shows) in
+      subst (λ (g : Held D). Refines content control g (λ c. c ≡ seen_rows.acked a b (node_of x s) r)) (sym k) (record {
         after = seen_rows.acked a b (node_of x s) r;
         held = record {
           registry = refl;
-          nodes = shown_set content h.nodes a.nodes b (record x { known = k.0 }) (record (node_of x s) { known = end_of_log (up_to r.mark s.batches) }) v.held.nodes
+          nodes = shown_set content h.nodes a.nodes b (record x { known = min r.mark (end_of x) }) (record (node_of x s) { known = min r.mark (end_of_log s.batches) }) v.held.nodes
               (s, v.shows, ap (λ (n : ℕ). record (node_of x s) { known = n }) (sym known));
           clock = v.held.clock;
         };
@@ -211,7 +211,8 @@ module _ {D : Type 0} (content : D → Content) (control : D → Control call_co
       (replica_refined h a h' b (λ r t. after_ack r b t e.0 s.stable (Err (Reg.StaleEpoch n))) v.held
       (subst (λ (k : ℕ). AtReplica h.registry b (λ t. Leaves h (after_ack h.registry b t e.0 k (Err (Reg.StaleEpoch n))) h')) same e.2))
 
-  pub ack_refined : (h : Held D) (a : seen.Held) (b : ℕ) (x : Node D) (s : log.Seen) (answer : Answer) (h' : Held D) → Sees content control h a b x s → AckRow content control h b x answer h'
+  pub ack_refined : (h : Held D) (a : seen.Held) (b : ℕ) (x : Node D) (s : log.Seen) (answer : Answer) (h' : Held D) → Sees content control h a b x s
+      → AckRow h b x answer h'
       → Refines content control h' (λ c. seen_rows.AckRow a b (node_of x s) answer c)
   ack_refined h a b x s Down h' v w = stays content control h a h' _ v.held w.1 (w.0, refl)
   ack_refined h a b x s NotJoined h' v w = stays content control h a h' _ v.held w.2 (w.0, w.1, refl)
@@ -231,5 +232,5 @@ module _ {D : Type 0} (content : D → Content) (control : D → Control call_co
             (ap (λ (k : Registry). slice_get k.replicas b) v.held.registry ∙ t.1)
             (some_at (λ r. c ≡ seen_rows.acked a b (node_of x s) r) (after_ack a.registry b t.0 e.0 s.stable (Done mark)) r.0 after row)),
       ))
-      (acks_refined h a b x s r.0 h' v r.2)
+      (acks_refined h a b x s r.0 h' v w.0 r.2)
   ack_refined h a b x s other h' v w = elim w [ ]

@@ -1,5 +1,5 @@
 -- The turn of a fetch is a row of what is seen.
-use Rattle.std.proofs.Common.{◌≡◌, ◌∙◌, sym, ap, subst, refl, ℕ, ◌≤◌, true}
+use Rattle.std.proofs.Common.{◌≡◌, ◌∙◌, sym, ap, subst, refl, ℕ, ◌<◌, ◌≤◌, true}
 use Rattle.tier_base.specs.Device.{Control}
 use Rattle.tier_base.specs.declared.plain.Stop.{Stop}
 use Rattle.disk_model.specs.Call.{call_code}
@@ -7,7 +7,7 @@ use Rattle.disk_model.specs.Content.{Content}
 use Rattle.registry.specs.declared.registry.Registry.{Registry}
 use Rattle.plain_log.specs.declared.answer.Answer.{Answer}
 use Rattle.plain_log.specs.declared.answer.Answer.TheVariants.{Down, NotLeader, DiskFault, Damaged, OutOfRange, Empty, Run}
-use Rattle.plain_log.specs.declared.answer.Place.TheVariants.{File}
+use Rattle.plain_log.specs.declared.answer.Place.TheVariants.{File, Meta}
 use Rattle.broker_log.specs.Seen.{Shows}
 use Rattle.broker_log.specs.Seen as log
 use Rattle.partition_seen.specs.Seen as seen
@@ -18,14 +18,17 @@ use Rattle.partition_world.specs.declared.held.Node.{Node}
 use Rattle.partition_world.specs.declared.held.Held.{Held}
 use Rattle.partition_world.specs.Held.{is_up, node_of}
 use Rattle.partition_world.specs.TurnsOfLog.{IsInLog}
-use Rattle.partition_world.specs.TurnsOfFetch.{FetchRow}
+use Rattle.partition_world.specs.TurnsOfFetch.{IsLocal, FetchRow}
 use Rattle.partition_world.proofs.RunsShown.{run_shown}
-use Rattle.partition_world.proofs.Shown.{Sees, Refines, stays, rests, fails, end_shown}
+use Rattle.partition_world.proofs.Shown.{Sees, Refines, stays, rests, fails, end_shown, local_shown}
 
 module _ {D : Type 0} (content : D → Content) (control : D → Control call_code) where
   in_log : (h : Held D) (a : seen.Held) (b : ℕ) (x : Node D) (s : log.Seen) (offset : ℕ) → Sees content control h a b x s → is_up x ≡ true → IsInLog h x offset → seen_log.IsInLog a (node_of x s) offset
   in_log h a b x s offset v up w =
       (subst (λ (r : Registry). r.start ≤ offset) (sym v.held.registry) w.0, subst (λ (n : ℕ). offset ≤ n) (end_shown content x s up v.shows) w.1)
+
+  is_local : (h : Held D) (a : seen.Held) (b : ℕ) (x : Node D) (s : log.Seen) (offset : ℕ) → Sees content control h a b x s → is_up x ≡ true → IsLocal h x offset → seen_log.IsLocal a (node_of x s) offset
+  is_local h a b x s offset v up w = (in_log h a b x s offset v up w.0, subst (λ (n : ℕ). n ≤ offset) (local_shown content x s up v.shows) w.1)
 
   pub fetch_refined : (h : Held D) (a : seen.Held) (b : ℕ) (x : Node D) (s : log.Seen) (offset limit : ℕ) (answer : Answer) (h' : Held D) → Sees content control h a b x s
       → seen_sound.NodeSound (node_of x s) → FetchRow content control h b x offset limit answer h' → Refines content control h' (λ c. seen_log.FetchRow a (node_of x s) offset limit answer c)
@@ -42,17 +45,19 @@ module _ {D : Type 0} (content : D → Content) (control : D → Control call_co
       rests content control h a b x s h' _ v (g.kept, g.reads.stays, g.lasts, g.after) (
         w.0,
         w.1,
-        in_log h a b x s offset v w.0 w.2,
+        is_local h a b x s offset v w.0 w.2,
         w.3,
         (g.out.base, g.tier_is),
         record {
           run = r.run;
-          is = subst (λ (why : Stop). IsRunOf s.batches offset limit x.known why r.run) (sym g.stop_is) (run_shown s offset limit x.known g.out k.log.consecutive k.log.line_is r);
+          is = subst (λ (why : Stop). IsRunOf s.batches offset limit x.known why r.run) (sym g.stop_is) (run_shown x.log s offset limit x.known g.out k.log.consecutive k.log.line_is r);
           spelled = g.bytes_are ∙ r.bytes;
           size_is = g.size_is;
         },
         refl,
       )
-  fetch_refined h a b x s offset limit DiskFault h' v k w = fails content control h a b x s h' _ v w.4 (w.0, w.1, in_log h a b x s offset v w.0 w.2, w.3, refl)
-  fetch_refined h a b x s offset limit (Damaged (File name) at) h' v k w = absurd (w.4 s v.shows k.known)
+  fetch_refined h a b x s offset limit DiskFault h' v k w = fails content control h a b x s h' _ v w.4 (w.0, w.1, is_local h a b x s offset v w.0 w.2, w.3, refl)
+  fetch_refined h a b x s offset limit (Damaged (File name) at) h' v k w = absurd (w.4.misreads.unmarked s v.shows k.known)
+  fetch_refined h a b x s offset limit (Damaged Meta at) h' v k w =
+      stays content control h a h' _ v.held w.5 (w.0, w.1, in_log h a b x s offset v w.0 w.2, w.3, subst (λ (n : ℕ). offset < n) (local_shown content x s w.0 v.shows) w.4, refl)
   fetch_refined h a b x s offset limit other h' v k w = elim w [ ]

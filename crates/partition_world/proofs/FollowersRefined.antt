@@ -10,8 +10,11 @@ use Rattle.disk_model.specs.Call.{call_code}
 use Rattle.disk_model.specs.Content.{Content}
 use Rattle.log_terms.specs.Batch.{epoch_of, last_of}
 use Rattle.log_terms.specs.Log.{IsConsecutive, EndsAt, joined, up_to, end_from, end_of as end_of_log}
-use Rattle.log_terms.proofs.Lists.{and_then_some}
-use Rattle.log_terms.proofs.Logs.{end_above, ends_at_end, up_to_is, up_to_prefix}
+use Rattle.log_terms.specs.Line.{line_of as epochs_of}
+use Rattle.log_terms.proofs.Lists.{and_then_some, prefix_trans}
+use Rattle.partition_seen.proofs.NodeLaw.{IsWhole}
+use Rattle.partition_seen.proofs.Lines.{own_cut}
+use Rattle.log_terms.proofs.Logs.{end_above, ends_at_end, up_to_is}
 use Rattle.epoch_line.specs.Line.{last_epoch, cut_end}
 use Rattle.epoch_line.specs.Meet.{IsMeetBelow}
 use Rattle.record_batch.specs.Check.{checked}
@@ -22,14 +25,14 @@ use Rattle.segment_file.specs.Segment.{EpochsRise}
 use Rattle.local_log.specs.Run.{lined}
 use Rattle.local_log.proofs.Heads.{last_front}
 use Rattle.plain_log.specs.declared.answer.Answer.{Answer}
-use Rattle.plain_log.specs.declared.answer.Answer.TheVariants.{Down, NotFollower, StaleEpoch, NoLeader, Cut, NotJoined, Level, Stopped, Passed, Copied, TooManySegments, DiskFault, DiskFaultAt, Damaged}
+use Rattle.plain_log.specs.declared.answer.Answer.TheVariants.{Down, NotFollower, StaleEpoch, NoLeader, Cut, NotJoined, Level, Moved, Stopped, Passed, BelowStart, Rebuilt, Copied, TooManySegments, DiskFault, DiskFaultAt, Damaged}
 use Rattle.plain_log.specs.declared.answer.Place.TheVariants.{File}
 use Rattle.plain_log.specs.declared.state.Role.TheVariants.{Joined}
 use Rattle.plain_log.specs.State.{followed, joined as joined_role, leads_in}
 use Rattle.plain_log.proofs.Options.{when_some, both}
 use Rattle.broker_log.specs.Seen.{Kept, Shows, is_up as is_open}
 use Rattle.broker_log.specs.Seen as log
-use Rattle.broker_log.specs.Turns.{with_batches, cut_to, torn}
+use Rattle.broker_log.specs.Turns.{with_batches, cut_to, cut_back, MayCut, restarted, unbuilt}
 use Rattle.partition_seen.specs.declared.begun.Begun.{Begun}
 use Rattle.partition_seen.specs.declared.begun.Turned.{Turned}
 use Rattle.partition_seen.specs.declared.begun.Turned.TheVariants.{Answers, Begins}
@@ -43,12 +46,12 @@ use Rattle.partition_seen.proofs.BoolTests.{some_of, when_true}
 use Rattle.partition_seen.proofs.Parts.{parts_joined}
 use Rattle.partition_world.specs.declared.held.Node.{Node}
 use Rattle.partition_world.specs.declared.held.Held.{Held}
-use Rattle.partition_world.specs.Held.{is_up, end_of, line_of, the_leader, node_of, ShowsHeld}
-use Rattle.partition_world.specs.TurnsOfFollowers.{IsStale, IsCurrent, CanExtend, JoinRow, FollowRow, Extends, FollowOnRow}
+use Rattle.partition_world.specs.Held.{is_up, end_of, line_of, the_leader, stopped, node_of, ShowsHeld}
+use Rattle.partition_world.specs.TurnsOfFollowers.{IsStale, IsCurrent, IsMeet, CanExtend, MayRebuild, JoinRow, JoinOnRow, FollowRow, Extends, FollowOnRow}
 use Rattle.partition_world.proofs.Fronts.{each_all, all_each, come_apart, lined_entered}
 use Rattle.partition_world.proofs.RunsShown.{run_shown}
 use Rattle.partition_world.proofs.OwnRefined.{unsaved}
-use Rattle.partition_world.proofs.Shown.{Sees, Refines, some_at, sees_at, shown_none, shown_leader, stays, puts, rests, fails, breaks, torn_node, end_shown, end_told, line_shown, up_of_end}
+use Rattle.partition_world.proofs.Shown.{Sees, Refines, some_at, sees_at, shown_none, shown_leader, stays, puts, rests, fails, breaks_to, torn_node, end_shown, end_told, line_shown, local_shown, up_of_end}
 
 -- the nodes that are seen keep what nodes keep
 abbrev pub AreSound : seen.Held → Type 0
@@ -61,6 +64,22 @@ pub record IsKept (x : seen.Node) (g : Begun) : Type 0 where
   pub are : All (λ (batch : List ℕ). IsOk (checked batch)) g.batches
   pub epochs : All (λ batch. Some (epoch_of batch) ≡ epoch_in g.batches) g.batches
   pub small : end_from g.end g.batches ≤ 4611686018427387904
+
+-- what is known of a join that goes on: the leader's log has what is wanted, from the follower's on
+pub record IsRebuilding (a : seen.Held) (x : seen.Node) (g : Begun) : Type 0 where
+  pub noted : g.stops ≡ x.stops → x.up ≡ true
+  pub way : seen_rows.GoesOn a x g → g.end ≡ end_of_log x.log.batches → (y : seen.Node) → slice_get a.nodes a.registry.leader.0 ≡ Some y
+      → IsWhole x (up_to g.wanted y.log.batches) g.wanted × (g.line ≡ epochs_of (up_to g.wanted y.log.batches))
+  pub leader : (y : seen.Node) × (slice_get a.nodes a.registry.leader.0 ≡ Some y)
+
+-- where the logs meet is an end of the follower's log
+abbrev pub MeetsEnd : seen.Held → seen.Node → Type 0
+MeetsEnd a x = (y : seen.Node) (m : ℕ) → seen_held.the_leader a ≡ Some y → seen_rows.IsMeet x y m → EndsAt m x.log.batches
+
+-- a line of batches has no entry past their end
+line_same : (line : List (ℕ × ℕ)) (whole : List (List ℕ)) (n : ℕ) → line ≡ epochs_of whole → IsConsecutive 0 whole → end_of_log whole ≡ n → cut_end line (n + 1) ≡ epochs_of whole
+line_same line whole n is c end =
+    ap (λ (l : List (ℕ × ℕ)). cut_end l (n + 1)) is ∙ (ap (λ (m : ℕ). cut_end (epochs_of whole) (m + 1)) (sym end) ∙ own_cut whole c)
 
 meet_same : (own mine other theirs : List (ℕ × ℕ)) (n m k l limit : ℕ) → own ≡ mine → other ≡ theirs → n ≡ m → k ≡ l → IsMeetBelow own other (min n k) limit → IsMeetBelow mine theirs (min m l) limit
 meet_same own mine other theirs n m k l limit a b c d h = rw (sym a, sym b, sym c, sym d) h
@@ -111,7 +130,16 @@ module _ {D : Type 0} where
     stable = end_of_log (up_to met s.batches);
     known = min x.known k;
     saved = cut_end s.line (end_of_log (up_to met s.batches));
+    local = min s.local (end_of_log (up_to met s.batches));
   }) (sym end))
+
+  rebuilt_node : (x : Node D) (kept : Kept D) (s : log.Seen) (whole : List (List ℕ)) (line : List (ℕ × ℕ)) (m : ℕ) → is_open kept ≡ is_up x → line ≡ epochs_of whole
+      → seen_rows.rebuilt (node_of x s) whole m ≡ node_of (record x { log = kept }) (restarted s whole line m)
+  rebuilt_node x kept s whole line m up is = rw (up, is) refl
+
+  unbuilt_node : (x : Node D) (kept : Kept D) (s : log.Seen) (whole : List (List ℕ)) (line : List (ℕ × ℕ)) (m : ℕ) → is_open kept ≡ false → line ≡ epochs_of whole
+      → seen_rows.unbuilt (node_of x s) whole m ≡ node_of (record (stopped x) { log = kept }) (unbuilt s whole line m)
+  unbuilt_node x kept s whole line m down is = rw (down, is) refl
 
   extended_node : (x : Node D) (kept : Kept D) (s s' : log.Seen) (front : List (List ℕ)) (e : ℕ) → is_open kept ≡ is_up x → s' ≡ with_batches s front → lined s.line front ≡ entered s.line e (end_of_log s.batches)
       → seen_rows.extended (node_of x s) front e ≡ node_of (record x { log = kept }) s'
@@ -158,51 +186,151 @@ module _ {D : Type 0} (content : D → Content) (control : D → Control call_co
 
   -- join
 
-  pub join_refined : (h : Held D) (a : seen.Held) (b : ℕ) (x : Node D) (s : log.Seen) (answer : Answer) (h' : Held D) → Sees content control h a b x s → AreSound a
-      → JoinRow content control h b x answer h' → Refines content control h' (λ c. seen_rows.JoinRow a b (node_of x s) answer c)
-  join_refined h a b x s Down h' v k w = stays content control h a h' _ v.held w.1 (w.0, refl)
-  join_refined h a b x s NotFollower h' v k w = stays content control h a h' _ v.held w.2 (w.0, w.1, refl)
-  join_refined h a b x s (StaleEpoch n) h' v k w =
+  rebuild_shown : (h : Held D) (a : seen.Held) (b : ℕ) (x : Node D) (s : log.Seen) (g : Begun) → Sees content control h a b x s → MayRebuild h x g → seen_rows.MayRebuild a (node_of x s) g
+  rebuild_shown h a b x s g v w =
+      ((w.0.0, unstale_shown h a (followed g.role) v.held w.0.2), (w.1.0 ∙ end_shown content x s w.0.1 v.shows, w.1.1), λ k. w.2 (k.0, subst (λ (r : Registry). g.wanted ≤ r.start) v.held.registry k.1))
+
+  -- batches that the log begins have what is stable of it
+  stable_same : (x : Node D) (s : log.Seen) (m : ℕ) (whole : List (List ℕ)) → seen_sound.NodeSound (node_of x s) → IsWhole (node_of x s) whole m → up_to s.stable whole ≡ up_to s.stable s.batches
+  stable_same x s m whole n is =
+      let ends = n.stable in
+      up_to_is 0 s.stable ends.0 whole is.consecutive (prefix_trans ends.0 s.batches whole ends.1 is.begins) ends.2
+      ∙ sym (up_to_is 0 s.stable ends.0 s.batches n.log.consecutive ends.1 ends.2)
+
+  -- where the logs meet, as it is seen
+  meets : (h : Held D) (a : seen.Held) (b : ℕ) (x y : Node D) (s : log.Seen) (met : ℕ) → Sees content control h a b x s → is_up x ≡ true → (l : SeesLeader h a y) → IsMeet x y met → seen_rows.IsMeet (node_of x s) (node_of y l.log_seen) met
+  meets h a b x y s met v up l is =
+      meet_same (line_of x) s.line (line_of y) l.log_seen.line (end_of x) (end_of_log s.batches) (end_of y) (end_of_log l.log_seen.batches) met (line_shown content x s up v.shows)
+      (line_shown content y l.log_seen l.up l.sees.shows) (end_shown content x s up v.shows) (end_shown content y l.log_seen l.up l.sees.shows) is
+
+  pub join_refined : (h : Held D) (a : seen.Held) (b : ℕ) (x : Node D) (s : log.Seen) (turned : Turned) (h' : Held D) → Sees content control h a b x s → MeetsEnd a (node_of x s)
+      → JoinRow content control h b x turned h' → Refines content control h' (λ c. seen_rows.JoinRow a b (node_of x s) turned c)
+  join_refined h a b x s (Answers Down) h' v k w = stays content control h a h' _ v.held w.1 (w.0, refl)
+  join_refined h a b x s (Answers NotFollower) h' v k w = stays content control h a h' _ v.held w.2 (w.0, w.1, refl)
+  join_refined h a b x s (Answers (StaleEpoch n)) h' v k w =
       stays content control h a h' _ v.held w.3 (w.0, stale_shown h a (followed x.role) v.held w.1, epoch_shown h a n v.held w.2, refl)
-  join_refined h a b x s NoLeader h' v k w =
+  join_refined h a b x s (Answers NoLeader) h' v k w =
       stays content control h a h' _ v.held w.3 (w.0, current_shown h a (followed x.role) v.held w.1, leaderless h a v.held w.2, refl)
-  join_refined h a b x s (Cut n) h' v k w =
+  join_refined h a b x s (Answers (Cut n)) h' v k w =
       let y = some_of _ (the_leader h) w.2 in
       let l = sees_leader h a y.0 v.held y.1 in
       let e = y.2.0 in
       let met = y.2.1 in
-      let g = y.2.4 in
-      let t = g.cuts.seen s v.shows in
+      let g = y.2.5 in
+      let meet = meets h a b x y.0 s met v w.0 l y.2.3 in
+      let t = g.cuts.seen s v.shows (inr (k (node_of y.0 l.log_seen) met l.is meet)) in
       let end : n ≡ end_of_log (up_to met s.batches) = t.2.1 in
-      let meet = meet_same (line_of x) s.line (line_of y.0) l.log_seen.line (end_of x) (end_of_log s.batches) (end_of y.0) (end_of_log l.log_seen.batches) met (line_shown content x s w.0 v.shows)
-      (line_shown content y.0 l.log_seen l.up l.sees.shows) (end_shown content x s w.0 v.shows) (end_shown content y.0 l.log_seen l.up l.sees.shows) y.2.3 in
+      let low : l.log_seen.local ≤ n = subst (λ (m : ℕ). m ≤ n) (local_shown content y.0 l.log_seen l.up l.sees.shows) y.2.4 in
       puts content control h a b x s h' _ (record x { role = Joined e; log = g.kept; known = min x.known n }) t.0 (seen_rows.cut_node (node_of x s) e met) v t.1
       (joined_node x g.kept s t.0 e n met (up_of_end content g.kept n g.cuts.end_is ∙ sym w.0) t.2.0 end) g.after (
         w.0,
         current_shown h a (followed x.role) v.held w.1,
-        some_at (λ (z : seen.Node). (e m : ℕ) × (followed x.role ≡ Some e) × seen_rows.IsMeet (node_of x s) z m × (n ≡ end_of_log (up_to m s.batches))
+        some_at (λ (z : seen.Node). (e m : ℕ) × (followed x.role ≡ Some e) × seen_rows.IsMeet (node_of x s) z m × (n ≡ end_of_log (up_to m s.batches)) × (z.local ≤ n)
             × (seen_held.put_node a b (seen_rows.cut_node (node_of x s) y.2.0 met) ≡ seen_held.put_node a b (seen_rows.cut_node (node_of x s) e m)))
-            (seen_held.the_leader a) (node_of y.0 l.log_seen) l.is (e, met, y.2.2, meet, end, refl),
+            (seen_held.the_leader a) (node_of y.0 l.log_seen) l.is (e, met, y.2.2, meet, end, low, refl),
       )
-  join_refined h a b x s (DiskFaultAt n) h' v k w =
+  join_refined h a b x s (Answers (DiskFaultAt n)) h' v k w =
       let y = some_of _ (the_leader h) w.2 in
       let l = sees_leader h a y.0 v.held y.1 in
       let e = y.2.0 in
       let met = y.2.1 in
-      let end : n ≡ end_of_log (up_to met s.batches) = y.2.4.0.is s v.shows in
-      let meet = meet_same (line_of x) s.line (line_of y.0) l.log_seen.line (end_of x) (end_of_log s.batches) (end_of y.0) (end_of_log l.log_seen.batches) met (line_shown content x s w.0 v.shows)
-      (line_shown content y.0 l.log_seen l.up l.sees.shows) (end_shown content x s w.0 v.shows) (end_shown content y.0 l.log_seen l.up l.sees.shows) y.2.3 in
-      let line = cut_end s.line (end_of_log (up_to met s.batches)) in
-      breaks content control h a b x s (λ s. torn s (end_of_log (up_to met s.batches)) (cut_end s.line (end_of_log (up_to met s.batches)))) h' _ (seen_held.torn (node_of x s) n line) v y.2.4.1
-      (λ kept down. ap (λ (m : ℕ). seen_held.torn (node_of x s) m line) end ∙ torn_node x kept s (end_of_log (up_to met s.batches)) line down) (
+      let meet = meets h a b x y.0 s met v w.0 l y.2.3 in
+      let may : MayCut met s = inr (k (node_of y.0 l.log_seen) met l.is meet) in
+      let end : n ≡ end_of_log (up_to met s.batches) = y.2.4.0.is s v.shows may in
+      let q = y.2.4.1 in
+      let t = q.breaks.seen s v.shows may in
+      breaks_to content control h a b x s t.0 _ h' _ (seen_held.torn (node_of x s) (seen_rows.cut_back (node_of x s) met)) v q t.1
+      (torn_node x q.kept s (cut_back s met) q.breaks.down ∙ ap (node_of (record (stopped x) { log = q.kept })) (sym t.2)) (
         w.0,
         current_shown h a (followed x.role) v.held w.1,
         some_at (λ (z : seen.Node). (e m : ℕ) × (followed x.role ≡ Some e) × seen_rows.IsMeet (node_of x s) z m × (n ≡ end_of_log (up_to m s.batches))
-            × (seen_held.put_node a b (seen_held.torn (node_of x s) n (cut_end s.line (end_of_log (up_to met s.batches))))
-            ≡ seen_held.put_node a b (seen_held.torn (node_of x s) n (cut_end s.line (end_of_log (up_to m s.batches))))))
+            × (seen_held.put_node a b (seen_held.torn (node_of x s) (seen_rows.cut_back (node_of x s) met))
+            ≡ seen_held.put_node a b (seen_held.torn (node_of x s) (seen_rows.cut_back (node_of x s) m))))
             (seen_held.the_leader a) (node_of y.0 l.log_seen) l.is (e, met, y.2.2, meet, end, refl),
       )
+  join_refined h a b x s (Begins g) h' v k w =
+      let y = some_of _ (the_leader h) w.2 in
+      let l = sees_leader h a y.0 v.held y.1 in
+      let e = y.2.0 in
+      let met = y.2.1 in
+      let q = y.2.4 in
+      let meet = meets h a b x y.0 s met v w.0 l y.2.3 in
+      let t = q.cuts.cuts.seen s v.shows (inr (k (node_of y.0 l.log_seen) met l.is meet)) in
+      let end : g.end ≡ end_of_log (up_to met s.batches) = t.2.1 in
+      let line = line_shown content y.0 l.log_seen l.up l.sees.shows in
+      puts content control h a b x s h' _ (record x { role = Joined e; log = q.cuts.kept; known = min x.known g.end }) t.0 (seen_rows.cut_node (node_of x s) e met) v t.1
+      (joined_node x q.cuts.kept s t.0 e g.end met (up_of_end content q.cuts.kept g.end q.cuts.cuts.end_is ∙ sym w.0) t.2.0 end) q.cuts.after (
+        w.0,
+        current_shown h a (followed x.role) v.held w.1,
+        some_at (λ (z : seen.Node). (e m : ℕ) × (followed x.role ≡ Some e) × seen_rows.IsMeet (node_of x s) z m × seen_rows.Wants a (seen_rows.cut_node (node_of x s) e m) z g
+            × (seen_held.put_node a b (seen_rows.cut_node (node_of x s) y.2.0 met) ≡ seen_held.put_node a b (seen_rows.cut_node (node_of x s) e m)))
+            (seen_held.the_leader a) (node_of y.0 l.log_seen) l.is (
+              e,
+              met,
+              y.2.2,
+              meet,
+              record {
+                stops = q.stops;
+                role = q.role;
+                end = end;
+                start = q.start ∙ ap (λ (r : Registry). r.start) (sym v.held.registry);
+                wanted = q.wanted ∙ local_shown content y.0 l.log_seen l.up l.sees.shows;
+                line = q.line ∙ ap (λ (k : List (ℕ × ℕ)). cut_end k g.wanted) line;
+                above = q.above;
+              },
+              refl,
+            ),
+      )
   join_refined h a b x s other h' v k w = elim w [ ]
+
+  -- join goes on
+
+  pub join_on_refined : (h : Held D) (a : seen.Held) (b : ℕ) (x : Node D) (s : log.Seen) (g : Begun) (answer : Answer) (h' : Held D) → Sees content control h a b x s → seen_sound.NodeSound (node_of x s)
+      → IsRebuilding a (node_of x s) g → JoinOnRow content control h b x g answer h' → Refines content control h' (λ c. seen_rows.JoinOnRow a b (node_of x s) g answer c)
+  join_on_refined h a b x s g Stopped h' v n k w = stays content control h a h' _ v.held w.1 (halted w.0, refl)
+    where
+      halted : (g.stops ≢ x.stops) ⊎ (is_up x ≡ false) → g.stops ≢ x.stops
+      halted (inl differs) = differs
+      halted (inr down) = λ same. (let up = k.noted same in absurd cc)
+  join_on_refined h a b x s g (StaleEpoch m) h' v n k w =
+      stays content control h a h' _ v.held w.3 (w.0, stale_shown h a (followed g.role) v.held w.1, epoch_shown h a m v.held w.2, refl)
+  join_on_refined h a b x s g (Passed m) h' v n k w =
+      stays content control h a h' _ v.held w.3 ((w.0.0, unstale_shown h a (followed g.role) v.held w.0.2), w.1 ∙ end_shown content x s w.0.1 v.shows, λ k. w.2 (k.0 ∙ sym (end_shown content x s w.0.1 v.shows), k.1), refl)
+  join_on_refined h a b x s g (BelowStart start) h' v n k w =
+      stays content control h a h' _ v.held w.5
+      ((w.0.0, unstale_shown h a (followed g.role) v.held w.0.2), (w.1.0 ∙ end_shown content x s w.0.1 v.shows, w.1.1), w.2 ∙ ap (λ (r : Registry). r.start) (sym v.held.registry), w.3, w.4, refl)
+  join_on_refined h a b x s g (DiskFaultAt m) h' v n k w =
+      let may = rebuild_shown h a b x s g v w.0 in
+      let y = k.leader in
+      let way = k.way may.0 may.1.0 y.0 y.1 in
+      let whole = up_to m y.0.log.batches in
+      let is : IsWhole (node_of x s) whole m = subst (λ (i : ℕ). IsWhole (node_of x s) (up_to i y.0.log.batches) i) (sym w.1) way.0 in
+      let line = line_same g.line whole m (subst (λ (i : ℕ). g.line ≡ epochs_of (up_to i y.0.log.batches)) (sym w.1) way.1) is.consecutive is.ends in
+      let q = w.2 in
+      let shows = q.breaks.seen s v.shows whole (record { consecutive = is.consecutive; ends = is.ends }) (stable_same x s m whole n is) in
+      breaks_to content control h a b x s (unbuilt s whole (cut_end g.line (m + 1)) m) _ h' _ (seen_rows.unbuilt (node_of x s) whole m) v q shows (unbuilt_node x q.kept s whole (cut_end g.line (m + 1)) m q.breaks.down line) (
+        may,
+        w.1,
+        some_at (λ (z : seen.Node). seen_held.put_node a b (seen_rows.unbuilt (node_of x s) whole m) ≡ seen_held.put_node a b (seen_rows.unbuilt (node_of x s) (up_to m z.log.batches) m))
+            (slice_get a.nodes a.registry.leader.0) y.0 y.1 refl,
+      )
+  join_on_refined h a b x s g (Rebuilt m) h' v n k w =
+      let may = rebuild_shown h a b x s g v w.0 in
+      let y = k.leader in
+      let way = k.way may.0 may.1.0 y.0 y.1 in
+      let whole = up_to m y.0.log.batches in
+      let is : IsWhole (node_of x s) whole m = subst (λ (i : ℕ). IsWhole (node_of x s) (up_to i y.0.log.batches) i) (sym w.1) way.0 in
+      let line = line_same g.line whole m (subst (λ (i : ℕ). g.line ≡ epochs_of (up_to i y.0.log.batches)) (sym w.1) way.1) is.consecutive is.ends in
+      let q = w.2 in
+      let shows = q.restarts.seen s v.shows whole (record { consecutive = is.consecutive; ends = is.ends }) in
+      puts content control h a b x s h' _ (record x { log = q.kept }) (restarted s whole (cut_end g.line (m + 1)) m) (seen_rows.rebuilt (node_of x s) whole m) v shows
+      (rebuilt_node x q.kept s whole (cut_end g.line (m + 1)) m (up_of_end content q.kept m q.restarts.end_is ∙ sym w.0.0.1) line) q.after (
+        may,
+        w.1,
+        some_at (λ (z : seen.Node). seen_held.put_node a b (seen_rows.rebuilt (node_of x s) whole m) ≡ seen_held.put_node a b (seen_rows.rebuilt (node_of x s) (up_to m z.log.batches) m))
+            (slice_get a.nodes a.registry.leader.0) y.0 y.1 refl,
+      )
+  join_on_refined h a b x s g other h' v n k w = elim w [ ]
 
   -- follow
 
@@ -235,39 +363,54 @@ module _ {D : Type 0} (content : D → Content) (control : D → Control call_co
         some_at (λ (z : seen.Node). end_of_log z.log.batches ≤ end_of_log s.batches) (seen_held.the_leader a) (node_of y.0 l.log_seen) l.is level,
         refl,
       )
+  follow_refined h a b x s limit (Answers (Moved n)) h' v k w =
+      let y = some_of _ (the_leader h) w.2 in
+      let l = sees_leader h a y.0 v.held y.1 in
+      let own = end_shown content x s w.0 v.shows in
+      let end = end_shown content y.0 l.log_seen l.up l.sees.shows in
+      let local = local_shown content y.0 l.log_seen l.up l.sees.shows in
+      stays content control h a h' _ v.held w.3 (
+        w.0,
+        current_shown h a (joined_role x.role) v.held w.1,
+        some_at (λ (z : seen.Node). (end_of_log s.batches < end_of_log z.log.batches) × (end_of_log s.batches < z.local) × (n ≡ z.local)) (seen_held.the_leader a) (node_of y.0 l.log_seen) l.is
+            ((let low = y.2.0 in omega (arith, low, own, end)), (let low = y.2.1 in omega (arith, low, own, local)), y.2.2 ∙ local),
+        refl,
+      )
   follow_refined h a b x s limit (Answers DiskFault) h' v k w =
       let y = some_of _ (the_leader h) w.2 in
       let l = sees_leader h a y.0 v.held y.1 in
       let own = end_shown content x s w.0 v.shows in
       let end = end_shown content y.0 l.log_seen l.up l.sees.shows in
       let over : end_of_log s.batches < end_of_log l.log_seen.batches = (let low = y.2.0 in omega (arith, low, own, end)) in
-      fails content control h a h.registry.leader.0 y.0 l.log_seen h' _ l.sees y.2.1 (
+      let from : l.log_seen.local ≤ end_of_log s.batches = (let le = y.2.1 in let local = local_shown content y.0 l.log_seen l.up l.sees.shows in omega (arith, le, own, local)) in
+      fails content control h a h.registry.leader.0 y.0 l.log_seen h' _ l.sees y.2.2 (
         w.0,
         current_shown h a (joined_role x.role) v.held w.1,
-        some_at (λ (z : seen.Node). end_of_log s.batches < end_of_log z.log.batches) (seen_held.the_leader a) (node_of y.0 l.log_seen) l.is over,
+        some_at (λ (z : seen.Node). (end_of_log s.batches < end_of_log z.log.batches) × (z.local ≤ end_of_log s.batches)) (seen_held.the_leader a) (node_of y.0 l.log_seen) l.is (over, from),
         refl,
       )
   follow_refined h a b x s limit (Answers (Damaged (File name) at)) h' v k w =
       let y = some_of _ (the_leader h) w.2 in
       let l = sees_leader h a y.0 v.held y.1 in
-      absurd (y.2.1 l.log_seen l.sees.shows (subst (λ (n : ℕ). EndsAt n l.log_seen.batches) (sym (end_shown content y.0 l.log_seen l.up l.sees.shows)) (ends_at_end l.log_seen.batches)))
+      absurd (y.2.2.misreads.unmarked l.log_seen l.sees.shows (subst (λ (n : ℕ). EndsAt n l.log_seen.batches) (sym (end_shown content y.0 l.log_seen l.up l.sees.shows)) (ends_at_end l.log_seen.batches)))
   follow_refined h a b x s limit (Begins g) h' v k w =
       let y = some_of _ (the_leader h) w.2 in
       let l = sees_leader h a y.0 v.held y.1 in
-      let q = y.2.1 in
+      let q = y.2.2 in
       let own = end_shown content x s w.0 v.shows in
       let end = end_shown content y.0 l.log_seen l.up l.sees.shows in
       let r = q.reads.run l.log_seen l.sees.shows (subst (λ (n : ℕ). EndsAt n l.log_seen.batches) (sym end) (ends_at_end l.log_seen.batches)) in
       let sound = k h.registry.leader.0 (node_of y.0 l.log_seen) l.sees.there in
-      let run = run_shown l.log_seen g.end limit (end_of y.0) q.out sound.log.consecutive sound.log.line_is r in
+      let run = run_shown y.0.log l.log_seen g.end limit (end_of y.0) q.out sound.log.consecutive sound.log.line_is r in
       let are = each_all (λ (batch : List ℕ). IsOk (checked batch)) r.run r.are in
       let same : r.run ≡ g.batches = taken_shown g q.out.bytes r.run q.batches r.bytes are in
       let over : end_of_log s.batches < end_of_log l.log_seen.batches = (let low = y.2.0 in omega (arith, low, own, end)) in
       rests content control h a h.registry.leader.0 y.0 l.log_seen h' _ l.sees (q.kept, q.reads.stays, q.lasts, q.after) (
         w.0,
         current_shown h a (joined_role x.role) v.held w.1,
-        some_at (λ (z : seen.Node). (end_of_log s.batches < end_of_log z.log.batches) × seen_rows.Takes a (node_of x s) z limit g) (seen_held.the_leader a) (node_of y.0 l.log_seen) l.is (
+        some_at (λ (z : seen.Node). (end_of_log s.batches < end_of_log z.log.batches) × (z.local ≤ end_of_log s.batches) × seen_rows.Takes a (node_of x s) z limit g) (seen_held.the_leader a) (node_of y.0 l.log_seen) l.is (
           over,
+          (let le = y.2.1 in let local = local_shown content y.0 l.log_seen l.up l.sees.shows in omega (arith, le, own, local)),
           record {
             stops = q.stops;
             role = q.role;
@@ -368,11 +511,11 @@ module _ {D : Type 0} (content : D → Content) (control : D → Control call_co
 
   pub follow_on_refined : (h : Held D) (a : seen.Held) (b : ℕ) (x : Node D) (s : log.Seen) (g : Begun) (answer : Answer) (h' : Held D) → Sees content control h a b x s → IsKept (node_of x s) g
       → FollowOnRow content control h b x g answer h' → Refines content control h' (λ c. seen_rows.FollowOnRow a b (node_of x s) g answer c)
-  follow_on_refined h a b x s g Stopped h' v k w = stays content control h a h' _ v.held w.1 (stopped w.0, refl)
+  follow_on_refined h a b x s g Stopped h' v k w = stays content control h a h' _ v.held w.1 (halted w.0, refl)
     where
-      stopped : (g.stops ≢ x.stops) ⊎ (is_up x ≡ false) → g.stops ≢ x.stops
-      stopped (inl differs) = differs
-      stopped (inr down) = λ same. (let up = k.noted same in absurd cc)
+      halted : (g.stops ≢ x.stops) ⊎ (is_up x ≡ false) → g.stops ≢ x.stops
+      halted (inl differs) = differs
+      halted (inr down) = λ same. (let up = k.noted same in absurd cc)
   follow_on_refined h a b x s g (StaleEpoch n) h' v k w =
       stays content control h a h' _ v.held w.3 (w.0, stale_shown h a (followed g.role) v.held w.1, epoch_shown h a n v.held w.2, refl)
   follow_on_refined h a b x s g (Passed n) h' v k w =
@@ -385,10 +528,10 @@ module _ {D : Type 0} (content : D → Content) (control : D → Control call_co
   follow_on_refined h a b x s g TooManySegments h' v k w =
       stays content control h a h' _ v.held w.3 ((w.0.0, unstale_shown h a (followed g.role) v.held w.0.2), extend_shown x s g w.0.1 v.shows k w.1, refl)
   follow_on_refined h a b x s g DiskFault h' v k w =
-      unsaved content control h a b x s h' _ v w.2 ((w.0.0, unstale_shown h a (followed g.role) v.held w.0.2), extend_shown x s g w.0.1 v.shows k w.1, refl)
+      unsaved content control h a b x s h' _ v w.3 ((w.0.0, unstale_shown h a (followed g.role) v.held w.0.2), extend_shown x s g w.0.1 v.shows k w.1, refl)
   follow_on_refined h a b x s g (Copied n) h' v k w =
       let can = extend_shown x s g w.0.1 v.shows k w.1 in
-      let r = extends_refined h a b x s g n h' v w.0.1 k can w.2 in
+      let r = extends_refined h a b x s g n h' v w.0.1 k can w.3 in
       record {
         after = r.after;
         held = r.held;

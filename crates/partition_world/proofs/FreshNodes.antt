@@ -1,6 +1,6 @@
 -- The brokers of a fresh partition, in their row.
 use Rattle.std.proofs.Common.{◌≡◌, ◌∙◌, sym, ap, subst, refl, ◌+◌, Bool, true, false, List, [], ◌∷◌, ◌++◌, length, arith}
-use Rattle.std.specs.Prelude.{◌↔◌, IsTrue, ℕ, Option, unwrap_or}
+use Rattle.std.specs.Prelude.{ℕ, Option, unwrap_or}
 use Rattle.tier_base.specs.Device.{Control, Lasts, Arms}
 use Rattle.tier_base.proofs.Lasting.{lasts_then}
 use Rattle.disk_model.specs.Call.{call_code}
@@ -8,38 +8,26 @@ use Rattle.disk_model.specs.Content.{Content}
 use Rattle.broker_log.specs.Seen.{Kept, Up, Down, Away, Shows, Stays, OnDisk}
 use Rattle.broker_log.specs.Seen as log
 use Rattle.partition_world.specs.declared.held.Node.{Node}
-use Rattle.partition_world.specs.Held.{line_of, IsCalm}
-use Rattle.partition_world.specs.Fresh.{IsArmed, IsFreshNode, IsFreshOver, AreFreshFrom, AllSeen, empty_seen}
+use Rattle.partition_world.specs.Held.{line_of}
+use Rattle.partition_world.specs.Fresh.{IsArmed, IsFreshNode, AreFreshFrom, IsMadeOver, AreMadeFrom, AllSeen, is_first, empty_seen}
 
 pub length_more : {A : Type 0} (xs : List A) (x : A) → length (xs ++ x ∷ []) ≡ length xs + 1
 length_more [] x = refl
 length_more (y ∷ xs) x = let rest = length_more xs x in omega (arith, rest)
 
--- the list has nothing
-abbrev pub is_none : {A : Type 0} → List A → Bool
-is_none [] = true
-is_none (x ∷ xs) = false
-
--- who was told so knows it
-pub none_is : {A : Type 0} (b : Bool) (xs : List A) → (IsTrue b ↔ (xs ≡ [])) → b ≡ is_none xs
-none_is true [] h = refl
-none_is false [] h = absurd (let t = h.1 refl in cc)
-none_is true (x ∷ xs) h = absurd (let t = h.0 refl in cc)
-none_is false (x ∷ xs) h = refl
-
 module _ {D : Type 0} (control : D → Control call_code) where
   -- one broker more
-  later_more : (disks : List D) (xs : List (Node D)) (disk : D) (x : Node D) → AreFreshFrom control false disks xs → IsFreshOver control false disk x → AreFreshFrom control false (disks ++ disk ∷ []) (xs ++ x ∷ [])
+  later_more : (disks : List D) (xs : List (Node D)) (disk : D) (x : Node D) → AreMadeFrom control false disks xs → IsMadeOver control false disk x → AreMadeFrom control false (disks ++ disk ∷ []) (xs ++ x ∷ [])
   later_more [] [] disk x f n = (n, tt)
   later_more [] (y ∷ xs) disk x f n = absurd f
   later_more (d ∷ disks) [] disk x f n = absurd f
   later_more (d ∷ disks) (y ∷ xs) disk x f n = (f.0, later_more disks xs disk x f.1 n)
 
-  pub fresh_more : (disks : List D) (xs : List (Node D)) (disk : D) (x : Node D) → AreFreshFrom control true disks xs → IsFreshOver control (is_none xs) disk x → AreFreshFrom control true (disks ++ disk ∷ []) (xs ++ x ∷ [])
-  fresh_more [] [] disk x f n = (n, tt)
-  fresh_more [] (y ∷ xs) disk x f n = absurd f
-  fresh_more (d ∷ disks) [] disk x f n = absurd f
-  fresh_more (d ∷ disks) (y ∷ xs) disk x f n = (f.0, later_more disks xs disk x f.1 n)
+  pub made_more : (disks : List D) (xs : List (Node D)) (disk : D) (x : Node D) → AreMadeFrom control true disks xs → IsMadeOver control (is_first xs) disk x → AreMadeFrom control true (disks ++ disk ∷ []) (xs ++ x ∷ [])
+  made_more [] [] disk x f n = (n, tt)
+  made_more [] (y ∷ xs) disk x f n = absurd f
+  made_more (d ∷ disks) [] disk x f n = absurd f
+  made_more (d ∷ disks) (y ∷ xs) disk x f n = (f.0, later_more disks xs disk x f.1 n)
 
   pub as_many : (leads : Bool) (disks : List D) (xs : List (Node D)) → AreFreshFrom control leads disks xs → length xs ≡ length disks
   as_many leads [] [] f = refl
@@ -48,38 +36,39 @@ module _ {D : Type 0} (control : D → Control call_code) where
   as_many leads (d ∷ disks) (y ∷ xs) f = (let rest = as_many false disks xs f.1 in omega (arith, rest))
 
   -- a disk that was asked, and then armed
-  pub armed_after : (given middle now : Control call_code) → IsCalm given → Lasts given middle → Arms middle now → IsArmed given now
-  armed_after given middle now c l a = record {
+  pub armed_after : (given middle now : Control call_code) → Lasts given middle → Arms middle now → IsArmed given now
+  armed_after given middle now l a = record {
     plan = a.plan ∙ l.plan;
     armed = a.armed;
     ruled = a.ruled ∙ l.ruled;
-    faults = a.faults ∙ l.no_fault c.calm;
-    calm = λ ruled none. a.still_calm (l.ruled ∙ ruled) (l.stays_calm c.calm) (l.plan ∙ none);
+    never_falls = omega (arith, l.never_falls, a.faults);
+    no_fault = λ calm. a.faults ∙ l.no_fault calm;
+    still_calm = λ calm ruled none. a.still_calm (l.ruled ∙ ruled) (l.stays_calm calm) (l.plan ∙ none);
   }
 
-  pub armed_on : (disk : D) (middle now : Kept D) → IsCalm (control disk) → OnDisk middle (λ d. Lasts (control disk) (control d)) → OnDisk middle (λ d. OnDisk now (λ d'. Arms (control d) (control d')))
+  pub armed_on : (disk : D) (middle now : Kept D) → OnDisk middle (λ d. Lasts (control disk) (control d)) → OnDisk middle (λ d. OnDisk now (λ d'. Arms (control d) (control d')))
       → OnDisk now (λ d. IsArmed (control disk) (control d))
-  armed_on disk (Up m) now c l a = go now a
+  armed_on disk (Up m) now l a = go now a
     where
       go : (now : Kept D) → OnDisk now (λ d'. Arms (control m.disk) (control d')) → OnDisk now (λ d. IsArmed (control disk) (control d))
-      go (Up n) a = armed_after (control disk) (control m.disk) (control n.disk) c l a
-      go (Down d) a = armed_after (control disk) (control m.disk) (control d) c l a
+      go (Up n) a = armed_after (control disk) (control m.disk) (control n.disk) l a
+      go (Down i d) a = armed_after (control disk) (control m.disk) (control d) l a
       go Away a = absurd a
-  armed_on disk (Down m) now c l a = go now a
+  armed_on disk (Down j m) now l a = go now a
     where
       go : (now : Kept D) → OnDisk now (λ d'. Arms (control m) (control d')) → OnDisk now (λ d. IsArmed (control disk) (control d))
-      go (Up n) a = armed_after (control disk) (control m) (control n.disk) c l a
-      go (Down d) a = armed_after (control disk) (control m) (control d) c l a
+      go (Up n) a = armed_after (control disk) (control m) (control n.disk) l a
+      go (Down i d) a = armed_after (control disk) (control m) (control d) l a
       go Away a = absurd a
-  armed_on disk Away now c l a = absurd l
+  armed_on disk Away now l a = absurd l
 
   pub lasts_on : (disk : D) (old new : Kept D) → OnDisk old (λ d. Lasts (control disk) (control d)) → log.Lasting control old new → OnDisk new (λ d. Lasts (control disk) (control d))
   lasts_on disk (Up m) (Up n) l k = lasts_then (control disk) (control m.disk) (control n.disk) l k
-  lasts_on disk (Up m) (Down d) l k = lasts_then (control disk) (control m.disk) (control d) l k
+  lasts_on disk (Up m) (Down i d) l k = lasts_then (control disk) (control m.disk) (control d) l k
   lasts_on disk (Up m) Away l k = absurd k
-  lasts_on disk (Down m) (Up n) l k = lasts_then (control disk) (control m) (control n.disk) l k
-  lasts_on disk (Down m) (Down d) l k = lasts_then (control disk) (control m) (control d) l k
-  lasts_on disk (Down m) Away l k = absurd k
+  lasts_on disk (Down j m) (Up n) l k = lasts_then (control disk) (control m) (control n.disk) l k
+  lasts_on disk (Down j m) (Down i d) l k = lasts_then (control disk) (control m) (control d) l k
+  lasts_on disk (Down j m) Away l k = absurd k
   lasts_on disk Away new l k = absurd l
 
 -- a log that stays as it was

@@ -14,6 +14,7 @@ pub mod Refinement
 pub mod CentralLaw
 pub mod LaterLaw
 pub mod ReachesLaw
+pub mod InTurnLaw
 pub mod CalmLaw
 pub mod Chains
 pub mod SoundLaw
@@ -21,4 +22,6 @@ pub mod FreshLaw
 pub mod WorldSound
 pub mod FreshSound
 pub mod FreshNodes
+pub mod FreshDisks
 pub mod Writes
+pub mod Begun

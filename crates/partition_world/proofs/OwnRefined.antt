@@ -1,19 +1,19 @@
 -- The turns of a broker's own log, and its stops, are rows of what is seen.
-use Rattle.std.proofs.Common.{◌≡◌, ◌∙◌, inl, inr, sym, ap, subst, refl, ℕ, ◌+◌, ◌<◌, ◌≤◌, List, [], ◌∷◌, ◌++◌, true, false}
+use Rattle.std.proofs.Common.{◌≡◌, ◌≢◌, ◌⊎◌, ◌∙◌, inl, inr, sym, ap, subst, refl, ℕ, ◌+◌, ◌<◌, ◌≤◌, List, [], ◌∷◌, ◌++◌, true, false}
 use Rattle.tier_base.specs.Device.{Control}
 use Rattle.disk_model.specs.Call.{call_code}
 use Rattle.disk_model.specs.Content.{Content}
 use Rattle.log_terms.specs.Batch.{base_of, epoch_of, last_offset_delta_of}
-use Rattle.log_terms.specs.Log.{IsConsecutive, up_to, end_of as end_of_log}
+use Rattle.log_terms.specs.Log.{IsConsecutive, end_of as end_of_log}
 use Rattle.record_batch.specs.Stamp.{stamped}
 use Rattle.plain_log.specs.declared.answer.Answer.{Answer}
-use Rattle.plain_log.specs.declared.answer.Answer.TheVariants.{Ok, OkAt, OkSpan, Down, NotLeader, Refused, LastOffset, TooManySegments, EmptySegment, DiskFault, Damaged, IsUp, LastIncarnation, Up as IsOpen}
+use Rattle.plain_log.specs.declared.answer.Answer.TheVariants.{Ok, OkAt, OkSpan, Down, NotLeader, Refused, LastOffset, TooManySegments, EmptySegment, DiskFault, Damaged, IsUp, LastIncarnation, Up as IsOpen, Stopped, Kept as Remains, Dropped}
 use Rattle.plain_log.specs.declared.answer.Place.TheVariants.{File}
 use Rattle.plain_log.specs.RowsOfLog.{offset_limit}
 use Rattle.local_log.specs.Run.{lined}
-use Rattle.broker_log.specs.Seen.{Kept, Shows, is_up as is_open}
+use Rattle.broker_log.specs.Seen.{Kept, Up, Down as Closed, Away, Shows, end_in, is_up as is_open}
 use Rattle.broker_log.specs.Seen as log
-use Rattle.broker_log.specs.Turns.{with_batches, settled, opened as opened_log, Opens, OpensAt, loosened}
+use Rattle.broker_log.specs.Turns.{with_batches, settled, opened as opened_log, dropped, kept_line, Opens, OpensAt, loosened}
 use Rattle.partition_seen.specs.Seen as seen
 use Rattle.partition_seen.proofs.BoolTests.{some_of}
 use Rattle.partition_seen.specs.Held as seen_held
@@ -23,10 +23,14 @@ use Rattle.partition_seen.specs.RowsOfLog as seen_log
 use Rattle.partition_world.specs.declared.held.Node.{Node}
 use Rattle.partition_world.specs.declared.held.Held.{Held}
 use Rattle.partition_world.specs.Held.{is_up, stopped, node_of}
-use Rattle.partition_world.specs.TurnsOfLog.{end_with, BreaksUnsaved, Gains, AppendRow, RawRow, FlushRow, RollRow}
+use Rattle.partition_world.specs.TurnsOfLog.{end_with, BreaksUnsaved, Gains, AppendRow, RawRow, FlushRow, RollRow, TrimRow, TrimOnRow}
+use Rattle.partition_seen.specs.declared.begun.Begun.{Begun}
+use Rattle.partition_seen.specs.declared.begun.Turned.{Turned}
+use Rattle.partition_seen.specs.declared.begun.Turned.TheVariants.{Answers, Begins}
+use Rattle.registry.specs.declared.registry.Registry.{Registry}
 use Rattle.partition_world.specs.Turns.{StopRow, UpRow}
 use Rattle.partition_world.proofs.Fronts.{whole_batch, front_one, lined_entered}
-use Rattle.partition_world.proofs.Shown.{Sees, Refines, refines_more, stays, puts, rests, fails, breaks, broken_node, end_shown, end_told, up_of_end}
+use Rattle.partition_world.proofs.Shown.{Sees, Refines, refines_more, stays, puts, looks, rests, fails, breaks, breaks_to, broken_node, end_shown, end_told, up_of_end}
 
 module _ {D : Type 0} where
   -- a node as it is seen, whose log has changed
@@ -41,12 +45,28 @@ module _ {D : Type 0} where
   stopped_node : (x : Node D) (kept : Kept D) (s s' : log.Seen) → is_open kept ≡ false → s' ≡ s → seen_held.stopped (node_of x s) ≡ node_of (record (stopped x) { log = kept }) s'
   stopped_node x kept s s' down is = rw (down, is) refl
 
-  opened_node : (x : Node D) (kept : Kept D) (s s' : log.Seen) (back : ℕ × List (ℕ × ℕ)) → is_open kept ≡ true → s' ≡ opened_log s back.0 back.1 → seen_rows.opened (node_of x s) back ≡ node_of (record x { log = kept }) s'
+  opened_node : (x : Node D) (kept : Kept D) (s s' : log.Seen) (back : log.Back) → is_open kept ≡ true → s' ≡ opened_log s back s'.incarnation → seen_rows.opened (node_of x s) back ≡ node_of (record x { log = kept }) s'
   opened_node x kept s s' back up is = rw (up, is) refl
 
+module _ {D : Type 0} where
+  dropped_node : (x : Node D) (kept : Kept D) (s s' : log.Seen) (start : ℕ) → is_open kept ≡ is_up x → s' ≡ dropped s start
+      → record (node_of x s) { local = start; saved = seen_held.kept_line (node_of x s) } ≡ node_of (record x { log = kept }) s'
+  dropped_node x kept s s' start up is = rw (up, is) refl
+
+  -- a log whose end is as it was is up as it was
+  pub open_of : (x : Node D) (kept : Kept D) → end_in kept ≡ end_in x.log → is_up x ≡ true → is_open kept ≡ is_up x
+  open_of x kept is up = go x.log kept is up
+    where
+      go : (old new : Kept D) → end_in new ≡ end_in old → is_open old ≡ true → is_open new ≡ is_open old
+      go (Up l) (Up m) is up = refl
+      go (Up l) (Closed i d) is up = absurd cc
+      go (Up l) Away is up = absurd cc
+      go (Closed i d) new is up = absurd cc
+      go Away new is up = absurd cc
+
 -- what comes back of a log is what is seen to
-comes_back : {D : Type 0} (x : Node D) (s s' : log.Seen) (n : ℕ) → Opens n s s' → (back : ℕ × List (ℕ × ℕ)) × seen_rows.MayComeBack (node_of x s) back × OpensAt n s s' back.0 back.1
-comes_back x s s' n (inl at) = ((s.stable, s.saved), inl refl, at)
+comes_back : {D : Type 0} (x : Node D) (s s' : log.Seen) (n : ℕ) → Opens n s s' → (back : log.Back) × seen_rows.MayComeBack (node_of x s) back × OpensAt n s s' back
+comes_back x s s' n (inl at) = (log.back_of s, inl refl, at)
 comes_back x s s' n (inr other) = let back = some_of _ s.loose other in (back.0, inr back.1, back.2)
 
 module _ {D : Type 0} (content : D → Content) (control : D → Control call_code) where
@@ -56,9 +76,9 @@ module _ {D : Type 0} (content : D → Content) (control : D → Control call_co
 
   -- a write of what isn't stable yet failed
   pub unsaved : (h : Held D) (a : seen.Held) (b : ℕ) (x : Node D) (s : log.Seen) (h' : Held D) (R : seen.Held → Type 0) → Sees content control h a b x s → BreaksUnsaved content control h b x h'
-      → R (seen_held.put_node a b (seen_held.broken (node_of x s) s.stable s.saved)) → Refines content control h' R
+      → R (seen_held.put_node a b (seen_held.broken (node_of x s) (log.back_of s))) → Refines content control h' R
   unsaved h a b x s h' R v k row =
-      breaks content control h a b x s (λ s. loosened s s.stable s.saved) h' R (seen_held.broken (node_of x s) s.stable s.saved) v k (λ kept down. broken_node x kept s s.stable s.saved down) row
+      breaks content control h a b x s (λ s. loosened s (log.back_of s)) h' R (seen_held.broken (node_of x s) (log.back_of s)) v k (λ kept down. broken_node x kept s (log.back_of s) down) row
 
   -- a batch at the log's end
   gains_refined : (h : Held D) (a : seen.Held) (b : ℕ) (x : Node D) (s : log.Seen) (placed : List ℕ) (h' : Held D) (R : seen.Held → Type 0) → Sees content control h a b x s → is_up x ≡ true
@@ -85,9 +105,9 @@ module _ {D : Type 0} (content : D → Content) (control : D → Control call_co
   append_refined h a b x s batch TooManySegments h' v w =
       stays content control h a h' _ v.held w.4 (w.0, w.1, subst (λ (n : ℕ). n ≤ offset_limit) (with_shown x s batch w.0 v.shows) w.2, refl)
   append_refined h a b x s batch DiskFault h' v w =
-      unsaved h a b x s h' _ v w.3 (w.0, w.1, subst (λ (n : ℕ). n ≤ offset_limit) (with_shown x s batch w.0 v.shows) w.2, refl)
+      unsaved h a b x s h' _ v w.4 (w.0, w.1, subst (λ (n : ℕ). n ≤ offset_limit) (with_shown x s batch w.0 v.shows) w.2, refl)
   append_refined h a b x s batch (OkSpan base last e) h' v w =
-      gains_refined h a b x s (stamped batch base e) h' _ v w.0 w.5
+      gains_refined h a b x s (stamped batch base e) h' _ v w.0 w.6
       (w.0, w.1, subst (λ (n : ℕ). n ≤ offset_limit) (with_shown x s batch w.0 v.shows) w.2, w.3 ∙ end_shown content x s w.0 v.shows, w.4, refl)
   append_refined h a b x s batch other h' v w = elim w [ ]
 
@@ -110,8 +130,8 @@ module _ {D : Type 0} (content : D → Content) (control : D → Control call_co
       → FlushRow content control h b x answer h' → Refines content control h' (λ c. seen_log.FlushRow a b (node_of x s) answer c)
   flush_refined h a b x s Down h' v w = stays content control h a h' _ v.held w.1 (w.0, refl)
   flush_refined h a b x s DiskFault h' v w =
-      breaks content control h a b x s (λ s. loosened s (end_of_log s.batches) s.line) h' _ (seen_held.broken (node_of x s) (end_of_log s.batches) s.line) v w.1
-      (λ kept down. broken_node x kept s (end_of_log s.batches) s.line down) (w.0, refl)
+      breaks content control h a b x s (λ s. loosened s (end_of_log s.batches, s.line, s.local)) h' _ (seen_held.broken (node_of x s) (end_of_log s.batches, s.line, s.local)) v w.1
+      (λ kept down. broken_node x kept s (end_of_log s.batches, s.line, s.local) down) (w.0, refl)
   flush_refined h a b x s (OkAt n) h' v w =
       let kept = w.1.0 in
       let g = w.1.1 in
@@ -126,8 +146,10 @@ module _ {D : Type 0} (content : D → Content) (control : D → Control call_co
   roll_refined h a b x s Down h' v w = stays content control h a h' _ v.held w.1 (w.0, refl)
   roll_refined h a b x s EmptySegment h' v w = stays content control h a h' _ v.held w.2 (w.0, refl)
   roll_refined h a b x s TooManySegments h' v w = stays content control h a h' _ v.held w.2 (w.0, refl)
-  roll_refined h a b x s DiskFault h' v w = unsaved h a b x s h' _ v w.1 (w.0, refl)
-  roll_refined h a b x s (OkAt n) h' v w = rests content control h a b x s h' _ v w.2 (w.0, w.1 ∙ end_shown content x s w.0 v.shows, refl)
+  roll_refined h a b x s DiskFault h' v w = unsaved h a b x s h' _ v w.2 (w.0, refl)
+  roll_refined h a b x s (OkAt n) h' v w =
+      let r = w.3.1 in
+      looks content control h a b x s h' _ v w.3.0 r.up (r.seen s v.shows) w.3.3 (w.0, w.2 ∙ end_shown content x s w.0 v.shows, refl)
   roll_refined h a b x s other h' v w = elim w [ ]
 
   pub stop_refined : (h : Held D) (a : seen.Held) (b : ℕ) (x : Node D) (s : log.Seen) (answer : Answer) (h' : Held D) → Sees content control h a b x s
@@ -145,10 +167,44 @@ module _ {D : Type 0} (content : D → Content) (control : D → Control call_co
   up_refined h a b x s (IsOpen n) h' v w =
       let kept = w.1.0 in
       let t = w.1.1.seen s v.shows in
-      let k = comes_back x s t.0 n t.2 in
+      let k = comes_back x s t.0 n t.2.0 in
       puts content control h a b x s h' _ (record x { log = kept }) t.0 (seen_rows.opened (node_of x s) k.0) v t.1 (opened_node x kept s t.0 k.0 (up_of_end content kept n w.1.1.end_is) k.2.0) w.1.3
       (w.0, (k.0, k.1, k.2.1, refl))
   up_refined h a b x s DiskFault h' v w = fails content control h a b x s h' _ v w.1 (w.0, refl)
-  up_refined h a b x s (Damaged (File name) at) h' v w = absurd (w.1 s v.shows)
-  up_refined h a b x s LastIncarnation h' v w = rests content control h a b x s h' _ v w.2 (w.0, refl)
+  up_refined h a b x s (Damaged (File name) at) h' v w = absurd (w.1.1.unseen s v.shows)
+  up_refined h a b x s LastIncarnation h' v w = rests content control h a b x s h' _ v (w.1.0, w.1.1.stays, w.1.2, w.1.3) (w.0, refl)
   up_refined h a b x s other h' v w = elim w [ ]
+
+  -- trim
+
+  pub trim_refined : (h : Held D) (a : seen.Held) (b : ℕ) (x : Node D) (s : log.Seen) (turned : Turned) (h' : Held D) → Sees content control h a b x s
+      → TrimRow content control h x turned h' → Refines content control h' (λ c. seen_log.TrimRow a (node_of x s) turned c)
+  trim_refined h a b x s (Answers Down) h' v w = stays content control h a h' _ v.held w.1 (w.0, refl)
+  trim_refined h a b x s (Begins g) h' v w =
+      stays content control h a h' _ v.held w.2
+      (w.0, record { stops = w.1.stops; role = w.1.role; end = w.1.end ∙ end_shown content x s w.0 v.shows; start = w.1.start ∙ ap (λ (r : Registry). r.start) (sym v.held.registry) }, refl)
+  trim_refined h a b x s other h' v w = elim w [ ]
+
+  pub trim_on_refined : (h : Held D) (a : seen.Held) (b : ℕ) (x : Node D) (s : log.Seen) (g : Begun) (answer : Answer) (h' : Held D) → Sees content control h a b x s → (g.stops ≡ x.stops → is_up x ≡ true)
+      → TrimOnRow content control h b x g answer h' → Refines content control h' (λ c. seen_log.TrimOnRow a b (node_of x s) g answer c)
+  trim_on_refined h a b x s g Stopped h' v k w = stays content control h a h' _ v.held w.1 (halted w.0, refl)
+    where
+      halted : (g.stops ≢ x.stops) ⊎ (is_up x ≡ false) → g.stops ≢ x.stops
+      halted (inl differs) = differs
+      halted (inr down) = λ same. (let up = k same in absurd cc)
+  trim_on_refined h a b x s g Remains h' v k w = stays content control h a h' _ v.held w.1 (w.0, refl)
+  trim_on_refined h a b x s g DiskFault h' v k w =
+      let q = w.2 in
+      let t = q.breaks.seen s v.shows in
+      breaks_to content control h a b x s (loosened s (s.stable, kept_line s, t.0)) _ h' _ (seen_held.broken (node_of x s) (s.stable, kept_line s, t.0)) v q t.3
+      (broken_node x q.kept s (s.stable, kept_line s, t.0) q.breaks.down)
+      (w.0, w.1, (t.0, record { stable = t.2; ends = t.1 }, refl))
+  trim_on_refined h a b x s g (Dropped base last) h' v k w =
+      let kept = w.2.0 in
+      let d = w.2.1 in
+      let t = d.seen s v.shows in
+      let e = d.ends s v.shows in
+      puts content control h a b x s h' _ (record x { log = kept }) t.0 (record (node_of x s) { local = last + 1; saved = seen_held.kept_line (node_of x s) }) v t.1
+      (dropped_node x kept s t.0 (last + 1) (open_of x kept d.end_is w.1) t.2) w.2.3
+      (w.0, w.1, e.0, record { stable = e.2; ends = e.1 }, refl)
+  trim_on_refined h a b x s g other h' v k w = elim w [ ]

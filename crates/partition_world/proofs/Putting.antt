@@ -1,17 +1,16 @@
 -- A batch that the leader puts at the end of its log is a run of it.
-use Rattle.std.proofs.Common.{◌≡◌, ◌∙◌, ap, sym, subst, refl, ℕ, ◌+◌, ◌-◌, ◌^◌, ◌≤◌, ◌<◌, List, [], ◌∷◌, Option, Some, None, Ok, Err, arith, append-nil}
+use Rattle.std.proofs.Common.{◌≡◌, ◌∙◌, ap, sym, subst, refl, ℕ, ◌+◌, ◌-◌, ◌^◌, ◌≤◌, List, [], ◌∷◌, Option, Some, Ok, Err, arith, append-nil}
 use Rattle.std.specs.Prelude.{IsOk, unwrap_or, slice_get, IsSomeAnd, true}
 use Rattle.tier_base.specs.Device.{Control}
 use Rattle.disk_model.specs.Call.{call_code}
 use Rattle.disk_model.specs.Content.{Content}
-use Rattle.log_terms.specs.Batch.{base_of, last_of, epoch_of, last_offset_delta_of}
+use Rattle.log_terms.specs.Batch.{base_of, epoch_of, last_offset_delta_of}
 use Rattle.epoch_line.specs.Line.{last_epoch}
 use Rattle.std.specs.declared.result.Result.{Result}
 use Rattle.record_batch.specs.Head.{head_of}
 use Rattle.record_batch.specs.declared.refusal.BatchRefusal.{BatchRefusal}
 use Rattle.record_batch.specs.Check.{Batch, checked}
 use Rattle.record_batch.specs.Stamp.{stamped}
-use Rattle.segment_file.specs.Segment.{EpochsRise}
 use Rattle.local_log.specs.Run.{IsRun}
 use Rattle.plain_log.specs.RowsOfLog.{offset_limit}
 use Rattle.plain_log.specs.declared.answer.Answer.{Answer}
@@ -90,13 +89,25 @@ module _ {D : Type 0} (content : D → Content) (control : D → Control call_co
       → last ≡ base + last_offset_delta_of batch → placed ≡ stamped batch base epoch → PutRow content control h b x placed base last epoch answer h' → AppendRow content control h b x batch answer h'
   put_append h b x batch placed base last epoch TooManySegments h' up role fits at ends is w =
       (up, rw role refl, fits, (epoch, role, subst (IsFull x) (is ∙ ap (λ (n : ℕ). stamped batch n epoch) at) w.0), w.1)
-  put_append h b x batch placed base last epoch DiskFault h' up role fits at ends is w = (up, rw role refl, fits, w)
+  put_append h b x batch placed base last epoch DiskFault h' up role fits at ends is w = (
+    up,
+    rw role refl,
+    fits,
+    λ none.
+        let same : none.0 ≡ epoch = one none.0 epoch (sym none.1 ∙ role) in
+        w.0 (subst (IsFull x) (sym (is ∙ ap (λ (n : ℕ). stamped batch n epoch) at)) (subst (λ (k : ℕ). IsFull x (stamped batch (end_of x) k)) same none.2)),
+    w.1,
+  )
+    where
+      one : (e f : ℕ) → Leads e ≡ Leads f → e ≡ f
+      one e f is = cc (is)
   put_append h b x batch placed base last epoch (OkSpan from to e) h' up role fits at ends is w = (
     up,
     role ∙ ap Leads (sym w.2),
     fits,
     w.0 ∙ at,
     w.1 ∙ (ends ∙ ap (λ (n : ℕ). n + last_offset_delta_of batch) (sym w.0)),
-    subst (λ (l : List ℕ). Gains content control h b x l h') (is ∙ (ap (λ (n : ℕ). stamped batch n epoch) (sym w.0) ∙ ap (λ (n : ℕ). stamped batch from n) (sym w.2))) w.3,
+    subst (λ (l : List ℕ). IsFull x l → ⊥) (is ∙ (ap (λ (n : ℕ). stamped batch n epoch) (sym w.0) ∙ ap (λ (n : ℕ). stamped batch from n) (sym w.2))) w.3,
+    subst (λ (l : List ℕ). Gains content control h b x l h') (is ∙ (ap (λ (n : ℕ). stamped batch n epoch) (sym w.0) ∙ ap (λ (n : ℕ). stamped batch from n) (sym w.2))) w.4,
   )
   put_append h b x batch placed base last epoch other h' up role fits at ends is w = elim w [ ]

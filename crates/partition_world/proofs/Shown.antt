@@ -1,5 +1,5 @@
 -- How a partition over disks is seen, node by node, and how it is seen after a turn.
-use Rattle.std.proofs.Common.{◌≡◌, inl, inr, ◌∙◌, sym, ap, subst, refl, ℕ, zero, suc, ◌+◌, ◌<◌, ◌≤◌, List, [], ◌∷◌, length, slice_get, slice_set, Some, None, Option, IsSomeAnd, Bool, true, false, ◌&&◌, arith}
+use Rattle.std.proofs.Common.{◌≡◌, inl, inr, ◌∙◌, sym, ap, subst, refl, ℕ, zero, suc, List, [], ◌∷◌, length, slice_get, slice_set, Some, None, Option, IsSomeAnd, Bool, true, false, ◌&&◌}
 use Rattle.std.specs.Prelude.{unwrap_or, nat_lt}
 use Rattle.std.specs.Option.{option_and_then}
 use Rattle.tier_base.specs.Device.{Control}
@@ -10,7 +10,7 @@ use Rattle.log_terms.proofs.Lists.{set-same}
 use Rattle.registry.specs.Calls.{when}
 use Rattle.registry.specs.declared.registry.Registry.{Registry}
 use Rattle.plain_log.specs.State.{leads_in}
-use Rattle.broker_log.specs.Seen.{Kept, Up, Down, Away, Shows, Stays, is_up as is_open, end_in, stable_in, line_in}
+use Rattle.broker_log.specs.Seen.{Kept, Up, Down, Away, Shows, Stays, is_up as is_open, end_in, stable_in, line_in, local_in}
 use Rattle.broker_log.specs.Seen as log
 use Rattle.broker_log.specs.Turns.{loosened, torn}
 use Rattle.partition_seen.specs.Seen as seen
@@ -18,7 +18,7 @@ use Rattle.partition_seen.specs.Held as seen_held
 use Rattle.partition_seen.proofs.BoolTests.{some_of}
 use Rattle.partition_world.specs.declared.held.Node.{Node}
 use Rattle.partition_world.specs.declared.held.Held.{Held}
-use Rattle.partition_world.specs.Held.{is_up, end_of, stable_of, line_of, put_node, the_leader, stopped, node_of, ShowsNode, ShowNodes, ShowsHeld, Rests, StaysHeld, Breaks, Fails}
+use Rattle.partition_world.specs.Held.{is_up, end_of, stable_of, line_of, local_of, put_node, the_leader, stopped, node_of, ShowsNode, ShowNodes, ShowsHeld, Rests, StaysHeld, Breaks, BreaksBy, Fails}
 
 -- what is there is had
 pub some_at : {A : Type 0} (P : A → Type 0) (o : Option A) (x : A) → o ≡ Some x → P x → IsSomeAnd o P
@@ -29,16 +29,16 @@ pub node_as : {D : Type 0} (x : Node D) (kept : Kept D) (s : log.Seen) → is_op
 node_as x kept s up = ap (λ (t : Bool). record (node_of x s) { up = t }) up
 
 -- a node whose disk failed in a write
-pub broken_node : {D : Type 0} (x : Node D) (kept : Kept D) (s : log.Seen) (end : ℕ) (line : List (ℕ × ℕ)) → is_open kept ≡ false
-    → seen_held.broken (node_of x s) end line ≡ node_of (record (stopped x) { log = kept }) (loosened s end line)
-broken_node x kept s end line down = rw down refl
+pub broken_node : {D : Type 0} (x : Node D) (kept : Kept D) (s : log.Seen) (back : log.Back) → is_open kept ≡ false
+    → seen_held.broken (node_of x s) back ≡ node_of (record (stopped x) { log = kept }) (loosened s back)
+broken_node x kept s back down = rw down refl
 
 -- and in a cut
-pub torn_node : {D : Type 0} (x : Node D) (kept : Kept D) (s : log.Seen) (end : ℕ) (line : List (ℕ × ℕ)) → is_open kept ≡ false
-    → seen_held.torn (node_of x s) end line ≡ node_of (record (stopped x) { log = kept }) (torn s end line)
-torn_node x kept s end line down = go (nat_lt end s.stable) refl
+pub torn_node : {D : Type 0} (x : Node D) (kept : Kept D) (s : log.Seen) (back : log.Back) → is_open kept ≡ false
+    → seen_held.torn (node_of x s) back ≡ node_of (record (stopped x) { log = kept }) (torn s back)
+torn_node x kept s back down = go (nat_lt back.0 s.stable) refl
   where
-    go : (t : Bool) → nat_lt end s.stable ≡ t → seen_held.torn (node_of x s) end line ≡ node_of (record (stopped x) { log = kept }) (torn s end line)
+    go : (t : Bool) → nat_lt back.0 s.stable ≡ t → seen_held.torn (node_of x s) back ≡ node_of (record (stopped x) { log = kept }) (torn s back)
     go true t = rw (t, down) refl
     go false t = rw (t, down) refl
 
@@ -109,7 +109,7 @@ module _ {D : Type 0} (content : D → Content) where
     where
       go : (k : Kept D) → is_open k ≡ true → Shows content k s → unwrap_or (end_in k) 0 ≡ end_of_log s.batches
       go (Up l) up h = sym h.ends
-      go (Down d) up h = absurd cc
+      go (Down i d) up h = absurd cc
       go Away up h = absurd h
 
   pub stable_shown : (x : Node D) (s : log.Seen) → is_up x ≡ true → Shows content x.log s → stable_of x ≡ s.stable
@@ -117,7 +117,7 @@ module _ {D : Type 0} (content : D → Content) where
     where
       go : (k : Kept D) → is_open k ≡ true → Shows content k s → unwrap_or (stable_in k) 0 ≡ s.stable
       go (Up l) up h = sym h.stable_is
-      go (Down d) up h = absurd cc
+      go (Down i d) up h = absurd cc
       go Away up h = absurd h
 
   pub line_shown : (x : Node D) (s : log.Seen) → is_up x ≡ true → Shows content x.log s → line_of x ≡ s.line
@@ -125,13 +125,21 @@ module _ {D : Type 0} (content : D → Content) where
     where
       go : (k : Kept D) → is_open k ≡ true → Shows content k s → unwrap_or (line_in k) [] ≡ s.line
       go (Up l) up h = sym h.line_is
-      go (Down d) up h = absurd cc
+      go (Down i d) up h = absurd cc
+      go Away up h = absurd h
+
+  pub local_shown : (x : Node D) (s : log.Seen) → is_up x ≡ true → Shows content x.log s → local_of x ≡ s.local
+  local_shown x s up h = go x.log up h
+    where
+      go : (k : Kept D) → is_open k ≡ true → Shows content k s → unwrap_or (local_in k) 0 ≡ s.local
+      go (Up l) up h = sym h.local_is
+      go (Down i d) up h = absurd cc
       go Away up h = absurd h
 
   -- a log with an end is up
   pub up_of_end : (k : Kept D) (n : ℕ) → end_in k ≡ Some n → is_open k ≡ true
   up_of_end (Up l) n is = refl
-  up_of_end (Down d) n is = absurd cc
+  up_of_end (Down i d) n is = absurd cc
   up_of_end Away n is = absurd cc
 
   -- its end, where that is known
@@ -176,14 +184,17 @@ module _ {D : Type 0} (content : D → Content) (control : D → Control call_co
         row = row;
       })
 
+  -- a log's segments have changed perhaps, and nothing that is seen
+  pub looks : (h : Held D) (a : seen.Held) (b : ℕ) (x : Node D) (s : log.Seen) (h' : Held D) (R : seen.Held → Type 0) → Sees h a b x s → (kept : Kept D) → is_open kept ≡ is_open x.log
+      → (t : log.Seen) × Shows content kept t × (t ≡ s) → h' ≡ put_node h b (record x { log = kept }) → R a → Refines h' R
+  looks h a b x s h' R v kept up t after row =
+      let same : node_of x s ≡ node_of (record x { log = kept }) t.0 = rw (up, t.2) refl in
+      let put : a ≡ seen_held.put_node a b (node_of x s) = ap (λ (ys : List seen.Node). record a { nodes = ys }) (sym (set-same a.nodes b (node_of x s) v.there)) in
+      puts h a b x s h' R (record x { log = kept }) t.0 (node_of x s) v t.1 same after (subst R put row)
+
   -- a log was asked, and nothing that is seen has changed
   pub rests : (h : Held D) (a : seen.Held) (b : ℕ) (x : Node D) (s : log.Seen) (h' : Held D) (R : seen.Held → Type 0) → Sees h a b x s → Rests content control h b x h' → R a → Refines h' R
-  rests h a b x s h' R v r row =
-      let kept = r.0 in
-      let t = r.1.seen s v.shows in
-      let same : node_of x s ≡ node_of (record x { log = kept }) t.0 = rw (r.1.up, t.2) refl in
-      let put : a ≡ seen_held.put_node a b (node_of x s) = ap (λ (ys : List seen.Node). record a { nodes = ys }) (sym (set-same a.nodes b (node_of x s) v.there)) in
-      puts h a b x s h' R (record x { log = kept }) t.0 (node_of x s) v t.1 same r.3 (subst R put row)
+  rests h a b x s h' R v r row = looks h a b x s h' R v r.0 r.1.up (r.1.seen s v.shows) r.3 row
 
   -- the registry has
   pub leaves : (h : Held D) (a : seen.Held) (h' : Held D) (R : seen.Held → Type 0) (r : Registry) → ShowsHeld content h a → h' ≡ record h { registry = r }
@@ -205,6 +216,11 @@ module _ {D : Type 0} (content : D → Content) (control : D → Control call_co
   breaks h a b x s makes h' R y v k same row =
       let t = k.breaks.seen s v.shows in
       puts h a b x s h' R (record (stopped x) { log = k.kept }) t.0 y v t.1 (same k.kept k.breaks.down ∙ ap (node_of (record (stopped x) { log = k.kept })) (sym t.2)) k.after row
+
+  -- a write failed, and the broker has stopped, whatever that makes of its log
+  pub breaks_to : (h : Held D) (a : seen.Held) (b : ℕ) (x : Node D) (s s' : log.Seen) (B : Kept D → Kept D → Type 0) (h' : Held D) (R : seen.Held → Type 0) (y : seen.Node) → Sees h a b x s
+      → (k : BreaksBy content control h b x B h') → Shows content k.kept s' → y ≡ node_of (record (stopped x) { log = k.kept }) s' → R (seen_held.put_node a b y) → Refines h' R
+  breaks_to h a b x s s' B h' R y v k shows same row = puts h a b x s h' R (record (stopped x) { log = k.kept }) s' y v shows same k.after row
 
   -- nothing that is seen has changed
   pub held_stays : (h : Held D) (a : seen.Held) (h' : Held D) → ShowsHeld content h a → StaysHeld content control h h' → ShowsHeld content h' a

@@ -17,10 +17,10 @@ use Rattle.registry.specs.declared.refusal.RegRefusal.TheVariants as Reg
 use Rattle.registry.specs.Registry.{epoch_limit}
 use Rattle.registry.specs.Calls.{when, after_ack}
 use Rattle.plain_log.specs.declared.answer.Answer.{Answer}
-use Rattle.plain_log.specs.declared.answer.Answer.TheVariants.{Ok, OkAt, OkSpan, Down, NotLeader, Refused, LastOffset, TooManySegments, EmptySegment, DiskFault, DiskFaultAt, Damaged, OutOfRange, Empty, Run, LastEpoch, NotInSync, DownBroker, BehindStart, Known, Follows, NeedsElection, Leads, NotJoined, StaleEpoch, IsLeader, Behind, NotAbove, AboveMark, NotFollower, NoLeader, Cut, Level, Stopped, Passed, Copied, IsUp, LastIncarnation, Up as IsOpen}
-use Rattle.plain_log.specs.declared.answer.Place.TheVariants.{File}
+use Rattle.plain_log.specs.declared.answer.Answer.TheVariants.{Ok, OkAt, OkSpan, Down, NotLeader, Refused, LastOffset, TooManySegments, EmptySegment, DiskFault, DiskFaultAt, Damaged, OutOfRange, Empty, Run, LastEpoch, NotInSync, DownBroker, BehindStart, Known, Follows, NeedsElection, Leads, NotJoined, StaleEpoch, IsLeader, Behind, NotAbove, AboveMark, NotFollower, NoLeader, Cut, Level, Stopped, Passed, Copied, IsUp, LastIncarnation, Up as IsOpen, Moved, BelowStart, Rebuilt, Kept as Remains, Dropped}
+use Rattle.plain_log.specs.declared.answer.Place.TheVariants.{File, Meta}
 use Rattle.plain_log.specs.declared.command.Command.{Command}
-use Rattle.plain_log.specs.declared.command.Command.TheVariants.{Append, Raw, Flush, Roll, Elect, Unclean, Learn, Join, Follow, Ack, Shrink, Expand, Raise, Clock, Stop as StopCommand, Up as UpCommand, Fetch}
+use Rattle.plain_log.specs.declared.command.Command.TheVariants.{Append, Raw, Flush, Roll, Elect, Unclean, Learn, Join, Follow, Trim, Ack, Shrink, Expand, Raise, Clock, Stop as StopCommand, Up as UpCommand, Fetch}
 use Rattle.plain_log.specs.declared.state.Role.{Role}
 use Rattle.plain_log.specs.declared.state.Role.TheVariants.{Idle, Leads as LeadsIn, Follows as FollowsIn, Joined as JoinedIn}
 use Rattle.plain_log.specs.State.{acking, joined, leads_in}
@@ -36,13 +36,14 @@ use Rattle.partition_seen.proofs.Lines.{last_of_push}
 use Rattle.partition_seen.proofs.RegistryLaw.{Moves, elect_moves, unclean_moves, ack_moves, shrink_moves, expand_moves, raise_moves}
 use Rattle.partition_world.specs.declared.held.Node.{Node}
 use Rattle.partition_world.specs.declared.held.Held.{Held}
-use Rattle.partition_world.specs.Held.{is_up, end_of, line_of, stable_of, stopped, put_node, AtNode, the_leader, Rests, Fails, Breaks, StaysHeld}
+use Rattle.partition_world.specs.Held.{is_up, end_of, line_of, stable_of, stopped, put_node, AtNode, the_leader, Rests, Fails, Breaks, StaysHeld, BreaksBy}
 use Rattle.partition_world.specs.Sound.{NodeSound, HeldSound}
 use Rattle.partition_world.specs.Turns.{StopRow, UpRow, AnswerRow, FirstRow, LaterRow, Row}
-use Rattle.partition_world.specs.TurnsOfLog.{end_with, Gains, AppendRow, RawRow, FlushRow, RollRow}
+use Rattle.partition_world.specs.TurnsOfLog.{end_with, Gains, AppendRow, RawRow, FlushRow, RollRow, TrimRow, TrimOnRow}
 use Rattle.partition_world.specs.TurnsOfFetch.{FetchRow}
 use Rattle.partition_world.specs.TurnsOfElections.{Leaves, ElectRow, UncleanRow, LearnRow, AckRow, ShrinkRow, ExpandRow, RaiseRow}
-use Rattle.partition_world.specs.TurnsOfFollowers.{JoinRow, FollowRow, FollowOnRow}
+use Rattle.partition_world.specs.TurnsOfFollowers.{CutsNode, JoinRow, JoinOnRow, FollowRow, FollowOnRow}
+use Rattle.partition_world.proofs.OwnRefined.{open_of}
 use Rattle.partition_world.proofs.Fronts.{whole_batch, front_one, begun_entered, entered_last}
 use Rattle.partition_world.proofs.Shown.{up_of_end}
 
@@ -63,7 +64,7 @@ module _ {D : Type 0} where
   line_while : (k kept : Kept D) (f : List (ℕ × ℕ) → ℕ → List (ℕ × ℕ)) → is_open k ≡ true → WhileUp k (λ log. line_in kept ≡ Some (f log.line log.end))
       → unwrap_or (line_in kept) [] ≡ f (unwrap_or (line_in k) []) (unwrap_or (end_in k) 0)
   line_while (Up l) kept f up is = ap (λ (o : Option (List (ℕ × ℕ))). unwrap_or o []) is
-  line_while (Closed d) kept f up is = absurd cc
+  line_while (Closed i d) kept f up is = absurd cc
   line_while Away kept f up is = absurd is
 
   -- the partition hasn't changed
@@ -124,17 +125,22 @@ module _ {D : Type 0} where
       one.1 ∙ ap (λ (z : Node D). Some z) (when_some (is_up one.0 && leads_in h.registry.epoch one.0.role) one.0 y one.2).1
 
 module _ {D : Type 0} (content : D → Content) (control : D → Control call_code) where
+  -- a log with the line that it had
+  looks_sound : (n : ℕ) (h : Held D) (b : ℕ) (x : Node D) (kept : Kept D) (h' : Held D) → slice_get h.nodes b ≡ Some x → HeldSound n h → is_open kept ≡ is_open x.log → line_in kept ≡ line_in x.log
+      → h' ≡ put_node h b (record x { log = kept }) → HeldSound n h'
+  looks_sound n h b x kept h' at s up line is =
+      let y = s.nodes b x at in
+      put_is n h b (record x { log = kept }) h' is s (record {
+        up = λ e lead. up ∙ y.up e lead;
+        leads = λ e lead. ap (λ (o : Option (List (ℕ × ℕ))). last_epoch (unwrap_or o [])) line ∙ y.leads e lead;
+        fits = y.fits;
+        down = λ down. y.down (sym up ∙ down);
+      })
+
   -- a log that was asked
   stays_sound : (n : ℕ) (h : Held D) (b : ℕ) (x : Node D) (kept : Kept D) (h' : Held D) → slice_get h.nodes b ≡ Some x → HeldSound n h → Stays content x.log kept → h' ≡ put_node h b (record x { log = kept })
       → HeldSound n h'
-  stays_sound n h b x kept h' at s k is =
-      let y = s.nodes b x at in
-      put_is n h b (record x { log = kept }) h' is s (record {
-        up = λ e lead. k.up ∙ y.up e lead;
-        leads = λ e lead. ap (λ (o : Option (List (ℕ × ℕ))). last_epoch (unwrap_or o [])) k.line ∙ y.leads e lead;
-        fits = y.fits;
-        down = λ down. y.down (sym k.up ∙ down);
-      })
+  stays_sound n h b x kept h' at s k is = looks_sound n h b x kept h' at s k.up k.line is
 
   rests_sound : (n : ℕ) (h : Held D) (b : ℕ) (x : Node D) (h' : Held D) → slice_get h.nodes b ≡ Some x → HeldSound n h → Rests content control h b x h' → HeldSound n h'
   rests_sound n h b x h' at s k = stays_sound n h b x k.0 h' at s k.1 k.3
@@ -175,9 +181,9 @@ module _ {D : Type 0} (content : D → Content) (control : D → Control call_co
   append_sound n h b x batch NotLeader h' at long s w = same n h h' w.2 s
   append_sound n h b x batch LastOffset h' at long s w = same n h h' w.3 s
   append_sound n h b x batch TooManySegments h' at long s w = same n h h' w.4 s
-  append_sound n h b x batch DiskFault h' at long s w = breaks_sound n h b x _ h' s w.3
+  append_sound n h b x batch DiskFault h' at long s w = breaks_sound n h b x _ h' s w.4
   append_sound n h b x batch (OkSpan base last e) h' at long s w =
-      gains_sound n h b x (stamped batch base e) e h' at s w.0 w.1 (placed_epoch x batch base e long w.3 w.2 ((s.nodes b x at).fits e w.1)) w.5
+      gains_sound n h b x (stamped batch base e) e h' at s w.0 w.1 (placed_epoch x batch base e long w.3 w.2 ((s.nodes b x at).fits e w.1)) w.6
   append_sound n h b x batch other h' at long s w = elim w [ ]
 
   raw_sound : (n : ℕ) (h : Held D) (b : ℕ) (x : Node D) (bytes : List ℕ) (answer : Answer) (h' : Held D) → slice_get h.nodes b ≡ Some x → HeldSound n h
@@ -187,7 +193,7 @@ module _ {D : Type 0} (content : D → Content) (control : D → Control call_co
   raw_sound n h b x bytes (Refused cause) h' at s w = same n h h' w.3 s
   raw_sound n h b x bytes LastOffset h' at s w = same n h h' w.1.3 s
   raw_sound n h b x bytes TooManySegments h' at s w = same n h h' w.1.4 s
-  raw_sound n h b x bytes DiskFault h' at s w = breaks_sound n h b x _ h' s w.1.3
+  raw_sound n h b x bytes DiskFault h' at s w = breaks_sound n h b x _ h' s w.1.4
   raw_sound n h b x bytes (OkSpan base last e) h' at s w = append_sound n h b x bytes (OkSpan base last e) h' at (checked_long bytes w.0) s w.1
   raw_sound n h b x bytes other h' at s w = elim w [ ]
 
@@ -206,8 +212,8 @@ module _ {D : Type 0} (content : D → Content) (control : D → Control call_co
   roll_sound n h b x Down h' at s w = same n h h' w.1 s
   roll_sound n h b x EmptySegment h' at s w = same n h h' w.2 s
   roll_sound n h b x TooManySegments h' at s w = same n h h' w.2 s
-  roll_sound n h b x DiskFault h' at s w = breaks_sound n h b x _ h' s w.1
-  roll_sound n h b x (OkAt m) h' at s w = rests_sound n h b x h' at s w.2
+  roll_sound n h b x DiskFault h' at s w = breaks_sound n h b x _ h' s w.2
+  roll_sound n h b x (OkAt m) h' at s w = looks_sound n h b x w.3.0 h' at s w.3.1.up w.3.1.line w.3.3
   roll_sound n h b x other h' at s w = elim w [ ]
 
   fetch_sound : (n : ℕ) (h : Held D) (b : ℕ) (x : Node D) (offset limit : ℕ) (answer : Answer) (h' : Held D) → slice_get h.nodes b ≡ Some x → HeldSound n h
@@ -218,7 +224,8 @@ module _ {D : Type 0} (content : D → Content) (control : D → Control call_co
   fetch_sound n h b x offset limit Empty h' at s w = same n h h' w.4 s
   fetch_sound n h b x offset limit (Run tier size stop bytes) h' at s w = stays_sound n h b x w.4.kept h' at s w.4.reads.stays w.4.after
   fetch_sound n h b x offset limit DiskFault h' at s w = fails_sound n h b x h' at s w.4
-  fetch_sound n h b x offset limit (Damaged (File name) from) h' at s w = rests_sound n h b x h' at s w.5
+  fetch_sound n h b x offset limit (Damaged (File name) from) h' at s w = stays_sound n h b x w.4.kept h' at s w.4.misreads.stays w.4.after
+  fetch_sound n h b x offset limit (Damaged Meta at) h' there s w = same n h h' w.5 s
   fetch_sound n h b x offset limit other h' at s w = elim w [ ]
 
   -- elections and what is learned of them
@@ -251,7 +258,7 @@ module _ {D : Type 0} (content : D → Content) (control : D → Control call_co
       let line = line_while x.log g.kept (λ line end. assign line epoch end) w.0 g.settles.line_is in
       let last : last_epoch (unwrap_or (line_in g.kept) []) ≡ Some epoch = ap last_epoch line ∙ last_of_push (cut_end (line_of x) (end_of x)) (epoch, end_of x) in
       let up = up_of_end content g.kept g.end g.settles.end_is in
-      put_is n h b (record x { role = LeadsIn epoch; log = g.kept; known = g.known }) h' g.after s (record {
+      put_is n h b (record x { role = LeadsIn epoch; log = g.kept; known = min h.registry.mark g.end }) h' g.after s (record {
         up = λ f is. up;
         leads = λ f is. last ∙ ap (λ (m : ℕ). Some m) (one epoch f is);
         fits = λ f is. subst (λ (m : ℕ). m < 2 ^ 31) (one epoch f is) s.epoch;
@@ -263,7 +270,7 @@ module _ {D : Type 0} (content : D → Content) (control : D → Control call_co
   learn_sound n h b x DiskFault h' at s w = breaks_sound n h b x _ h' s w.4
   learn_sound n h b x other h' at s w = elim w [ ]
 
-  ack_sound : (n : ℕ) (h : Held D) (b : ℕ) (x : Node D) (answer : Answer) (h' : Held D) → slice_get h.nodes b ≡ Some x → HeldSound n h → AckRow content control h b x answer h' → HeldSound n h'
+  ack_sound : (n : ℕ) (h : Held D) (b : ℕ) (x : Node D) (answer : Answer) (h' : Held D) → slice_get h.nodes b ≡ Some x → HeldSound n h → AckRow h b x answer h' → HeldSound n h'
   ack_sound n h b x Down h' at s w = same n h h' w.1 s
   ack_sound n h b x NotJoined h' at s w = same n h h' w.2 s
   ack_sound n h b x (StaleEpoch e) h' at s w =
@@ -275,8 +282,9 @@ module _ {D : Type 0} (content : D → Content) (control : D → Control call_co
       let t = some_of _ (slice_get h.registry.replicas b) o.2 in
       let r = some_of _ (after_ack h.registry b t.0 o.0 (stable_of x) (Done mark)) t.2 in
       let y = s.nodes b x at in
-      subst (HeldSound n) (sym r.2.2) (moved_sound n (put_node h b (record x { known = r.2.0 })) r.0
-      (put_sound n h b (record x { known = r.2.0 }) s (record { up = y.up; leads = y.leads; fits = y.fits; down = λ down. up_down (is_up x) w.0 down }))
+      let z = record x { known = min r.0.mark (end_of x) } in
+      subst (HeldSound n) (sym r.2) (moved_sound n (put_node h b z) r.0
+      (put_sound n h b z s (record { up = y.up; leads = y.leads; fits = y.fits; down = λ down. up_down (is_up x) w.0 down }))
       (ack_moves h.registry b t.0 o.0 (stable_of x) (Done mark) r.0 r.1))
   ack_sound n h b x other h' at s w = elim w [ ]
 
@@ -303,21 +311,58 @@ module _ {D : Type 0} (content : D → Content) (control : D → Control call_co
 
   -- followers
 
-  join_sound : (n : ℕ) (h : Held D) (b : ℕ) (x : Node D) (answer : Answer) (h' : Held D) → HeldSound n h → JoinRow content control h b x answer h' → HeldSound n h'
-  join_sound n h b x Down h' s w = same n h h' w.1 s
-  join_sound n h b x NotFollower h' s w = same n h h' w.2 s
-  join_sound n h b x (StaleEpoch e) h' s w = same n h h' w.3 s
-  join_sound n h b x NoLeader h' s w = same n h h' w.3 s
-  join_sound n h b x (Cut m) h' s w =
-      let y = some_of _ (the_leader h) w.2 in
-      let g = y.2.4 in
-      put_is n h b (record x { role = JoinedIn y.2.0; log = g.kept; known = min x.known m }) h' g.after s
-      (follows_sound (record x { role = JoinedIn y.2.0; log = g.kept; known = min x.known m }) (up_of_end content g.kept m g.cuts.end_is) (differ y.2.0))
-    where
-      differ : (e f : ℕ) → JoinedIn e ≡ LeadsIn f → ⊥
-      differ e f is = absurd cc
-  join_sound n h b x (DiskFaultAt m) h' s w = let y = some_of _ (the_leader h) w.2 in breaks_sound n h b x _ h' s y.2.4.1
+  joined_not : (e f : ℕ) → JoinedIn e ≡ LeadsIn f → ⊥
+  joined_not e f is = absurd cc
+
+  cut_sound : (n : ℕ) (h : Held D) (b : ℕ) (x : Node D) (e met m : ℕ) (h' : Held D) → HeldSound n h → CutsNode content control h b x e met m h' → HeldSound n h'
+  cut_sound n h b x e met m h' s g =
+      put_is n h b (record x { role = JoinedIn e; log = g.kept; known = min x.known m }) h' g.after s
+      (follows_sound (record x { role = JoinedIn e; log = g.kept; known = min x.known m }) (up_of_end content g.kept m g.cuts.end_is) (joined_not e))
+
+  -- a write failed, whatever that makes of the log
+  broken_sound : (n : ℕ) (h : Held D) (b : ℕ) (x : Node D) (B : Kept D → Kept D → Type 0) (h' : Held D) → HeldSound n h → BreaksBy content control h b x B h' → HeldSound n h'
+  broken_sound n h b x B h' s k = put_is n h b (record (stopped x) { log = k.kept }) h' k.after s (stopped_sound x k.kept)
+
+  join_sound : (n : ℕ) (h : Held D) (b : ℕ) (x : Node D) (turned : Turned) (h' : Held D) → HeldSound n h → JoinRow content control h b x turned h' → HeldSound n h'
+  join_sound n h b x (Answers Down) h' s w = same n h h' w.1 s
+  join_sound n h b x (Answers NotFollower) h' s w = same n h h' w.2 s
+  join_sound n h b x (Answers (StaleEpoch e)) h' s w = same n h h' w.3 s
+  join_sound n h b x (Answers NoLeader) h' s w = same n h h' w.3 s
+  join_sound n h b x (Answers (Cut m)) h' s w = let y = some_of _ (the_leader h) w.2 in cut_sound n h b x y.2.0 y.2.1 m h' s y.2.5
+  join_sound n h b x (Answers (DiskFaultAt m)) h' s w = let y = some_of _ (the_leader h) w.2 in broken_sound n h b x _ h' s y.2.4.1
+  join_sound n h b x (Begins g) h' s w = let y = some_of _ (the_leader h) w.2 in cut_sound n h b x y.2.0 y.2.1 g.end h' s y.2.4.cuts
   join_sound n h b x other h' s w = elim w [ ]
+
+  join_on_sound : (n : ℕ) (h : Held D) (b : ℕ) (x : Node D) (g : Begun) (answer : Answer) (h' : Held D) → HeldSound n h → JoinOnRow content control h b x g answer h' → HeldSound n h'
+  join_on_sound n h b x g Stopped h' s w = same n h h' w.1 s
+  join_on_sound n h b x g (StaleEpoch e) h' s w = same n h h' w.3 s
+  join_on_sound n h b x g (Passed m) h' s w = same n h h' w.3 s
+  join_on_sound n h b x g (BelowStart start) h' s w = same n h h' w.5 s
+  join_on_sound n h b x g (DiskFaultAt m) h' s w = broken_sound n h b x _ h' s w.2
+  join_on_sound n h b x g (Rebuilt m) h' s w =
+      let k = w.2 in
+      put_is n h b (record x { log = k.kept }) h' k.after s
+      (follows_sound (record x { log = k.kept }) (up_of_end content k.kept m k.restarts.end_is) (λ e is. joined_leads x.role e w.0.1.1 is))
+  join_on_sound n h b x g other h' s w = elim w [ ]
+
+  -- trim
+
+  trim_sound : (n : ℕ) (h : Held D) (x : Node D) (turned : Turned) (h' : Held D) → HeldSound n h → TrimRow content control h x turned h' → HeldSound n h'
+  trim_sound n h x (Answers Down) h' s w = same n h h' w.1 s
+  trim_sound n h x (Begins g) h' s w = same n h h' w.2 s
+  trim_sound n h x other h' s w = elim w [ ]
+
+  trim_on_sound : (n : ℕ) (h : Held D) (b : ℕ) (x : Node D) (g : Begun) (answer : Answer) (h' : Held D) → slice_get h.nodes b ≡ Some x → HeldSound n h → TrimOnRow content control h b x g answer h' → HeldSound n h'
+  trim_on_sound n h b x g Stopped h' at s w = same n h h' w.1 s
+  trim_on_sound n h b x g Remains h' at s w = same n h h' w.1 s
+  trim_on_sound n h b x g DiskFault h' at s w = broken_sound n h b x _ h' s w.2
+  trim_on_sound n h b x g (Dropped base last) h' at s w =
+      let kept = w.2.0 in
+      let d = w.2.1 in
+      let k = s.nodes b x at in
+      put_is n h b (record x { log = kept }) h' w.2.3 s
+      (line_sound x kept k (open_of x kept d.end_is w.1 ∙ w.1) (λ e is. ap (λ (o : Option (List (ℕ × ℕ))). last_epoch (unwrap_or o [])) d.line_is ∙ k.leads e is))
+  trim_on_sound n h b x g other h' at s w = elim w [ ]
 
   follow_sound : (n : ℕ) (h : Held D) (b : ℕ) (x : Node D) (limit : ℕ) (turned : Turned) (h' : Held D) → HeldSound n h → FollowRow content control h b x limit turned h' → HeldSound n h'
   follow_sound n h b x limit (Answers Down) h' s w = same n h h' w.1 s
@@ -325,11 +370,12 @@ module _ {D : Type 0} (content : D → Content) (control : D → Control call_co
   follow_sound n h b x limit (Answers (StaleEpoch e)) h' s w = same n h h' w.3 s
   follow_sound n h b x limit (Answers NoLeader) h' s w = same n h h' w.3 s
   follow_sound n h b x limit (Answers Level) h' s w = same n h h' w.3 s
-  follow_sound n h b x limit (Answers DiskFault) h' s w = let y = some_of _ (the_leader h) w.2 in fails_sound n h h.registry.leader.0 y.0 h' (leader_at h y.0 y.1) s y.2.1
-  follow_sound n h b x limit (Answers (Damaged (File name) from)) h' s w = let y = some_of _ (the_leader h) w.2 in rests_sound n h h.registry.leader.0 y.0 h' (leader_at h y.0 y.1) s y.2.2
+  follow_sound n h b x limit (Answers DiskFault) h' s w = let y = some_of _ (the_leader h) w.2 in fails_sound n h h.registry.leader.0 y.0 h' (leader_at h y.0 y.1) s y.2.2
+  follow_sound n h b x limit (Answers (Moved m)) h' s w = same n h h' w.3 s
+  follow_sound n h b x limit (Answers (Damaged (File name) from)) h' s w = let y = some_of _ (the_leader h) w.2 in stays_sound n h h.registry.leader.0 y.0 y.2.2.kept h' (leader_at h y.0 y.1) s y.2.2.misreads.stays y.2.2.after
   follow_sound n h b x limit (Begins g) h' s w =
       let y = some_of _ (the_leader h) w.2 in
-      stays_sound n h h.registry.leader.0 y.0 y.2.1.kept h' (leader_at h y.0 y.1) s y.2.1.reads.stays y.2.1.after
+      stays_sound n h h.registry.leader.0 y.0 y.2.2.kept h' (leader_at h y.0 y.1) s y.2.2.reads.stays y.2.2.after
   follow_sound n h b x limit other h' s w = elim w [ ]
 
   follow_on_sound : (n : ℕ) (h : Held D) (b : ℕ) (x : Node D) (g : Begun) (answer : Answer) (h' : Held D) → HeldSound n h → FollowOnRow content control h b x g answer h' → HeldSound n h'
@@ -337,9 +383,9 @@ module _ {D : Type 0} (content : D → Content) (control : D → Control call_co
   follow_on_sound n h b x g (StaleEpoch e) h' s w = same n h h' w.3 s
   follow_on_sound n h b x g (Passed m) h' s w = same n h h' w.3 s
   follow_on_sound n h b x g TooManySegments h' s w = same n h h' w.3 s
-  follow_on_sound n h b x g DiskFault h' s w = breaks_sound n h b x _ h' s w.2
+  follow_on_sound n h b x g DiskFault h' s w = breaks_sound n h b x _ h' s w.3
   follow_on_sound n h b x g (Copied m) h' s w =
-      let k = w.2 in
+      let k = w.3 in
       put_is n h b (record x { log = k.kept }) h' k.after s
       (follows_sound (record x { log = k.kept }) (up_of_end content k.kept (k.span.1 + 1) k.appends.end_is) (λ e is. joined_leads x.role e w.1.joined is))
   follow_on_sound n h b x g other h' s w = elim w [ ]
@@ -358,8 +404,8 @@ module _ {D : Type 0} (content : D → Content) (control : D → Control call_co
       let idle = ((s.nodes b x at).down w.0).0 in
       put_is n h b (record x { log = kept }) h' w.1.3 s (follows_sound (record x { log = kept }) (up_of_end content kept m w.1.1.end_is) (λ e is. idle_leads x.role e idle is))
   up_sound n h b x DiskFault h' at s w = fails_sound n h b x h' at s w.1
-  up_sound n h b x (Damaged (File name) from) h' at s w = rests_sound n h b x h' at s w.2
-  up_sound n h b x LastIncarnation h' at s w = rests_sound n h b x h' at s w.2
+  up_sound n h b x (Damaged (File name) from) h' at s w = stays_sound n h b x w.1.0 h' at s w.1.1.stays w.1.3
+  up_sound n h b x LastIncarnation h' at s w = stays_sound n h b x w.1.0 h' at s w.1.1.stays w.1.3
   up_sound n h b x other h' at s w = elim w [ ]
 
   -- a row of one turn
@@ -372,7 +418,6 @@ module _ {D : Type 0} (content : D → Content) (control : D → Control call_co
   answer_sound n h b x Elect answer h' at s w = elect_sound n h b x answer h' s w
   answer_sound n h b x Unclean answer h' at s w = unclean_sound n h b x answer h' s w
   answer_sound n h b x Learn answer h' at s w = learn_sound n h b x answer h' at s w
-  answer_sound n h b x Join answer h' at s w = join_sound n h b x answer h' s w
   answer_sound n h b x Ack answer h' at s w = ack_sound n h b x answer h' at s w
   answer_sound n h b x Shrink answer h' at s w = shrink_sound n h b answer h' s w
   answer_sound n h b x Expand answer h' at s w = expand_sound n h b x answer h' s w
@@ -387,18 +432,22 @@ module _ {D : Type 0} (content : D → Content) (control : D → Control call_co
   first_sound : (n : ℕ) (h : Held D) (b : ℕ) (x : Node D) (command : Command) (turned : Turned) (h' : Held D) → slice_get h.nodes b ≡ Some x → HeldSound n h
       → FirstRow content control h b x command turned h' → HeldSound n h'
   first_sound n h b x (Follow limit) turned h' at s w = follow_sound n h b x limit turned h' s w
+  first_sound n h b x Join turned h' at s w = join_sound n h b x turned h' s w
+  first_sound n h b x Trim turned h' at s w = trim_sound n h x turned h' s w
   first_sound n h b x command (Answers answer) h' at s w = answer_sound n h b x command answer h' at s w
   first_sound n h b x command (Begins g) h' at s w = elim w [ ]
 
-  later_sound : (n : ℕ) (h : Held D) (b : ℕ) (x : Node D) (command : Command) (g : Begun) (turned : Turned) (h' : Held D) → HeldSound n h
+  later_sound : (n : ℕ) (h : Held D) (b : ℕ) (x : Node D) (command : Command) (g : Begun) (turned : Turned) (h' : Held D) → slice_get h.nodes b ≡ Some x → HeldSound n h
       → LaterRow content control h b x command g turned h' → HeldSound n h'
-  later_sound n h b x (Follow limit) g (Answers answer) h' s w = follow_on_sound n h b x g answer h' s w
-  later_sound n h b x command g turned h' s w = elim w [ ]
+  later_sound n h b x (Follow limit) g (Answers answer) h' at s w = follow_on_sound n h b x g answer h' s w
+  later_sound n h b x Join g (Answers answer) h' at s w = join_on_sound n h b x g answer h' s w
+  later_sound n h b x Trim g (Answers answer) h' at s w = trim_on_sound n h b x g answer h' at s w
+  later_sound n h b x command g turned h' at s w = elim w [ ]
 
   pub row_sound : (n : ℕ) (h : Held D) (b : ℕ) (x : Node D) (begun : Option Begun) (command : Command) (turned : Turned) (h' : Held D) → slice_get h.nodes b ≡ Some x → HeldSound n h
       → Row content control h b x begun command turned h' → HeldSound n h'
   row_sound n h b x None command turned h' at s w = first_sound n h b x command turned h' at s w
-  row_sound n h b x (Some g) command turned h' at s w = later_sound n h b x command g turned h' s w
+  row_sound n h b x (Some g) command turned h' at s w = later_sound n h b x command g turned h' at s w
 
   pub turn_sound : (n : ℕ) (h : Held D) (b : ℕ) (begun : Option Begun) (command : Command) (turned : Turned) (h' : Held D) → HeldSound n h
       → AtNode h b (λ x. Row content control h b x begun command turned h') → HeldSound n h'

@@ -1,7 +1,5 @@
 -- A call that found no memory leaves what is seen of a partition.
-use Rattle.std.proofs.Common.{◌≡◌, ◌∙◌, ap, inr, ℕ, slice_get, Some, Err}
-use Rattle.std.specs.Prelude.{IsErrOf}
-use Rattle.std.specs.declared.result.Result.{Result}
+use Rattle.std.proofs.Common.{◌≡◌, inr, ℕ, slice_get, Some}
 use Rattle.tier_base.specs.Device.{Control}
 use Rattle.disk_model.specs.Call.{call_code}
 use Rattle.disk_model.specs.Content.{Content}

@@ -1,5 +1,5 @@
 -- Disks that fail no call, and turns that tell of no fault.
-use Rattle.std.specs.Prelude.{◌≡◌, ◌<◌, ◌-◌, ◌^◌, List, [], ◌∷◌, IsTrue}
+use Rattle.std.specs.Prelude.{◌≡◌, List, [], ◌∷◌, IsTrue}
 use Rattle.tier_base.specs.Device.{Control}
 use Rattle.disk_model.specs.Call.{call_code}
 use Rattle.plain_log.specs.declared.answer.Answer.{Answer}
@@ -17,11 +17,11 @@ abbrev pub AreCalm : {D : Type 0} → (D → Control call_code) → List (Node D
 AreCalm control [] = Unit {0}
 AreCalm control (x ∷ xs) = OnDisk x.log (λ d. IsCalm (control d)) × AreCalm control xs
 
--- their plans alone decide which calls fail, and are empty, and few calls have failed
+-- no call of these disks can fail, and their plans alone decide which do once they are in force, and are empty
 abbrev pub AreUnplanned : {D : Type 0} → (D → Control call_code) → List D → Type 0
 AreUnplanned control [] = Unit {0}
 AreUnplanned control (disk ∷ disks) =
-    IsTrue (control disk).ruled × ((control disk).plan ≡ []) × ((control disk).faults < 2 ^ 64 - 1) × AreUnplanned control disks
+    IsTrue (control disk).ruled × ((control disk).plan ≡ []) × IsCalm (control disk) × AreUnplanned control disks
 
 -- the answer tells of no fault of a disk
 abbrev pub IsFaultless : Answer → Type 0

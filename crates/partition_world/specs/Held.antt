@@ -5,14 +5,15 @@
 use Rattle.std.specs.Prelude.{◌≡◌, ℕ, ◌+◌, ◌-◌, ◌^◌, ◌<◌, ◌≤◌, ◌&&◌, ◌⊎◌, Bool, List, [], ◌∷◌, length, Option, unwrap_or, slice_get, slice_set, IsSomeAnd, IsTrue}
 use Rattle.std.specs.Option.{option_and_then}
 use Rattle.tier_base.specs.Device.{Control}
+use Rattle.tier_base.specs.declared.plain.FileName.{FileName}
 use Rattle.disk_model.specs.Call.{call_code}
 use Rattle.disk_model.specs.Content.{Content}
-use Rattle.log_terms.specs.Log.{EndsAt}
 use Rattle.local_log.specs.Run.{is_due}
 use Rattle.registry.specs.Calls.{when}
 use Rattle.plain_log.specs.declared.state.Role.TheVariants.{Idle}
 use Rattle.plain_log.specs.State.{leads_in}
-use Rattle.broker_log.specs.Seen.{Kept, Shows, Stays, WhileUp, Lasting, Faulted, is_up as is_open, end_in, stable_in, line_in}
+use Rattle.broker_log.specs.Seen.{Kept, Shows, Stays, WhileUp, Lasting, Faulted, is_up as is_open, end_in, stable_in, line_in, local_in}
+use Rattle.broker_log.specs.Turns.{Misreads}
 use Rattle.broker_log.specs.Seen as log
 use Rattle.broker_log.specs.Turns as turns
 use Rattle.partition_seen.specs.Seen as seen
@@ -24,7 +25,7 @@ module _ {D : Type 0} where
   abbrev pub is_up : Node D → Bool
   is_up x = is_open x.log
 
-  -- its log end offset, its stable end and its line, where it is up
+  -- its log end offset, its stable end, its line and its local start, where it is up
   abbrev pub end_of : Node D → ℕ
   end_of x = unwrap_or (end_in x.log) 0
 
@@ -33,6 +34,9 @@ module _ {D : Type 0} where
 
   abbrev pub line_of : Node D → List (ℕ × ℕ)
   line_of x = unwrap_or (line_in x.log) []
+
+  abbrev pub local_of : Node D → ℕ
+  local_of x = unwrap_or (local_in x.log) 0
 
   -- the partition with this node in its place
   abbrev pub put_node : Held D → ℕ → Node D → Held D
@@ -68,6 +72,7 @@ module _ {D : Type 0} where
     stable = s.stable;
     known = x.known;
     saved = s.saved;
+    local = s.local;
     loose = s.loose;
   }
 
@@ -88,14 +93,6 @@ module _ {D : Type 0} (content : D → Content) where
     pub nodes : ShowNodes h.nodes a.nodes
     pub clock : a.clock ≡ h.clock
 
-  -- the log isn't seen to have a batch that ends there
-  abbrev pub Misses : Kept D → ℕ → Type 0
-  Misses kept mark = (s : log.Seen) → Shows content kept s → EndsAt mark s.batches → ⊥
-
-  -- nothing is seen of the log
-  abbrev pub Unseen : Kept D → Type 0
-  Unseen kept = (s : log.Seen) → Shows content kept s → ⊥
-
 module _ {D : Type 0} (content : D → Content) (control : D → Control call_code) where
   -- a broker's log is as it was, whatever its disk was asked
   abbrev pub Rests : Held D → ℕ → Node D → Held D → Type 0
@@ -106,9 +103,24 @@ module _ {D : Type 0} (content : D → Content) (control : D → Control call_co
   Fails h b x h' = (kept : Kept D) × Stays content x.log kept × Lasting control x.log kept × Faulted control x.log kept
       × (h' ≡ put_node h b (record x { log = kept }))
 
+  -- a read of a broker's log found damage there, and the log is as it was
+  pub record FindsDamage (h : Held D) (b : ℕ) (x : Node D) (offset limit mark : ℕ) (name : FileName) (at : ℕ) (h' : Held D) : Type 0 where
+    pub kept : Kept D
+    pub misreads : Misreads content control x.log kept offset limit mark name at
+    pub lasts : Lasting control x.log kept
+    pub after : h' ≡ put_node h b (record x { log = kept })
+
   -- nothing that is seen has changed
   abbrev pub StaysHeld : Held D → Held D → Type 0
   StaysHeld h h' = (h' ≡ h) ⊎ ((b : ℕ) × AtNode h b (λ x. Rests h b x h'))
+
+  -- a broker's disk failed in a write, and the broker has stopped: this holds of its log of before and after
+  pub record BreaksBy (h : Held D) (b : ℕ) (x : Node D) (B : Kept D → Kept D → Type 0) (h' : Held D) : Type 0 where
+    pub kept : Kept D
+    pub breaks : B x.log kept
+    pub cause : Faulted control x.log kept
+    pub lasts : Lasting control x.log kept
+    pub after : h' ≡ put_node h b (record (stopped x) { log = kept })
 
   -- a broker's disk failed in a write, which makes this of its log, and the broker has stopped
   pub record Breaks (h : Held D) (b : ℕ) (x : Node D) (makes : log.Seen → log.Seen) (h' : Held D) : Type 0 where

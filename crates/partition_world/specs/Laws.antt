@@ -1,5 +1,5 @@
 -- The laws of a world.
-use Rattle.std.specs.Prelude.{◌≡◌, ℕ, List}
+use Rattle.std.specs.Prelude.{ℕ, List}
 use Rattle.tier_base.specs.declared.names.PartitionId.{PartitionId}
 use Rattle.tier_base.specs.Device.{Control}
 use Rattle.disk_model.specs.Call.{call_code}
@@ -14,6 +14,7 @@ use Rattle.partition_seen.specs.declared.seat.Stepped.{Stepped}
 use Rattle.partition_world.specs.Calm.{AreUnplanned, IsUnfailing}
 use Rattle.partition_world.specs.Central.{IsCentral, KeepsCentral}
 use Rattle.partition_world.specs.Fresh.{IsFresh, AllSeen}
+use Rattle.partition_world.specs.InTurn.{IsInTurn}
 use Rattle.partition_world.specs.Later.{IsLater}
 use Rattle.partition_world.specs.Reaches.{Reaches}
 use Rattle.partition_world.specs.Turn.{Steps, IsAtEnd}
@@ -50,6 +51,12 @@ module _ {D : Type 0} (content : D → Content) (control : D → Control call_co
   abbrev pub ReachesUnfailing : Type 0
   ReachesUnfailing = (w : Whole D) (schedule : List Pace) (w' : Whole D) → Reaches content control w schedule w'
       → IsUnfailing control w → IsUnfailing control w'
+
+  -- whatever a schedule reaches from a fresh world, over any disks: its journal tells each actor's commands in turn
+  abbrev pub ReachesInTurn : Type 0
+  ReachesInTurn = (partition : PartitionId) (config : Config) (lists : List ActorList) (disks : List D) (w : Whole D)
+      (schedule : List Pace) (w' : Whole D) → AreListsFor config lists → IsFresh control partition config lists disks w
+      → Reaches content control w schedule w' → IsInTurn w'.lists w'.journal.items
 
 module _ {D : Type 0} (control : D → Control call_code) where
   -- a fresh world stands on disks of which no call can fail, where none is planned to

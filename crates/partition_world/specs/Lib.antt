@@ -12,4 +12,5 @@ pub mod Calm
 pub mod Fresh
 pub mod Later
 pub mod Reaches
+pub mod InTurn
 pub mod Laws

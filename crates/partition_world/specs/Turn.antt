@@ -1,5 +1,5 @@
 -- The turns of a world.
-use Rattle.std.specs.Prelude.{◌≡◌, ℕ, ◌+◌, ◌≤◌, Some, None, [], ◌∷◌, ◌++◌, length, slice_get, slice_set}
+use Rattle.std.specs.Prelude.{◌≡◌, ℕ, ◌≤◌, Some, [], ◌∷◌, ◌++◌, length, slice_get, slice_set}
 use Rattle.tier_base.specs.Device.{Control}
 use Rattle.disk_model.specs.Call.{call_code}
 use Rattle.disk_model.specs.Content.{Content}
@@ -40,7 +40,7 @@ module _ {D : Type 0} (content : D → Content) (control : D → Control call_co
     pub row : AtNode w.held order.broker.0 (λ x. Row content control w.held order.broker.0 x seat.begun order.command turned w'.held)
     pub desk : w'.desk ≡ slice_set w.desk place (seat_after seat turned)
     pub entered : w'.journal.items
-        ≡ w.journal.items ++ record { actor = list.actor; number = seat.number; event = event_of turned } ∷ []
+        ≡ w.journal.items ++ record { actor = list.actor; number = seat.number; event = event_of turned order.command } ∷ []
     pub partition : w'.partition ≡ w.partition
     pub config : w'.config ≡ w.config
     pub lists : w'.lists ≡ w.lists

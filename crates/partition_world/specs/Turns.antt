@@ -3,29 +3,28 @@
 --
 -- A row says for each answer the tests before it, in their order, its own, and the partition afterwards. Follow
 -- is the one command of two turns. A fault of a broker's disk in a write stops the broker.
-use Rattle.std.specs.Prelude.{◌≡◌, ◌+◌, ℕ, ℤ, true, false, Option, None, Some, IsTrue}
+use Rattle.std.specs.Prelude.{◌≡◌, ℕ, ℤ, true, false, Option, None, Some}
 use Rattle.tier_base.specs.Device.{Control}
 use Rattle.disk_model.specs.Call.{call_code}
 use Rattle.disk_model.specs.Content.{Content}
 use Rattle.record_batch.specs.Build.{built}
-use Rattle.local_log.specs.Opening.{HoldsLast}
 use Rattle.plain_log.specs.declared.answer.Answer.{Answer}
 use Rattle.plain_log.specs.declared.answer.Answer.TheVariants.{Ok, Down, IsUp, DiskFault, Damaged, LastIncarnation, Up}
 use Rattle.plain_log.specs.declared.answer.Place.TheVariants.{File}
 use Rattle.plain_log.specs.declared.command.Command.{Command}
-use Rattle.plain_log.specs.declared.command.Command.TheVariants.{Append, Raw, Flush, Roll, Elect, Unclean, Learn, Join, Follow, Ack, Shrink, Expand, Raise, Clock, Stop as StopCommand, Up as UpCommand, Fetch}
-use Rattle.broker_log.specs.Seen.{Kept, OnDisk, Lasting}
-use Rattle.broker_log.specs.Turns.{Stops, ComesUp}
+use Rattle.plain_log.specs.declared.command.Command.TheVariants.{Append, Raw, Flush, Roll, Elect, Unclean, Learn, Join, Follow, Trim, Ack, Shrink, Expand, Raise, Clock, Stop as StopCommand, Up as UpCommand, Fetch}
+use Rattle.broker_log.specs.Seen.{Kept, Lasting}
+use Rattle.broker_log.specs.Turns.{Stops, ComesUp, Unopened, IsSpent}
 use Rattle.partition_seen.specs.declared.begun.Begun.{Begun}
 use Rattle.partition_seen.specs.declared.begun.Turned.{Turned}
 use Rattle.partition_seen.specs.declared.begun.Turned.TheVariants.{Answers, Begins}
 use Rattle.partition_world.specs.declared.held.Node.{Node}
 use Rattle.partition_world.specs.declared.held.Held.{Held}
-use Rattle.partition_world.specs.Held.{is_up, stopped, put_node, Unseen, Rests, Fails}
-use Rattle.partition_world.specs.TurnsOfLog.{AppendRow, RawRow, FlushRow, RollRow}
+use Rattle.partition_world.specs.Held.{is_up, stopped, put_node, Fails}
+use Rattle.partition_world.specs.TurnsOfLog.{AppendRow, RawRow, FlushRow, RollRow, TrimRow, TrimOnRow}
 use Rattle.partition_world.specs.TurnsOfFetch.{FetchRow}
 use Rattle.partition_world.specs.TurnsOfElections.{ElectRow, UncleanRow, LearnRow, AckRow, ShrinkRow, ExpandRow, RaiseRow}
-use Rattle.partition_world.specs.TurnsOfFollowers.{JoinRow, FollowRow, FollowOnRow}
+use Rattle.partition_world.specs.TurnsOfFollowers.{JoinRow, JoinOnRow, FollowRow, FollowOnRow}
 
 module _ {D : Type 0} where
   -- clock
@@ -47,9 +46,10 @@ module _ {D : Type 0} (content : D → Content) (control : D → Control call_co
   UpRow h b x (Up n) h' = (is_up x ≡ false) × ((kept : Kept D) × ComesUp content x.log kept n × Lasting control x.log kept
       × (h' ≡ put_node h b (record x { log = kept })))
   UpRow h b x DiskFault h' = (is_up x ≡ false) × Fails content control h b x h'
-  UpRow h b x (Damaged (File name) at) h' = (is_up x ≡ false) × Unseen content x.log × Rests content control h b x h'
-  UpRow h b x LastIncarnation h' =
-      (is_up x ≡ false) × OnDisk x.log (λ d. IsTrue (content d).tells → HoldsLast (content d).files) × Rests content control h b x h'
+  UpRow h b x (Damaged (File name) at) h' = (is_up x ≡ false) × ((kept : Kept D) × Unopened content control x.log kept name at
+      × Lasting control x.log kept × (h' ≡ put_node h b (record x { log = kept })))
+  UpRow h b x LastIncarnation h' = (is_up x ≡ false) × ((kept : Kept D) × IsSpent content control x.log kept
+      × Lasting control x.log kept × (h' ≡ put_node h b (record x { log = kept })))
   UpRow h b x other h' = ⊥
 
   -- a command of one turn
@@ -61,8 +61,7 @@ module _ {D : Type 0} (content : D → Content) (control : D → Control call_co
   AnswerRow h b x Elect answer h' = ElectRow h b x answer h'
   AnswerRow h b x Unclean answer h' = UncleanRow h b x answer h'
   AnswerRow h b x Learn answer h' = LearnRow content control h b x answer h'
-  AnswerRow h b x Join answer h' = JoinRow content control h b x answer h'
-  AnswerRow h b x Ack answer h' = AckRow content control h b x answer h'
+  AnswerRow h b x Ack answer h' = AckRow h b x answer h'
   AnswerRow h b x Shrink answer h' = ShrinkRow h b answer h'
   AnswerRow h b x Expand answer h' = ExpandRow h b x answer h'
   AnswerRow h b x (Raise start) answer h' = RaiseRow h b x start answer h'
@@ -75,12 +74,16 @@ module _ {D : Type 0} (content : D → Content) (control : D → Control call_co
   -- a first turn
   abbrev pub FirstRow : Held D → ℕ → Node D → Command → Turned → Held D → Type 0
   FirstRow h b x (Follow limit) turned h' = FollowRow content control h b x limit turned h'
+  FirstRow h b x Join turned h' = JoinRow content control h b x turned h'
+  FirstRow h b x Trim turned h' = TrimRow content control h x turned h'
   FirstRow h b x command (Answers answer) h' = AnswerRow h b x command answer h'
   FirstRow h b x command (Begins g) h' = ⊥
 
   -- a later turn
   abbrev pub LaterRow : Held D → ℕ → Node D → Command → Begun → Turned → Held D → Type 0
   LaterRow h b x (Follow limit) g (Answers answer) h' = FollowOnRow content control h b x g answer h'
+  LaterRow h b x Join g (Answers answer) h' = JoinOnRow content control h b x g answer h'
+  LaterRow h b x Trim g (Answers answer) h' = TrimOnRow content control h b x g answer h'
   LaterRow h b x command g turned h' = ⊥
 
   -- a turn of a command of broker b, of which so much has begun

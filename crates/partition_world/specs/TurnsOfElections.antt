@@ -2,7 +2,7 @@
 -- shrink, expand, raise.
 --
 -- The registry's own calls say what it answers and what it is afterwards.
-use Rattle.std.specs.Prelude.{◌≡◌, ◌≢◌, ℕ, ◌<◌, true, false, Option, Some, None, Ok as Done, Err, IsSomeAnd}
+use Rattle.std.specs.Prelude.{◌≡◌, ◌≢◌, ℕ, ◌<◌, true, false, Option, Some, None, Ok as Done, Err, IsSomeAnd, min}
 use Rattle.std.specs.Option.{ForSome}
 use Rattle.tier_base.specs.Device.{Control}
 use Rattle.disk_model.specs.Call.{call_code}
@@ -18,10 +18,10 @@ use Rattle.plain_log.specs.declared.answer.Answer.TheVariants.{Ok, OkAt, Down, N
 use Rattle.plain_log.specs.declared.state.Role.TheVariants.{Leads as LeadsIn, Follows as FollowsIn}
 use Rattle.plain_log.specs.State.{leads, acking, epoch_in}
 use Rattle.broker_log.specs.Seen.{Kept, WhileUp, Lasting}
-use Rattle.broker_log.specs.Turns.{Settles, IsEndUpTo, loosened}
+use Rattle.broker_log.specs.Turns.{Settles, loosened}
 use Rattle.partition_world.specs.declared.held.Node.{Node}
 use Rattle.partition_world.specs.declared.held.Held.{Held}
-use Rattle.partition_world.specs.Held.{is_up, stable_of, line_of, put_node, Breaks}
+use Rattle.partition_world.specs.Held.{is_up, end_of, stable_of, line_of, put_node, Breaks}
 
 module _ {D : Type 0} where
   -- the registry is left so, and nothing else changes
@@ -86,23 +86,35 @@ module _ {D : Type 0} where
       (is_up x ≡ true) × ((e : ℕ) × (x.role ≡ LeadsIn e) × Leaves h (after_raise h.registry e wanted (Done start)) h')
   RaiseRow h b x wanted other h' = ⊥
 
+  -- an acknowledgement leaves this registry: the broker knows the high watermark, as far as its log goes
+  abbrev pub Acks : Held D → ℕ → Node D → Registry → Held D → Type 0
+  Acks h b x r h' = h' ≡ record (put_node h b (record x { known = min r.mark (end_of x) })) { registry = r }
+
+  -- ack: the registry takes the broker's stable end
+  abbrev pub AckRow : Held D → ℕ → Node D → Answer → Held D → Type 0
+  AckRow h b x Down h' = (is_up x ≡ false) × (h' ≡ h)
+  AckRow h b x NotJoined h' = (is_up x ≡ true) × (acking x.role ≡ None) × (h' ≡ h)
+  AckRow h b x (StaleEpoch n) h' = (is_up x ≡ true) × IsSomeAnd (acking x.role) (λ e.
+      AtReplica h.registry b (λ s. Leaves h (after_ack h.registry b s e (stable_of x) (Err (Reg.StaleEpoch n))) h'))
+  AckRow h b x (OkAt mark) h' = (is_up x ≡ true) × IsSomeAnd (acking x.role) (λ e.
+      AtReplica h.registry b (λ s. IsSomeAnd (after_ack h.registry b s e (stable_of x) (Done mark)) (λ r. Acks h b x r h')))
+  AckRow h b x other h' = ⊥
+
 module _ {D : Type 0} (content : D → Content) (control : D → Control call_code) where
   -- the node leads this epoch: its line has it from the log's end on, and all of its log is stable; it knows the high
   -- watermark, as far as its log goes
   pub record Leading (h : Held D) (b : ℕ) (x : Node D) (epoch : ℕ) (h' : Held D) : Type 0 where
     pub kept : Kept D
     pub end : ℕ
-    pub known : ℕ
     pub settles : Settles content x.log kept (λ line end. assign line epoch end) end
     pub lasts : Lasting control x.log kept
-    pub known_is : IsEndUpTo content kept h.registry.mark known
-    pub after : h' ≡ put_node h b (record x { role = LeadsIn epoch; log = kept; known = known })
+    pub after : h' ≡ put_node h b (record x { role = LeadsIn epoch; log = kept; known = min h.registry.mark end })
 
   -- an epoch that the node's line doesn't have
   abbrev pub LeadRow : Held D → ℕ → Node D → ℕ → Answer → Held D → Type 0
   LeadRow h b x epoch (Leads n) h' = (n ≡ epoch) × Leading h b x epoch h'
   LeadRow h b x epoch DiskFault h' = Breaks content control h b x
-      (λ s. loosened s (end_of_log s.batches) (assign s.line epoch (end_of_log s.batches))) h'
+      (λ s. loosened s (end_of_log s.batches, assign s.line epoch (end_of_log s.batches), s.local)) h'
   LeadRow h b x epoch other h' = ⊥
 
   -- learn
@@ -121,18 +133,3 @@ module _ {D : Type 0} (content : D → Content) (control : D → Control call_co
       (is_up x ≡ true) × ¬ IsKnown h x × (h.registry.leader.0 ≡ b) × IsNew x h.registry.epoch
       × LeadRow h b x h.registry.epoch DiskFault h'
   LearnRow h b x other h' = ⊥
-
-  -- an acknowledgement leaves this registry: the broker knows the high watermark, as far as its log goes
-  abbrev pub Acks : Held D → ℕ → Node D → Registry → Held D → Type 0
-  Acks h b x r h' = (known : ℕ) × IsEndUpTo content x.log r.mark known
-      × (h' ≡ record (put_node h b (record x { known = known })) { registry = r })
-
-  -- ack: the registry takes the broker's stable end
-  abbrev pub AckRow : Held D → ℕ → Node D → Answer → Held D → Type 0
-  AckRow h b x Down h' = (is_up x ≡ false) × (h' ≡ h)
-  AckRow h b x NotJoined h' = (is_up x ≡ true) × (acking x.role ≡ None) × (h' ≡ h)
-  AckRow h b x (StaleEpoch n) h' = (is_up x ≡ true) × IsSomeAnd (acking x.role) (λ e.
-      AtReplica h.registry b (λ s. Leaves h (after_ack h.registry b s e (stable_of x) (Err (Reg.StaleEpoch n))) h'))
-  AckRow h b x (OkAt mark) h' = (is_up x ≡ true) × IsSomeAnd (acking x.role) (λ e.
-      AtReplica h.registry b (λ s. IsSomeAnd (after_ack h.registry b s e (stable_of x) (Done mark)) (λ r. Acks h b x r h')))
-  AckRow h b x other h' = ⊥

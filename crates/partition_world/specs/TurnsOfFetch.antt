@@ -7,7 +7,7 @@ use Rattle.disk_model.specs.Content.{Content}
 use Rattle.local_log.specs.declared.reading.RunOut.{RunOut}
 use Rattle.plain_log.specs.declared.answer.Answer.{Answer}
 use Rattle.plain_log.specs.declared.answer.Answer.TheVariants.{Down, NotLeader, DiskFault, Damaged, OutOfRange, Empty, Run}
-use Rattle.plain_log.specs.declared.answer.Place.TheVariants.{File}
+use Rattle.plain_log.specs.declared.answer.Place.TheVariants.{File, Meta}
 use Rattle.plain_log.specs.declared.answer.Tier.{Tier}
 use Rattle.plain_log.specs.declared.answer.Tier.TheVariants.{Local}
 use Rattle.tier_base.specs.declared.plain.Stop.{Stop}
@@ -16,20 +16,24 @@ use Rattle.broker_log.specs.Seen.{Kept, Lasting}
 use Rattle.broker_log.specs.Turns.{Reads}
 use Rattle.partition_world.specs.declared.held.Node.{Node}
 use Rattle.partition_world.specs.declared.held.Held.{Held}
-use Rattle.partition_world.specs.Held.{is_up, end_of, put_node, Misses, Rests, Fails}
+use Rattle.partition_world.specs.Held.{is_up, end_of, local_of, put_node, Fails, FindsDamage}
 use Rattle.partition_world.specs.TurnsOfLog.{IsInLog}
 
 module _ {D : Type 0} where
   -- the broker is up, and the offset lies below the high watermark that it knows
   abbrev pub MayGive : Node D → ℕ → ℕ → Type 0
-  MayGive x offset known = (is_up x ≡ true) × (known ≡ x.known) × (offset < known)
+  MayGive x offset known = (is_up x ≡ true) × (known ≡ x.known) × (offset < known) × (local_of x ≤ offset)
+
+  -- the offset lies in the local log
+  abbrev pub IsLocal : Held D → Node D → ℕ → Type 0
+  IsLocal h x offset = IsInLog h x offset × (local_of x ≤ offset)
 
 module _ {D : Type 0} (content : D → Content) (control : D → Control call_code) where
   -- the bytes are those of a run that was read at the offset
   pub record GivesRun (h : Held D) (b : ℕ) (x : Node D) (offset limit : ℕ) (tier : Tier) (size : ℕ) (stop : Stop) (bytes : List ℕ) (h' : Held D) : Type 0 where
     pub kept : Kept D
     pub out : RunOut
-    pub reads : Reads content x.log kept offset limit x.known out
+    pub reads : Reads content control x.log kept offset limit x.known out
     pub lasts : Lasting control x.log kept
     pub after : h' ≡ put_node h b (record x { log = kept })
     pub tier_is : tier ≡ Local out.base
@@ -41,7 +45,7 @@ module _ {D : Type 0} (content : D → Content) (control : D → Control call_co
   abbrev pub GiveRow : Held D → ℕ → Node D → ℕ → ℕ → Answer → Held D → Type 0
   GiveRow h b x offset limit (Run tier size stop bytes) h' = GivesRun h b x offset limit tier size stop bytes h'
   GiveRow h b x offset limit DiskFault h' = Fails content control h b x h'
-  GiveRow h b x offset limit (Damaged (File name) at) h' = Misses content x.log x.known × Rests content control h b x h'
+  GiveRow h b x offset limit (Damaged (File name) at) h' = FindsDamage content control h b x offset limit x.known name at h'
   GiveRow h b x offset limit other h' = ⊥
 
   -- fetch: nothing that is seen changes
@@ -54,12 +58,14 @@ module _ {D : Type 0} (content : D → Content) (control : D → Control call_co
   FetchRow h b x offset limit Empty h' =
       (is_up x ≡ true) × (leads x.role ≡ true) × IsInLog h x offset × (x.known ≤ offset) × (h' ≡ h)
   FetchRow h b x offset limit (Run tier size stop bytes) h' =
-      (is_up x ≡ true) × (leads x.role ≡ true) × IsInLog h x offset × (offset < x.known)
+      (is_up x ≡ true) × (leads x.role ≡ true) × IsLocal h x offset × (offset < x.known)
       × GivesRun h b x offset limit tier size stop bytes h'
   FetchRow h b x offset limit DiskFault h' =
-      (is_up x ≡ true) × (leads x.role ≡ true) × IsInLog h x offset × (offset < x.known)
+      (is_up x ≡ true) × (leads x.role ≡ true) × IsLocal h x offset × (offset < x.known)
       × Fails content control h b x h'
   FetchRow h b x offset limit (Damaged (File name) at) h' =
-      (is_up x ≡ true) × (leads x.role ≡ true) × IsInLog h x offset × (offset < x.known)
-      × Misses content x.log x.known × Rests content control h b x h'
+      (is_up x ≡ true) × (leads x.role ≡ true) × IsLocal h x offset × (offset < x.known)
+      × FindsDamage content control h b x offset limit x.known name at h'
+  FetchRow h b x offset limit (Damaged Meta at) h' =
+      (is_up x ≡ true) × (leads x.role ≡ true) × IsInLog h x offset × (offset < x.known) × (offset < local_of x) × (h' ≡ h)
   FetchRow h b x offset limit other h' = ⊥

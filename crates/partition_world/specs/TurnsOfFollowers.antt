@@ -8,25 +8,26 @@ use Rattle.tier_base.specs.Device.{Control}
 use Rattle.disk_model.specs.Call.{call_code}
 use Rattle.disk_model.specs.Content.{Content}
 use Rattle.log_terms.specs.Batch.{last_of}
-use Rattle.log_terms.specs.Log.{up_to, joined as joined_bytes, end_of as end_of_log}
+use Rattle.log_terms.specs.Log.{joined as joined_bytes}
 use Rattle.epoch_line.specs.Line.{cut_end}
 use Rattle.epoch_line.specs.Meet.{IsMeetBelow}
 use Rattle.local_log.specs.Run.{IsRun}
 use Rattle.local_log.specs.declared.reading.RunOut.{RunOut}
 use Rattle.plain_log.specs.declared.answer.Answer.{Answer}
-use Rattle.plain_log.specs.declared.answer.Answer.TheVariants.{Down, NotFollower, StaleEpoch, NoLeader, Cut, NotJoined, Level, Stopped, Passed, Copied, TooManySegments, DiskFault, DiskFaultAt, Damaged}
+use Rattle.plain_log.specs.declared.answer.Answer.TheVariants.{Down, NotFollower, StaleEpoch, NoLeader, Cut, NotJoined, Level, Moved, Stopped, Passed, BelowStart, Rebuilt, Copied, TooManySegments, DiskFault, DiskFaultAt, Damaged}
 use Rattle.plain_log.specs.declared.answer.Place.TheVariants.{File}
 use Rattle.plain_log.specs.declared.state.Role.TheVariants.{Joined}
 use Rattle.plain_log.specs.State.{followed, joined}
 use Rattle.broker_log.specs.Seen.{Kept, WhileUp, Lasting}
-use Rattle.broker_log.specs.Turns.{Appends, Cuts, Reads, IsEndUpTo, torn}
+use Rattle.broker_log.specs.Turns.{Appends, Cuts, Reads, IsEndUpTo, BreaksIf, Restarts, RestartBreaks, cut_back, torn}
+use Rattle.broker_log.specs.Turns as turns
 use Rattle.partition_seen.specs.declared.begun.Begun.{Begun}
 use Rattle.partition_seen.specs.declared.begun.Turned.{Turned}
 use Rattle.partition_seen.specs.declared.begun.Turned.TheVariants.{Answers, Begins}
 use Rattle.partition_world.specs.declared.held.Node.{Node}
 use Rattle.partition_world.specs.declared.held.Held.{Held}
 use Rattle.partition_seen.specs.Taken.{parts}
-use Rattle.partition_world.specs.Held.{is_up, end_of, line_of, put_node, the_leader, IsFull, Misses, Rests, Fails, Breaks}
+use Rattle.partition_world.specs.Held.{is_up, end_of, line_of, local_of, put_node, the_leader, IsFull, Fails, FindsDamage, BreaksBy}
 use Rattle.partition_world.specs.TurnsOfLog.{BreaksUnsaved}
 
 module _ {D : Type 0} where
@@ -49,9 +50,9 @@ module _ {D : Type 0} where
     pub run : IsRun (end_of x) (line_of x) (joined_bytes g.batches)
     pub low : last_of (joined_bytes g.batches) < 2 ^ 62
 
-  -- the broker is up, its log ends at the bound, and past the end of a follower's
+  -- the broker is up, its log ends at the bound, and past the end of a follower's, which lies in its local log
   abbrev pub MayTake : Node D → ℕ → ℕ → Type 0
-  MayTake y end bound = (is_up y ≡ true) × (bound ≡ end_of y) × (end < bound)
+  MayTake y end bound = (is_up y ≡ true) × (bound ≡ end_of y) × (end < bound) × (local_of y ≤ end)
 
   -- the broker is up, and its log may be cut there
   abbrev pub MayCut : Node D → ℕ → Type 0
@@ -65,6 +66,14 @@ module _ {D : Type 0} where
   abbrev pub GoesOn : Held D → Node D → Begun → Type 0
   GoesOn h x g = (g.stops ≡ x.stops) × (is_up x ≡ true) × ¬ IsStale h (followed g.role)
 
+  -- the follower has joined, and its log ends as it was cut
+  abbrev pub IsAsCut : Node D → Begun → Type 0
+  IsAsCut x g = (g.end ≡ end_of x) × IsSome (joined x.role)
+
+  -- a rebuild may end: nothing has come between, and the log start hasn't reached the wanted point since it began
+  abbrev pub MayRebuild : Held D → Node D → Begun → Type 0
+  MayRebuild h x g = GoesOn h x g × IsAsCut x g × ((g.start < g.wanted) × (g.wanted ≤ h.registry.start) → ⊥)
+
 module _ {D : Type 0} (content : D → Content) (control : D → Control call_code) where
   -- the node's log is cut to where it meets another's, or to the last batch's end before it
   pub record CutsNode (h : Held D) (b : ℕ) (x : Node D) (epoch met n : ℕ) (h' : Held D) : Type 0 where
@@ -77,20 +86,51 @@ module _ {D : Type 0} (content : D → Content) (control : D → Control call_co
   abbrev pub CutRow : Held D → ℕ → Node D → ℕ → ℕ → Answer → Held D → Type 0
   CutRow h b x epoch met (Cut n) h' = CutsNode h b x epoch met n h'
   CutRow h b x epoch met (DiskFaultAt n) h' = IsEndUpTo content x.log met n
-      × Breaks content control h b x (λ s. torn s (end_of_log (up_to met s.batches)) (cut_end s.line (end_of_log (up_to met s.batches)))) h'
+      × BreaksBy content control h b x (λ old new. BreaksIf content old new (turns.MayCut met) (λ s. torn s (cut_back s met))) h'
   CutRow h b x epoch met other h' = ⊥
 
-  -- join: the log is cut to where it meets the leader's, durably
-  abbrev pub JoinRow : Held D → ℕ → Node D → Answer → Held D → Type 0
-  JoinRow h b x Down h' = (is_up x ≡ false) × (h' ≡ h)
-  JoinRow h b x NotFollower h' = (is_up x ≡ true) × (followed x.role ≡ None) × (h' ≡ h)
-  JoinRow h b x (StaleEpoch n) h' = (is_up x ≡ true) × IsStale h (followed x.role) × (n ≡ h.registry.epoch) × (h' ≡ h)
-  JoinRow h b x NoLeader h' = (is_up x ≡ true) × IsCurrent h (followed x.role) × (the_leader h ≡ None) × (h' ≡ h)
-  JoinRow h b x (Cut n) h' = (is_up x ≡ true) × IsCurrent h (followed x.role) × IsSomeAnd (the_leader h) (λ y.
-      (e m : ℕ) × (followed x.role ≡ Some e) × IsMeet x y m × CutRow h b x e m (Cut n) h')
-  JoinRow h b x (DiskFaultAt n) h' = (is_up x ≡ true) × IsCurrent h (followed x.role) × IsSomeAnd (the_leader h) (λ y.
+  -- what a join's seat keeps after its first turn, where the logs meet below the leader's local log
+  pub record Wants (h : Held D) (b : ℕ) (x y : Node D) (epoch met : ℕ) (g : Begun) (h' : Held D) : Type 0 where
+    pub cuts : CutsNode h b x epoch met g.end h'
+    pub stops : g.stops ≡ x.stops
+    pub role : g.role ≡ Joined epoch
+    pub start : g.start ≡ h.registry.start
+    pub wanted : g.wanted ≡ local_of y
+    pub line : g.line ≡ cut_end (line_of y) g.wanted
+    pub above : g.end < g.wanted
+
+  -- join, first turn: the log is cut to where it meets the leader's, durably
+  abbrev pub JoinRow : Held D → ℕ → Node D → Turned → Held D → Type 0
+  JoinRow h b x (Answers Down) h' = (is_up x ≡ false) × (h' ≡ h)
+  JoinRow h b x (Answers NotFollower) h' = (is_up x ≡ true) × (followed x.role ≡ None) × (h' ≡ h)
+  JoinRow h b x (Answers (StaleEpoch n)) h' = (is_up x ≡ true) × IsStale h (followed x.role) × (n ≡ h.registry.epoch) × (h' ≡ h)
+  JoinRow h b x (Answers NoLeader) h' = (is_up x ≡ true) × IsCurrent h (followed x.role) × (the_leader h ≡ None) × (h' ≡ h)
+  JoinRow h b x (Answers (Cut n)) h' = (is_up x ≡ true) × IsCurrent h (followed x.role) × IsSomeAnd (the_leader h) (λ y.
+      (e m : ℕ) × (followed x.role ≡ Some e) × IsMeet x y m × (local_of y ≤ n) × CutRow h b x e m (Cut n) h')
+  JoinRow h b x (Answers (DiskFaultAt n)) h' = (is_up x ≡ true) × IsCurrent h (followed x.role) × IsSomeAnd (the_leader h) (λ y.
       (e m : ℕ) × (followed x.role ≡ Some e) × IsMeet x y m × CutRow h b x e m (DiskFaultAt n) h')
+  JoinRow h b x (Begins g) h' = (is_up x ≡ true) × IsCurrent h (followed x.role) × IsSomeAnd (the_leader h) (λ y.
+      (e m : ℕ) × (followed x.role ≡ Some e) × IsMeet x y m × Wants h b x y e m g h')
   JoinRow h b x other h' = ⊥
+
+  -- the local log is begun anew at the wanted point
+  pub record RestartsNode (h : Held D) (b : ℕ) (x : Node D) (n : ℕ) (line : List (ℕ × ℕ)) (h' : Held D) : Type 0 where
+    pub kept : Kept D
+    pub restarts : Restarts content x.log kept n line
+    pub lasts : Lasting control x.log kept
+    pub after : h' ≡ put_node h b (record x { log = kept })
+
+  -- join, later turns
+  abbrev pub JoinOnRow : Held D → ℕ → Node D → Begun → Answer → Held D → Type 0
+  JoinOnRow h b x g Stopped h' = ((g.stops ≢ x.stops) ⊎ (is_up x ≡ false)) × (h' ≡ h)
+  JoinOnRow h b x g (StaleEpoch n) h' = (g.stops ≡ x.stops) × IsStale h (followed g.role) × (n ≡ h.registry.epoch) × (h' ≡ h)
+  JoinOnRow h b x g (Passed n) h' = GoesOn h x g × (n ≡ end_of x) × (IsAsCut x g → ⊥) × (h' ≡ h)
+  JoinOnRow h b x g (BelowStart start) h' = GoesOn h x g × IsAsCut x g × (start ≡ h.registry.start)
+      × (g.start < g.wanted) × (g.wanted ≤ start) × (h' ≡ h)
+  JoinOnRow h b x g (DiskFaultAt n) h' = MayRebuild h x g × (n ≡ g.wanted)
+      × BreaksBy content control h b x (λ old new. RestartBreaks content old new n (cut_end g.line (n + 1))) h'
+  JoinOnRow h b x g (Rebuilt n) h' = MayRebuild h x g × (n ≡ g.wanted) × RestartsNode h b x n (cut_end g.line (n + 1)) h'
+  JoinOnRow h b x g other h' = ⊥
 
   -- what a follow's seat keeps after its first turn: what was noted, and a run of the leader's log from the follower's end on
   pub record Takes (h : Held D) (x y : Node D) (limit : ℕ) (g : Begun) (h' : Held D) : Type 0 where
@@ -100,7 +140,7 @@ module _ {D : Type 0} (content : D → Content) (control : D → Control call_co
     pub start : g.start ≡ h.registry.start
     pub kept : Kept D
     pub out : RunOut
-    pub reads : Reads content y.log kept g.end limit (end_of y) out
+    pub reads : Reads content control y.log kept g.end limit (end_of y) out
     pub lasts : Lasting control y.log kept
     pub batches : g.batches ≡ parts out.bytes
     pub after : h' ≡ put_node h h.registry.leader.0 (record y { log = kept })
@@ -109,7 +149,7 @@ module _ {D : Type 0} (content : D → Content) (control : D → Control call_co
   pub record TakesRun (h : Held D) (l : ℕ) (y : Node D) (noted : Begun) (limit : ℕ) (g : Begun) (h' : Held D) : Type 0 where
     pub kept : Kept D
     pub out : RunOut
-    pub reads : Reads content y.log kept noted.end limit (end_of y) out
+    pub reads : Reads content control y.log kept noted.end limit (end_of y) out
     pub lasts : Lasting control y.log kept
     pub is : g ≡ record noted { batches = parts out.bytes }
     pub after : h' ≡ put_node h l (record y { log = kept })
@@ -119,7 +159,7 @@ module _ {D : Type 0} (content : D → Content) (control : D → Control call_co
   TakeRow h l y noted limit (Begins g) h' = TakesRun h l y noted limit g h'
   TakeRow h l y noted limit (Answers DiskFault) h' = Fails content control h l y h'
   TakeRow h l y noted limit (Answers (Damaged (File name) at)) h' =
-      Misses content y.log (end_of y) × Rests content control h l y h'
+      FindsDamage content control h l y noted.end limit (end_of y) name at h'
   TakeRow h l y noted limit other h' = ⊥
 
   -- follow, first turn
@@ -133,12 +173,14 @@ module _ {D : Type 0} (content : D → Content) (control : D → Control call_co
   FollowRow h b x limit (Answers Level) h' = (is_up x ≡ true) × IsCurrent h (joined x.role)
       × IsSomeAnd (the_leader h) (λ y. end_of y ≤ end_of x) × (h' ≡ h)
   FollowRow h b x limit (Answers DiskFault) h' = (is_up x ≡ true) × IsCurrent h (joined x.role)
-      × IsSomeAnd (the_leader h) (λ y. (end_of x < end_of y) × Fails content control h h.registry.leader.0 y h')
+      × IsSomeAnd (the_leader h) (λ y. (end_of x < end_of y) × (local_of y ≤ end_of x) × Fails content control h h.registry.leader.0 y h')
+  FollowRow h b x limit (Answers (Moved n)) h' = (is_up x ≡ true) × IsCurrent h (joined x.role)
+      × IsSomeAnd (the_leader h) (λ y. (end_of x < end_of y) × (end_of x < local_of y) × (n ≡ local_of y)) × (h' ≡ h)
   FollowRow h b x limit (Answers (Damaged (File name) at)) h' = (is_up x ≡ true) × IsCurrent h (joined x.role)
-      × IsSomeAnd (the_leader h) (λ y. (end_of x < end_of y) × Misses content y.log (end_of y)
-      × Rests content control h h.registry.leader.0 y h')
+      × IsSomeAnd (the_leader h) (λ y. (end_of x < end_of y) × (local_of y ≤ end_of x)
+      × FindsDamage content control h h.registry.leader.0 y (end_of x) limit (end_of y) name at h')
   FollowRow h b x limit (Begins g) h' = (is_up x ≡ true) × IsCurrent h (joined x.role)
-      × IsSomeAnd (the_leader h) (λ y. (end_of x < end_of y) × Takes h x y limit g h')
+      × IsSomeAnd (the_leader h) (λ y. (end_of x < end_of y) × (local_of y ≤ end_of x) × Takes h x y limit g h')
   FollowRow h b x limit other h' = ⊥
 
   -- as much of a run as stands in one segment stands at the end of the follower's log
@@ -153,9 +195,9 @@ module _ {D : Type 0} (content : D → Content) (control : D → Control call_co
   -- a run that can be put there
   abbrev pub ExtendRow : Held D → ℕ → Node D → List ℕ → Answer → Held D → Type 0
   ExtendRow h b x run TooManySegments h' = (last_of run < 2 ^ 62) × IsFull x run × (h' ≡ h)
-  ExtendRow h b x run DiskFault h' = (last_of run < 2 ^ 62) × BreaksUnsaved content control h b x h'
+  ExtendRow h b x run DiskFault h' = (last_of run < 2 ^ 62) × (IsFull x run → ⊥) × BreaksUnsaved content control h b x h'
   ExtendRow h b x run (Passed n) h' = (2 ^ 62 ≤ last_of run) × (n ≡ end_of x) × (h' ≡ h)
-  ExtendRow h b x run (Copied n) h' = (last_of run < 2 ^ 62) × Extends h b x run n h'
+  ExtendRow h b x run (Copied n) h' = (last_of run < 2 ^ 62) × (IsFull x run → ⊥) × Extends h b x run n h'
   ExtendRow h b x run other h' = ⊥
 
   -- follow, second turn
@@ -164,6 +206,8 @@ module _ {D : Type 0} (content : D → Content) (control : D → Control call_co
   FollowOnRow h b x g (StaleEpoch n) h' = (g.stops ≡ x.stops) × IsStale h (followed g.role) × (n ≡ h.registry.epoch) × (h' ≡ h)
   FollowOnRow h b x g (Passed n) h' = GoesOn h x g × (n ≡ end_of x) × (CanExtend x g → ⊥) × (h' ≡ h)
   FollowOnRow h b x g TooManySegments h' = GoesOn h x g × CanExtend x g × IsFull x (joined_bytes g.batches) × (h' ≡ h)
-  FollowOnRow h b x g DiskFault h' = GoesOn h x g × CanExtend x g × BreaksUnsaved content control h b x h'
-  FollowOnRow h b x g (Copied n) h' = GoesOn h x g × CanExtend x g × Extends h b x (joined_bytes g.batches) n h'
+  FollowOnRow h b x g DiskFault h' =
+      GoesOn h x g × CanExtend x g × (IsFull x (joined_bytes g.batches) → ⊥) × BreaksUnsaved content control h b x h'
+  FollowOnRow h b x g (Copied n) h' =
+      GoesOn h x g × CanExtend x g × (IsFull x (joined_bytes g.batches) → ⊥) × Extends h b x (joined_bytes g.batches) n h'
   FollowOnRow h b x g other h' = ⊥

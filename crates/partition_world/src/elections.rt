@@ -100,9 +100,9 @@ impl<D: Disk> Held<D> {
         let mark = self.registry.mark;
         let node = self.nodes.at_mut(b);
         match node.log.lead(epoch) {
-            Ok(_) => {
+            Ok(end) => {
                 node.role = Role::Leads(epoch);
-                node.known = node.log.end_up_to(mark);
+                node.known = mark.min(end);
                 Ok(Answer::Leads(epoch as u64))
             }
             Err(LogRefusal::DiskFault) => {
@@ -118,7 +118,7 @@ impl<D: Disk> Held<D> {
     pub(crate) fn ack(&mut self, broker: BrokerId) -> Answer
         requires node { broker.0 < length self.old.nodes }
         requires replica { broker.0 < length self.old.registry.replicas }
-        ensures { AtNode self.old broker.0 (λ x. AckRow D.content D.control self.old broker.0 x result self.new) }
+        ensures { AtNode self.old broker.0 (λ x. AckRow self.old broker.0 x result self.new) }
     {
         let b = broker.0 as usize;
         let node = self.nodes.get(b);
@@ -128,11 +128,10 @@ impl<D: Disk> Held<D> {
         let Some(epoch) = acking(node.role) else {
             return Answer::NotJoined;
         };
-        let stable = node.stable();
+        let (end, stable) = (node.end(), node.stable());
         match self.registry.ack(broker, epoch, stable) {
             Ok(mark) => {
-                let known = self.nodes.get(b).log.end_up_to(mark);
-                self.nodes.at_mut(b).known = known;
+                self.nodes.at_mut(b).known = mark.min(end);
                 Answer::OkAt(mark)
             }
             Err(why) => refused(why),

@@ -5,16 +5,17 @@
 
 ghost use Rattle.std.specs.Prelude.{◌≡◌, ◌<◌, ◌≤◌, true, false, length, IfOk, OnErr, IsSomeAnd, IsTrue, ◌↔◌, option_copied};
 ghost use Rattle.partition_world.specs.Held.{AtNode, CanStop, StaysHeld, the_leader, is_up};
-ghost use Rattle.partition_world.specs.TurnsOfFollowers.{IsMeet, MayCut, CutRow, JoinRow, MayTake, TakeRow, FollowRow, MayExtend, ExtendRow, FollowOnRow};
+ghost use Rattle.partition_world.specs.TurnsOfFollowers.{IsMeet, MayCut, CutRow, JoinRow, JoinOnRow, MayTake, TakeRow, FollowRow, MayExtend, ExtendRow, FollowOnRow};
 
 use crate::held::{Held, Node};
 use crate::roles::{followed, joined};
 use broker_log::LogRefusal;
 use bytes::Bytes;
 use disk_model::Disk;
-use partition_seen::{Begun, Taken, Turned};
+use epoch_line::Line;
+use partition_seen::{Begun, LocalStart, Taken, Turned};
 use plain_log::{Answer, Place, Role};
-use std::alloc::AllocError;
+use std::alloc::{AllocError, Global};
 
 impl<D: Disk> Node<D> {
     /// Where its log and another's meet.
@@ -46,27 +47,87 @@ impl<D: Disk> Held<D> {
         }
     }
 
-    /// Brings a follower's log to where it meets the leader's.
-    pub(crate) fn join(&mut self, b: usize) -> Result<Answer, AllocError>
+    /// Brings a follower's log to where it meets the leader's. Where that lies below the leader's local log, the follower
+    /// is to begin its own anew, where that begins.
+    pub(crate) fn join(&mut self, alloc: Global, b: usize) -> Result<Turned, AllocError>
         requires { CanStop self.old b }
-        ensures row { IfOk result (λ answer. AtNode self.old b (λ x. JoinRow D.content D.control self.old b x answer self.new)) }
+        ensures row { IfOk result (λ turned. AtNode self.old b (λ x. JoinRow D.content D.control self.old b x turned self.new)) }
         ensures err { OnErr result (StaysHeld D.content D.control self.old self.new) }
     {
         let node = self.nodes.get(b);
         if !node.is_up() {
-            return Ok(Answer::Down);
+            return Ok(Turned::Answers(Answer::Down));
         }
         let Some(epoch) = followed(node.role) else {
-            return Ok(Answer::NotFollower);
+            return Ok(Turned::Answers(Answer::NotFollower));
         };
         if epoch < self.registry.epoch {
-            return Ok(Answer::StaleEpoch(self.registry.epoch as u64));
+            return Ok(Turned::Answers(Answer::StaleEpoch(self.registry.epoch as u64)));
         }
         let Some(leader) = self.leader() else {
-            return Ok(Answer::NoLeader);
+            return Ok(Turned::Answers(Answer::NoLeader));
         };
         let met = node.meet(leader);
-        self.cut(b, epoch, met)
+        let (Some(wanted), Some(line)) = (leader.log.local_start(), leader.log.line()) else {
+            unreachable!()
+        };
+        let mut line = line.copy(alloc)?;
+        line.cut_end(wanted);
+        let stops = node.stops;
+        let start = self.registry.start;
+        match self.cut(b, epoch, met)? {
+            Answer::Cut(end) if end < wanted => Ok(Turned::Begins(Begun {
+                stops,
+                role: Role::Joined(epoch),
+                end,
+                start,
+                batches: Taken::new(Bytes::new()),
+                wanted: LocalStart::new(wanted),
+                line,
+            })),
+            answer => Ok(Turned::Answers(answer)),
+        }
+    }
+
+    /// Goes on with a join: the follower's log is begun anew, where nothing has come between.
+    pub(crate) fn join_on(
+        &mut self,
+        alloc: Global,
+        b: usize,
+        begun: &Begun,
+    ) -> Result<Answer, AllocError>
+        requires { CanStop self.old b }
+        ensures row { IfOk result (λ answer. AtNode self.old b (λ x. JoinOnRow D.content D.control self.old b x begun.now answer self.new)) }
+        ensures err { OnErr result (StaysHeld D.content D.control self.old self.new) }
+    {
+        let node = self.nodes.get(b);
+        if begun.stops != node.stops || !node.is_up() {
+            return Ok(Answer::Stopped);
+        }
+        if is_behind(followed(begun.role), self.registry.epoch) {
+            return Ok(Answer::StaleEpoch(self.registry.epoch as u64));
+        }
+        let end = node.end();
+        if begun.end != end || joined(node.role).is_none() {
+            return Ok(Answer::Passed(end));
+        }
+        let start = self.registry.start;
+        let wanted = begun.wanted.offset();
+        if begun.start < wanted && wanted <= start {
+            return Ok(Answer::BelowStart(start));
+        }
+        let mut line = begun.line.copy(alloc)?;
+        line.cut_end(wanted + 1);
+        let node = self.nodes.at_mut(b);
+        match node.log.restart_at(wanted, line) {
+            Ok(()) => Ok(Answer::Rebuilt(wanted)),
+            Err(LogRefusal::DiskFault) => {
+                node.note_stop();
+                Ok(Answer::DiskFaultAt(wanted))
+            }
+            Err(LogRefusal::NoMemory) => Err(AllocError),
+            Err(_) => unreachable!(),
+        }
     }
 
     /// Cuts a follower's log, which has joined an epoch then.
@@ -94,7 +155,12 @@ impl<D: Disk> Held<D> {
     }
 
     /// Reads a run of the leader's log for a follower that isn't as far.
-    pub(crate) fn follow(&mut self, b: usize, limit: u32) -> Result<Turned, AllocError>
+    pub(crate) fn follow(
+        &mut self,
+        alloc: Global,
+        b: usize,
+        limit: u32,
+    ) -> Result<Turned, AllocError>
         requires { b < length self.old.nodes }
         ensures row { IfOk result (λ turned. AtNode self.old b (λ x. FollowRow D.content D.control self.old b x limit turned self.new)) }
         ensures err { OnErr result (StaysHeld D.content D.control self.old self.new) }
@@ -116,12 +182,20 @@ impl<D: Disk> Held<D> {
         if bound <= end {
             return Ok(Turned::Answers(Answer::Level));
         }
+        let Some(local) = leader.log.local_start() else {
+            unreachable!()
+        };
+        if end < local {
+            return Ok(Turned::Answers(Answer::Moved(local)));
+        }
         let noted = Begun {
             stops: node.stops,
             role: node.role,
             end,
             start: self.registry.start,
             batches: Taken::new(Bytes::new()),
+            wanted: LocalStart::new(0),
+            line: Line::new(alloc),
         };
         self.take(self.registry.leader.0 as usize, noted, limit, bound)
     }
@@ -147,6 +221,8 @@ impl<D: Disk> Held<D> {
                 end: noted.end,
                 start: noted.start,
                 batches: Taken::new(run.bytes),
+                wanted: noted.wanted,
+                line: noted.line,
             })),
             Err(LogRefusal::DiskFault) => Ok(Turned::Answers(Answer::DiskFault)),
             Err(LogRefusal::Damaged { file, at }) => {

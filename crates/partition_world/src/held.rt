@@ -102,7 +102,7 @@ impl<D: Disk> Held<D> {
         }
         match begun {
             None => self.first_turn(alloc, order),
-            Some(begun) => Ok(Turned::Answers(self.later_turn(order, begun)?)),
+            Some(begun) => Ok(Turned::Answers(self.later_turn(alloc, order, begun)?)),
         }
     }
 
@@ -117,13 +117,19 @@ impl<D: Disk> Held<D> {
         ensures err { OnErr result (StaysHeld D.content D.control self.old self.new) }
     {
         match &order.command {
-            Command::Follow { limit } => self.follow(order.broker.0 as usize, *limit),
+            Command::Follow { limit } => self.follow(alloc, order.broker.0 as usize, *limit),
+            Command::Join => self.join(alloc, order.broker.0 as usize),
             _ => Ok(Turned::Answers(self.answer(alloc, order)?)),
         }
     }
 
     /// Carries out the last turn of a command that has begun.
-    fn later_turn(&mut self, order: &Order, begun: &Begun) -> Result<Answer, AllocError>
+    fn later_turn(
+        &mut self,
+        alloc: Global,
+        order: &Order,
+        begun: &Begun,
+    ) -> Result<Answer, AllocError>
         requires node { CanStop self.old order.now.broker.0 }
         requires sound { HeldSound (length self.old.nodes) self.old }
         ensures row { IfOk result (λ answer.
@@ -133,6 +139,7 @@ impl<D: Disk> Held<D> {
     {
         match &order.command {
             Command::Follow { .. } => self.follow_on(order.broker.0 as usize, begun),
+            Command::Join => self.join_on(alloc, order.broker.0 as usize, begun),
             // No other command begins, by its row.
             _ => Err(AllocError),
         }
@@ -158,7 +165,6 @@ impl<D: Disk> Held<D> {
             Command::Elect => Ok(self.elect(broker)),
             Command::Unclean => Ok(self.unclean(broker)),
             Command::Learn => self.learn(broker),
-            Command::Join => self.join(b),
             Command::Ack => Ok(self.ack(broker)),
             Command::Shrink => Ok(self.shrink(broker)),
             Command::Expand => Ok(self.expand(broker)),

@@ -1,6 +1,6 @@
 //! Laws of worlds. Each is the contract of a function that does nothing: calling it cites the law.
 
-ghost use Rattle.partition_world.specs.Laws.{StepsKeepCentral, FreshIsCentral, ReachesLater, EndsAreComplete, ReachesUnfailing, FreshIsUnfailing};
+ghost use Rattle.partition_world.specs.Laws.{StepsKeepCentral, FreshIsCentral, ReachesLater, EndsAreComplete, ReachesInTurn, ReachesUnfailing, FreshIsUnfailing};
 
 use disk_model::Disk;
 
@@ -22,6 +22,11 @@ pub fn reaches_later<D: Disk>()
 /// Where each actor is at its end, the journal is a complete run of the plain log.
 pub fn ends_are_complete<D: Disk>()
     ensures { EndsAreComplete D.content }
+{}
+
+/// The journal of a world that a schedule reaches tells each actor's commands in turn, whatever the disks.
+pub fn reaches_in_turn<D: Disk>()
+    ensures { ReachesInTurn D.content D.control }
 {}
 
 /// Over disks of which no call can fail, no turn that a schedule leads through is answered a fault.

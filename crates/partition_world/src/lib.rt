@@ -27,8 +27,8 @@ mod world;
 
 pub use held::{Held, Node};
 pub use laws::{
-    ends_are_complete, fresh_is_central, fresh_is_unfailing, reaches_later, reaches_unfailing,
-    steps_keep_central,
+    ends_are_complete, fresh_is_central, fresh_is_unfailing, reaches_in_turn, reaches_later,
+    reaches_unfailing, steps_keep_central,
 };
 pub use refusal::WorldRefusal;
 pub use runs::{run_in_order, run_to_end};

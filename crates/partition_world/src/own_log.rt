@@ -211,6 +211,12 @@ impl<D: Disk> Held<D> {
         if offset >= known {
             return Ok(Answer::Empty);
         }
+        let Some(local) = node.log.local_start() else {
+            unreachable!()
+        };
+        if offset < local {
+            return Ok(Answer::Damaged(Place::Meta, offset));
+        }
         self.give(b, offset, limit, known)
     }
 

@@ -5,7 +5,7 @@ ghost use Rattle.partition_world.specs.Held.{AtNode, CanStop, StaysHeld};
 ghost use Rattle.partition_world.specs.Turns.{StopRow, UpRow, ClockRow};
 
 use crate::held::Held;
-use broker_log::{OpenRefusal, UpRefusal};
+use broker_log::OpenRefusal;
 use disk_model::{Disk, FileName};
 use plain_log::{Answer, Place};
 use std::alloc::AllocError;
@@ -36,16 +36,10 @@ impl<D: Disk> Held<D> {
         }
         match self.nodes.at_mut(b).log.up() {
             Ok(end) => Ok(Answer::Up(end)),
-            Err(UpRefusal::Open(OpenRefusal::DiskFault)) => Ok(Answer::DiskFault),
-            Err(UpRefusal::Open(OpenRefusal::Damaged { file, at })) => {
-                Ok(Answer::Damaged(Place::File(file), at))
-            }
-            Err(UpRefusal::Open(OpenRefusal::LastIncarnation)) => Ok(Answer::LastIncarnation),
-            Err(UpRefusal::Open(OpenRefusal::NoMemory)) => Err(AllocError),
-            // The local start stands at this place of the manifest.
-            Err(UpRefusal::LateStart { .. }) => {
-                Ok(Answer::Damaged(Place::File(FileName::Manifest), 8))
-            }
+            Err(OpenRefusal::DiskFault) => Ok(Answer::DiskFault),
+            Err(OpenRefusal::Damaged { file, at }) => { Ok(Answer::Damaged(Place::File(file), at)) }
+            Err(OpenRefusal::LastIncarnation) => Ok(Answer::LastIncarnation),
+            Err(OpenRefusal::NoMemory) => Err(AllocError),
         }
     }
 

@@ -2,21 +2,25 @@
 //!
 //! The journal's room is made for all turns at the beginning, so a turn that finds no memory has changed nothing.
 
-ghost use Rattle.std.specs.Prelude.{◌≡◌, ◌<◌, ◌+◌, length, true, false, IfOk, IsTrue, ◌↔◌};
+ghost use Rattle.std.specs.Prelude.{◌≡◌, ◌<◌, ◌+◌, length, true, false, IfOk, IfErr, IsTrue, ◌↔◌};
 ghost use Rattle.plain_log.specs.Fresh.{fresh as fresh_plain};
 ghost use Rattle.plain_log.specs.Orders.{AreListsFor, IsConfig};
-ghost use Rattle.partition_world.specs.Fresh.{IsFresh, AreFreshDisks, DisksTell, AllSeen};
+ghost use Rattle.partition_world.specs.Fresh.{IsFresh, AreFreshBooks, AreFreshDisks, AreCalmDisks, DisksTell, AllSeen, Refuses};
+ghost use Rattle.partition_world.specs.declared.refusal.WorldRefusal.TheVariants as refusal;
 ghost use Rattle.partition_world.specs.Turn.{Steps};
 ghost use Rattle.partition_world.specs.Central.{IsCentral, KeepsCentral};
 ghost use Rattle.partition_world.specs.Reaches.{HasAnswered};
+ghost use Rattle.partition_seen.specs.Turn.{event_of};
+ghost use Rattle.partition_seen.specs.declared.begun.Turned.TheVariants as Turned;
+ghost use Rattle.plain_log.specs.declared.journal.Event.TheVariants as Event;
 
 use crate::desk::{count_turns, fresh_desk, place_of};
 use crate::held::Held;
 use crate::laws::{fresh_is_central, steps_keep_central};
 use crate::refusal::WorldRefusal;
 use disk_model::Disk;
-use partition_seen::{Seat, Stepped, Turned};
-use plain_log::{ActorList, Config, Event, Journal, JournalEntry};
+use partition_seen::{Begun, Seat, Stepped, Turned};
+use plain_log::{ActorList, Command, Config, Event, Journal, JournalEntry};
 use std::alloc::{AllocError, Global};
 use std::marker::Model;
 use tier_base::{ActorId, PartitionId, Row};
@@ -59,7 +63,7 @@ impl<D: Disk> World<D> {
         config: Config,
         lists: Row<ActorList>,
         disks: Vec<D>,
-    ) -> Result<World<D>, WorldRefusal>
+    ) -> Result<World<D>, (Vec<D>, WorldRefusal)>
         requires brokers { IsConfig config }
         requires fit { AreListsFor config lists }
         requires count { length disks.items ≡ config.brokers }
@@ -68,6 +72,10 @@ impl<D: Disk> World<D> {
         ensures told { IfOk result (λ w. DisksTell D.content disks.items → AllSeen D.content w.held.nodes) }
         ensures central { IfOk result (λ w. AllSeen D.content w.held.nodes
             → IsCentral D.content (fresh_plain config) w) }
+
+        // A refusal gives the disks back. Where no call of them can fail it was memory.
+        ensures err { IfErr result (λ e. Refuses D.control disks.items e.0.items e.1) }
+        ensures memory { AreCalmDisks D.control disks.items → IfErr result (λ e. e.1 ≡ refusal.NoMemory) }
     {
         fresh_is_central::<D>();
         Self::made(alloc, partition, config, lists, disks)
@@ -79,20 +87,19 @@ impl<D: Disk> World<D> {
         config: Config,
         lists: Row<ActorList>,
         disks: Vec<D>,
-    ) -> Result<World<D>, WorldRefusal>
+    ) -> Result<World<D>, (Vec<D>, WorldRefusal)>
         requires brokers { IsConfig config }
         requires fit { AreListsFor config lists }
         requires count { length disks.items ≡ config.brokers }
         requires disks { AreFreshDisks D.content D.control disks.items }
         ensures fresh { IfOk result (IsFresh D.control partition config lists disks.items) }
         ensures told { IfOk result (λ w. DisksTell D.content disks.items → AllSeen D.content w.held.nodes) }
+        ensures err { IfErr result (λ e. Refuses D.control disks.items e.0.items e.1) }
     {
-        let Some(count) = count_turns(lists.as_slice()) else {
-            return Err(WorldRefusal::NoMemory);
+        let Ok((journal, desk)) = fresh_books(alloc, lists.as_slice()) else {
+            return Err((disks, WorldRefusal::NoMemory));
         };
-        let mut journal = Journal::new(alloc);
-        journal.reserve(count)?;
-        let desk = fresh_desk(alloc, lists.len())?;
+        // The disks' plans are in force once this is done.
         let held = Held::fresh(alloc, disks, config.settings)?;
         Ok(World {
             partition,
@@ -178,10 +185,11 @@ impl<D: Disk> World<D> {
                 Stepped::Done
             }
             Turned::Begins(begun) => {
+                let cut = cut_of(&order.command, &begun);
                 self.journal.put(JournalEntry {
                     actor,
                     number,
-                    event: Event::Begins { cut: None },
+                    event: Event::Begins { cut },
                 });
                 let goes_on = Seat {
                     number,
@@ -191,5 +199,28 @@ impl<D: Disk> World<D> {
                 Stepped::Ran
             }
         }
+    }
+}
+
+/// Makes an empty journal with room for all turns, and a desk where no list has begun.
+fn fresh_books(alloc: Global, lists: &[ActorList]) -> Result<(Journal, Row<Seat>), AllocError>
+    ensures { IfOk result (λ books. AreFreshBooks lists.now books.0 books.1) }
+{
+    let Some(count) = count_turns(lists) else {
+        return Err(AllocError);
+    };
+    let mut journal = Journal::new(alloc);
+    journal.reserve(count)?;
+    let desk = fresh_desk(alloc, lists.len())?;
+    Ok((journal, desk))
+}
+
+/// Where the log was cut, of a join that begins.
+fn cut_of(command: &Command, begun: &Begun) -> Option<u64>
+    ensures { event_of (Turned.Begins begun.now) command.now ≡ Event.Begins result }
+{
+    match command {
+        Command::Join => Some(begun.end),
+        _ => None,
     }
 }

@@ -26,12 +26,13 @@ loop-broker-preserved c =
       count = (let one = ap (λ (l : List MemoryDisk). length l) more ∙ length_more c.loop-broker.disks.items disk in omega (arith, one, was.count));
       fresh = subst (λ (l : List MemoryDisk). AreFreshDisks content control l) (sym more) (fresh_more c.loop-broker.disks.items disk was.fresh (record {
         empty = λ t n. made.content.files n;
-        calm = record { calm = made.calm; few = (let none = made.fresh.faults in omega (arith, none)) };
+        unarmed = made.fresh.armed;
       }));
       told = subst (λ (l : List MemoryDisk). DisksTell content l) (sym more) (tell_more c.loop-broker.disks.items disk was.told made.content.tells);
       planned = subst (λ (l : List MemoryDisk). ArePlanned control c.args.faults.now 0 l) (sym more) (planned_more c.args.faults.now 0 c.loop-broker.disks.items disk was.planned (record {
         plan_is = made.plan ∙ c.in_ok-plan.ensures ∙ ap (λ (b : ℕ). plan_of b c.args.faults.now) (omega (arith, was.count));
         ruled = made.ruled;
+        calm = made.calm;
         unfailed = made.fresh.faults;
       }));
     }

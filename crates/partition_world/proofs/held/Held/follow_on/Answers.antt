@@ -1,4 +1,4 @@
-use Rattle.std.proofs.Common.{◌≡◌, ◌∙◌, ap, sym, subst, ◌<◌, Option, ℕ}
+use Rattle.std.proofs.Common.{◌∙◌, ap, sym, subst, ◌<◌, Option, ℕ}
 use Rattle.std.specs.Prelude.{IsSome, IsSomeAnd, not}
 use Rattle.partition_world.specs.TurnsOfFollowers.{ExtendRow, FollowOnRow}
 use Rattle.partition_world.proofs.Writes.{ok_more}

@@ -1,5 +1,5 @@
-use Rattle.std.proofs.Common.{refl, subst, ℕ}
-use Rattle.broker_log.specs.Turns.{Reads}
+use Rattle.std.proofs.Common.{◌∙◌, ap, refl, subst, ℕ, Err}
+use Rattle.broker_log.specs.Turns.{Reads, Misreads}
 use Rattle.partition_world.specs.TurnsOfFetch.{MayGive}
 use Rattle.partition_world.proofs.Staying.{at_node, stays_at}
 use Rattle.partition_world.proofs.Putting.{of_node}
@@ -12,7 +12,7 @@ returns-in-Ok-clause-row g c =
     at_node c.args.self.now c.args.b node _ c.at_mut-node.ensures.value (record {
       kept = c.read_run.new.self;
       out = c.in-Ok.run';
-      reads = subst (λ (known : ℕ). Reads g.D.Disk.content node.log c.read_run.new.self c.args.offset c.args.limit known c.in-Ok.run') may.1 (record { stays = c.read_run.ensures.stays; run = c.in-Ok.ensures.reads });
+      reads = subst (λ (known : ℕ). Reads g.D.Disk.content g.D.Disk.control node.log c.read_run.new.self c.args.offset c.args.limit known c.in-Ok.run') may.1 c.in-Ok.ensures.ok;
       lasts = c.read_run.ensures.control;
       after = refl;
       tier_is = refl;
@@ -26,3 +26,16 @@ returns-in-Err g c = record {
   row = tt;
   err = stays_at g.D.Disk.content g.D.Disk.control c.args.self.now c.args.b c.at_mut-node.result.now c.read_run.new.self _ c.at_mut-node.ensures.value c.read_run.ensures.stays c.read_run.ensures.control refl;
 }
+
+pub returns-in-Err-Damaged-clause-row : goal.returns-in-Err-Damaged-clause-row
+returns-in-Err-Damaged-clause-row g c =
+    let node = c.at_mut-node.result.now in
+    let e = c.in-Err-Damaged in
+    let may : MayGive node c.args.offset c.args.known = of_node c.args.self.now c.args.b node (λ x. MayGive x c.args.offset c.args.known) c.at_mut-node.ensures.value c.requires.node in
+    at_node c.args.self.now c.args.b node _ c.at_mut-node.ensures.value (record {
+      kept = c.read_run.new.self;
+      misreads = subst (λ (known : ℕ). Misreads g.D.Disk.content g.D.Disk.control node.log c.read_run.new.self c.args.offset c.args.limit known e.file e.at) may.1
+          (c.read_run.ensures.damaged e.file e.at (e.is ∙ ap Err e.field-0-is));
+      lasts = c.read_run.ensures.control;
+      after = refl;
+    })

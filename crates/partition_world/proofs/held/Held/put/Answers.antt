@@ -1,6 +1,5 @@
 use Rattle.std.proofs.Common.{◌∙◌, ap, refl, Err}
 use Rattle.partition_world.proofs.Staying.{stays_at}
-use Rattle.partition_world.specs.declared.held.Node.{Node}
 use Rattle.partition_world.specs.TurnsOfLog.{MayPut}
 use Rattle.partition_world.proofs.Putting.{of_node, one_run}
 use Rattle.partition_world.proofs.held.Held.put.Goals as goal
