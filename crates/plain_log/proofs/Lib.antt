@@ -21,3 +21,6 @@ pub mod Grows
 pub mod Replays
 mod Example
 mod Elections
+mod RowGrows
+mod RowsGrow
+pub mod StepsGrow

@@ -58,11 +58,11 @@ abbrev pub BegunSafe : State → Broker → Option Noted → Command → Type 0
 BegunSafe p x None c = Unit {0}
 BegunSafe p x (Some noted) c = (same_command noted.order.command c ≡ true) × NotedSafe p.paths p.registry.epoch noted x
 
-joined_for_join : (p : State) (x : Broker) (noted : Option Noted) → BegunSafe p x noted Join → JoinedNoted p x noted
+pub joined_for_join : (p : State) (x : Broker) (noted : Option Noted) → BegunSafe p x noted Join → JoinedNoted p x noted
 joined_for_join p x None h = tt
 joined_for_join p x (Some noted) h = h.1.joined (same_join noted.order.command h.0)
 
-joined_for_follow : (p : State) (x : Broker) (noted : Option Noted) (limit : ℕ) → BegunSafe p x noted (Follow limit) → JoinedNoted p x noted
+pub joined_for_follow : (p : State) (x : Broker) (noted : Option Noted) (limit : ℕ) → BegunSafe p x noted (Follow limit) → JoinedNoted p x noted
 joined_for_follow p x None limit h = tt
 joined_for_follow p x (Some noted) limit h = h.1.joined (same_follow noted.order.command limit h.0)
 
@@ -224,6 +224,15 @@ with_actor_keeps p q a y h k = record {
   others = λ c ne. actor_kept q.actors a y c ne ∙ ap (λ (z : List Actor). actor_at z c) k.actors;
 }
 
+-- what an actor has begun is known of, where the order is its command
+pub begun_safe : (p : State) (a : ℕ) (order : Order) (x : Broker) (o : Option Noted) → slice_get p.brokers order.broker.0 ≡ Some x → PlainSafe p
+    → (actor_at p.actors a).begun ≡ o → is_noted o order ≡ true → BegunSafe p x o order.command
+begun_safe p a order x None bx s i t = tt
+begun_safe p a order x (Some n) bx s i t =
+    let u = both (n.order.broker.0 == order.broker.0) (same_command n.order.command order.command) t in
+    let one : n.order.broker.0 ≡ order.broker.0 = eq_of n.order.broker.0 order.broker.0 u.0 in
+    (u.1, s.noted a n x i (ap (λ (k : ℕ). slice_get p.brokers k) one ∙ bx))
+
 -- so does each event
 event_goes : (p : State) (a : ℕ) (order : Order) (x : Broker) (r : Replica) (event : Event) (q : State)
     → slice_get p.brokers order.broker.0 ≡ Some x → slice_get p.registry.replicas order.broker.0 ≡ Some r
@@ -246,16 +255,9 @@ event_goes p a order x r (Begins cut) q bx br noted e s =
     (broker_kept p order.broker.0 x w.0 bx g.swap s))
 event_goes p a order x r (Answers answer) q bx br noted e s =
     let w = map_some _ (row p order.broker.0 x r (actor_at p.actors a).begun order.command answer) q e in
-    let begun = begun_safe (actor_at p.actors a).begun refl noted in
+    let begun = begun_safe p a order x (actor_at p.actors a).begun bx s refl noted in
     subst (λ (k : State). EventGoes p a k) w.2 (with_actor_keeps p w.0 a _ (λ n z bg nz. absurd cc)
     (row_keeps p order.broker.0 x r (actor_at p.actors a).begun order.command answer w.0 bx br begun w.1 s))
-  where
-    begun_safe : (o : Option Noted) → (actor_at p.actors a).begun ≡ o → is_noted o order ≡ true → BegunSafe p x o order.command
-    begun_safe None i t = tt
-    begun_safe (Some n) i t =
-        let u = both (n.order.broker.0 == order.broker.0) (same_command n.order.command order.command) t in
-        let one : n.order.broker.0 ≡ order.broker.0 = eq_of n.order.broker.0 order.broker.0 u.0 in
-        (u.1, s.noted a n x i (ap (λ (k : ℕ). slice_get p.brokers k) one ∙ bx))
 
 -- what a step is made of
 pub record StepOf (p : State) (order : Order) (entry : JournalEntry) (q : State) : Type 0 where

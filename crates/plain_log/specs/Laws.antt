@@ -11,6 +11,7 @@ use Rattle.plain_log.specs.Step.{step}
 use Rattle.plain_log.specs.Runs.{replay, IsPlainRun, IsInOrder}
 use Rattle.plain_log.specs.Fresh.{fresh}
 use Rattle.plain_log.specs.Safe.{LogSafe, PlainSafe}
+use Rattle.plain_log.specs.Grows.{Grows}
 use Rattle.plain_log.specs.Committed.{IsCommitted, IsLed}
 
 -- each step keeps the safety rules
@@ -18,7 +19,12 @@ abbrev pub StepsKeepSafe : Type 0
 StepsKeepSafe = (p : State) (order : Order) (entry : JournalEntry) (q : State) → step p order entry ≡ Some q
     → PlainSafe p → PlainSafe q
 
--- so does each replay
+-- with each step paths grow, the log start doesn't fall, and each broker's log grows or is cut
+abbrev pub StepsGrow : Type 0
+StepsGrow = (p : State) (order : Order) (entry : JournalEntry) (q : State) → step p order entry ≡ Some q
+    → PlainSafe p → Grows p q
+
+-- each replay keeps the safety rules
 abbrev pub ReplaysKeepSafe : Type 0
 ReplaysKeepSafe = (lists : List ActorList) (p : State) (journal : List JournalEntry) (q : State)
     → replay lists p journal ≡ Some q → PlainSafe p → PlainSafe q

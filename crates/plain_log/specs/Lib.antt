@@ -15,4 +15,5 @@ pub mod Runs
 pub mod Fresh
 pub mod Safe
 pub mod Committed
+pub mod Grows
 pub mod Laws

@@ -1,10 +1,15 @@
 //! Laws of the plain log. Each is the contract of a function that does nothing: calling it cites the law.
 
-ghost use Rattle.plain_log.specs.Laws.{StepsKeepSafe, ReplaysKeepSafe, FreshIsSafe, EpochsNeverFall, RunsAnswerInOrder, CommittedGrows, RunsAreCommitted, RunsAreLed};
+ghost use Rattle.plain_log.specs.Laws.{StepsKeepSafe, StepsGrow, ReplaysKeepSafe, FreshIsSafe, EpochsNeverFall, RunsAnswerInOrder, CommittedGrows, RunsAreCommitted, RunsAreLed};
 
 /// Each step keeps the safety rules.
 pub fn steps_keep_safe()
     ensures { StepsKeepSafe }
+{}
+
+/// With each step paths grow, the log start doesn't fall, and each broker's log grows or is cut.
+pub fn steps_grow()
+    ensures { StepsGrow }
 {}
 
 /// The safety rules hold where nothing has happened yet.

@@ -1,0 +1,102 @@
+-- With each step paths grow, the log start doesn't fall, and logs are cut or gain batches.
+use Rattle.log_terms.proofs.Lists.{and_then_some}
+use Rattle.plain_log.proofs.Options.{when_some, map_some}
+use Rattle.plain_log.specs.Rows.{row}
+use Rattle.plain_log.specs.Safe.{PlainSafe}
+use Rattle.plain_log.specs.State.{put_broker, actor_at, with_actor}
+use Rattle.plain_log.specs.Step.{begins, is_noted, event_step}
+use Rattle.plain_log.specs.declared.answer.Answer.{Answer}
+use Rattle.plain_log.specs.declared.answer.Answer.TheVariants.{Offset, Up}
+use Rattle.plain_log.specs.declared.command.Command.{Command}
+use Rattle.plain_log.specs.declared.command.Command.TheVariants.{Append, Raw, Flush, Roll, Elect, Unclean, Learn, Join, Follow, Ack, Shrink, Expand, Copy, Trim, Expire, Raise, Clock, Stop, Up, Fetch, Pack, Copying, Offset}
+use Rattle.plain_log.specs.declared.command.Order.{Order}
+use Rattle.plain_log.specs.declared.journal.Event.{Event}
+use Rattle.plain_log.specs.declared.journal.Event.TheVariants.{Begins, Answers}
+use Rattle.plain_log.specs.declared.state.Actor.{Actor}
+use Rattle.plain_log.specs.declared.state.Broker.{Broker}
+use Rattle.plain_log.specs.declared.state.Noted.{Noted}
+use Rattle.plain_log.specs.declared.state.State.{State}
+use Rattle.record_batch.proofs.BuildLaws.{built_long}
+use Rattle.record_batch.proofs.Passing.{is_batch_of}
+use Rattle.record_batch.specs.Build.{built}
+use Rattle.record_batch.specs.Check.{checked}
+use Rattle.registry.specs.Calls.{when}
+use Rattle.registry.specs.declared.registry.Replica.{Replica}
+use Rattle.std.proofs.Common.{◌≡◌, subst, refl, ℕ, Some, None, Option, slice_get, Bool, true, ap, ◌∙◌}
+use Rattle.std.specs.Option.{option_and_then}
+use Rattle.std.specs.Prelude.{is_none}
+use Rattle.plain_log.specs.Grows.{BrokerGrows}
+use Rattle.plain_log.specs.Laws.{StepsGrow}
+use Rattle.plain_log.proofs.StepLaw.{BegunSafe, begun_safe, joined_for_join, joined_for_follow, step_of, step_goes}
+use Rattle.plain_log.proofs.RowGrows.{RowGrows, like, put_grows, cut_grows}
+use Rattle.plain_log.proofs.RowsGrow.{ack_grows, append_grows, copy_grows, elect_grows, expand_grows, expire_grows, fetch_grows, flush_grows, follow_grows, join_grows, learn_grows, offset_grows, raise_grows, raw_grows, roll_grows, shrink_grows, silent_grows, stop_grows, trim_grows, unclean_grows, up_grows}
+
+same_when : (p : State) (x : Broker) (t : Bool) (z : Broker) → when t x ≡ Some z → BrokerGrows p.paths x z
+same_when p x t z e = let w = when_some t x z e in subst (λ (y : Broker). BrokerGrows p.paths x y) w.1 (like p.paths x x refl refl refl)
+
+-- each row keeps them
+pub row_grows : (p : State) (b : ℕ) (x : Broker) (r : Replica) (noted : Option Noted) (command : Command) (answer : Answer) (q : State)
+    → slice_get p.brokers b ≡ Some x → slice_get p.registry.replicas b ≡ Some r → BegunSafe p x noted command
+    → row p b x r noted command answer ≡ Some q → PlainSafe p → RowGrows p q
+row_grows p b x r noted (Append recs) answer q bx br j e s = append_grows p b x (built recs) answer q bx (built_long recs) e s
+row_grows p b x r noted (Raw bytes) answer q bx br j e s = raw_grows p b x bytes (checked bytes) answer q bx (λ batch is. (is_batch_of bytes batch is).long) e s
+row_grows p b x r noted Flush answer q bx br j e s = flush_grows p b x answer q bx e s
+row_grows p b x r noted Roll answer q bx br j e s = roll_grows p b x answer q bx e s
+row_grows p b x r noted Elect answer q bx br j e s = elect_grows p b x r answer q br e s
+row_grows p b x r noted Unclean answer q bx br j e s = unclean_grows p b x answer q bx e s
+row_grows p b x r noted Learn answer q bx br j e s = learn_grows p b x r answer q bx br e s
+row_grows p b x r noted Join answer q bx br j e s = join_grows p b x noted answer q bx (joined_for_join p x noted j) e s
+row_grows p b x r noted (Follow limit) answer q bx br j e s = follow_grows p b x limit noted answer q bx (joined_for_follow p x noted limit j) e s
+row_grows p b x r noted Ack answer q bx br j e s = ack_grows p b x r answer q bx br e s
+row_grows p b x r noted Shrink answer q bx br j e s = shrink_grows p b r answer q br e s
+row_grows p b x r noted Expand answer q bx br j e s = expand_grows p b x r answer q br e s
+row_grows p b x r noted Copy answer q bx br j e s = copy_grows p x noted answer q e s
+row_grows p b x r noted Trim answer q bx br j e s = trim_grows p b x noted answer q bx e s
+row_grows p b x r noted Expire answer q bx br j e s = expire_grows p x noted answer q e s
+row_grows p b x r noted (Raise start) answer q bx br j e s = raise_grows p x start answer q e s
+row_grows p b x r noted (Clock ms) answer q bx br j e s = silent_grows p answer q e s
+row_grows p b x r noted Stop answer q bx br j e s = stop_grows p b x answer q bx e s
+row_grows p b x r noted Up answer q bx br j e s = up_grows p b x answer q bx e s
+row_grows p b x r noted (Fetch offset limit) answer q bx br j e s = fetch_grows p x offset limit noted answer q e s
+row_grows p b x r noted (Pack on) answer q bx br j e s = silent_grows p answer q e s
+row_grows p b x r noted (Copying on) answer q bx br j e s = silent_grows p answer q e s
+row_grows p b x r noted (Offset which) answer q bx br j e s = offset_grows p x which noted answer q e s
+
+-- where a command begins
+begun_grows : (p : State) (x : Broker) (c : Command) (cut : Option ℕ) (z : Broker) → begins p x c cut ≡ Some z → BrokerGrows p.paths x z
+begun_grows p x Join (Some n) z e = cut_grows p x n z e
+begun_grows p x (Follow limit) None z e = same_when p x _ z e
+begun_grows p x Copy None z e = same_when p x _ z e
+begun_grows p x Trim None z e = same_when p x _ z e
+begun_grows p x Expire None z e = same_when p x _ z e
+begun_grows p x (Fetch offset limit) None z e = same_when p x _ z e
+begun_grows p x (Offset which) None z e = same_when p x _ z e
+begun_grows p x other cut z e = absurd cc
+
+-- an actor's own numbers are no matter
+with_actor_grows : (p q : State) (a : ℕ) (y : Actor) → RowGrows p q → RowGrows p (with_actor a y q)
+with_actor_grows p q a y g = record { start = g.start; count = g.count; brokers = g.brokers }
+
+event_grows : (p : State) (a : ℕ) (order : Order) (x : Broker) (r : Replica) (event : Event) (q : State)
+    → slice_get p.brokers order.broker.0 ≡ Some x → slice_get p.registry.replicas order.broker.0 ≡ Some r
+    → is_noted (actor_at p.actors a).begun order ≡ true
+    → event_step p a (actor_at p.actors a) order x r event ≡ Some q → PlainSafe p → RowGrows p q
+event_grows p a order x r (Begins cut) q bx br noted e s =
+    let w = map_some _ (option_and_then (λ (z : Broker). when (is_none (actor_at p.actors a).begun) z) (begins p x order.command cut)) q e in
+    let f = and_then_some _ (begins p x order.command cut) w.0 w.1 in
+    let v = when_some _ _ w.0 f.2 in
+    let is : begins p x order.command cut ≡ Some w.0 = f.1 ∙ ap Some v.1 in
+    subst (λ (k : State). RowGrows p k) w.2
+    (with_actor_grows p (put_broker p order.broker.0 w.0) a _ (put_grows p order.broker.0 x w.0 bx (begun_grows p x order.command cut w.0 is)))
+event_grows p a order x r (Answers answer) q bx br noted e s =
+    let w = map_some _ (row p order.broker.0 x r (actor_at p.actors a).begun order.command answer) q e in
+    let begun = begun_safe p a order x (actor_at p.actors a).begun bx s refl noted in
+    subst (λ (k : State). RowGrows p k) w.2 (with_actor_grows p w.0 a _
+    (row_grows p order.broker.0 x r (actor_at p.actors a).begun order.command answer w.0 bx br begun w.1 s))
+
+-- each step grows
+pub steps_grow : StepsGrow
+steps_grow p order entry q e s =
+    let h = step_of p order entry q e in
+    let g = event_grows p entry.actor.0 order h.broker h.replica entry.event q h.at h.place h.noted h.event s in
+    record { paths = (step_goes p order entry q e s).wider; start = g.start; count = g.count; brokers = g.brokers }

@@ -1,0 +1,268 @@
+-- Each change leaves what fetches keep of the logs that they read.
+use Rattle.std.proofs.Common.{◌≡◌, inl, inr, ◌∙◌, sym, ap, subst, ℕ, ◌+◌, ◌<◌, ◌≤◌, Bool, true, false, cond, List, [], ◌∷◌, ◌++◌, Option, Some, None, slice_get, slice_set, arith}
+use Rattle.std.specs.Prelude.{nat_lt, nat_le}
+use mathlib.Core.List.{IsPrefix}
+use Rattle.tier_base.specs.declared.object_key.ObjectKey.{ObjectKey}
+use Rattle.segment_meta.specs.declared.note.Entry.{Entry}
+use Rattle.segment_meta.specs.declared.note.Note.{Note}
+use Rattle.segment_file.specs.Index.{placed_from, index_of}
+use Rattle.segment_file.specs.Segment.{IsSegment}
+use Rattle.sparse_index.specs.Offsets.{OffsetTable}
+use Rattle.log_terms.specs.Batch.{base_of, epoch_of, last_of}
+use Rattle.log_terms.specs.Line.{epoch_holding}
+use Rattle.log_terms.proofs.Lists.{get-set, prefix_self, prefix_more, prefix_trans}
+use Rattle.plain_log.specs.declared.state.State.{State as Plain}
+use Rattle.plain_log.specs.declared.state.Path.{Path}
+use Rattle.plain_log.specs.declared.state.Broker.{Broker}
+use Rattle.plain_log.specs.declared.state.Role.TheVariants.{Leads}
+use Rattle.plain_log.specs.State.{path_of}
+use Rattle.copy_task.specs.Copying.{Copied, keys as copy_keys}
+use Rattle.copy_task.specs.declared.turn.Next.TheVariants as copying
+use Rattle.remote_find.specs.declared.piece.Piece.{Piece}
+use Rattle.remote_view.specs.Fold.{entry_of, fold}
+use Rattle.tier_safe.specs.Scene.{Scene, Site, Sought, Work, Copies, Seeks}
+use Rattle.tier_safe.specs.Changes.{Move, Leaves, Overtakes, Dooms, Wants, Refreshes, Lines, Asks, Finds, Indexes, moved, Telling, CopyStarts, CopyEnds, ExpiryStarts, ExpiryEnds, note_for, after_telling, Storing, Puts, Undoes, Deletes, after_storing, undone, Change, Steps, Moves, Chooses, Tells, Stores, Sees, Caches, Drops, effect}
+use Rattle.tier_safe.specs.Lineage.{IsPart, Describes}
+use Rattle.plain_log.specs.Grows.{BrokerGrows}
+use Rattle.tier_safe.specs.Starts.{DeletedEnd}
+use Rattle.tier_safe.specs.Fetches.{StillLeads, PieceStands, IsIndexOf, IndexStands, FetchStands, FetchesStand}
+use Rattle.tier_safe.specs.Safe.{TierSafe}
+use Rattle.tier_safe.specs.Moves.{MayMove, MayAsk, MayFind, MayIndex}
+use Rattle.tier_safe.specs.May.{MayAlter}
+use Rattle.tier_safe.proofs.Entries.{Follows}
+use Rattle.tier_safe.proofs.Steps.{StepGoes}
+use Rattle.tier_safe.proofs.Entries.{prefix_goes}
+use Rattle.tier_safe.proofs.Basics.{one_some}
+use Rattle.tier_safe.proofs.Lineage.{index_grows}
+use Rattle.tier_safe.proofs.IdsLaw.{followed}
+use Rattle.tier_safe.proofs.Covering.{finished_stays}
+
+-- a seat by its work
+
+abbrev pub FetchWork : List Path → List Note → ℕ → List Site → List Broker → Work → Type 0
+FetchWork paths notes start sites brokers (Seeks sought) =
+    (site : Site) (x : Broker) → slice_get sites sought.broker ≡ Some site → slice_get brokers sought.broker ≡ Some x → FetchStands paths notes start site x sought
+FetchWork paths notes start sites brokers other = Unit {0}
+
+fetches_set : (paths : List Path) (notes : List Note) (start : ℕ) (sites : List Site) (brokers : List Broker) (desk : List Work) (a : ℕ) (w : Work)
+    → FetchWork paths notes start sites brokers w → FetchesStand paths notes start sites brokers desk → FetchesStand paths notes start sites brokers (slice_set desk a w)
+fetches_set paths notes start sites brokers desk a w own h = λ k sought site x at is bx. elim (get-set desk a w k (Seeks sought) at) [
+  | inl here ↦ subst (λ (v : Work). FetchWork paths notes start sites brokers v) (sym here.1) own site x is bx
+  | inr there ↦ h k sought site x there.1 is bx
+]
+
+-- moves
+
+asked : (a : ℕ) (sought : Sought) (c : Scene) (p : Plain) → MayAsk a sought c p → (site : Site) (x : Broker) → slice_get c.sites sought.broker ≡ Some site
+    → slice_get p.brokers sought.broker ≡ Some x → FetchStands p.paths c.notes p.registry.start site x sought
+asked a sought c p m site x is bx =
+    let same = one_some (slice_get p.brokers sought.broker) m.x x m.broker_is bx in
+    let one = one_some (slice_get c.sites sought.broker) m.site site m.site_is is in
+    let stops : x.stops ≡ sought.stops = sym (ap (λ (y : Broker). y.stops) same) ∙ m.leads.stops in
+    record {
+      stops = omega (arith, stops);
+      taken = (m.x.log, m.path);
+      below = λ leads. subst (λ (s : Site). sought.offset < s.start) one m.below;
+      piece = λ piece has. absurd (cc (has, m.unread.0));
+      index = λ piece index has. absurd (cc (has, m.unread.0));
+    }
+
+found : (a : ℕ) (sought : Sought) (piece : Piece) (c : Scene) (p : Plain) → MayFind a sought piece c p → TierSafe c p → (site : Site) (x : Broker) → slice_get c.sites sought.broker ≡ Some site
+    → slice_get p.brokers sought.broker ≡ Some x → FetchStands p.paths c.notes p.registry.start site x (record sought { piece = Some piece })
+found a sought piece c p m h site x is bx =
+    let f = h.fetches a sought site x m.seat is bx in
+    record {
+      stops = f.stops;
+      taken = f.taken;
+      below = λ leads. f.below (record { stops = leads.stops; role = leads.role });
+      piece = λ other has leads low. (let same : other ≡ piece = cc (has) in
+          subst (λ (q : Piece). PieceStands c.notes x.log sought.offset q) (sym same) (m.gives x bx (record { stops = leads.stops; role = leads.role }) low));
+      index = λ other index has read. absurd (cc (read, m.unread));
+    }
+
+indexed : (a : ℕ) (sought : Sought) (index : OffsetTable) (c : Scene) (p : Plain) → MayIndex a sought index c p → TierSafe c p → (site : Site) (x : Broker) → slice_get c.sites sought.broker ≡ Some site
+    → slice_get p.brokers sought.broker ≡ Some x → FetchStands p.paths c.notes p.registry.start site x (record sought { index = Some index })
+indexed a sought index c p m h site x is bx =
+    let f = h.fetches a sought site x m.seat is bx in
+    record {
+      stops = f.stops;
+      taken = f.taken;
+      below = λ leads. f.below (record { stops = leads.stops; role = leads.role });
+      piece = λ piece has leads low. f.piece piece has (record { stops = leads.stops; role = leads.role }) low;
+      index = λ piece other has read leads low. (let same : other ≡ index = cc (read) in
+          subst (λ (t : OffsetTable). IndexStands p.paths (fold c.notes) piece.id t) (sym same) (m.is piece has));
+    }
+
+moved_fetch : (a : ℕ) (move : Move) (c : Scene) (p : Plain) → MayMove a move c p → TierSafe c p → FetchWork p.paths c.notes p.registry.start c.sites p.brokers (moved move)
+moved_fetch a Leaves c p m h = tt
+moved_fetch a (Overtakes copy) c p m h = tt
+moved_fetch a (Dooms b doomed) c p m h = tt
+moved_fetch a (Wants rebuild) c p m h = tt
+moved_fetch a (Refreshes rebuild) c p m h = tt
+moved_fetch a (Lines rebuild line) c p m h = tt
+moved_fetch a (Asks sought) c p m h = asked a sought c p m
+moved_fetch a (Finds sought piece) c p m h = found a sought piece c p m h
+moved_fetch a (Indexes sought index) c p m h = indexed a sought index c p m h
+
+-- notes
+
+describes_follows : (paths : List Path) (x y : Entry) (batches : List (List ℕ)) (line : List (ℕ × ℕ)) → Follows x y → Describes paths x batches line → Describes paths y batches line
+describes_follows paths x y batches line f d = record {
+  some = d.some;
+  is = subst (λ (n : ℕ). IsSegment n batches) (sym f.start) d.is;
+  part = subst (λ (n : ℕ). IsPart paths n batches line) (sym f.start) d.part;
+  last_is = rw (f.end, f.start) d.last_is;
+  map_is = f.map ∙ d.map_is;
+  max_ts_is = f.max_ts ∙ d.max_ts_is;
+  size_is = f.size ∙ d.size_is;
+}
+
+pub index_follows : (paths : List Path) (x y : Entry) (index : OffsetTable) → Follows x y → IsIndexOf paths x index → IsIndexOf paths y index
+index_follows paths x y index f i = record {
+  batches = i.batches;
+  line = i.line;
+  interval = i.interval;
+  describes = describes_follows paths x y i.batches i.line f i.describes;
+  is = i.is ∙ ap (λ (n : ℕ). index_of n i.interval (placed_from 0 i.batches)) (sym f.start);
+}
+
+-- a fetch after further notes
+fetch_told : (paths : List Path) (notes more : List Note) (start : ℕ) (site : Site) (x : Broker) (sought : Sought) → DeletedEnd notes start → IsPrefix notes more
+    → FetchStands paths notes start site x sought → FetchStands paths more start site x sought
+fetch_told paths notes more start site x sought ended pre f = record {
+  stops = f.stops;
+  taken = f.taken;
+  below = f.below;
+  piece = λ piece has leads low. (let q = f.piece piece has leads low in
+      record {
+        before = q.before;
+        begins = prefix_trans q.before notes more q.begins pre;
+        entry = q.entry;
+        there = q.there;
+        finished = q.finished;
+        holds = q.holds;
+        within = q.within;
+        epoch = q.epoch;
+        of_log = q.of_log;
+        of_copy = q.of_copy;
+      });
+  index = λ piece index has read leads low. (let q = f.piece piece has leads low in
+      λ entry is done.
+      (let y = prefix_goes q.before notes piece.id q.entry q.begins q.there in
+      let high : sought.offset ≤ q.entry.end = (let holds = q.holds.1 in let within = q.within.1 in omega (arith, holds, within)) in
+      let now = finished_stays notes notes q.before start sought.offset piece.id q.entry y.0 ended q.begins (prefix_self notes) q.there q.finished low high y.1 y.2 in
+      let z = prefix_goes notes more piece.id y.0 pre y.1 in
+      let same : z.0 ≡ entry = one_some (entry_of piece.id (fold more)) z.0 entry z.1 is in
+      subst (λ (e : Entry). IsIndexOf paths e index) same (index_follows paths y.0 z.0 index z.2 (f.index piece index has read leads low y.0 y.1 now))));
+}
+
+told_fetch : (paths : List Path) (notes : List Note) (start : ℕ) (sites : List Site) (brokers : List Broker) (telling : Telling) → FetchWork paths notes start sites brokers (after_telling telling)
+told_fetch paths notes start sites brokers (CopyStarts copy) = tt
+told_fetch paths notes start sites brokers (CopyEnds copy) = tt
+told_fetch paths notes start sites brokers (ExpiryStarts doomed) = tt
+told_fetch paths notes start sites brokers (ExpiryEnds doomed) = tt
+
+undone_fetch : (paths : List Path) (notes : List Note) (start : ℕ) (sites : List Site) (brokers : List Broker) (copy : Copied) (n : ℕ) (next : Option ObjectKey)
+    → FetchWork paths notes start sites brokers (undone copy n next)
+undone_fetch paths notes start sites brokers copy n None = tt
+undone_fetch paths notes start sites brokers copy n (Some key) = tt
+
+stored_fetch : (paths : List Path) (notes : List Note) (start : ℕ) (sites : List Site) (brokers : List Broker) (storing : Storing) → FetchWork paths notes start sites brokers (after_storing storing)
+stored_fetch paths notes start sites brokers (Puts copy n key) = tt
+stored_fetch paths notes start sites brokers (Undoes copy n key) = undone_fetch paths notes start sites brokers copy (n + 1) (slice_get (copy_keys copy) (n + 1))
+stored_fetch paths notes start sites brokers (Deletes doomed n key) = tt
+
+-- a site whose local start doesn't fall
+fetches_site : (paths : List Path) (notes : List Note) (start : ℕ) (sites : List Site) (brokers : List Broker) (desk : List Work) (b : ℕ) (old new : Site) → slice_get sites b ≡ Some old
+    → old.start ≤ new.start → FetchesStand paths notes start sites brokers desk → FetchesStand paths notes start (slice_set sites b new) brokers desk
+fetches_site paths notes start sites brokers desk b old new at rises h = λ a sought site x seat is bx. elim (get-set sites b new sought.broker site is) [
+  | inl here ↦
+      let f = h a sought old x seat (ap (slice_get sites) here.0 ∙ at) bx in
+      record {
+        stops = f.stops;
+        taken = f.taken;
+        below = λ leads. (let low = f.below leads in subst (λ (s : Site). sought.offset < s.start) (sym here.1) (omega (arith, low, rises)));
+        piece = f.piece;
+        index = f.index;
+      }
+  | inr there ↦ h a sought site x seat there.1 bx
+]
+
+pub fetches_kept : (change : Change) (c : Scene) (p : Plain) → MayAlter change c p → TierSafe c p
+    → FetchesStand p.paths (effect change c).notes p.registry.start (effect change c).sites p.brokers (effect change c).desk
+fetches_kept (Steps sites) c p m h = absurd m
+fetches_kept (Moves a move) c p m h = fetches_set p.paths c.notes p.registry.start c.sites p.brokers c.desk a (moved move) (moved_fetch a move c p m h) h.fetches
+fetches_kept (Chooses a b site copy) c p m h =
+    fetches_set p.paths c.notes p.registry.start (slice_set c.sites b (record site { next = site.next + 1 })) p.brokers c.desk a (Copies copy copying.Start) tt
+    (fetches_site p.paths c.notes p.registry.start c.sites p.brokers c.desk b site (record site { next = site.next + 1 }) m.site_is (omega arith) h.fetches)
+fetches_kept (Tells a telling teller) c p m h =
+    let notes = c.notes ++ note_for telling teller ∷ [] in
+    let first = prefix_more c.notes c.notes (note_for telling teller ∷ []) (prefix_self c.notes) in
+    fetches_set p.paths notes p.registry.start c.sites p.brokers c.desk a (after_telling telling) (told_fetch p.paths notes p.registry.start c.sites p.brokers telling)
+    (λ k sought site x seat is bx. fetch_told p.paths c.notes notes p.registry.start site x sought h.deletions.ended first (h.fetches k sought site x seat is bx))
+fetches_kept (Stores a storing objects) c p m h =
+    fetches_set p.paths c.notes p.registry.start c.sites p.brokers c.desk a (after_storing storing) (stored_fetch p.paths c.notes p.registry.start c.sites p.brokers storing) h.fetches
+fetches_kept (Sees b site view) c p m h =
+    fetches_site p.paths c.notes p.registry.start c.sites p.brokers c.desk b site (record site { view = view }) m.site_is (omega arith) h.fetches
+fetches_kept (Caches b site cache) c p m h =
+    fetches_site p.paths c.notes p.registry.start c.sites p.brokers c.desk b site (record site { cache = cache }) m.site_is (omega arith) h.fetches
+fetches_kept (Drops b site start dropping) c p m h =
+    fetches_site p.paths c.notes p.registry.start c.sites p.brokers c.desk b site (record site { start = start }) m.site_is m.rises h.fetches
+
+-- a step
+
+-- what holds an offset of a beginning holds it
+holding_more : (xs ys : List (List ℕ)) (o e : ℕ) → IsPrefix xs ys → epoch_holding xs o ≡ Some e → epoch_holding ys o ≡ Some e
+holding_more [] ys o e p h = absurd (cc (h))
+holding_more (x ∷ xs) [] o e p h = absurd (cc (p.1))
+holding_more (x ∷ xs) (y ∷ ys) o e p h =
+    let same : y ≡ x = cc (p.1) in
+    subst (λ (w : List ℕ). epoch_holding (w ∷ ys) o ≡ Some e) (sym same) (by (nat_lt o (base_of x)) (nat_le o (last_of x)) h (holding_more xs ys o e (p.0, cc (p.1))))
+  where
+    by : (t u : Bool) → cond t None (cond u (Some (epoch_of x)) (epoch_holding xs o)) ≡ Some e → (epoch_holding xs o ≡ Some e → epoch_holding ys o ≡ Some e)
+        → cond t None (cond u (Some (epoch_of x)) (epoch_holding ys o)) ≡ Some e
+    by true u h more = absurd (cc (h))
+    by false true h more = h
+    by false false h more = more h
+
+-- who leads as it did when the fetch began did so before the step, and its log only grew
+led_before : (paths : List Path) (sought : Sought) (x y : Broker) → BrokerGrows paths x y → sought.stops ≤ x.stops → ((log : List (List ℕ)) × (path_of paths sought.epoch ≡ Some log))
+    → StillLeads sought y → (StillLeads sought x) × IsPrefix x.log y.log × (y.stops ≡ x.stops) × (x.role ≡ Leads sought.epoch)
+led_before paths sought x y g low taken leads =
+    let rises = g.stops in
+    let stops : y.stops ≡ x.stops = omega (arith, rises, low, leads.stops) in
+    elim (g.leads sought.epoch stops leads.role) [
+      | inl before ↦ (record { stops = sym stops ∙ leads.stops; role = before.0 }, before.1, stops, before.0)
+      | inr none ↦ absurd (cc (none, taken.1))
+    ]
+
+pub fetches_stepped : (sites : List Site) (c : Scene) (p q : Plain) → StepGoes sites c p q → TierSafe c p → FetchesStand q.paths c.notes q.registry.start sites q.brokers c.desk
+fetches_stepped sites c p q m h = λ a sought site y seat is by.
+    (let s = followed sites c p q sought.broker site m h is in
+    let same = one_some (slice_get q.brokers sought.broker) s.y y s.y_is by in
+    let f = h.fetches a sought s.old s.x seat s.old_is s.x_is in
+    let g = m.grows.brokers sought.broker s.x s.y s.x_is s.y_is in
+    subst (λ (z : Broker). FetchStands q.paths c.notes q.registry.start site z sought) same (record {
+      stops = (let one = f.stops in let two = g.stops in omega (arith, one, two));
+      taken = (let k = m.grows.paths sought.epoch f.taken.0 f.taken.1 in (k.0, k.1));
+      below = λ leads. (let b = led_before p.paths sought s.x s.y g f.stops f.taken leads in
+          let low = f.below b.0 in
+          let start = s.goes.leads sought.epoch b.2 b.3 leads.role in
+          omega (arith, low, start));
+      piece = λ piece has leads low. (let b = led_before p.paths sought s.x s.y g f.stops f.taken leads in
+          let q = f.piece piece has b.0 (omega (arith, low, m.grows.start)) in
+          record {
+            before = q.before;
+            begins = q.begins;
+            entry = q.entry;
+            there = q.there;
+            finished = q.finished;
+            holds = q.holds;
+            within = q.within;
+            epoch = q.epoch;
+            of_log = λ o from to. holding_more s.x.log s.y.log o q.epoch b.1 (q.of_log o from to);
+            of_copy = q.of_copy;
+          });
+      index = λ piece index has read leads low. (let b = led_before p.paths sought s.x s.y g f.stops f.taken leads in
+          λ entry there done. index_grows p.paths q.paths entry index m.grows.paths (f.index piece index has read b.0 (omega (arith, low, m.grows.start)) entry there done));
+    }))

@@ -1,0 +1,68 @@
+-- Parts of paths, entries and copies, over paths that grow.
+use Rattle.std.proofs.Common.{◌≡◌, ◌∙◌, ℕ, List, ◌++◌}
+use Rattle.tier_base.specs.declared.plain.Part.{Part}
+use Rattle.segment_meta.specs.declared.note.Entry.{Entry}
+use Rattle.object_store.specs.Content.{Objects}
+use Rattle.object_store.specs.Place.{key_of}
+use Rattle.plain_log.specs.declared.state.Path.{Path}
+use Rattle.plain_log.proofs.Wider.{has_wider}
+use Rattle.sparse_index.specs.Offsets.{OffsetTable}
+use Rattle.copy_task.specs.Copying.{Copied}
+use Rattle.plain_log.specs.Grows.{PathsGrow}
+use Rattle.tier_safe.specs.Lineage.{IsPart, Describes, IsHeld, IsSource}
+use Rattle.tier_safe.specs.Fetches.{IsIndexOf}
+
+pub part_grows : (ps qs : List Path) (base : ℕ) (batches : List (List ℕ)) (line : List (ℕ × ℕ)) → PathsGrow ps qs → IsPart ps base batches line → IsPart qs base batches line
+part_grows ps qs base batches line w h = record {
+  epoch = h.epoch;
+  front = h.front;
+  ends = h.ends;
+  begins = has_wider ps qs h.epoch (h.front ++ batches) w h.begins;
+  line_is = h.line_is;
+}
+
+pub describes_grows : (ps qs : List Path) (entry : Entry) (batches : List (List ℕ)) (line : List (ℕ × ℕ)) → PathsGrow ps qs → Describes ps entry batches line → Describes qs entry batches line
+describes_grows ps qs entry batches line w h = record {
+  some = h.some;
+  is = h.is;
+  part = part_grows ps qs entry.start batches line w h.part;
+  last_is = h.last_is;
+  map_is = h.map_is;
+  max_ts_is = h.max_ts_is;
+  size_is = h.size_is;
+}
+
+pub held_grows : (objects : Objects) (ps qs : List Path) (entry : Entry) → PathsGrow ps qs → IsHeld objects ps entry → IsHeld objects qs entry
+held_grows objects ps qs entry w h = record {
+  batches = h.batches;
+  line = h.line;
+  interval = h.interval;
+  describes = describes_grows ps qs entry h.batches h.line w h.describes;
+  stand = h.stand;
+}
+
+pub source_grows : (ps qs : List Path) (copy : Copied) → PathsGrow ps qs → IsSource ps copy → IsSource qs copy
+source_grows ps qs copy w h = record {
+  copied = h.copied;
+  part = part_grows ps qs copy.segment.base h.copied.batches copy.line w h.part;
+}
+
+pub index_grows : (ps qs : List Path) (entry : Entry) (index : OffsetTable) → PathsGrow ps qs → IsIndexOf ps entry index → IsIndexOf qs entry index
+index_grows ps qs entry index w h = record {
+  batches = h.batches;
+  line = h.line;
+  interval = h.interval;
+  describes = describes_grows ps qs entry h.batches h.line w h.describes;
+  is = h.is;
+}
+
+-- the objects of an entry stand where those under its keys do
+pub held_same : (old new : Objects) (paths : List Path) (entry : Entry) → ((part : Part) → new (key_of entry.partition entry.id part) ≡ old (key_of entry.partition entry.id part))
+    → IsHeld old paths entry → IsHeld new paths entry
+held_same old new paths entry same h = record {
+  batches = h.batches;
+  line = h.line;
+  interval = h.interval;
+  describes = h.describes;
+  stand = λ part. same part ∙ h.stand part;
+}

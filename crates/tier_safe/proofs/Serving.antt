@@ -1,0 +1,136 @@
+-- What a fetch and a rebuild on the desk read is of the log that they are for.
+use Rattle.std.proofs.Common.{◌≡◌, ◌∙◌, sym, ap, subst, refl, ℕ, ◌+◌, ◌-◌, ◌<◌, ◌≤◌, List, Some, slice_get, arith}
+use mathlib.Core.List.{IsPrefix}
+use Rattle.tier_base.specs.declared.plain.State.TheVariants.{CopyFinished}
+use Rattle.log_terms.specs.Line.{epoch_at}
+use Rattle.log_terms.specs.Log.{IsConsecutive, end_of, from_offset}
+use Rattle.log_terms.proofs.Lists.{prefix_self}
+use Rattle.log_terms.proofs.Logs.{one_end, prefix_end, consecutive_prefix}
+use Rattle.sparse_index.specs.Offsets.{OffsetTable}
+use Rattle.segment_file.specs.Index.{placed_from, index_of}
+use Rattle.segment_meta.specs.declared.note.Entry.{Entry}
+use Rattle.plain_log.specs.declared.state.Broker.{Broker}
+use Rattle.plain_log.specs.declared.state.State.{State as Plain}
+use Rattle.plain_log.specs.Safe.{PlainSafe}
+use Rattle.remote_view.specs.Fold.{Seen, entry_of, fold}
+use Rattle.remote_find.specs.declared.piece.Piece.{Piece}
+use Rattle.tier_safe.specs.Scene.{Site, Sought, Seeks, Scene}
+use Rattle.tier_safe.specs.Lineage.{IsHeld}
+use Rattle.tier_safe.specs.Fetches.{StillLeads}
+use Rattle.tier_safe.specs.Safe.{TierSafe}
+use Rattle.tier_safe.specs.Kept.{Shares, whole_of}
+use Rattle.tier_safe.specs.Reads.{FetchesAreServed, RebuildsAreServed}
+use Rattle.tier_safe.proofs.Entries.{prefix_goes}
+use Rattle.tier_safe.proofs.Covering.{holding_same, covers_is, finished_stays}
+use Rattle.tier_safe.proofs.Agreeing.{has_safe, map_at, entry_agrees, describes_one}
+use Rattle.tier_safe.proofs.Runs.{runs_same, from_back}
+
+-- a fetch
+
+-- the piece's copy is finished, its objects stand, and its batches are the log's up to the piece's end
+record FetchReads (c : Scene) (p : Plain) (x : Broker) (piece : Piece) : Type 0 where
+  pub entry : Entry
+  pub there : entry_of piece.id (fold c.notes) ≡ Some entry
+  pub finished : entry.state ≡ CopyFinished
+  pub held : IsHeld c.objects p.paths entry
+  pub within : (entry.start ≤ piece.from) × (piece.to ≤ entry.end + 1)
+  pub shares : Shares (whole_of held) x.log (piece.to - 1)
+
+fetch_reads : (a : ℕ) (sought : Sought) (piece : Piece) (c : Scene) (p : Plain) (site : Site) (x : Broker) → PlainSafe p → TierSafe c p
+    → slice_get c.desk a ≡ Some (Seeks sought) → slice_get c.sites sought.broker ≡ Some site → slice_get p.brokers sought.broker ≡ Some x
+    → sought.piece ≡ Some piece → StillLeads sought x → p.registry.start ≤ sought.offset → FetchReads c p x piece
+fetch_reads a sought piece c p site x s h seat site_is x_is is leads past =
+    let k = (h.fetches a sought site x seat site_is x_is).piece piece is leads past in
+    let y = prefix_goes k.before c.notes piece.id k.entry k.begins k.there in
+    let holds = k.holds in
+    let within = k.within in
+    let high : sought.offset ≤ k.entry.end = omega (arith, holds.1, within.1) in
+    let done = finished_stays c.notes c.notes k.before p.registry.start sought.offset piece.id k.entry y.0 h.deletions.ended k.begins (prefix_self c.notes) k.there k.finished past high y.1 y.2 in
+    let held = h.finished piece.id y.0 y.1 done in
+    let low : piece.from ≤ piece.to - 1 = omega (arith, holds.0, holds.1) in
+    let last : piece.to - 1 < piece.to = omega (arith, holds.1) in
+    let map : epoch_at y.0.map (piece.to - 1) ≡ Some k.epoch = ap (λ (l : List (ℕ × ℕ)). epoch_at l (piece.to - 1)) y.2.map ∙ k.of_copy (piece.to - 1) low last in
+    record {
+      entry = y.0;
+      there = y.1;
+      finished = done;
+      held = held;
+      within = (omega (arith, within.0, y.2.start), omega (arith, within.1, y.2.end));
+      shares = entry_agrees p y.0 held.batches held.line x.log (piece.to - 1) k.epoch s held.describes (s.brokers sought.broker x x_is).log
+          (omega (arith, within.0, y.2.start, low)) (omega (arith, within.1, y.2.end, holds.1)) map (k.of_log (piece.to - 1) low last);
+    }
+
+-- its index is that of the same batches
+fetch_index : (a : ℕ) (sought : Sought) (piece : Piece) (index : OffsetTable) (c : Scene) (p : Plain) (site : Site) (x : Broker) → PlainSafe p → TierSafe c p
+    → slice_get c.desk a ≡ Some (Seeks sought) → slice_get c.sites sought.broker ≡ Some site → slice_get p.brokers sought.broker ≡ Some x
+    → sought.piece ≡ Some piece → sought.index ≡ Some index → StillLeads sought x → p.registry.start ≤ sought.offset
+    → (r : FetchReads c p x piece)
+    → (interval : ℕ) × (index ≡ index_of r.entry.start interval (placed_from 0 r.held.batches))
+fetch_index a sought piece index c p site x s h seat site_is x_is is read leads past r =
+    let k = (h.fetches a sought site x seat site_is x_is).index piece index is read leads past r.entry r.there r.finished in
+    let one = describes_one p r.entry k.batches r.held.batches k.line r.held.line s k.describes r.held.describes in
+    (k.interval, k.is ∙ ap (λ (b : List (List ℕ)). index_of r.entry.start k.interval (placed_from 0 b)) one)
+
+fetch_runs : (c : Scene) (p : Plain) (x : Broker) (piece : Piece) (offset : ℕ) (run : List (List ℕ)) → PlainSafe p → (r : FetchReads c p x piece)
+    → piece.from ≤ offset → offset < piece.to → IsPrefix run (from_offset offset r.held.batches) → end_of run ≤ piece.to → IsPrefix run (from_offset offset x.log)
+fetch_runs c p x piece offset run s r low high pre below =
+    let part = r.held.describes.part in
+    let safe = has_safe p part.epoch (whole_of r.held) s part.begins in
+    let front = consecutive_prefix 0 part.front (whole_of r.held) (r.held.batches, refl) safe.consecutive in
+    let back = from_back 0 offset part.front r.held.batches front (omega (arith, part.ends, r.within.0, low)) in
+    runs_same (whole_of r.held) x.log run offset (piece.to - 1) r.shares safe.consecutive (omega (arith, high))
+    (subst (λ (l : List (List ℕ)). IsPrefix run l) (sym back) pre) (omega (arith, below, high))
+
+-- what a fetch reads is its log's
+pub fetches_served : FetchesAreServed
+fetches_served c p a sought piece site x both seat site_is x_is is leads past =
+    let r = fetch_reads a sought piece c p site x both.plain both.tier seat site_is x_is is leads past in
+    let k = (both.tier.fetches a sought site x seat site_is x_is).piece piece is leads past in
+    record {
+      entry = r.entry;
+      there = r.there;
+      partition = both.tier.partition.told piece.id r.entry r.there;
+      finished = r.finished;
+      held = r.held;
+      runs = λ run pre below. fetch_runs c p x piece sought.offset run both.plain r k.holds.0 k.holds.1 pre below;
+      index = λ index read. fetch_index a sought piece index c p site x both.plain both.tier seat site_is x_is is read leads past r;
+    }
+
+-- a rebuild
+
+-- what a log and a beginning of it share, past the beginning's last offset, is all of the beginning
+shares_all : (whole front : List (List ℕ)) (n : ℕ) → IsConsecutive 0 front → end_of front ≡ n → 0 < n → Shares whole front (n - 1) → IsPrefix front whole
+shares_all whole front n c ends some m =
+    let le = prefix_end m.front front c m.two in
+    let all : m.front ≡ front = one_end 0 m.front front front c m.two (prefix_self front) (omega (arith, ends, m.past, le, some)) in
+    subst (λ (w : List (List ℕ)). IsPrefix w whole) all m.one
+
+-- what a rebuild reads is the path's
+pub rebuilds_served : RebuildsAreServed
+rebuilds_served c p a r site id x e both seat site_is below found gives holds =
+    let s = both.plain in
+    let h = both.tier in
+    let k = h.rebuilds a r seat in
+    let v = h.views r.broker site site_is in
+    let t = covers_is e (r.wanted - 1) x gives in
+    let there : entry_of id (fold v.before) ≡ Some x = subst (λ (w : Seen). entry_of id w.entries ≡ Some x) v.is found in
+    let y = prefix_goes v.before c.notes id x v.begins there in
+    let done = finished_stays c.notes c.notes v.before p.registry.start (r.wanted - 1) id x y.0 h.deletions.ended v.begins (prefix_self c.notes) there t.finished (omega (arith, below)) t.to y.1 y.2 in
+    let held = h.finished id y.0 y.1 done in
+    let map : epoch_at y.0.map (r.wanted - 1) ≡ Some e = ap (λ (l : List (ℕ × ℕ)). epoch_at l (r.wanted - 1)) y.2.map ∙ t.gives in
+    let sf = has_safe p r.epoch k.front s k.begins in
+    let sa = has_safe p held.describes.part.epoch (whole_of held) s held.describes.part.begins in
+    let m = entry_agrees p y.0 held.batches held.line k.front (r.wanted - 1) e s held.describes sf (omega (arith, t.from, y.2.start)) (omega (arith, t.to, y.2.end)) map holds in
+    let ends = k.ends in
+    let begins = shares_all (whole_of held) k.front r.wanted sf.consecutive ends (omega (arith, below)) m in
+    let high = prefix_end k.front (whole_of held) sa.consecutive begins in
+    record {
+      entry = y.0;
+      there = y.1;
+      partition = h.partition.told id y.0 y.1;
+      held = held;
+      begins = begins;
+      says = λ o low.
+          map_at 0 (whole_of held) o sa.consecutive (omega arith) (omega (arith, low, ends, high))
+          ∙ holding_same 0 k.front (whole_of held) o begins (omega arith) (omega (arith, low, ends));
+    }

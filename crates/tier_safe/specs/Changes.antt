@@ -1,0 +1,174 @@
+-- What may change in the tier, one thing at a time, and what is left of it.
+--
+--   change    what happens
+--   Steps     the plain log takes a step, and the brokers' sides follow
+--   Moves     a command takes something up, goes on, or leaves the desk
+--   Chooses   a copy takes its segment, under its broker's next id
+--   Tells     a note goes to the metadata log, and its command goes on
+--   Stores    an object is put or taken away, and its command goes on
+--   Sees      a broker's view takes in further notes
+--   Caches    a broker keeps a remote index, or lets one go
+--   Drops     a local log starts later
+--
+-- Each is what one call of a device does, or less. A turn is some of them, one after another. A call that failed is its
+-- change, where it was done, and then the command leaves the desk.
+use Rattle.std.specs.Prelude.{◌≡◌, ℕ, ◌+◌, true, List, [], ◌∷◌, ◌++◌, Option, Some, None, slice_get, slice_set}
+use Rattle.tier_base.specs.declared.plain.State.TheVariants.{DeleteStarted, DeleteFinished}
+use Rattle.tier_base.specs.declared.object_key.ObjectKey.{ObjectKey}
+use Rattle.tier_base.specs.Told.{replaced, removed}
+use Rattle.tier_base.specs.declared.names.SegmentId.{SegmentId}
+use Rattle.sparse_index.specs.Offsets.{OffsetTable}
+use Rattle.segment_meta.specs.declared.note.Note.{Note}
+use Rattle.segment_bundle.specs.Parts.{part_in}
+use Rattle.object_store.specs.Content.{Objects}
+use Rattle.meta_log.specs.declared.teller.Teller.{Teller}
+use Rattle.remote_view.specs.Fold.{Seen}
+use Rattle.remote_find.specs.declared.piece.Piece.{Piece}
+use Rattle.copy_task.specs.Copying.{Copied, keys as copy_keys, start_note, finish_note}
+use Rattle.copy_task.specs.Turns.{put_at}
+use Rattle.copy_task.specs.declared.turn.Next.TheVariants as copying
+use Rattle.expiry_task.specs.declared.turn.Doomed.{Doomed}
+use Rattle.expiry_task.specs.Turns.{note_of, keys as expiry_keys, delete_at}
+use Rattle.expiry_task.specs.declared.turn.Next.TheVariants as expiring
+use Rattle.tier_safe.specs.Scene.{Site, Rebuild, Sought, Work, Free, Copies, Expires, Rebuilds, Seeks, Scene}
+
+-- moves: changes of the desk alone
+
+-- a copy finds that it was overtaken; an expiry takes its segment; a rebuild its offset, that all notes were seen, and a line; a
+-- fetch its offset, a piece, and an index
+pub data Move : Type 0 where
+  Leaves : Move
+  Overtakes : (copy : Copied) → Move
+  Dooms : (b : ℕ) → (doomed : Doomed) → Move
+  Wants : (rebuild : Rebuild) → Move
+  Refreshes : (rebuild : Rebuild) → Move
+  Lines : (rebuild : Rebuild) → (line : List (ℕ × ℕ)) → Move
+  Asks : (sought : Sought) → Move
+  Finds : (sought : Sought) → (piece : Piece) → Move
+  Indexes : (sought : Sought) → (index : OffsetTable) → Move
+
+-- what the seat keeps after a move
+abbrev pub moved : Move → Work
+moved Leaves = Free
+moved (Overtakes copy) = Copies copy (copying.Delete 0)
+moved (Dooms b doomed) = Expires doomed expiring.Start
+moved (Wants rebuild) = Rebuilds rebuild
+moved (Refreshes rebuild) = Rebuilds (record rebuild { refreshed = true })
+moved (Lines rebuild line) = Rebuilds (record rebuild { line = Some line })
+moved (Asks sought) = Seeks sought
+moved (Finds sought piece) = Seeks (record sought { piece = Some piece })
+moved (Indexes sought index) = Seeks (record sought { index = Some index })
+
+-- notes
+
+-- which note a command appends
+pub data Telling : Type 0 where
+  CopyStarts : (copy : Copied) → Telling
+  CopyEnds : (copy : Copied) → Telling
+  ExpiryStarts : (doomed : Doomed) → Telling
+  ExpiryEnds : (doomed : Doomed) → Telling
+
+-- what its seat keeps before
+abbrev pub before_telling : Telling → Work
+before_telling (CopyStarts copy) = Copies copy copying.Start
+before_telling (CopyEnds copy) = Copies copy copying.Finish
+before_telling (ExpiryStarts doomed) = Expires doomed expiring.Start
+before_telling (ExpiryEnds doomed) = Expires doomed expiring.Finish
+
+-- and after it
+abbrev pub after_telling : Telling → Work
+after_telling (CopyStarts copy) = Copies copy (copying.Put 0)
+after_telling (CopyEnds copy) = Copies copy copying.Check
+after_telling (ExpiryStarts doomed) = Expires doomed (expiring.Delete 0)
+after_telling (ExpiryEnds doomed) = Free
+
+-- the note itself
+abbrev pub note_for : Telling → Teller → Note
+note_for (CopyStarts copy) teller = start_note copy teller
+note_for (CopyEnds copy) teller = finish_note copy teller
+note_for (ExpiryStarts doomed) teller = note_of doomed teller DeleteStarted
+note_for (ExpiryEnds doomed) teller = note_of doomed teller DeleteFinished
+
+-- objects
+
+-- a copy puts the object of a number, under its key, or takes one away again; an expiry takes one away
+pub data Storing : Type 0 where
+  Puts : (copy : Copied) → (n : ℕ) → (key : ObjectKey) → Storing
+  Undoes : (copy : Copied) → (n : ℕ) → (key : ObjectKey) → Storing
+  Deletes : (doomed : Doomed) → (n : ℕ) → (key : ObjectKey) → Storing
+
+-- what its seat keeps before
+abbrev pub before_storing : Storing → Work
+before_storing (Puts copy n key) = Copies copy (copying.Put n)
+before_storing (Undoes copy n key) = Copies copy (copying.Delete n)
+before_storing (Deletes doomed n key) = Expires doomed (expiring.Delete n)
+
+-- what the seat of an overtaken copy keeps, by the key of the object that goes next
+abbrev pub undone : Copied → ℕ → Option ObjectKey → Work
+undone copy n None = Free
+undone copy n (Some key) = Copies copy (copying.Delete n)
+
+-- what its seat keeps after it
+abbrev pub after_storing : Storing → Work
+after_storing (Puts copy n key) = Copies copy (put_at (n + 1) (slice_get (copy_keys copy) (n + 1)))
+after_storing (Undoes copy n key) = undone copy (n + 1) (slice_get (copy_keys copy) (n + 1))
+after_storing (Deletes doomed n key) = Expires doomed (delete_at (n + 1) (slice_get (expiry_keys doomed) (n + 1)))
+
+-- the key
+abbrev pub key_for : Storing → ObjectKey
+key_for (Puts copy n key) = key
+key_for (Undoes copy n key) = key
+key_for (Deletes doomed n key) = key
+
+-- it is that of the number
+abbrev pub KeyStands : Storing → Type 0
+KeyStands (Puts copy n key) = slice_get (copy_keys copy) n ≡ Some key
+KeyStands (Undoes copy n key) = slice_get (copy_keys copy) n ≡ Some key
+KeyStands (Deletes doomed n key) = slice_get (expiry_keys doomed) n ≡ Some key
+
+-- what becomes of the object
+abbrev pub made_by : Storing → Option (List ℕ) → Option (List ℕ)
+made_by (Puts copy n key) = replaced (part_in copy.parts key.part)
+made_by (Undoes copy n key) = removed
+made_by (Deletes doomed n key) = removed
+
+-- changes
+
+-- why a local log starts later: it dropped its first segments, or a rebuild of this actor began it anew
+pub data Dropping : Type 0 where
+  Trims : Dropping
+  Restarts : (a : ℕ) → (rebuild : Rebuild) → Dropping
+
+-- by actor a, at broker b, whose side was this site
+pub data Change : Type 0 where
+  Steps : (sites : List Site) → Change
+  Moves : (a : ℕ) → (move : Move) → Change
+  Chooses : (a b : ℕ) → (site : Site) → (copy : Copied) → Change
+  Tells : (a : ℕ) → (telling : Telling) → (teller : Teller) → Change
+  Stores : (a : ℕ) → (storing : Storing) → (objects : Objects) → Change
+  Sees : (b : ℕ) → (site : Site) → (view : Seen) → Change
+  Caches : (b : ℕ) → (site : Site) → (cache : List (SegmentId × OffsetTable)) → Change
+  Drops : (b : ℕ) → (site : Site) → (start : ℕ) → (dropping : Dropping) → Change
+
+-- the tier after a change
+abbrev pub effect : Change → Scene → Scene
+effect (Steps sites) c = record c { sites = sites }
+effect (Moves a move) c = record c { desk = slice_set c.desk a (moved move) }
+effect (Chooses a b site copy) c = record c {
+  sites = slice_set c.sites b (record site { next = site.next + 1 });
+  desk = slice_set c.desk a (Copies copy copying.Start);
+}
+effect (Tells a telling teller) c = record c {
+  notes = c.notes ++ note_for telling teller ∷ [];
+  desk = slice_set c.desk a (after_telling telling);
+}
+effect (Stores a storing objects) c =
+    record c { objects = objects; desk = slice_set c.desk a (after_storing storing) }
+effect (Sees b site view) c = record c { sites = slice_set c.sites b (record site { view = view }) }
+effect (Caches b site cache) c = record c { sites = slice_set c.sites b (record site { cache = cache }) }
+effect (Drops b site start dropping) c = record c { sites = slice_set c.sites b (record site { start = start }) }
+
+-- the tier after several, one after another
+abbrev pub effects : List Change → Scene → Scene
+effects [] c = c
+effects (change ∷ changes) c = effects changes (effect change c)

@@ -1,0 +1,97 @@
+-- What holds of fetches from the remote tier, and of cached indexes.
+--
+--   Fetches    what a fetch on the desk has found is of the log that it reads
+--   Caches     a cached index is that of its segment
+--
+-- A fetch takes several turns, and a stop, an election or a deletion may come between any two. What it has found stands as
+-- long as its broker leads on and the log start isn't above its offset. Otherwise it is answered without it.
+--
+-- Source: KIP-405: fetches below the local log start offset, and RemoteIndexCache.
+use Rattle.std.specs.Prelude.{◌≡◌, ℕ, ◌+◌, ◌<◌, ◌≤◌, List, Some, slice_get}
+use mathlib.Core.List.{IsPrefix}
+use Rattle.tier_base.specs.declared.plain.State.TheVariants.{CopyFinished}
+use Rattle.tier_base.specs.declared.names.SegmentId.{SegmentId}
+use Rattle.tier_base.specs.Told.{In}
+use Rattle.log_terms.specs.Line.{epoch_at, epoch_holding}
+use Rattle.sparse_index.specs.Offsets.{OffsetTable}
+use Rattle.segment_file.specs.Index.{placed_from, index_of}
+use Rattle.segment_meta.specs.declared.note.Entry.{Entry}
+use Rattle.segment_meta.specs.declared.note.Note.{Note}
+use Rattle.plain_log.specs.declared.state.Path.{Path}
+use Rattle.plain_log.specs.declared.state.Broker.{Broker}
+use Rattle.plain_log.specs.declared.state.Role.TheVariants.{Leads}
+use Rattle.plain_log.specs.State.{path_of}
+use Rattle.remote_view.specs.Fold.{entry_of, fold}
+use Rattle.remote_find.specs.declared.piece.Piece.{Piece}
+use Rattle.tier_safe.specs.Scene.{Site, Sought, Work, Seeks}
+use Rattle.tier_safe.specs.Lineage.{Describes}
+
+-- what is found
+
+-- the piece holds the offset, is of a copy that was finished after the first so many notes, and copy and log have one epoch in it
+pub record PieceStands (notes : List Note) (log : List (List ℕ)) (offset : ℕ) (piece : Piece) : Type 0 where
+  pub before : List Note
+  pub begins : IsPrefix before notes
+  pub entry : Entry
+  pub there : entry_of piece.id (fold before) ≡ Some entry
+  pub finished : entry.state ≡ CopyFinished
+  pub holds : (piece.from ≤ offset) × (offset < piece.to)
+  pub within : (entry.start ≤ piece.from) × (piece.to ≤ entry.end + 1)
+  pub epoch : ℕ
+  pub of_log : (o : ℕ) → piece.from ≤ o → o < piece.to → epoch_holding log o ≡ Some epoch
+  pub of_copy : (o : ℕ) → piece.from ≤ o → o < piece.to → epoch_at entry.map o ≡ Some epoch
+
+-- the index is that of the batches that an entry tells of
+pub record IsIndexOf (paths : List Path) (entry : Entry) (index : OffsetTable) : Type 0 where
+  pub batches : List (List ℕ)
+  pub line : List (ℕ × ℕ)
+  pub interval : ℕ
+  pub describes : Describes paths entry batches line
+  pub is : index ≡ index_of entry.start interval (placed_from 0 batches)
+
+-- it is, while the copy of this id is finished
+abbrev pub IndexStands : List Path → List Entry → SegmentId → OffsetTable → Type 0
+IndexStands paths entries id index =
+    (entry : Entry) → entry_of id entries ≡ Some entry → entry.state ≡ CopyFinished → IsIndexOf paths entry index
+
+-- fetches
+
+-- the fetch's broker leads the epoch that it led, and hasn't stopped since
+pub record StillLeads (sought : Sought) (x : Broker) : Type 0 where
+  pub stops : x.stops ≡ sought.stops
+  pub role : x.role ≡ Leads sought.epoch
+
+-- a fetch on the desk: while its broker leads as it did, its offset is below the local start, and what it has found stands
+pub record FetchStands (paths : List Path) (notes : List Note) (start : ℕ) (site : Site) (x : Broker) (sought : Sought)
+    : Type 0 where
+  pub stops : sought.stops ≤ x.stops
+  pub taken : (log : List (List ℕ)) × (path_of paths sought.epoch ≡ Some log)
+  pub below : StillLeads sought x → sought.offset < site.start
+  pub piece : (piece : Piece) → sought.piece ≡ Some piece → StillLeads sought x → start ≤ sought.offset
+      → PieceStands notes x.log sought.offset piece
+  pub index : (piece : Piece) (index : OffsetTable) → sought.piece ≡ Some piece → sought.index ≡ Some index
+      → StillLeads sought x → start ≤ sought.offset → IndexStands paths (fold notes) piece.id index
+
+-- each fetch on the desk
+abbrev pub FetchesStand : List Path → List Note → ℕ → List Site → List Broker → List Work → Type 0
+FetchesStand paths notes start sites brokers desk =
+    (a : ℕ) (sought : Sought) (site : Site) (x : Broker) → slice_get desk a ≡ Some (Seeks sought)
+    → slice_get sites sought.broker ≡ Some site → slice_get brokers sought.broker ≡ Some x
+    → FetchStands paths notes start site x sought
+
+-- cached indexes
+
+-- a cached index is of a copy that was finished after the first so many notes, and of its batches while it still is
+pub record CachedStands (paths : List Path) (notes : List Note) (id : SegmentId) (index : OffsetTable) : Type 0 where
+  pub before : List Note
+  pub begins : IsPrefix before notes
+  pub entry : Entry
+  pub there : entry_of id (fold before) ≡ Some entry
+  pub finished : entry.state ≡ CopyFinished
+  pub is : IndexStands paths (fold notes) id index
+
+-- each index in a broker's cache
+abbrev pub CachesStand : List Path → List Note → List Site → Type 0
+CachesStand paths notes sites =
+    (b : ℕ) (site : Site) → slice_get sites b ≡ Some site → (id : SegmentId) (index : OffsetTable) → In (id, index) site.cache
+    → CachedStands paths notes id index

@@ -1,0 +1,16 @@
+-- A tier where nothing has happened yet.
+use Rattle.std.specs.Prelude.{◌≡◌, ℕ, true, [], None, replicate}
+use Rattle.tier_base.specs.declared.object_key.ObjectKey.{ObjectKey}
+use Rattle.remote_view.specs.Fold.{view_of}
+use Rattle.tier_safe.specs.Scene.{Site, Free, Scene}
+
+-- the side of a broker that is up, whose log was opened once
+abbrev pub fresh_site : Site
+fresh_site = record { up = true; start = 0; incarnation = 1; next = 0; view = view_of []; cache = [] }
+
+-- no object, no note, fresh brokers, and free seats
+pub record IsFresh (brokers seats : ℕ) (c : Scene) : Type 0 where
+  pub objects : (key : ObjectKey) → c.objects key ≡ None
+  pub notes : c.notes ≡ []
+  pub sites : c.sites ≡ replicate brokers fresh_site
+  pub desk : c.desk ≡ replicate seats Free

@@ -1,0 +1,16 @@
+pub mod Scene
+pub mod Changes
+pub mod Lineage
+pub mod Views
+pub mod Copies
+pub mod Starts
+pub mod Fetches
+pub mod Safe
+pub mod Follow
+pub mod Moves
+pub mod May
+pub mod Fresh
+pub mod Turns
+pub mod Kept
+pub mod Reads
+pub mod Laws

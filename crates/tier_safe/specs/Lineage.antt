@@ -1,0 +1,67 @@
+-- Batches as a part of a leader epoch's path, and what a remote segment says of them.
+--
+-- A path is the log that the leader of an epoch has. A remote segment whose batches are a part of a path is of one lineage
+-- with each log that has its last batch, since logs match.
+--
+-- Source: KIP-405, whose remote segments carry the leader epochs of their offsets, and KIP-101, by which logs are told apart.
+use Rattle.std.specs.Prelude.{◌≡◌, ◌≢◌, ℕ, ◌+◌, List, [], ◌++◌, length, Some, true}
+use Rattle.tier_base.specs.declared.plain.Part.{Part}
+use Rattle.tier_base.specs.declared.names.SegmentId.{SegmentId}
+use Rattle.log_terms.specs.Line.{line_of, epoch_holding}
+use Rattle.log_terms.specs.Log.{joined, end_of, end_from}
+use Rattle.epoch_line.specs.Line.{cut_end}
+use Rattle.plain_log.specs.declared.state.Path.{Path}
+use Rattle.plain_log.specs.Safe.{Has}
+use Rattle.segment_file.specs.Segment.{IsSegment, greatest_ts}
+use Rattle.segment_bundle.specs.Parts.{parts_of, part_in}
+use Rattle.segment_meta.specs.declared.note.Entry.{Entry}
+use Rattle.object_store.specs.Content.{Objects}
+use Rattle.object_store.specs.Place.{key_of}
+use Rattle.remote_view.specs.Fold.{entry_of}
+use Rattle.remote_view.specs.Lookup.{covers}
+use Rattle.copy_task.specs.Copying.{Copied, IsCopied}
+
+-- the batches stand in a path from a base offset on, and the line has the path's epochs up to their end
+pub record IsPart (paths : List Path) (base : ℕ) (batches : List (List ℕ)) (line : List (ℕ × ℕ)) : Type 0 where
+  pub epoch : ℕ
+  pub front : List (List ℕ)
+  pub ends : end_of front ≡ base
+  pub begins : Has paths epoch (front ++ batches)
+  pub line_is : cut_end line (end_from base batches) ≡ line_of (front ++ batches)
+
+-- a remote segment's entry tells of these batches, which are a part of a path
+pub record Describes (paths : List Path) (entry : Entry) (batches : List (List ℕ)) (line : List (ℕ × ℕ)) : Type 0 where
+  pub some : batches ≢ []
+  pub is : IsSegment entry.start batches
+  pub part : IsPart paths entry.start batches line
+  pub last_is : entry.end + 1 ≡ end_from entry.start batches
+  pub map_is : entry.map ≡ line_of batches
+  pub max_ts_is : entry.max_ts ≡ greatest_ts batches
+  pub size_is : entry.size ≡ length (joined batches)
+
+-- the four objects of a remote segment stand, and are the parts of the batches that its entry tells of
+pub record IsHeld (objects : Objects) (paths : List Path) (entry : Entry) : Type 0 where
+  pub batches : List (List ℕ)
+  pub line : List (ℕ × ℕ)
+  pub interval : ℕ
+  pub describes : Describes paths entry batches line
+  pub stand : (part : Part)
+      → objects (key_of entry.partition entry.id part) ≡ Some (part_in (parts_of batches line interval) part)
+
+-- what is copied is a closed segment of a path
+pub record IsSource (paths : List Path) (copy : Copied) : Type 0 where
+  pub copied : IsCopied copy
+  pub part : IsPart paths copy.segment.base copied.batches copy.line
+
+-- a finished copy has this epoch at this offset
+pub record Covers (entries : List Entry) (epoch offset : ℕ) : Type 0 where
+  pub id : SegmentId
+  pub entry : Entry
+  pub there : entry_of id entries ≡ Some entry
+  pub gives : covers epoch offset entry ≡ true
+
+-- a finished copy has the epoch that the log has at this offset
+pub record CoversLog (entries : List Entry) (log : List (List ℕ)) (offset : ℕ) : Type 0 where
+  pub epoch : ℕ
+  pub holds : epoch_holding log offset ≡ Some epoch
+  pub covers : Covers entries epoch offset

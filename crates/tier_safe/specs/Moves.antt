@@ -1,0 +1,109 @@
+-- When a command on the desk may move.
+--
+-- What a view shows is said of an id's entry in it. What a fetch finds must stand only for as long as its broker leads on and
+-- the log start isn't above its offset.
+use Rattle.std.specs.Prelude.{◌≡◌, ℕ, ◌<◌, ◌≤◌, true, false, List, Some, None, slice_get}
+use mathlib.Core.List.{IsPrefix}
+use Rattle.tier_base.specs.declared.plain.State.{State}
+use Rattle.log_terms.specs.Line.{epoch_at, epoch_holding}
+use Rattle.log_terms.specs.Log.{end_of}
+use Rattle.sparse_index.specs.Offsets.{OffsetTable}
+use Rattle.segment_meta.specs.declared.note.Entry.{Entry}
+use Rattle.plain_log.specs.declared.state.State.{State as Plain}
+use Rattle.plain_log.specs.declared.state.Broker.{Broker}
+use Rattle.plain_log.specs.State.{path_of}
+use Rattle.plain_log.specs.Safe.{Has}
+use Rattle.remote_view.specs.Fold.{entry_of, state_of, fold, view_of}
+use Rattle.remote_view.specs.Lookup.{is_due}
+use Rattle.remote_find.specs.declared.piece.Piece.{Piece}
+use Rattle.copy_task.specs.Copying.{Copied}
+use Rattle.copy_task.specs.declared.turn.Next.TheVariants as copying
+use Rattle.expiry_task.specs.declared.turn.Doomed.{Doomed}
+use Rattle.tier_safe.specs.Scene.{Site, Rebuild, Sought, Free, Copies, Rebuilds, Seeks, Scene}
+use Rattle.tier_safe.specs.Changes.{Move, Leaves, Overtakes, Dooms, Wants, Refreshes, Lines, Asks, Finds, Indexes}
+use Rattle.tier_safe.specs.Copies.{is_deleted}
+use Rattle.tier_safe.specs.Fetches.{StillLeads, PieceStands, IndexStands}
+
+-- a broker's view shows the copy's entry deleted
+pub record MayOvertake (a : ℕ) (copy : Copied) (c : Scene) : Type 0 where
+  pub seat : slice_get c.desk a ≡ Some (Copies copy copying.Check)
+  pub b : ℕ
+  pub site : Site
+  pub site_is : slice_get c.sites b ≡ Some site
+  pub state : State
+  pub shows : state_of copy.id site.view.entries ≡ Some state
+  pub deleted : is_deleted state ≡ true
+
+-- a broker's view shows the entry, which is due: it ends below the log start
+pub record MayDoom (a b : ℕ) (doomed : Doomed) (c : Scene) (p : Plain) : Type 0 where
+  pub seat : slice_get c.desk a ≡ Some Free
+  pub site : Site
+  pub site_is : slice_get c.sites b ≡ Some site
+  pub entry : Entry
+  pub there : entry_of doomed.id site.view.entries ≡ Some entry
+  pub due : is_due p.registry.start entry ≡ true
+  pub partition : doomed.partition ≡ entry.partition
+
+-- the wanted offset is the local start of a broker whose log begins the epoch's path, and above where the rebuild's log ended
+pub record MayWant (a : ℕ) (rebuild : Rebuild) (c : Scene) (p : Plain) : Type 0 where
+  pub seat : slice_get c.desk a ≡ Some Free
+  pub unread : (rebuild.refreshed ≡ false) × (rebuild.line ≡ None)
+  pub leader : ℕ
+  pub site : Site
+  pub site_is : slice_get c.sites leader ≡ Some site
+  pub x : Broker
+  pub broker_is : slice_get p.brokers leader ≡ Some x
+  pub has : Has p.paths rebuild.epoch x.log
+  pub start : site.start ≡ rebuild.wanted
+  pub front : List (List ℕ)
+  pub begins : IsPrefix front x.log
+  pub ends : end_of front ≡ rebuild.wanted
+  pub above : rebuild.end < rebuild.wanted
+
+-- the rebuild's broker has seen all notes
+pub record MayRefresh (a : ℕ) (rebuild : Rebuild) (c : Scene) : Type 0 where
+  pub seat : slice_get c.desk a ≡ Some (Rebuilds rebuild)
+  pub all : (site : Site) → slice_get c.sites rebuild.broker ≡ Some site → site.view ≡ view_of c.notes
+
+-- below the wanted offset the line has the epochs of the epoch's path
+pub record MayLine (a : ℕ) (rebuild : Rebuild) (line : List (ℕ × ℕ)) (c : Scene) (p : Plain) : Type 0 where
+  pub seat : slice_get c.desk a ≡ Some (Rebuilds rebuild)
+  pub log : List (List ℕ)
+  pub path : path_of p.paths rebuild.epoch ≡ Some log
+  pub says : (o : ℕ) → o < rebuild.wanted → epoch_at line o ≡ epoch_holding log o
+
+-- the fetch's broker leads, and the offset is below its local start
+pub record MayAsk (a : ℕ) (sought : Sought) (c : Scene) (p : Plain) : Type 0 where
+  pub seat : slice_get c.desk a ≡ Some Free
+  pub unread : (sought.piece ≡ None) × (sought.index ≡ None)
+  pub site : Site
+  pub site_is : slice_get c.sites sought.broker ≡ Some site
+  pub x : Broker
+  pub broker_is : slice_get p.brokers sought.broker ≡ Some x
+  pub leads : StillLeads sought x
+  pub path : path_of p.paths sought.epoch ≡ Some x.log
+  pub below : sought.offset < site.start
+
+-- the piece is of a finished copy, and one with the log
+pub record MayFind (a : ℕ) (sought : Sought) (piece : Piece) (c : Scene) (p : Plain) : Type 0 where
+  pub seat : slice_get c.desk a ≡ Some (Seeks sought)
+  pub unread : sought.index ≡ None
+  pub gives : (x : Broker) → slice_get p.brokers sought.broker ≡ Some x → StillLeads sought x
+      → p.registry.start ≤ sought.offset → PieceStands c.notes x.log sought.offset piece
+
+-- the index is that of the piece's segment
+pub record MayIndex (a : ℕ) (sought : Sought) (index : OffsetTable) (c : Scene) (p : Plain) : Type 0 where
+  pub seat : slice_get c.desk a ≡ Some (Seeks sought)
+  pub is : (piece : Piece) → sought.piece ≡ Some piece → IndexStands p.paths (fold c.notes) piece.id index
+
+-- the condition of a move; a command may always leave the desk
+abbrev pub MayMove : ℕ → Move → Scene → Plain → Type 0
+MayMove a Leaves c p = Unit {0}
+MayMove a (Overtakes copy) c p = MayOvertake a copy c
+MayMove a (Dooms b doomed) c p = MayDoom a b doomed c p
+MayMove a (Wants rebuild) c p = MayWant a rebuild c p
+MayMove a (Refreshes rebuild) c p = MayRefresh a rebuild c
+MayMove a (Lines rebuild line) c p = MayLine a rebuild line c p
+MayMove a (Asks sought) c p = MayAsk a sought c p
+MayMove a (Finds sought piece) c p = MayFind a sought piece c p
+MayMove a (Indexes sought index) c p = MayIndex a sought index c p

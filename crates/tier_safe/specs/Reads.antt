@@ -1,0 +1,106 @@
+-- What the tier's rules give to turns that read: look-ups find, what they find stands, and what is read is the log's.
+--
+-- A look-up goes by the line of the reading log's leader epochs. These laws hold of any line that says in which epoch each offset
+-- of the log is.
+use Rattle.std.specs.Prelude.{◌≡◌, ℕ, ◌-◌, ◌<◌, ◌≤◌, true, List, Some, slice_get}
+use Rattle.std.specs.List.{AllByRecursion}
+use mathlib.Core.List.{IsPrefix}
+use Rattle.tier_base.specs.declared.names.SegmentId.{SegmentId}
+use Rattle.tier_base.specs.declared.plain.State.TheVariants.{CopyFinished}
+use Rattle.log_terms.specs.Line.{line_of, epoch_at, epoch_holding}
+use Rattle.log_terms.specs.Log.{end_of, from_offset}
+use Rattle.epoch_line.specs.Line.{IsLine}
+use Rattle.sparse_index.specs.Offsets.{OffsetTable}
+use Rattle.segment_file.specs.Index.{placed_from, index_of}
+use Rattle.segment_meta.specs.declared.note.Entry.{Entry}
+use Rattle.segment_meta.specs.declared.note.Note.{Note}
+use Rattle.plain_log.specs.declared.state.State.{State as Plain}
+use Rattle.plain_log.specs.declared.state.Broker.{Broker}
+use Rattle.remote_view.specs.Fold.{Seen, entry_of, fold, view_of, AreKept, AreDistinct}
+use Rattle.remote_view.specs.Lookup.{covers}
+use Rattle.remote_find.specs.declared.piece.Piece.{Piece}
+use Rattle.remote_find.specs.Pieces.{piece_at, covered_to}
+use Rattle.tier_safe.specs.Scene.{Site, Rebuild, Sought, Rebuilds, Seeks, Scene}
+use Rattle.tier_safe.specs.Lineage.{IsHeld, CoversLog}
+use Rattle.tier_safe.specs.Views.{IsViewOf}
+use Rattle.tier_safe.specs.Fetches.{StillLeads, PieceStands}
+use Rattle.tier_safe.specs.Safe.{TierSafe, BothSafe}
+use Rattle.tier_safe.specs.Kept.{whole_of}
+
+-- look-ups
+
+-- the line says in which epoch each offset of the log is, and starts nothing past the log's end
+pub record TellsEpochs (line : List (ℕ × ℕ)) (log : List (List ℕ)) : Type 0 where
+  pub rises : IsLine line
+  pub says : (o : ℕ) → o < end_of log → epoch_at line o ≡ epoch_holding log o
+  pub within : AllByRecursion (λ start. start.1 ≤ end_of log) line
+
+-- a view's entries keep their rules, and no two have one id
+pub record IsRightView (view : Seen) : Type 0 where
+  pub kept : AreKept view.entries
+  pub distinct : AreDistinct view.entries
+
+-- a fetch whose broker leads on and has seen all notes finds what it reads from
+abbrev pub AskedIsFound : Type 0
+AskedIsFound = (c : Scene) (p : Plain) (a : ℕ) (sought : Sought) (site : Site) (x : Broker) (line : List (ℕ × ℕ)) → TierSafe c p
+    → slice_get c.desk a ≡ Some (Seeks sought) → slice_get c.sites sought.broker ≡ Some site
+    → slice_get p.brokers sought.broker ≡ Some x → StillLeads sought x → p.registry.start ≤ sought.offset
+    → site.view ≡ view_of c.notes → TellsEpochs line x.log
+    → (piece : Piece) × (piece_at site.view.entries line (end_of x.log) sought.offset ≡ Some piece)
+
+-- what is found in a view, by a log's line, stands: a fetch may keep it
+abbrev pub FoundStands : Type 0
+FoundStands = (notes : List Note) (view : Seen) (line : List (ℕ × ℕ)) (log : List (List ℕ)) (offset : ℕ) (piece : Piece)
+    → IsViewOf notes view → IsRightView view → TellsEpochs line log
+    → piece_at view.entries line (end_of log) offset ≡ Some piece → PieceStands notes log offset piece
+
+-- each offset up to the end that pieces reach, one after another, is covered: a local log may drop it
+abbrev pub ReachedIsCovered : Type 0
+ReachedIsCovered = (view : Seen) (line : List (ℕ × ℕ)) (log : List (List ℕ)) (at : ℕ) → IsRightView view → TellsEpochs line log
+    → (o : ℕ) → at ≤ o → o < covered_to view.entries line (end_of log) at → CoversLog view.entries log o
+
+-- a rebuild that has refreshed finds the remote segment of the last offset below the wanted one
+abbrev pub WantedIsFound : Type 0
+WantedIsFound = (c : Scene) (p : Plain) (a : ℕ) (rebuild : Rebuild) (site : Site) (line : List (ℕ × ℕ)) → (h : TierSafe c p)
+    → (seat : slice_get c.desk a ≡ Some (Rebuilds rebuild)) → slice_get c.sites rebuild.broker ≡ Some site
+    → rebuild.refreshed ≡ true → p.registry.start < rebuild.wanted
+    → epoch_at line (rebuild.wanted - 1) ≡ epoch_holding (h.rebuilds a rebuild seat).front (rebuild.wanted - 1)
+    → (piece : Piece) × (piece_at site.view.entries line rebuild.wanted (rebuild.wanted - 1) ≡ Some piece)
+
+-- reads
+
+-- the piece's segment is finished and stands, and what of its batches ends with the piece is what the log has from the offset on
+pub record IsServed (c : Scene) (p : Plain) (log : List (List ℕ)) (sought : Sought) (piece : Piece) : Type 0 where
+  pub entry : Entry
+  pub there : entry_of piece.id (fold c.notes) ≡ Some entry
+  pub partition : entry.partition ≡ c.partition
+  pub finished : entry.state ≡ CopyFinished
+  pub held : IsHeld c.objects p.paths entry
+  pub runs : (run : List (List ℕ)) → IsPrefix run (from_offset sought.offset held.batches) → end_of run ≤ piece.to
+      → IsPrefix run (from_offset sought.offset log)
+  pub index : (index : OffsetTable) → sought.index ≡ Some index
+      → (interval : ℕ) × (index ≡ index_of entry.start interval (placed_from 0 held.batches))
+
+-- what a fetch on the desk reads is its log's, while its broker leads on and the log start isn't above its offset
+abbrev pub FetchesAreServed : Type 0
+FetchesAreServed = (c : Scene) (p : Plain) (a : ℕ) (sought : Sought) (piece : Piece) (site : Site) (x : Broker) → BothSafe c p
+    → slice_get c.desk a ≡ Some (Seeks sought) → slice_get c.sites sought.broker ≡ Some site
+    → slice_get p.brokers sought.broker ≡ Some x → sought.piece ≡ Some piece → StillLeads sought x
+    → p.registry.start ≤ sought.offset → IsServed c p x.log sought piece
+
+-- a finished copy begins with the batches below the wanted offset, and the line of its epochs is theirs up to there
+pub record RebuildReads (c : Scene) (p : Plain) (front : List (List ℕ)) (wanted : ℕ) (id : SegmentId) : Type 0 where
+  pub entry : Entry
+  pub there : entry_of id (fold c.notes) ≡ Some entry
+  pub partition : entry.partition ≡ c.partition
+  pub held : IsHeld c.objects p.paths entry
+  pub begins : IsPrefix front (whole_of held)
+  pub says : (o : ℕ) → o < wanted → epoch_at (line_of (whole_of held)) o ≡ epoch_holding front o
+
+-- what a rebuild reads at the last offset below the wanted one is the path's
+abbrev pub RebuildsAreServed : Type 0
+RebuildsAreServed = (c : Scene) (p : Plain) (a : ℕ) (rebuild : Rebuild) (site : Site) (id : SegmentId) (entry : Entry) (e : ℕ)
+    → (h : BothSafe c p) → (seat : slice_get c.desk a ≡ Some (Rebuilds rebuild)) → slice_get c.sites rebuild.broker ≡ Some site
+    → p.registry.start < rebuild.wanted → entry_of id site.view.entries ≡ Some entry → covers e (rebuild.wanted - 1) entry ≡ true
+    → epoch_holding (h.tier.rebuilds a rebuild seat).front (rebuild.wanted - 1) ≡ Some e
+    → RebuildReads c p (h.tier.rebuilds a rebuild seat).front rebuild.wanted id

@@ -1,0 +1,102 @@
+-- What holds of the log start and of local starts.
+--
+--   Sites      a local log starts within its log
+--   Deletions  what is deleted ends below the log start
+--   Covered    what a local log lacks from the log start on is covered by finished copies
+--   Rebuilds   so is what a rebuild is to leave out
+--
+-- Source: KIP-405: the local log start offset, deletion by the log start offset, and followers that begin their local log anew
+-- at the leader's local log start offset.
+use Rattle.std.specs.Prelude.{◌≡◌, ◌≢◌, ℕ, ◌-◌, ◌<◌, ◌≤◌, true, List, Some, length, slice_get}
+use mathlib.Core.List.{IsPrefix}
+use Rattle.tier_base.specs.declared.plain.State.{State}
+use Rattle.tier_base.specs.declared.plain.State.TheVariants.{CopyFinished}
+use Rattle.tier_base.specs.declared.names.SegmentId.{SegmentId}
+use Rattle.log_terms.specs.Line.{epoch_at, epoch_holding}
+use Rattle.log_terms.specs.Log.{end_of}
+use Rattle.segment_meta.specs.declared.note.Entry.{Entry}
+use Rattle.segment_meta.specs.declared.note.Note.{Note}
+use Rattle.plain_log.specs.declared.state.Path.{Path}
+use Rattle.plain_log.specs.declared.state.Broker.{Broker}
+use Rattle.plain_log.specs.Safe.{Has}
+use Rattle.remote_view.specs.Fold.{entry_of, fold}
+use Rattle.expiry_task.specs.Turns.{keys}
+use Rattle.expiry_task.specs.declared.turn.Doomed.{Doomed}
+use Rattle.expiry_task.specs.declared.turn.Next.{Next as ExpiryNext}
+use Rattle.expiry_task.specs.declared.turn.Next.TheVariants as expiring
+use Rattle.tier_safe.specs.Scene.{Site, Rebuild, Work, Expires, Rebuilds}
+use Rattle.tier_safe.specs.Lineage.{CoversLog}
+use Rattle.tier_safe.specs.Copies.{is_deleted}
+
+-- local starts
+
+-- a broker's side is up where the broker is, and its local log starts at or below the log's end
+pub record SiteStands (site : Site) (x : Broker) : Type 0 where
+  pub up : site.up ≡ x.up
+  pub within : site.start ≤ end_of x.log
+
+-- each broker has a side, and it stands so
+pub record SitesStand (sites : List Site) (brokers : List Broker) : Type 0 where
+  pub count : length sites ≡ length brokers
+  pub each : (b : ℕ) (site : Site) (x : Broker) → slice_get sites b ≡ Some site → slice_get brokers b ≡ Some x
+      → SiteStands site x
+
+-- deletions
+
+-- a copy that was finished once, after the first so many notes, and isn't any more, ends below the log start
+abbrev pub DeletedEnd : List Note → ℕ → Type 0
+DeletedEnd notes start =
+    (id : SegmentId) (before : List Note) (then now : Entry) → IsPrefix before notes → entry_of id (fold before) ≡ Some then
+    → then.state ≡ CopyFinished → entry_of id (fold notes) ≡ Some now → now.state ≢ CopyFinished → now.end < start
+
+-- once an expiry's first note is told, the deletion has started
+abbrev pub IsBegun : ExpiryNext → State → Type 0
+IsBegun expiring.Start state = Unit {0}
+IsBegun (expiring.Delete n) state = is_deleted state ≡ true
+IsBegun expiring.Finish state = is_deleted state ≡ true
+
+-- the object that an expiry takes away next has a key
+abbrev pub ExpiryHasKey : Doomed → ExpiryNext → Type 0
+ExpiryHasKey doomed (expiring.Delete n) = n < length (keys doomed)
+ExpiryHasKey doomed next = Unit {0}
+
+-- what an expiry on the desk deletes ends below the log start
+pub record ExpiryStands (entries : List Entry) (start : ℕ) (doomed : Doomed) (next : ExpiryNext) : Type 0 where
+  pub entry : Entry
+  pub there : entry_of doomed.id entries ≡ Some entry
+  pub below : entry.end < start
+  pub begun : IsBegun next entry.state
+  pub key : ExpiryHasKey doomed next
+
+-- what is deleted, and what is about to be
+pub record DeletionsStand (notes : List Note) (start : ℕ) (desk : List Work) : Type 0 where
+  pub ended : DeletedEnd notes start
+  pub each : (a : ℕ) (doomed : Doomed) (next : ExpiryNext) → slice_get desk a ≡ Some (Expires doomed next)
+      → ExpiryStands (fold notes) start doomed next
+
+-- what local logs lack
+
+-- each offset from the log start up to a broker's local start is covered, in the epoch that the broker's log has there
+abbrev pub CoveredStands : List Entry → ℕ → List Site → List Broker → Type 0
+CoveredStands entries start sites brokers =
+    (b : ℕ) (site : Site) (x : Broker) → slice_get sites b ≡ Some site → slice_get brokers b ≡ Some x
+    → (o : ℕ) → start ≤ o → o < site.start → CoversLog entries x.log o
+
+-- a rebuild on the desk: the batches below the wanted offset are the path's; from the log start on they are covered, the last
+-- one also in the refreshed view; and the line has their epochs
+pub record RebuildStands (paths : List Path) (notes : List Note) (start : ℕ) (sites : List Site) (rebuild : Rebuild)
+    : Type 0 where
+  pub front : List (List ℕ)
+  pub begins : Has paths rebuild.epoch front
+  pub ends : end_of front ≡ rebuild.wanted
+  pub above : rebuild.end < rebuild.wanted
+  pub covered : (o : ℕ) → start ≤ o → o < rebuild.wanted → CoversLog (fold notes) front o
+  pub seen : (site : Site) → slice_get sites rebuild.broker ≡ Some site → rebuild.refreshed ≡ true → start < rebuild.wanted
+      → CoversLog site.view.entries front (rebuild.wanted - 1)
+  pub line : (line : List (ℕ × ℕ)) → rebuild.line ≡ Some line
+      → (o : ℕ) → o < rebuild.wanted → epoch_at line o ≡ epoch_holding front o
+
+-- each rebuild on the desk
+abbrev pub RebuildsStand : List Path → List Note → ℕ → List Site → List Work → Type 0
+RebuildsStand paths notes start sites desk =
+    (a : ℕ) (rebuild : Rebuild) → slice_get desk a ≡ Some (Rebuilds rebuild) → RebuildStands paths notes start sites rebuild

@@ -1,0 +1,21 @@
+//! The safety of a partition's remote tier: what holds of its objects and its metadata between any
+//! two turns, as laws over definitions.
+//!
+//! The tier is seen as a whole (`specs/Scene.antt`), beside a state of the plain log.
+//! `specs/Safe.antt` says what holds of both, `specs/Changes.antt` what one call of a device may
+//! change, and `specs/May.antt` when it may. Such changes keep the rules, a fresh tier has them, and
+//! each turn of a copy and of an expiry is such changes, whichever of its calls fails. So what a
+//! local log has dropped stands in the remote tier, of the log's own lineage, until the log start is
+//! past it; and what a fetch or a rebuild looks up and reads there is its log's.
+//!
+//! No code of this repository cites the laws yet.
+#![tactic(auto)]
+
+mod laws;
+
+pub use laws::{
+    a_leaders_segments_are_sources, answers_keep_safe, changes_keep_safe, copy_turns_change,
+    dropped_is_kept, expiry_turns_change, fetches_are_served, finished_is_kept, fresh_is_safe,
+    rebuilds_are_served, what_a_rebuild_wants_is_found, what_is_asked_for_is_found,
+    what_is_found_stands, what_is_reached_is_covered,
+};
