@@ -1,0 +1,125 @@
+#!/usr/bin/env python3
+"""Runs what the documents show.
+
+usage: docs/snippets.py check PROGRAM    tells which snippet isn't what the program gives
+       docs/snippets.py write PROGRAM    writes the answers into the documents
+
+PROGRAM is the path of `tiered`. Four things are run, in README.md and in docs/:
+
+- A block ```script is a script that has a reading. Its lines `#> ..` are the trace, each behind the
+  line that stepped its actor; being comments, they are no part of what is run. Runs are cut short.
+- In a table whose last column is headed "refused", the code spans of that column are the lines of a
+  script, of which the last one is refused for the row's first cause. A span `N x LINE` is N lines.
+- A block ```console has commands of a shell behind `$ `, with what they print below them.
+- A block ```bytes has hexadecimal digits at the head of its lines: a batch that was fetched in the
+  script block before it.
+"""
+import glob
+import os
+import re
+import subprocess
+import sys
+
+sys.dont_write_bytecode = True
+TOP = os.path.join(os.path.dirname(os.path.abspath(__file__)), "..")
+sys.path.insert(0, os.path.join(TOP, "examples"))
+from view import beside  # noqa: E402
+
+BLOCK = re.compile(r"^```(script|console|bytes)\n(.*?)^```$", re.S | re.M)
+
+
+def ran(program, script):
+    run = subprocess.run([program, "sim"], input=script.encode(), capture_output=True)
+    return run.returncode, run.stdout.decode(), run.stderr.decode().strip()
+
+
+def short(line):
+    return re.sub(r"( Run \S+ \S+ \S+ \S+ [0-9a-f]{16})[0-9a-f]+$", r"\1..", line)
+
+
+def script_block(program, text, wrong):
+    """The block with the answers that the program gives, and the trace."""
+    script = "".join(line + "\n" for line in text.splitlines() if not line.startswith("#>"))
+    status, trace, said = ran(program, script)
+    if status != 0:
+        wrong.append(f"a script ends with status {status}: {said}\n{script}")
+        return text, ""
+    rows = []
+    for line, answers in beside(script, trace):
+        rows += [line] + [f"#> {short(answer)}" for answer in answers]
+    return "".join(row + "\n" for row in rows), trace
+
+
+def console_block(program, text):
+    """The block with what its commands print."""
+    rows = []
+    for command in re.findall(r"^\$ (.*)$", text, re.M):
+        run = subprocess.run(["bash", "-c", command.replace("./tiered", program)], cwd=TOP,
+                             stdout=subprocess.PIPE, stderr=subprocess.STDOUT)
+        rows += ["$ " + command] + [short(line) for line in run.stdout.decode().splitlines()]
+    return "".join(row + "\n" for row in rows)
+
+
+def blocks(program, page, wrong):
+    """The page with each block made anew."""
+    last = [""]
+
+    def made(match):
+        kind, text = match.groups()
+        if kind == "script":
+            text, last[0] = script_block(program, text, wrong)
+        elif kind == "console":
+            text = console_block(program, text)
+        elif "".join(line.split()[0] for line in text.splitlines()) not in last[0]:
+            wrong.append("bytes that the script before them wasn't given:\n" + text)
+        return f"```{kind}\n{text}```"
+
+    return BLOCK.sub(made, page)
+
+
+def lines_of(span):
+    many = re.match(r"([\d,]+) x (.*)$", span)
+    return [many[2]] * int(many[1].replace(",", "")) if many else [span]
+
+
+def refusals(program, page, wrong):
+    """Runs the rows of each table of refusals."""
+    inside, count = False, 0
+    for row in page.splitlines():
+        cells = [cell.strip() for cell in row.strip("|").split("|")]
+        if not row.startswith("|"):
+            inside = False
+        elif cells[-1] == "refused":
+            inside = True
+        elif inside and "`" in cells[-1]:
+            script = [line for span in re.findall(r"`([^`]+)`", cells[-1]) for line in lines_of(span)]
+            cause = re.search(r"`(\w+)`", cells[0])[1]
+            status, _, said = ran(program, "".join(line + "\n" for line in script))
+            count += 1
+            if said != f"tiered: line {len(script)}: {cause}":
+                wrong.append(f"{cause}: the program says: {said} ({status})")
+    return count
+
+
+def main():
+    if len(sys.argv) != 3 or sys.argv[1] not in ("check", "write"):
+        print(__doc__.strip())
+        return 2
+    word, program = sys.argv[1], os.path.abspath(sys.argv[2])
+    wrong, shown, rows = [], 0, 0
+    for path in [TOP + "/README.md"] + sorted(glob.glob(TOP + "/docs/*.md")):
+        with open(path, encoding="utf-8") as f:
+            page = f.read()
+        new = blocks(program, page, wrong)
+        shown += len(BLOCK.findall(page))
+        rows += refusals(program, page, wrong)
+        if new != page and word == "check":
+            wrong.append(os.path.relpath(path, TOP) + " shows other answers than the program gives")
+        if new != page and word == "write":
+            with open(path, "w", encoding="utf-8") as f:
+                f.write(new)
+    print("\n".join(wrong + [f"{shown} blocks and {rows} rows, {len(wrong)} of them wrong"]))
+    return 1 if wrong else 0
+
+
+sys.exit(main())
