@@ -1,0 +1,275 @@
+//! The turns of a fetch, at most one call of a device each.
+
+ghost use Rattle.std.specs.Prelude.{◌≡◌, ◌<◌, ◌≤◌, ◌^◌, Ok, IfOk, IfSome, option_map};
+ghost use Rattle.tier_base.specs.declared.plain.Part.TheVariants as part;
+ghost use Rattle.remote_view.specs.Fold.{entry_of};
+ghost use Rattle.remote_find.specs.Pieces.{piece_at};
+ghost use Rattle.index_cache.specs.Cache.{found, brought_front};
+ghost use Rattle.plain_log.specs.declared.answer.Answer.TheVariants.{Damaged};
+ghost use Rattle.plain_log.specs.declared.answer.Place.TheVariants.{Key, Meta};
+ghost use Rattle.tier_fetch.specs.declared.turn.FetchTurn.TheVariants.{Ends};
+ghost use Rattle.tier_fetch.specs.Span.{span_of};
+ghost use Rattle.tier_fetch.specs.Turns.{Tiers, IsFor, GoesFor, chosen, spot_in, Loads, Cuts, RefreshRow, IndexRow, LoadRow, LogRow, FetchRow};
+
+use crate::spanning::span_of;
+use crate::turn::{FetchTurn, Next, Span, Wanted};
+use bytes::Bytes;
+use epoch_line::Line;
+use index_cache::IndexCache;
+use meta_log::MetaLog;
+use object_store::{Spot, Store, place};
+use plain_log::{Answer, Place, Tier};
+use remote_find::{Piece, find};
+use remote_view::View;
+use segment_file::take_run;
+use sparse_index::{IndexRefusal, OffsetIndex};
+use std::alloc::{AllocError, Global};
+use tier_base::{Part, Trouble};
+use view_refresh::refresh;
+
+/// Takes the next turn of a fetch. The line is that of its broker's log.
+pub fn fetch_turn<S: Store, M: MetaLog>(
+    alloc: Global,
+    wanted: &Wanted,
+    next: Next,
+    line: &Line,
+    view: &mut View,
+    cache: &mut IndexCache,
+    store: &mut S,
+    meta: &mut M,
+) -> Result<FetchTurn, AllocError>
+    requires below { wanted.now.offset < wanted.now.mark }
+    requires holds { IsFor wanted.now.offset next }
+    ensures row { FetchRow S.content S.control M.content M.control wanted.now line.now next result
+        (record { view = view.old; cache = cache.old; store = store.old; meta = meta.old })
+        (record { view = view.new; cache = cache.new; store = store.new; meta = meta.new }) }
+    ensures goes { IfOk result (GoesFor wanted.now.offset) }
+{
+    match next {
+        Next::Refresh => choose(wanted, line, view, meta),
+        Next::Index(piece) => index(alloc, wanted, &piece, view, cache, store),
+        Next::Log(piece, span) => log(wanted, &piece, span, view, store),
+    }
+}
+
+/// Refreshes a view, and chooses the piece that holds the offset.
+fn choose<M: MetaLog>(
+    wanted: &Wanted,
+    line: &Line,
+    view: &mut View,
+    meta: &mut M,
+) -> Result<FetchTurn, AllocError>
+    ensures row { RefreshRow M.content M.control wanted.now line.now result view.old view.new meta.old meta.new }
+    ensures goes { IfOk result (GoesFor wanted.now.offset) }
+{
+    match refresh(view, meta) {
+        Ok(()) => Ok(chosen(wanted, line, view)),
+        Err(Trouble::Failed) => Ok(FetchTurn::Ends(Answer::MetaFault)),
+        Err(Trouble::NoMemory) => Err(AllocError),
+    }
+}
+
+/// What a refreshed view has for the offset.
+fn chosen(wanted: &Wanted, line: &Line, view: &View) -> FetchTurn
+    ensures turn { result ≡ chosen view.now.notes
+        (piece_at view.now.entries line.now wanted.now.log_end wanted.now.offset) }
+    ensures goes { GoesFor wanted.now.offset result }
+{
+    match find(view, line, wanted.log_end, wanted.offset) {
+        Some(piece) => {
+            let _entries = view.entries();
+            let _line = line.entries();
+            FetchTurn::Goes(Next::Index(piece))
+        }
+        None => lost(view),
+    }
+}
+
+/// A view that lacks what the notes must hold is damage of the metadata log.
+fn lost(view: &View) -> FetchTurn
+    ensures { result ≡ Ends (Damaged Meta view.now.notes) }
+{
+    FetchTurn::Ends(Answer::Damaged(Place::Meta, view.seen()))
+}
+
+/// Has the index of a piece's segment: the one in the cache, or else the one in the store.
+fn index<S: Store>(
+    alloc: Global,
+    wanted: &Wanted,
+    piece: &Piece,
+    view: &View,
+    cache: &mut IndexCache,
+    store: &mut S,
+) -> Result<FetchTurn, AllocError>
+    requires { wanted.now.offset < piece.now.to }
+    ensures row { IndexRow S.content S.control wanted.now piece.now view.now result
+        (found piece.now.id.0 cache.old.pairs) cache.old cache.new store.old store.new }
+    ensures goes { IfOk result (GoesFor wanted.now.offset) }
+{
+    let shown = cached(wanted, piece, cache);
+    match shown {
+        Some(span) => Ok(FetchTurn::Goes(Next::Log(*piece, span))),
+        None => load(alloc, wanted, piece, view, cache, store),
+    }
+}
+
+/// What the index in the cache shows, where there is one.
+fn cached(wanted: &Wanted, piece: &Piece, cache: &mut IndexCache) -> Option<Span>
+    requires { wanted.now.offset < piece.now.to }
+    ensures span { result ≡ option_map (λ index. span_of index wanted.now.offset wanted.now.limit piece.now.to)
+        (found piece.now.id.0 cache.old.pairs) }
+    ensures cache { cache.new ≡ brought_front cache.old piece.now.id.0 }
+{
+    match cache.get(piece.id) {
+        Some(index) => Some(span_of(index, wanted.offset, wanted.limit, piece.to)),
+        None => None,
+    }
+}
+
+/// Reads the index out of the store, and keeps it.
+fn load<S: Store>(
+    alloc: Global,
+    wanted: &Wanted,
+    piece: &Piece,
+    view: &View,
+    cache: &mut IndexCache,
+    store: &mut S,
+) -> Result<FetchTurn, AllocError>
+    requires { wanted.now.offset < piece.now.to }
+    ensures row { LoadRow S.content S.control wanted.now piece.now view.now
+        (spot_in wanted.now.partition piece.now.id part.Index (entry_of piece.now.id view.now.entries)) result
+        cache.old cache.new store.old store.new }
+    ensures goes { IfOk result (GoesFor wanted.now.offset) }
+{
+    let Some((base, spot)) = spot_in(wanted, piece, view, Part::Index) else {
+        return Ok(lost(view));
+    };
+    let answer = store.get(&spot.key, spot.at);
+    match answer {
+        Ok(given) => keep(alloc, wanted, piece, base, &spot, given, cache),
+        Err(Trouble::Failed) => Ok(FetchTurn::Ends(Answer::StoreFault)),
+        Err(Trouble::NoMemory) => Err(AllocError),
+    }
+}
+
+/// The base offset of a piece's segment, and where a part of it stands.
+fn spot_in(wanted: &Wanted, piece: &Piece, view: &View, part: Part) -> Option<(u64, Spot)>
+    ensures spot { result ≡ spot_in wanted.now.partition piece.now.id part (entry_of piece.now.id view.now.entries) }
+    ensures low { IfSome result (λ found. found.0 ≤ 2 ^ 62) }
+    ensures whole { IfSome result (λ found. found.1.at ≡ 0) }
+{
+    let _entries = view.entries();
+    let Some(entry) = view.entry(piece.id) else {
+        return None;
+    };
+    match place(
+        wanted.partition,
+        piece.id,
+        entry.packed,
+        entry.custom.as_ref(),
+        part,
+    ) {
+        Some(spot) => Some((entry.start, spot)),
+        None => None,
+    }
+}
+
+/// Reads the index in what the store gave, and keeps it.
+fn keep(
+    alloc: Global,
+    wanted: &Wanted,
+    piece: &Piece,
+    base: u64,
+    spot: &Spot,
+    given: Option<Bytes>,
+    cache: &mut IndexCache,
+) -> Result<FetchTurn, AllocError>
+    requires holds { wanted.now.offset < piece.now.to }
+    requires low { base ≤ 2 ^ 62 }
+    ensures row { Loads wanted.now piece.now base spot.now (Ok given) result cache.old cache.new }
+    ensures goes { IfOk result (GoesFor wanted.now.offset) }
+{
+    let Some(bytes) = given else {
+        return Ok(damaged(spot, 0));
+    };
+    match OffsetIndex::from_bytes(alloc, base, bytes.as_slice()) {
+        Ok(index) => {
+            let span = span_of(&index, wanted.offset, wanted.limit, piece.to);
+            let _rises = index.offsets();
+            cache.keep(piece.id, index)?;
+            Ok(FetchTurn::Goes(Next::Log(*piece, span)))
+        }
+        Err(IndexRefusal::BadLength | IndexRefusal::NotRising { .. }) => Ok(damaged(spot, spot.at)),
+        Err(IndexRefusal::NoMemory) => Err(AllocError),
+    }
+}
+
+/// An object that lacks what is read, or has no reading from a place on.
+fn damaged(spot: &Spot, at: u64) -> FetchTurn
+    ensures { result ≡ Ends (Damaged (Key spot.now.key) at) }
+{
+    FetchTurn::Ends(Answer::Damaged(Place::Key(spot.key), at))
+}
+
+/// Reads a part of a segment's log, and cuts the run out of it.
+fn log<S: Store>(
+    wanted: &Wanted,
+    piece: &Piece,
+    span: Span,
+    view: &View,
+    store: &mut S,
+) -> Result<FetchTurn, AllocError>
+    requires below { wanted.now.offset < wanted.now.mark }
+    requires holds { wanted.now.offset < piece.now.to }
+    ensures row { LogRow S.content S.control wanted.now piece.now span view.now
+        (spot_in wanted.now.partition piece.now.id part.Log (entry_of piece.now.id view.now.entries)) result
+        store.old store.new }
+    ensures goes { IfOk result (GoesFor wanted.now.offset) }
+{
+    let Some((_, spot)) = spot_in(wanted, piece, view, Part::Log) else {
+        return Ok(lost(view));
+    };
+    let answer = store.get_part(&spot.key, spot.at + span.from as u64, span.most);
+    match answer {
+        Ok(given) => cut_out(wanted, piece, &spot, span, given),
+        Err(Trouble::Failed) => Ok(FetchTurn::Ends(Answer::StoreFault)),
+        Err(Trouble::NoMemory) => Err(AllocError),
+    }
+}
+
+/// Cuts the run out of what the store gave.
+fn cut_out(
+    wanted: &Wanted,
+    piece: &Piece,
+    spot: &Spot,
+    span: Span,
+    given: Option<Bytes>,
+) -> Result<FetchTurn, AllocError>
+    requires below { wanted.now.offset < wanted.now.mark }
+    requires holds { wanted.now.offset < piece.now.to }
+    requires whole { spot.now.at ≡ 0 }
+    ensures row { Cuts wanted.now piece.now spot.now span (Ok given) result }
+    ensures goes { IfOk result (GoesFor wanted.now.offset) }
+{
+    let Some(bytes) = given else {
+        return Ok(damaged(spot, 0));
+    };
+    match take_run(
+        bytes.as_slice(),
+        wanted.offset,
+        wanted.limit as u64,
+        wanted.mark,
+        piece.to,
+    ) {
+        Ok(cut) => {
+            let run = bytes.slice(cut.from..cut.to)?;
+            Ok(FetchTurn::Ends(Answer::Run {
+                tier: Tier::Remote(piece.id),
+                size: run.len() as u64,
+                stop: cut.stop,
+                bytes: run,
+            }))
+        }
+        Err(bad) => Ok(damaged(spot, spot.at + span.from as u64 + bad.at as u64)),
+    }
+}
