@@ -13,7 +13,7 @@ use Rattle.log_terms.proofs.Logs.{up_to_end, ends_below}
 use Rattle.record_batch.specs.Check.{checked}
 use Rattle.segment_file.specs.Run.{StopIs as StopsIn}
 use Rattle.log_steps.specs.Fronts.{Each}
-use Rattle.log_steps.proofs.Lists.{each_map, each_left}
+use Rattle.log_steps.proofs.Lists.{each_map, each_left, each_right}
 use Rattle.local_log.specs.declared.reading.RunOut.{RunOut}
 use Rattle.local_log.specs.Log.{Log, Becomes}
 use Rattle.local_log.specs.Coheres.{Coheres}
@@ -33,9 +33,14 @@ module _ {D : Type 0} (content : D → Content) (log : Log D) (s : Seen) (h : Sh
   edge_at mark from ends =
       sym (up_end content log s h mark (let same = h.local_is in omega (arith, from, same))) ∙ up_to_end mark s.batches h.consecutive ends
 
+-- batches that pass every test
+abbrev ArePassing : List (List ℕ) → Type 0
+ArePassing batches = Each (λ (batch : List ℕ). IsOk (checked batch)) batches
+
 -- a closed segment of an open log
-pub segment_of : {D : Type 0} (content : D → Content) (log : Log D) (s : Seen) → ShowsOpen content log s → (whole : Whole) → IsPartOf log whole → IsSegmentOf s whole
-segment_of content log s h whole k = record {
+pub segment_of : {D : Type 0} (content : D → Content) (log : Log D) (s : Seen) → ShowsOpen content log s → ArePassing log.batches → (whole : Whole)
+    → IsPartOf log whole → IsSegmentOf s whole
+segment_of content log s h are whole k = record {
   before = h.below ++ k.before;
   batches = k.batches;
   after = k.after;
@@ -43,6 +48,7 @@ segment_of content log s h whole k = record {
   begins = end_append 0 h.below k.before ∙ ap (λ (n : ℕ). end_from n k.before) h.begins ∙ k.begins;
   bytes_are = k.bytes_are;
   ends = k.ends;
+  are = each_left _ k.batches k.after (each_right _ k.before (k.batches ++ k.after) (subst ArePassing k.parts are));
 }
 
 pub some_more : {X : Type 0} (P Q : X → Type 0) (o : Option X) → ((x : X) → P x → Q x) → IfSome o P → IfSome o Q

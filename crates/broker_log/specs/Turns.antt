@@ -235,7 +235,7 @@ pub record RestartBreaks {D : Type 0} (content : D → Content) (old new : Kept 
   pub seen : (s : Seen) → Shows content old s → (whole : List (List ℕ)) → LeadsTo whole n → up_to s.stable whole ≡ up_to s.stable s.batches
       → Shows content new (unbuilt s whole line n)
 
--- a closed segment's batches stand in the log, from its base to its last offset
+-- a closed segment's batches, which pass every test, stand in the log, from its base to its last offset
 pub record IsSegmentOf (s : Seen) (whole : Closed) : Type 0 where
   pub before : List (List ℕ)
   pub batches : List (List ℕ)
@@ -244,6 +244,7 @@ pub record IsSegmentOf (s : Seen) (whole : Closed) : Type 0 where
   pub begins : end_of before ≡ whole.base
   pub bytes_are : whole.bytes ≡ joined batches
   pub ends : end_from whole.base batches ≡ whole.last + 1
+  pub are : Each (λ (batch : List ℕ). IsOk (checked batch)) batches
 
 -- where the log would end that is cut to an offset
 pub record IsEndUpTo {D : Type 0} (content : D → Content) (kept : Kept D) (offset end : ℕ) : Type 0 where

@@ -18,7 +18,7 @@ ghost use Rattle.local_log.specs.Stored.{size_of};
 ghost use Rattle.local_log.specs.Run.{IsRun, is_due};
 ghost use Rattle.local_log.specs.declared.refusal.LogRefusal.TheVariants.{LastOffset, TooManySegments, EmptySegment, Damaged, DiskFault, NoMemory};
 ghost use Rattle.local_log.specs.declared.refusal.OpenRefusal.TheVariants as opening;
-ghost use Rattle.broker_log.specs.Seen.{Seen, Shows, Goes, Stays, WhileUp, OnDisk, Lasting, Faulted, is_up, end_in, stable_in, line_in, local_in, incarnation_in, closed_in};
+ghost use Rattle.broker_log.specs.Seen.{Seen, Shows, Goes, Stays, WhileUp, OnDisk, Lasting, Faulted, is_up, end_in, stable_in, line_in, local_in, incarnation_in, closed_in, layout_in, settings_in};
 ghost use Rattle.broker_log.specs.Turns.{IsFirst, Appends, Settles, Cuts, MayCut, cut_back, Drops, DropBreaks, Restarts, RestartBreaks, IsSegmentOf, Breaks, BreaksIf, BreaksUnsaved, loosened, torn, IsEndUpTo, Rolls, Reads, Misreads, Unopened, IsSpent, Stops, ComesUp};
 ghost use Rattle.log_steps.specs.Fronts.{Each};
 ghost use Rattle.local_log.specs.Dropping.{IsFirstStable};
@@ -140,6 +140,27 @@ impl<D: Disk> BrokerLog<D> {
         match &self.place {
             Place::Up(log) => log.closed(),
             Place::Down(..) | Place::Away => &[],
+        }
+    }
+
+    /// The bytes of the open segment, while the broker is up.
+    pub fn open_size(&self) -> Option<u64>
+        ensures { result ≡ option_map (λ layout. size_of layout.active) (layout_in self.now) }
+    {
+        match &self.place {
+            Place::Up(log) => Some(log.open_size()),
+            Place::Down(..) | Place::Away => None,
+        }
+    }
+
+    /// The settings of the log, also while the broker is down.
+    pub fn settings(&self) -> Option<Settings>
+        ensures { result ≡ settings_in self.now }
+    {
+        match &self.place {
+            Place::Up(log) => Some(*log.settings()),
+            Place::Down(settings, _) => Some(*settings),
+            Place::Away => None,
         }
     }
 
@@ -355,6 +376,7 @@ impl<D: Disk> BrokerLog<D> {
         ensures cause { IsErrOf result DiskFault → Faulted D.control self.old self.new }
     {
         let mut log = taken(&mut self.place);
+        log.coheres();
         let outcome = log.closed_from(offset);
         self.place = Place::Up(log);
         outcome

@@ -14,7 +14,7 @@ keeps_none d = record {
 }
 
 pub lasts_none : (c : Control call_code) → Lasts c c
-lasts_none c = record { plan = refl; armed = refl; ruled = refl; never_falls = omega arith; stays_calm = λ t. t; no_fault = λ t. refl }
+lasts_none c = record { plan = refl; armed = refl; ruled = refl; never_falls = omega arith; stays_calm = λ t. t; no_fault = λ t. refl; unmade = λ off kind. refl }
 
 -- one call after others
 pub keeps_then : (a b c : Content) → Lawful a → Keeps a b → Keeps b c → Keeps a c

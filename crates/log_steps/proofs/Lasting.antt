@@ -13,6 +13,7 @@ lasts_then a b c h k = record {
   never_falls = le_trans h.never_falls k.never_falls;
   stays_calm = λ t. k.stays_calm (h.stays_calm t);
   no_fault = λ t. k.no_fault (h.stays_calm t) ∙ h.no_fault t;
+  unmade = λ off kind. k.unmade (h.armed ∙ off) kind ∙ h.unmade off kind;
 }
 
 pub runs_then : (fate : Fate) (a b c : Control call_code) → Lasts a b → Runs fate b c → Runs fate a c
@@ -29,6 +30,7 @@ rests_last a b r = record {
   never_falls = omega (arith, r.faults);
   stays_calm = λ t. subst IsTrue (sym r.calm) t;
   no_fault = λ t. r.faults;
+  unmade = λ off kind. r.made kind;
 }
 
 -- a call that failed ends a run

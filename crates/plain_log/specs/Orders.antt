@@ -2,13 +2,13 @@
 use Rattle.std.specs.Prelude.{◌≤◌, ◌<◌, ◌^◌, ◌≤ℤ◌, ◌<ℤ◌, pos, List, [], ◌∷◌, length, All}
 use Rattle.record_batch.specs.Build.{IsBuildable}
 use Rattle.plain_log.specs.declared.command.Command.{Command}
-use Rattle.plain_log.specs.declared.command.Command.TheVariants.{Append, Raw, Flush, Roll, Elect, Unclean, Learn, Join, Follow, Ack, Shrink, Expand, Raise, Clock, Stop, Up, Fetch}
+use Rattle.plain_log.specs.declared.command.Command.TheVariants.{Append, Raw, Flush, Roll, Elect, Unclean, Learn, Join, Follow, Trim, Copy, Expire, Ack, Shrink, Expand, Raise, Clock, Stop, Up, Fetch}
 use Rattle.plain_log.specs.declared.command.Order.{Order}
 use Rattle.plain_log.specs.declared.command.ActorList.{ActorList}
 use Rattle.plain_log.specs.declared.command.Config.{Config}
 
--- a world can carry the command out: its numbers are in range, and the records of an append make a batch; a command
--- that no world carries out yet can't be
+-- the command's numbers are in range, and the records of an append make a batch; no world looks an offset up by its
+-- timestamp yet
 abbrev pub IsInRange : Command → Type 0
 IsInRange (Append recs) = IsBuildable recs
 IsInRange (Raw bytes) = length bytes ≤ 1048576
@@ -19,6 +19,9 @@ IsInRange Unclean = Unit {0}
 IsInRange Learn = Unit {0}
 IsInRange Join = Unit {0}
 IsInRange (Follow limit) = limit ≤ 2147483647
+IsInRange Trim = Unit {0}
+IsInRange Copy = Unit {0}
+IsInRange Expire = Unit {0}
 IsInRange Ack = Unit {0}
 IsInRange Shrink = Unit {0}
 IsInRange Expand = Unit {0}

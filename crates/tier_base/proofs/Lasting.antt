@@ -1,6 +1,13 @@
 -- Calls of a device one after the other.
-use Rattle.std.proofs.Common.{ℕ, refl, ◌∙◌, arith}
-use Rattle.tier_base.specs.Device.{Fate, Control, Ran, Rests, Lasts}
+use Rattle.std.proofs.Common.{ℕ, refl, ◌∙◌, ◌≡◌, Bool, false, ap, arith}
+use Rattle.tier_base.specs.Device.{Fate, Went, Fault, Dry, Control, Ran, Rests, Lasts, made_after}
+
+module _ {K : Type 0} (code : K → ℕ) where
+  -- a call of a device that isn't armed isn't counted
+  pub uncounted : (call : K) (fate : Fate) (kind : K) (n : ℕ) → made_after code call fate false kind n ≡ n
+  uncounted call Went kind n = refl
+  uncounted call Fault kind n = refl
+  uncounted call Dry kind n = refl
 
 module _ {K : Type 0} {code : K → ℕ} where
   -- one call
@@ -12,6 +19,8 @@ module _ {K : Type 0} {code : K → ℕ} where
     never_falls = ran.never_falls;
     stays_calm = ran.stays_calm;
     no_fault = λ calm. (ran.calm calm).1;
+    unmade = λ off kind. ran.made kind ∙ ap (λ (armed : Bool). made_after code call fate armed kind (old.made kind)) off
+        ∙ uncounted code call fate kind (old.made kind);
   }
 
   -- no call
@@ -23,6 +32,7 @@ module _ {K : Type 0} {code : K → ℕ} where
     never_falls = omega arith;
     stays_calm = λ calm. calm;
     no_fault = λ calm. refl;
+    unmade = λ off kind. refl;
   }
 
   -- some calls, and then others
@@ -34,6 +44,7 @@ module _ {K : Type 0} {code : K → ℕ} where
     never_falls = omega (arith, first.never_falls, second.never_falls);
     stays_calm = λ calm. second.stays_calm (first.stays_calm calm);
     no_fault = λ calm. second.no_fault (first.stays_calm calm) ∙ first.no_fault calm;
+    unmade = λ off kind. second.unmade (first.armed ∙ off) kind ∙ first.unmade off kind;
   }
 
   -- what is no call
@@ -45,4 +56,5 @@ module _ {K : Type 0} {code : K → ℕ} where
     never_falls = omega (arith, rests.faults);
     stays_calm = λ calm. rests.calm ∙ calm;
     no_fault = λ calm. rests.faults;
+    unmade = λ off kind. rests.made kind;
   }

@@ -122,6 +122,8 @@ module _ {K : Type 0} {code : K → ℕ} where
     pub never_falls : old.faults ≤ new.faults
     pub stays_calm : IsTrue old.calm → IsTrue new.calm
     pub no_fault : IsTrue old.calm → new.faults ≡ old.faults
+    -- until it is armed no call is counted
+    pub unmade : old.armed ≡ false → (kind : K) → new.made kind ≡ old.made kind
 
   -- the first `arm`; a further one changes nothing
   pub record Arms (old new : Control code) : Type 0 where
