@@ -50,7 +50,7 @@ use Rattle.tier_safe.specs.Views.{IsViewOf}
 use Rattle.tier_safe.specs.Copies.{is_deleted}
 use Rattle.tier_safe.specs.Safe.{TierSafe}
 use Rattle.tier_safe.specs.May.{May, Mays, IsChanged}
-use Rattle.tier_safe.specs.Turns.{Shows, after_turn, copy_work, expiry_work, CopyTurnsChange, ExpiryTurnsChange}
+use Rattle.tier_safe.specs.Turns.{Shows, after_turn, copy_work, expiry_work, CopyTurnsChange, ExpiryTurnsChange, RefreshesChange, HaltsChange}
 use Rattle.tier_safe.proofs.Basics.{key_cases}
 
 -- lists of works and sites
@@ -253,7 +253,7 @@ module _ {S M : Type 0} (objects : S → store.Content) (calls : S → Control s
       (stored_went c p a b site (Undoes copied n key) _ old new ns h at row.1.content (λ done k. k.went refl))
 
   -- a view takes in all notes
-  sees_all : (c : Scene) (p : Plain) (a b : ℕ) (site : Site) (work : Work) (s : store.Content) (old : M) (view : Seen) → Shows c a b site work s (notes old) site.view → length c.notes < 2 ^ 64
+  pub sees_all : (c : Scene) (p : Plain) (a b : ℕ) (site : Site) (work : Work) (s : store.Content) (old : M) (view : Seen) → Shows c a b site work s (notes old) site.view → length c.notes < 2 ^ 64
       → IsViewOf c.notes site.view → Refreshes (notes old) site.view view
       → (view ≡ view_of c.notes) × IsChanged c p (after_turn c a b site work c.objects c.notes view)
   sees_all c p a b site work s old view h few v r =
@@ -432,7 +432,7 @@ module _ {S M : Type 0} (objects : S → store.Content) (calls : S → Control s
   fed_view before (note ∷ more) =
       ap (λ (v : Seen). fed_all v more) (fed_again before note) ∙ (fed_view (before ++ note ∷ []) more ∙ ap view_of (append_assoc before (note ∷ []) more))
 
-  sees_some : (c : Scene) (p : Plain) (a b : ℕ) (site : Site) (work : Work) (s : store.Content) (old : M) (view : Seen) → Shows c a b site work s (notes old) site.view → length c.notes < 2 ^ 64
+  pub sees_some : (c : Scene) (p : Plain) (a b : ℕ) (site : Site) (work : Work) (s : store.Content) (old : M) (view : Seen) → Shows c a b site work s (notes old) site.view → length c.notes < 2 ^ 64
       → IsViewOf c.notes site.view → Advances (notes old) site.view view → IsChanged c p (after_turn c a b site work c.objects c.notes view)
   sees_some c p a b site work s old view h few v r =
       let within : length v.before ≤ length c.notes = prefix_length v.before c.notes v.begins in
@@ -453,33 +453,34 @@ module _ {S M : Type 0} (objects : S → store.Content) (calls : S → Control s
   start_dry c p a b site copied teller work s old new h (inr k) =
       stays c p a b site work s (notes old) s.objects (notes new).notes h refl (dry_notes (start_note copied teller) old new h.meta_tells k)
 
-  copy_dry : (copied : Copied) (teller : Teller) (next : CopyNext) (e : AllocError) (old new : CopyTiers S M) (c : Scene) (p : Plain) (a b : ℕ) (site : Site)
-      → CopyRow objects calls notes notings copied teller next (Err e) old new → Shows c a b site (Copies copied next) (objects old.store) (notes old.meta) old.view
+  -- whatever a seat keeps
+  pub copy_dry : (copied : Copied) (teller : Teller) (next : CopyNext) (e : AllocError) (old new : CopyTiers S M) (c : Scene) (p : Plain) (a b : ℕ) (site : Site) (work : Work)
+      → CopyRow objects calls notes notings copied teller next (Err e) old new → Shows c a b site work (objects old.store) (notes old.meta) old.view
       → length c.notes < 2 ^ 64 → TierSafe c p
-      → IsChanged c p (after_turn c a b site (Copies copied next) (objects new.store).objects (notes new.meta).notes new.view)
-  copy_dry copied teller copying.Start e old new c p a b site row h few safe =
-      copied_rest c p a b site (Copies copied copying.Start) (objects old.store).objects (notes new.meta).notes site.view new
+      → IsChanged c p (after_turn c a b site work (objects new.store).objects (notes new.meta).notes new.view)
+  copy_dry copied teller copying.Start e old new c p a b site work row h few safe =
+      copied_rest c p a b site work (objects old.store).objects (notes new.meta).notes site.view new
       (ap (λ (t : CopyTiers S M). (objects t.store).objects) (sym row.0)) refl (h.view_is ∙ ap (λ (t : CopyTiers S M). t.view) (sym row.0))
-      (start_dry c p a b site copied teller (Copies copied copying.Start) (objects old.store) old.meta new.meta (shown c a b site _ _ _ old.view h) row.1)
-  copy_dry copied teller (copying.Put n) e old new c p a b site row h few safe =
-      copied_rest c p a b site (Copies copied (copying.Put n)) (objects new.store).objects (notes old.meta).notes site.view new
+      (start_dry c p a b site copied teller work (objects old.store) old.meta new.meta (shown c a b site _ _ _ old.view h) row.1)
+  copy_dry copied teller (copying.Put n) e old new c p a b site work row h few safe =
+      copied_rest c p a b site work (objects new.store).objects (notes old.meta).notes site.view new
       refl (ap (λ (t : CopyTiers S M). (notes t.meta).notes) (sym row.0)) (h.view_is ∙ ap (λ (t : CopyTiers S M). t.view) (sym row.0))
       (stays c p a b site _ (objects old.store) (notes old.meta) (objects new.store).objects (notes old.meta).notes (shown c a b site _ _ _ old.view h)
       (put_dry copied n (slice_get (copy_keys copied) n) e old.store new.store h.store_tells row.1) refl)
-  copy_dry copied teller copying.Finish e old new c p a b site row h few safe =
-      copied_rest c p a b site (Copies copied copying.Finish) (objects old.store).objects (notes new.meta).notes site.view new
+  copy_dry copied teller copying.Finish e old new c p a b site work row h few safe =
+      copied_rest c p a b site work (objects old.store).objects (notes new.meta).notes site.view new
       (ap (λ (t : CopyTiers S M). (objects t.store).objects) (sym row.0)) refl (h.view_is ∙ ap (λ (t : CopyTiers S M). t.view) (sym row.0))
       (stays c p a b site _ (objects old.store) (notes old.meta) (objects old.store).objects (notes new.meta).notes (shown c a b site _ _ _ old.view h) refl
       (dry_notes (finish_note copied teller) old.meta new.meta h.meta_tells row.1))
-  copy_dry copied teller copying.Check e old new c p a b site row h few safe =
+  copy_dry copied teller copying.Check e old new c p a b site work row h few safe =
       renamed c p a b site _ _ c.objects _ c.notes _ new.view new.view refl (h.objects_are ∙ ap (λ (t : S). (objects t).objects) (sym row.0)) (h.notes_are ∙ sym row.1.content.notes) refl
-      (sees_some c p a b site (Copies copied copying.Check) (objects old.store) old.meta new.view (shown c a b site _ _ _ old.view h) few (safe.views b site h.site_is)
+      (sees_some c p a b site work (objects old.store) old.meta new.view (shown c a b site _ _ _ old.view h) few (safe.views b site h.site_is)
       (subst (λ (v : Seen). Advances (notes old.meta) v new.view) (sym h.view_is) row.1.view))
-  copy_dry copied teller (copying.Delete n) e old new c p a b site row h few safe = absurd row
+  copy_dry copied teller (copying.Delete n) e old new c p a b site work row h few safe = absurd row
 
   pub copy_turns : CopyTurnsChange objects calls notes notings
   copy_turns copied teller next (Ok turn) old new c p a b site row h few safe = copy_went copied teller next turn old new c p a b site row h few safe
-  copy_turns copied teller next (Err e) old new c p a b site row h few safe = copy_dry copied teller next e old new c p a b site row h few safe
+  copy_turns copied teller next (Err e) old new c p a b site row h few safe = copy_dry copied teller next e old new c p a b site (Copies copied next) row h few safe
 
   expiry_dry : (doomed : Doomed) (teller : Teller) (next : ExpiryNext) (e : AllocError) (old new : ExpiryTiers S M) (c : Scene) (p : Plain) (a b : ℕ) (site : Site)
       → ExpiryRow objects calls notes notings doomed teller next (Err e) old new → Shows c a b site (Expires doomed next) (objects old.store) (notes old.meta) site.view
@@ -495,3 +496,9 @@ module _ {S M : Type 0} (objects : S → store.Content) (calls : S → Control s
   pub expiry_turns : ExpiryTurnsChange objects calls notes notings
   expiry_turns doomed teller next (Ok turn) old new c p a b site row h safe = expiry_went doomed teller next turn old new c p a b site row h safe
   expiry_turns doomed teller next (Err e) old new c p a b site row h safe = expiry_dry doomed teller next e old new c p a b site row h
+
+  pub refreshes : RefreshesChange notes
+  refreshes old view c p a b site work s h few safe r = sees_all c p a b site work s old view h few (safe.views b site h.site_is) r
+
+  pub halts : HaltsChange notes
+  halts old view c p a b site work s h few safe r = sees_some c p a b site work s old view h few (safe.views b site h.site_is) r

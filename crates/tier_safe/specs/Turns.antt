@@ -13,7 +13,8 @@ use Rattle.meta_log.specs.Call as meta_call
 use Rattle.meta_log.specs.Content as meta
 use Rattle.meta_log.specs.declared.teller.Teller.{Teller}
 use Rattle.plain_log.specs.declared.state.State.{State as Plain}
-use Rattle.remote_view.specs.Fold.{Seen}
+use Rattle.remote_view.specs.Fold.{Seen, view_of}
+use Rattle.view_refresh.specs.Refreshing.{Refreshes, Advances}
 use Rattle.copy_task.specs.Copying.{Copied}
 use Rattle.copy_task.specs.Turns as copy
 use Rattle.copy_task.specs.declared.turn.Next.{Next as CopyNext}
@@ -68,6 +69,20 @@ expiry_work doomed (ExpiryEnds answer) = Free
 abbrev pub expiry_after : Doomed → ExpiryNext → Result ExpiryTurn AllocError → Work
 expiry_after doomed next (Ok turn) = expiry_work doomed turn
 expiry_after doomed next (Err e) = Expires doomed next
+
+module _ {M : Type 0} (notes : M → meta.Content) where
+  -- a refresh of a broker's view is changes, and the view has all notes then
+  abbrev pub RefreshesChange : Type 0
+  RefreshesChange = (old : M) (view : Seen) (c : Scene) (p : Plain) (a b : ℕ) (site : Site) (work : Work) (objects : store.Content)
+      → Shows c a b site work objects (notes old) site.view → length c.notes < 2 ^ 64 → TierSafe c p
+      → Refreshes (notes old) site.view view
+      → (view ≡ view_of c.notes) × IsChanged c p (after_turn c a b site work c.objects c.notes view)
+
+  -- so is one that wanted memory
+  abbrev pub HaltsChange : Type 0
+  HaltsChange = (old : M) (view : Seen) (c : Scene) (p : Plain) (a b : ℕ) (site : Site) (work : Work) (objects : store.Content)
+      → Shows c a b site work objects (notes old) site.view → length c.notes < 2 ^ 64 → TierSafe c p
+      → Advances (notes old) site.view view → IsChanged c p (after_turn c a b site work c.objects c.notes view)
 
 module _ {S M : Type 0} (objects : S → store.Content) (calls : S → Control store_call.call_code)
     (notes : M → meta.Content) (notings : M → Control meta_call.call_code) where

@@ -3,7 +3,7 @@
 
 ghost use Rattle.tier_safe.specs.Laws.{ChangesKeepSafe, AnswersKeepSafe, SegmentsAreSources, FreshIsSafe, DroppedIsKept, FinishedIsKept};
 ghost use Rattle.tier_safe.specs.Reads.{AskedIsFound, FoundStands, ReachedIsCovered, WantedIsFound, FetchesAreServed, RebuildsAreServed};
-ghost use Rattle.tier_safe.specs.Turns.{CopyTurnsChange, ExpiryTurnsChange};
+ghost use Rattle.tier_safe.specs.Turns.{CopyTurnsChange, ExpiryTurnsChange, RefreshesChange, HaltsChange};
 
 use meta_log::MetaLog;
 use object_store::Store;
@@ -39,6 +39,16 @@ pub fn copy_turns_change<S: Store, M: MetaLog>()
 /// Each turn of an expiry is too.
 pub fn expiry_turns_change<S: Store, M: MetaLog>()
     ensures { ExpiryTurnsChange S.content S.control M.content M.control }
+{}
+
+/// A refresh of a broker's view is changes of the tier, and takes in all notes.
+pub fn refreshes_change<S: Store, M: MetaLog>()
+    ensures { RefreshesChange M.content }
+{}
+
+/// So is one that stopped for want of memory.
+pub fn halts_change<S: Store, M: MetaLog>()
+    ensures { HaltsChange M.content }
 {}
 
 /// A finished copy of the log's own lineage has each offset, from the log start on, that a local

@@ -8,7 +8,7 @@
 //! local log has dropped stands in the remote tier, of the log's own lineage, until the log start is
 //! past it; and what a fetch or a rebuild looks up and reads there is its log's.
 //!
-//! No code of this repository cites the laws yet.
+//! A world's central fact has these rules, and goes on by these laws.
 #![tactic(auto)]
 
 mod laws;
@@ -16,6 +16,6 @@ mod laws;
 pub use laws::{
     a_leaders_segments_are_sources, answers_keep_safe, changes_keep_safe, copy_turns_change,
     dropped_is_kept, expiry_turns_change, fetches_are_served, finished_is_kept, fresh_is_safe,
-    rebuilds_are_served, what_a_rebuild_wants_is_found, what_is_asked_for_is_found,
-    what_is_found_stands, what_is_reached_is_covered,
+    halts_change, rebuilds_are_served, refreshes_change, what_a_rebuild_wants_is_found,
+    what_is_asked_for_is_found, what_is_found_stands, what_is_reached_is_covered,
 };
