@@ -133,9 +133,13 @@ replays_on : (lists after : List ActorList) (opening r : State) (journal more : 
     → replay after opening more ≡ Some r
 replays_on lists after opening r journal more is same h = rw (is, same) h
 
--- a turn keeps the central fact
-pub turn_central : (opening : State) (w : Whole) (a : ℕ) (turned : Turned) (w' : Whole) → IsTurn w a turned w' → IsCentral opening w → IsCentral opening w'
-turn_central opening w a turned w' t c =
+-- a turn keeps the central fact, and what it enters leads from the one state of the plain log to the other
+pub record Went (opening : State) (w : Whole) (a : ℕ) (turned : Turned) (w' : Whole) (t : IsTurn w a turned w') (c : IsCentral opening w) : Type 0 where
+  pub central : IsCentral opening w'
+  pub step_is : step c.plain t.order (record { actor = t.list.actor; number = t.seat.number; event = event_of turned t.order.command }) ≡ Some central.plain
+
+pub turn_went : (opening : State) (w : Whole) (a : ℕ) (turned : Turned) (w' : Whole) (t : IsTurn w a turned w') (c : IsCentral opening w) → Went opening w a turned w' t c
+turn_went opening w a turned w' t c =
     let p = c.plain in
     let x = some_of _ (slice_get w.held.nodes t.order.broker.0) t.row in
     let s = standing w a turned w' p t c.safe c.stands x.0 x.1 in
@@ -145,18 +149,24 @@ turn_central opening w a turned w' t c =
     let taken : entry_step w.lists p entry ≡ Some k.state = rw order k.step_is in
     let safe = step_safe p t.order entry k.state k.step_is c.safe in
     record {
-      plain = k.state;
-      replays = replays_on w.lists w'.lists opening k.state (w.journal.items ++ entry ∷ []) w'.journal.items t.lists t.entered (replay_more w.lists opening w.journal.items p entry k.state c.replays taken);
-      safe = safe;
-      stands = record {
-        held = k.held;
-        lines = k.lines safe;
-        desk = desk_goes w a turned w' p k.state k.actor t c.stands k.actors k.wide k.steady (λ e log is. (safe.paths e log is).log_safe.consecutive) k.seat;
-        rising = subst AreRising (sym t.lists) c.stands.rising;
-        seats = ap (λ (l : List Seat). length l) t.desk
-            ∙ (length-slice_set w.desk t.place (seat_after t.seat turned) ∙ (c.stands.seats ∙ ap (λ (l : List ActorList). length l) (sym t.lists)));
+      central = record {
+        plain = k.state;
+        replays = replays_on w.lists w'.lists opening k.state (w.journal.items ++ entry ∷ []) w'.journal.items t.lists t.entered (replay_more w.lists opening w.journal.items p entry k.state c.replays taken);
+        safe = safe;
+        stands = record {
+          held = k.held;
+          lines = k.lines safe;
+          desk = desk_goes w a turned w' p k.state k.actor t c.stands k.actors k.wide k.steady (λ e log is. (safe.paths e log is).log_safe.consecutive) k.seat;
+          rising = subst AreRising (sym t.lists) c.stands.rising;
+          seats = ap (λ (l : List Seat). length l) t.desk
+              ∙ (length-slice_set w.desk t.place (seat_after t.seat turned) ∙ (c.stands.seats ∙ ap (λ (l : List ActorList). length l) (sym t.lists)));
+        };
       };
+      step_is = k.step_is;
     }
+
+pub turn_central : (opening : State) (w : Whole) (a : ℕ) (turned : Turned) (w' : Whole) → IsTurn w a turned w' → IsCentral opening w → IsCentral opening w'
+turn_central opening w a turned w' t c = (turn_went opening w a turned w' t c).central
 
 pub step_central : (w : Whole) (a : ℕ) (stepped : Stepped) (w' : Whole) → Steps w a stepped w' → KeepsCentral w w'
 step_central w a Ran w' s = λ opening c. turn_central opening w a (Begins s.0) w' s.1 c

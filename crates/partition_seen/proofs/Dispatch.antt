@@ -3,7 +3,7 @@ use Rattle.std.proofs.Common.{ℕ, Option, Some, None, slice_get}
 use Rattle.std.specs.Prelude.{IsSomeAnd}
 use Rattle.plain_log.specs.declared.answer.Answer.{Answer}
 use Rattle.plain_log.specs.declared.command.Command.{Command}
-use Rattle.plain_log.specs.declared.command.Command.TheVariants.{Follow, Join, Trim}
+use Rattle.plain_log.specs.declared.command.Command.TheVariants.{Follow, Join, Copy, Trim, Expire}
 use Rattle.partition_seen.specs.declared.begun.Turned.TheVariants.{Answers}
 use Rattle.partition_seen.specs.Seen.{Node, Held}
 use Rattle.partition_seen.specs.Held.{AtNode}
@@ -18,6 +18,8 @@ first_row : (h : Held) (b : ℕ) (x : Node) (command : Command) (answer : Answer
 first_row h b x (Follow limit) answer h' r = absurd r
 first_row h b x Join answer h' r = absurd r
 first_row h b x Trim answer h' r = absurd r
+first_row h b x Copy answer h' r = absurd r
+first_row h b x Expire answer h' r = absurd r
 first_row h b x other answer h' r = r
 
 -- a command of one turn is answered at its first

@@ -25,7 +25,7 @@ use Rattle.partition_seen.proofs.RegistryLaw.{Moves, elect_moves, unclean_moves,
 use Rattle.partition_seen.proofs.Standing.{Standing, Allowed, silent, leaves}
 
 -- a call that leaves a registry
-left_as : (p : State) (o : Option Registry) (r : Registry) → o ≡ Some r → left_by p o ≡ Some (set_registry p r)
+pub left_as : (p : State) (o : Option Registry) (r : Registry) → o ≡ Some r → left_by p o ≡ Some (set_registry p r)
 left_as p o r is = rw is refl
 
 -- what a row of the registry leaves
@@ -111,7 +111,7 @@ expand_allowed h p b x s other h' st w = elim w [ ]
 
 -- raise
 
-raised_as : (p : State) (x : Broker) (wanted e : ℕ) (result : Result ℕ RegRefusal) → x.up ≡ true → x.role ≡ LeadsIn e → raised_by p x wanted result ≡ left_by p (after_raise p.registry e wanted result)
+pub raised_as : (p : State) (x : Broker) (wanted e : ℕ) (result : Result ℕ RegRefusal) → x.up ≡ true → x.role ≡ LeadsIn e → raised_by p x wanted result ≡ left_by p (after_raise p.registry e wanted result)
 raised_as p x wanted e result up role = rw (role, up) refl
 
 raise_by : (h : Held) (p : State) (b : ℕ) (x : Node) (s : Replica) (wanted : ℕ) (answer : Answer) (result : Result ℕ RegRefusal) (h' : Held) → Standing h p b x s

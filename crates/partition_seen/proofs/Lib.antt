@@ -20,6 +20,7 @@ mod ElectionRows
 pub mod LearnRows
 pub mod FollowRows
 mod FollowOnRows
+mod TierRows
 pub mod TurnRows
 pub mod SeatLaw
 pub mod CentralLaw

@@ -509,8 +509,8 @@ ends_within a b log c one two le =
     subst (λ (m : ℕ). EndsAt m (up_to b log)) (omega (arith, at, le)) (ends_cut a b log c one)
 
 -- a node that comes up
-pub node_opened : (x : Node) (back : Back) → NodeSound x → x.up ≡ false → MayComeBack x back → NodeSound (opened x back)
-node_opened x back s off may =
+pub node_opened : (x : Node) (back : Back) (i : ℕ) → NodeSound x → x.up ≡ false → MayComeBack x back → NodeSound (opened x back i)
+node_opened x back i s off may =
     let k = may_back x back s may in
     let low = prefix_end (up_to back.0 x.log.batches) x.log.batches s.log.consecutive (up_to_prefix back.0 x.log.batches) in
     let follow = consecutive_prefix 0 (up_to back.0 x.log.batches) x.log.batches (up_to_prefix back.0 x.log.batches) s.log.consecutive in

@@ -18,8 +18,7 @@ use Rattle.record_batch.specs.Stamp.{stamped}
 use Rattle.registry.specs.declared.registry.Replica.{Replica}
 use Rattle.registry.specs.declared.registry.Registry.{Registry}
 use Rattle.plain_log.specs.declared.answer.Answer.{Answer}
-use Rattle.plain_log.specs.declared.answer.Answer.TheVariants.{Ok, OkAt, OkSpan, Down, NotLeader, Refused, LastOffset, TooManySegments, EmptySegment, DiskFault, OutOfRange, Empty, Run, Damaged, IsUp, LastIncarnation, Up}
-use Rattle.plain_log.specs.declared.answer.Place.TheVariants.{Meta}
+use Rattle.plain_log.specs.declared.answer.Answer.TheVariants.{Ok, OkAt, OkSpan, Down, NotLeader, Refused, LastOffset, TooManySegments, EmptySegment, DiskFault, OutOfRange, Empty, Run, IsUp, LastIncarnation, Up}
 use Rattle.plain_log.specs.declared.command.Command.{Command}
 use Rattle.plain_log.specs.declared.command.Command.TheVariants.{Raw, Flush, Roll, Stop as StopCommand, Up as UpCommand, Fetch}
 use Rattle.plain_log.specs.declared.state.State.{State}
@@ -303,9 +302,9 @@ may_open x back n s may is = go x.loose refl may
         let low = ends_below n x.log.batches s.log.consecutive ends in
         rw some (and_true _ _ (and_true _ _ (eq_same _ _ at) (le_true x.stable n (omega (arith, is, k.above)))) (le_true n (end_of x.log.batches) low))
 
-up_puts : (h : Held) (p : State) (b : ℕ) (x : Node) (s : Replica) (back : Back) (n : ℕ) → Standing h p b x s → x.up ≡ false → MayComeBack x back
-    → n ≡ end_of (up_to back.0 x.log.batches) → n ≡ back.0 → Puts h p (put_broker p b (opened_broker (broker_of x) n)) b x (opened x back)
-up_puts h p b x s back n st off may is at =
+up_puts : (h : Held) (p : State) (b : ℕ) (x : Node) (s : Replica) (back : Back) (i n : ℕ) → Standing h p b x s → x.up ≡ false → MayComeBack x back
+    → n ≡ end_of (up_to back.0 x.log.batches) → n ≡ back.0 → Puts h p (put_broker p b (opened_broker (broker_of x) n)) b x (opened x back i)
+up_puts h p b x s back i n st off may is at =
     let l = st.lines.each b x st.at in
     let above = (may_back x back l.sound may).above in
     let idle = (l.sound.down off).0 in
@@ -318,7 +317,7 @@ up_puts h p b x s back n st off may is at =
       paths = wider_self p.paths;
       broken = keeps_self p.broken;
       keys = λ other has. has;
-      sound = node_opened x back l.sound off may;
+      sound = node_opened x back i l.sound off may;
       paths_are = λ safe. taken;
       saved_are = λ safe. taken;
       back_are = λ safe other b. absurd cc;
@@ -338,16 +337,17 @@ up_allowed h p b x s LastIncarnation h' st w = silent h p b x s None UpCommand L
 up_allowed h p b x s (Up n) h' st w =
     let sound = (st.lines.each b x st.at).sound in
     let back = w.1.0 in
-    let k = may_back x back sound w.1.1 in
-    let at : n ≡ back.0 = w.1.2 ∙ up_to_end back.0 x.log.batches sound.log.consecutive k.ends in
-    put h p (put_broker p b (opened_broker (broker_of x) n)) b x (opened x back) s None UpCommand (Up n) h' st
-    (when_true _ (put_broker p b (opened_broker (broker_of x) n)) (and_true _ _ (not_false x.up w.0) (may_open x back n sound w.1.1 at)))
-    (up_puts h p b x s back n st w.0 w.1.1 w.1.2 at) w.1.3
+    let i = w.1.1 in
+    let k = may_back x back sound w.1.2 in
+    let at : n ≡ back.0 = w.1.4 ∙ up_to_end back.0 x.log.batches sound.log.consecutive k.ends in
+    put h p (put_broker p b (opened_broker (broker_of x) n)) b x (opened x back i) s None UpCommand (Up n) h' st
+    (when_true _ (put_broker p b (opened_broker (broker_of x) n)) (and_true _ _ (not_false x.up w.0) (may_open x back n sound w.1.2 at)))
+    (up_puts h p b x s back i n st w.0 w.1.2 w.1.4 at) w.1.5
 up_allowed h p b x s other h' st w = elim w [ ]
 
 -- fetch
 
-not_in_range : (p : State) (x : Node) (offset start end : ℕ) → start ≡ p.registry.start → end ≡ end_of x.log.batches → (offset < start) ⊎ (end < offset)
+pub not_in_range : (p : State) (x : Node) (offset start end : ℕ) → start ≡ p.registry.start → end ≡ end_of x.log.batches → (offset < start) ⊎ (end < offset)
     → in_range p (broker_of x) offset ≡ false
 not_in_range p x offset start end is at (inl lt) = rw (le_false p.registry.start offset (omega (arith, is, lt))) refl
 not_in_range p x offset start end is at (inr lt) = rw (le_false offset (end_of x.log.batches) (omega (arith, at, lt))) (and_no (nat_le p.registry.start offset))
@@ -356,7 +356,7 @@ not_in_range p x offset start end is at (inr lt) = rw (le_false offset (end_of x
     and_no true = refl
     and_no false = refl
 
-in_range_of : (h : Held) (p : State) (x : Node) (offset : ℕ) → HeldStands h p → IsInLog h x offset → in_range p (broker_of x) offset ≡ true
+pub in_range_of : (h : Held) (p : State) (x : Node) (offset : ℕ) → HeldStands h p → IsInLog h x offset → in_range p (broker_of x) offset ≡ true
 in_range_of h p x offset st w =
     let start : p.registry.start ≡ h.registry.start = ap (λ (k : Registry). k.start) st.registry in
     and_true _ _ (le_true p.registry.start offset (omega (arith, start, w.0))) (le_true offset (end_of x.log.batches) w.1)
@@ -391,7 +391,7 @@ stop_allowed_for x offset limit size Limit run (batch ∷ rest) is parts w =
     rw (is, parts, take_one_more run batch rest) (and_true (not (end_of run == x.known)) (nat_lt limit (length (joined (run ++ batch ∷ [])))) (rw (eq_differs (end_of run) x.known w.0) refl)
     (lt_true limit (length (joined (run ++ batch ∷ []))) (omega (arith, total, w.1))))
 
-run_allowed : (x : Node) (offset limit size : ℕ) (stop : Stop) (bytes : List ℕ) → GivesRun x offset limit size stop bytes → is_run (broker_of x) offset limit size stop bytes ≡ true
+pub run_allowed : (x : Node) (offset limit size : ℕ) (stop : Stop) (bytes : List ℕ) → GivesRun x offset limit size stop bytes → is_run (broker_of x) offset limit size stop bytes ≡ true
 run_allowed x offset limit size stop bytes w =
     let run = w.is in
     let count : size ≡ length (joined w.run) = w.size_is ∙ ap length w.spelled in
@@ -413,9 +413,6 @@ fetch_allowed h p b x s offset limit Empty h' st w =
 fetch_allowed h p b x s offset limit DiskFault h' st w =
     silent h p b x s None (Fetch offset limit) DiskFault h' st
     (when_true _ p (and_true _ _ (and_true _ _ (and_true _ _ w.0 w.1) (in_range_of h p x offset st.held w.2.0)) (lt_true offset x.known w.3))) w.4
-fetch_allowed h p b x s offset limit (Damaged Meta at) h' st w =
-    silent h p b x s None (Fetch offset limit) (Damaged Meta at) h' st
-    (when_true _ p (and_true _ _ (and_true _ _ (and_true _ _ w.0 w.1) (in_range_of h p x offset st.held w.2)) (lt_true offset x.known w.3))) w.5
 fetch_allowed h p b x s offset limit (Run tier size stop bytes) h' st w =
     silent h p b x s None (Fetch offset limit) (Run tier size stop bytes) h' st
     (when_true _ p (and_true _ _ (and_true _ _ (and_true _ _ (and_true _ _ w.0 w.1) (in_range_of h p x offset st.held w.2.0)) (lt_true offset x.known w.3))

@@ -12,7 +12,7 @@ use Rattle.registry.specs.declared.registry.Replica.{Replica}
 use Rattle.plain_log.specs.declared.answer.Answer.{Answer}
 use Rattle.plain_log.specs.declared.command.ActorList.{ActorList}
 use Rattle.plain_log.specs.declared.command.Command.{Command}
-use Rattle.plain_log.specs.declared.command.Command.TheVariants.{Follow, Join, Trim}
+use Rattle.plain_log.specs.declared.command.Command.TheVariants.{Follow, Join, Copy, Trim, Expire, Fetch}
 use Rattle.plain_log.specs.declared.command.Order.{Order}
 use Rattle.plain_log.specs.declared.journal.Event.TheVariants.{Answers as Answered, Begins as Began}
 use Rattle.plain_log.specs.declared.journal.JournalEntry.{JournalEntry}
@@ -93,6 +93,9 @@ pub begun_goes : (p q : State) (command : Command) (g : Begun) → Wider p.paths
 begun_goes p q (Follow limit) g w steady safe r = run_wide p.paths q.paths limit g w r
 begun_goes p q Join g w steady safe r = rebuild_goes p q g w steady safe r
 begun_goes p q Trim g w steady safe r = tt
+begun_goes p q Copy g w steady safe r = tt
+begun_goes p q Expire g w steady safe r = tt
+begun_goes p q (Fetch offset limit) g w steady safe r = tt
 begun_goes p q command g w steady safe r = elim r [ ]
 
 -- what is noted at a seat
@@ -138,6 +141,8 @@ going p x order l seat g safe st at begun bx =
     record {
       stands = subst (λ (o : Order). BegunStands p o.command g) same f.2;
       joined = k.joined;
+      up = k.up;
+      leads = λ t. (let f = k.leads t in (f.0, f.2));
     }
 
 -- a seat after an answer

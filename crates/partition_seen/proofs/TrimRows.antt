@@ -4,7 +4,7 @@ use Rattle.log_terms.proofs.Lists.{set-same}
 use Rattle.epoch_line.specs.Line.{last_entry}
 use Rattle.registry.specs.declared.registry.Replica.{Replica}
 use Rattle.plain_log.specs.declared.answer.Answer.{Answer}
-use Rattle.plain_log.specs.declared.answer.Answer.TheVariants.{Down, Stopped, Kept, DiskFault, Dropped}
+use Rattle.plain_log.specs.declared.answer.Answer.TheVariants.{Down, Stopped, MetaFault, Kept, DiskFault, Dropped}
 use Rattle.plain_log.specs.declared.command.Command.TheVariants.{Trim}
 use Rattle.plain_log.specs.declared.command.Order.{Order}
 use Rattle.plain_log.specs.declared.state.State.{State}
@@ -61,6 +61,7 @@ trim_told h p b x s start st may =
 
 pub trim_allowed : (h : Held) (p : State) (b : ℕ) (x : Node) (s : Replica) (answer : Answer) (h' : Held) → Standing h p b x s → TrimRow h x (Answers answer) h' → Allowed p b x s None Trim answer h'
 trim_allowed h p b x s Down h' st w = silent h p b x s None Trim Down h' st (rw w.0 refl) w.1
+trim_allowed h p b x s MetaFault h' st w = silent h p b x s None Trim MetaFault h' st (rw w.0 refl) w.1
 trim_allowed h p b x s other h' st w = elim w [ ]
 
 pub trim_on_allowed : (h : Held) (p : State) (b : ℕ) (x : Node) (s : Replica) (order : Order) (g : Begun) (answer : Answer) (h' : Held) → Standing h p b x s → TrimOnRow h b x g answer h'

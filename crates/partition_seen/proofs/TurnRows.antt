@@ -7,13 +7,14 @@ use Rattle.registry.specs.declared.registry.Replica.{Replica}
 use Rattle.plain_log.specs.declared.answer.Answer.{Answer}
 use Rattle.plain_log.specs.declared.answer.Answer.TheVariants.{Ok}
 use Rattle.plain_log.specs.declared.command.Command.{Command}
-use Rattle.plain_log.specs.declared.command.Command.TheVariants.{Append, Raw, Flush, Roll, Elect, Unclean, Learn, Join, Follow, Trim, Ack, Shrink, Expand, Raise, Clock, Stop as StopCommand, Up as UpCommand, Fetch}
+use Rattle.plain_log.specs.declared.command.Command.TheVariants.{Append, Raw, Flush, Roll, Elect, Unclean, Learn, Join, Follow, Copy, Trim, Expire, Ack, Shrink, Expand, Raise, Clock, Stop as StopCommand, Up as UpCommand, Fetch}
 use Rattle.plain_log.specs.declared.command.Order.{Order}
 use Rattle.plain_log.specs.declared.journal.Event.TheVariants.{Begins as Began}
 use Rattle.plain_log.specs.declared.state.Broker.{Broker}
+use Rattle.plain_log.specs.declared.state.Role.TheVariants.{Leads}
 use Rattle.plain_log.specs.declared.state.State.{State}
 use Rattle.plain_log.specs.State.{put_broker}
-use Rattle.plain_log.specs.Safe.{is_followers, HasJoined}
+use Rattle.plain_log.specs.Safe.{is_leaders, is_followers, HasJoined}
 use Rattle.plain_log.specs.Step.{begins, same_command}
 use Rattle.registry.specs.declared.registry.Registry.{Registry}
 use Rattle.log_terms.specs.Log.{end_of}
@@ -25,8 +26,9 @@ use Rattle.partition_seen.specs.declared.begun.Turned.TheVariants.{Answers, Begi
 use Rattle.partition_seen.specs.Seen.{Node, Held}
 use Rattle.partition_seen.specs.Held.{broker_of, noted_of}
 use Rattle.partition_seen.specs.Central.{LinesStand, BegunStands}
+use Rattle.partition_seen.specs.RowsOfLog.{Notes}
 use Rattle.partition_seen.specs.Rows.{ClockRow, AnswerRow, FirstRow, LaterRow}
-use Rattle.partition_seen.proofs.BoolTests.{eq_same, when_true}
+use Rattle.partition_seen.proofs.BoolTests.{and_true, eq_same, when_true}
 use Rattle.partition_seen.proofs.Standing.{Standing, Allowed, LogsSafe, Steady, steady_self, steady_set, put_steady, put_lines, map_set, broker_at, wider_self}
 use Rattle.partition_seen.proofs.OwnRows.{append_allowed, raw_allowed, flush_allowed, roll_allowed, stop_allowed, up_allowed, fetch_allowed}
 use Rattle.partition_seen.proofs.ElectionRows.{elect_allowed, unclean_allowed, shrink_allowed, expand_allowed, raise_allowed}
@@ -34,6 +36,7 @@ use Rattle.partition_seen.proofs.LearnRows.{ack_allowed, learn_allowed}
 use Rattle.partition_seen.proofs.FollowRows.{join_allowed, join_starts, follow_allowed, follow_starts}
 use Rattle.partition_seen.proofs.RebuildRows.{join_on_allowed}
 use Rattle.partition_seen.proofs.TrimRows.{trim_allowed, trim_on_allowed}
+use Rattle.partition_seen.proofs.TierRows.{copy_allowed, copy_on_allowed, expire_allowed, expire_on_allowed, fetch_gives, fetch_on_allowed}
 use Rattle.partition_seen.proofs.FollowOnRows.{follow_on_allowed}
 
 -- the clock is no part of the plain log
@@ -76,6 +79,8 @@ pub first_allowed : (h : Held) (p : State) (b : ℕ) (x : Node) (s : Replica) (c
 first_allowed h p b x s (Follow limit) answer h' st w = follow_allowed h p b x s limit answer h' st w
 first_allowed h p b x s Join answer h' st w = join_allowed h p b x s answer h' st w
 first_allowed h p b x s Trim answer h' st w = trim_allowed h p b x s answer h' st w
+first_allowed h p b x s Copy answer h' st w = copy_allowed h p b x s answer h' st w
+first_allowed h p b x s Expire answer h' st w = expire_allowed h p b x s answer h' st w
 first_allowed h p b x s command answer h' st w = one_turn h p b x s command answer h' st w
 
 -- a beginning, as the plain log's
@@ -116,6 +121,12 @@ quiet h p b x s command g h' st event is stops role end start same seat =
       seat = seat;
     }
 
+-- one that keeps what was noted of its broker
+notes : (h : Held) (p : State) (b : ℕ) (x : Node) (s : Replica) (command : Command) (g : Begun) (h' : Held) → Standing h p b x s → event_of (Begins g) command ≡ Began None
+    → begins p (broker_of x) command None ≡ Some (broker_of x) → Notes h x g → h' ≡ h → BegunStands (put_broker p b (broker_of x)) command g → Starting h p b x command g h'
+notes h p b x s command g h' st event is n same seat =
+    quiet h p b x s command g h' st event is n.stops n.role n.end (n.start ∙ ap (λ (r : Registry). r.start) (sym st.held.registry)) same seat
+
 pub first_starts : (h : Held) (p : State) (b : ℕ) (x : Node) (s : Replica) (command : Command) (g : Begun) (h' : Held) → Standing h p b x s → FirstRow h b x command (Begins g) h'
     → Starting h p b x command g h'
 first_starts h p b x s (Follow limit) g h' st w =
@@ -139,20 +150,28 @@ first_starts h p b x s Join g h' st w =
       steady = put_steady h p (put_broker p b k.broker) b x k.node s st k.puts;
       seat = k.rebuild;
     }
-first_starts h p b x s Trim g h' st w =
-    quiet h p b x s Trim g h' st refl (when_true _ (broker_of x) w.0) w.1.stops w.1.role w.1.end (w.1.start ∙ ap (λ (r : Registry). r.start) (sym st.held.registry)) w.2 tt
+first_starts h p b x s Trim g h' st w = notes h p b x s Trim g h' st refl (when_true _ (broker_of x) w.0) w.1 w.2 tt
+first_starts h p b x s Copy g h' st w = notes h p b x s Copy g h' st refl (when_true _ (broker_of x) (and_true _ _ w.0 w.1)) w.2 w.3 tt
+first_starts h p b x s Expire g h' st w = notes h p b x s Expire g h' st refl (when_true _ (broker_of x) (and_true _ _ w.0 w.1)) w.2 w.3 tt
+first_starts h p b x s (Fetch offset limit) g h' st w =
+    notes h p b x s (Fetch offset limit) g h' st refl (when_true _ (broker_of x) (fetch_gives h p x offset g h' st.held w)) w.5 w.6 tt
 first_starts h p b x s command g h' st w = elim w [ ]
 
 -- what holds of a command that has begun
 pub record GoingOn (p : State) (x : Node) (order : Order) (command : Command) (g : Begun) : Type 0 where
   pub stands : BegunStands p command g
   pub joined : is_followers command ≡ true → HasJoined p.registry.epoch (noted_of order g) (broker_of x)
+  pub up : g.stops ≡ x.stops → x.up ≡ true
+  pub leads : is_leaders command ≡ true → (e : ℕ) × (g.role ≡ Leads e)
 
 -- a command that goes on is one of several turns
 pub later_same : (h : Held) (b : ℕ) (x : Node) (command : Command) (g : Begun) (turned : Turned) (h' : Held) → LaterRow h b x command g turned h' → same_command command command ≡ true
 later_same h b x (Follow limit) g turned h' w = eq_same limit limit refl
 later_same h b x Join g turned h' w = refl
 later_same h b x Trim g turned h' w = refl
+later_same h b x Copy g turned h' w = refl
+later_same h b x Expire g turned h' w = refl
+later_same h b x (Fetch offset limit) g turned h' w = and_true _ _ (eq_same offset offset refl) (eq_same limit limit refl)
 later_same h b x command g turned h' w = elim w [ ]
 
 pub later_allowed : (h : Held) (p : State) (b : ℕ) (x : Node) (s : Replica) (order : Order) (command : Command) (g : Begun) (answer : Answer) (h' : Held) → Standing h p b x s
@@ -160,6 +179,9 @@ pub later_allowed : (h : Held) (p : State) (b : ℕ) (x : Node) (s : Replica) (o
 later_allowed h p b x s order (Follow limit) g answer h' st k w = follow_on_allowed h p b x s limit order g answer h' st (record { run = k.stands; noted = k.joined refl }) w
 later_allowed h p b x s order Join g answer h' st k w = join_on_allowed h p b x s order g answer h' st (record { run = k.stands; noted = k.joined refl }) w
 later_allowed h p b x s order Trim g answer h' st k w = trim_on_allowed h p b x s order g answer h' st w
+later_allowed h p b x s order Copy g answer h' st k w = copy_on_allowed h p b x s order g answer h' st k.up w
+later_allowed h p b x s order Expire g answer h' st k w = expire_on_allowed h p b x s order g answer h' st k.up w
+later_allowed h p b x s order (Fetch offset limit) g answer h' st k w = fetch_on_allowed h p b x s offset limit order g answer h' st (k.leads refl) w
 later_allowed h p b x s order command g answer h' st k w = elim w [ ]
 
 -- it doesn't begin again
@@ -167,4 +189,7 @@ pub no_later : (h : Held) (b : ℕ) (x : Node) (command : Command) (g f : Begun)
 no_later h b x (Follow limit) g f h' w = w
 no_later h b x Join g f h' w = w
 no_later h b x Trim g f h' w = w
+no_later h b x Copy g f h' w = w
+no_later h b x Expire g f h' w = w
+no_later h b x (Fetch offset limit) g f h' w = w
 no_later h b x command g f h' w = w

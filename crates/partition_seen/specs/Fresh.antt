@@ -22,6 +22,7 @@ fresh_node role line = record {
   saved = line;
   local = 0;
   loose = None;
+  incarnation = 1;
 }
 
 -- broker 0 leads epoch 0, the others have joined it, and all are in sync

@@ -5,6 +5,7 @@ pub mod Held
 pub mod RowsOfLog
 pub mod RowsOfElections
 pub mod RowsOfFollowers
+pub mod RowsOfTiers
 pub mod Rows
 pub mod Sound
 pub mod Whole

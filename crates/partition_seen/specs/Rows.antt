@@ -1,14 +1,14 @@
 -- What a turn of each command comes to: its answer's cause, or what its seat keeps, and what it does to the partition.
 --
 -- A row says for each answer exactly when it is given, the tests in their order, and the partition afterwards. Follow,
--- trim and some joins take more than one turn.
-use Rattle.std.specs.Prelude.{◌≡◌, ◌⊎◌, ℕ, ℤ, true, false, Option, None, Some}
+-- trim, copy, expire, some joins and some fetches take more than one turn.
+use Rattle.std.specs.Prelude.{◌≡◌, ◌⊎◌, ◌<◌, ℕ, ℤ, true, false, Option, None, Some}
 use Rattle.log_terms.specs.Log.{end_of, up_to}
 use Rattle.record_batch.specs.Build.{built}
 use Rattle.plain_log.specs.declared.answer.Answer.{Answer}
 use Rattle.plain_log.specs.declared.answer.Answer.TheVariants.{Ok, Down, IsUp, DiskFault, LastIncarnation, Up}
 use Rattle.plain_log.specs.declared.command.Command.{Command}
-use Rattle.plain_log.specs.declared.command.Command.TheVariants.{Append, Raw, Flush, Roll, Elect, Unclean, Learn, Join, Follow, Trim, Ack, Shrink, Expand, Raise, Clock, Stop as StopCommand, Up as UpCommand, Fetch}
+use Rattle.plain_log.specs.declared.command.Command.TheVariants.{Append, Raw, Flush, Roll, Elect, Unclean, Learn, Join, Follow, Copy, Trim, Expire, Ack, Shrink, Expand, Raise, Clock, Stop as StopCommand, Up as UpCommand, Fetch}
 use Rattle.partition_seen.specs.declared.begun.Begun.{Begun}
 use Rattle.partition_seen.specs.declared.begun.Turned.{Turned}
 use Rattle.partition_seen.specs.declared.begun.Turned.TheVariants.{Answers, Begins}
@@ -17,6 +17,7 @@ use Rattle.partition_seen.specs.Held.{put_node, back_of, stopped}
 use Rattle.partition_seen.specs.RowsOfLog.{AppendRow, RawRow, FlushRow, RollRow, TrimRow, TrimOnRow, FetchRow}
 use Rattle.partition_seen.specs.RowsOfElections.{ElectRow, UncleanRow, LearnRow, AckRow, ShrinkRow, ExpandRow, RaiseRow}
 use Rattle.partition_seen.specs.RowsOfFollowers.{JoinRow, JoinOnRow, FollowRow, FollowOnRow}
+use Rattle.partition_seen.specs.RowsOfTiers.{LeadersRow, CopyOnRow, ExpireOnRow, FetchBegins, FetchOnRow}
 
 -- stop
 abbrev pub StopRow : Held → ℕ → Node → Answer → Held → Type 0
@@ -28,24 +29,25 @@ StopRow h b x other h' = ⊥
 abbrev pub MayComeBack : Node → Back → Type 0
 MayComeBack x back = (back ≡ back_of x) ⊎ (x.loose ≡ Some back)
 
--- a node that comes up so
-abbrev pub opened : Node → Back → Node
-opened x back = record x {
+-- a node that comes up so, opened so many times
+abbrev pub opened : Node → Back → ℕ → Node
+opened x back incarnation = record x {
   up = true;
   log = record { batches = up_to back.0 x.log.batches; line = back.1 };
   stable = end_of (up_to back.0 x.log.batches);
   saved = back.1;
   local = back.2;
   loose = None;
+  incarnation = incarnation;
 }
 
--- up; how often a log has been opened isn't seen, so that this can't be counted further is answered as it comes
+-- up: how often the log was opened rises, by more than one where openings failed; that it can't is answered as it comes
 abbrev pub UpRow : Held → ℕ → Node → Answer → Held → Type 0
 UpRow h b x IsUp h' = (x.up ≡ true) × (h' ≡ h)
 UpRow h b x DiskFault h' = (x.up ≡ false) × (h' ≡ h)
 UpRow h b x LastIncarnation h' = (x.up ≡ false) × (h' ≡ h)
-UpRow h b x (Up n) h' = (x.up ≡ false) × ((back : Back) × MayComeBack x back
-    × (n ≡ end_of (up_to back.0 x.log.batches)) × (h' ≡ put_node h b (opened x back)))
+UpRow h b x (Up n) h' = (x.up ≡ false) × ((back : Back) × (i : ℕ) × MayComeBack x back × (x.incarnation < i)
+    × (n ≡ end_of (up_to back.0 x.log.batches)) × (h' ≡ put_node h b (opened x back i)))
 UpRow h b x other h' = ⊥
 
 -- clock
@@ -77,6 +79,9 @@ abbrev pub FirstRow : Held → ℕ → Node → Command → Turned → Held → 
 FirstRow h b x (Follow limit) turned h' = FollowRow h b x limit turned h'
 FirstRow h b x Join turned h' = JoinRow h b x turned h'
 FirstRow h b x Trim turned h' = TrimRow h x turned h'
+FirstRow h b x Copy turned h' = LeadersRow h x turned h'
+FirstRow h b x Expire turned h' = LeadersRow h x turned h'
+FirstRow h b x (Fetch offset limit) (Begins g) h' = FetchBegins h x offset g h'
 FirstRow h b x command (Answers answer) h' = AnswerRow h b x command answer h'
 FirstRow h b x command (Begins g) h' = ⊥
 
@@ -85,6 +90,9 @@ abbrev pub LaterRow : Held → ℕ → Node → Command → Begun → Turned →
 LaterRow h b x (Follow limit) g (Answers answer) h' = FollowOnRow h b x g answer h'
 LaterRow h b x Join g (Answers answer) h' = JoinOnRow h b x g answer h'
 LaterRow h b x Trim g (Answers answer) h' = TrimOnRow h b x g answer h'
+LaterRow h b x Copy g (Answers answer) h' = CopyOnRow h x g answer h'
+LaterRow h b x Expire g (Answers answer) h' = ExpireOnRow h x g answer h'
+LaterRow h b x (Fetch offset limit) g (Answers answer) h' = FetchOnRow h x offset limit g answer h'
 LaterRow h b x command g turned h' = ⊥
 
 -- a turn of a command of broker b, of which so much has begun

@@ -10,8 +10,7 @@ use Rattle.log_terms.specs.Log.{EndsAt, end_of, joined}
 use Rattle.record_batch.specs.Check.{checked}
 use Rattle.record_batch.specs.Stamp.{stamped}
 use Rattle.plain_log.specs.declared.answer.Answer.{Answer}
-use Rattle.plain_log.specs.declared.answer.Answer.TheVariants.{OkAt, OkSpan, Down, NotLeader, Refused, LastOffset, TooManySegments, EmptySegment, DiskFault, OutOfRange, Empty, Run, Damaged, Stopped, Kept, Dropped}
-use Rattle.plain_log.specs.declared.answer.Place.TheVariants.{Meta}
+use Rattle.plain_log.specs.declared.answer.Answer.TheVariants.{OkAt, OkSpan, Down, NotLeader, Refused, LastOffset, TooManySegments, EmptySegment, DiskFault, OutOfRange, Empty, Run, Stopped, MetaFault, Kept, Dropped}
 use Rattle.plain_log.specs.declared.answer.Tier.TheVariants.{Local}
 use Rattle.plain_log.specs.declared.state.Role.TheVariants.{Leads}
 use Rattle.plain_log.specs.State.{leads}
@@ -74,8 +73,8 @@ pub record MayBegin (x : Node) (start : ℕ) : Type 0 where
   pub stable : start ≤ x.stable
   pub ends : EndsAt start x.log.batches
 
--- what a trim's seat keeps after its first turn
-pub record NotesTrim (h : Held) (x : Node) (g : Begun) : Type 0 where
+-- what a seat keeps of a command that begins: what was noted of its broker, and the log start
+pub record Notes (h : Held) (x : Node) (g : Begun) : Type 0 where
   pub stops : g.stops ≡ x.stops
   pub role : g.role ≡ x.role
   pub end : g.end ≡ end_of x.log.batches
@@ -84,7 +83,8 @@ pub record NotesTrim (h : Held) (x : Node) (g : Begun) : Type 0 where
 -- trim, first turn
 abbrev pub TrimRow : Held → Node → Turned → Held → Type 0
 TrimRow h x (Answers Down) h' = (x.up ≡ false) × (h' ≡ h)
-TrimRow h x (Begins g) h' = (x.up ≡ true) × NotesTrim h x g × (h' ≡ h)
+TrimRow h x (Answers MetaFault) h' = (x.up ≡ true) × (h' ≡ h)
+TrimRow h x (Begins g) h' = (x.up ≡ true) × Notes h x g × (h' ≡ h)
 TrimRow h x other h' = ⊥
 
 -- trim, later turns: the local log's first segment goes. When it may is decided elsewhere
@@ -112,7 +112,7 @@ pub record GivesRun (x : Node) (offset limit size : ℕ) (stop : Stop) (bytes : 
 abbrev pub IsLocal : Held → Node → ℕ → Type 0
 IsLocal h x offset = IsInLog h x offset × (x.local ≤ offset)
 
--- fetch from the local log: nothing changes. What lies below it isn't found elsewhere yet
+-- fetch from the local log: nothing changes
 abbrev pub FetchRow : Held → Node → ℕ → ℕ → Answer → Held → Type 0
 FetchRow h x offset limit Down h' = (x.up ≡ false) × (h' ≡ h)
 FetchRow h x offset limit NotLeader h' = (x.up ≡ true) × (leads x.role ≡ false) × (h' ≡ h)
@@ -125,6 +125,4 @@ FetchRow h x offset limit DiskFault h' =
 FetchRow h x offset limit (Run tier size stop bytes) h' =
     (x.up ≡ true) × (leads x.role ≡ true) × IsLocal h x offset × (offset < x.known)
     × ((segment : ℕ) × (tier ≡ Local segment)) × GivesRun x offset limit size stop bytes × (h' ≡ h)
-FetchRow h x offset limit (Damaged Meta at) h' =
-    (x.up ≡ true) × (leads x.role ≡ true) × IsInLog h x offset × (offset < x.known) × (offset < x.local) × (h' ≡ h)
 FetchRow h x offset limit other h' = ⊥

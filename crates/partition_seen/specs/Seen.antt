@@ -17,8 +17,8 @@ abbrev pub Back : Type 0
 Back = ℕ × List (ℕ × ℕ) × ℕ
 
 -- a broker: how often it has stopped, its log, the offset up to which the log survives a stop, the high watermark that
--- it knows, as far as its log goes, the line that comes back after a stop, the offset at which its local log begins, and
--- after a write that failed what may come back instead
+-- it knows, as far as its log goes, the line that comes back after a stop, the offset at which its local log begins,
+-- after a write that failed what may come back instead, and how often its log had been opened when it last came up
 pub record Node : Type 0 where
   pub up : Bool
   pub stops : ℕ
@@ -29,6 +29,7 @@ pub record Node : Type 0 where
   pub saved : List (ℕ × ℕ)
   pub local : ℕ
   pub loose : Option Back
+  pub incarnation : ℕ
 
 -- the registry, the brokers, and the partition's clock in milliseconds
 pub record Held : Type 0 where

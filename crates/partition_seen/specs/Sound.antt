@@ -44,7 +44,7 @@ pub record HeldSound (brokers : ℕ) (h : Held) : Type 0 where
   pub epoch : h.registry.epoch < 2 ^ 31
   pub nodes : (b : ℕ) (x : Node) → slice_get h.nodes b ≡ Some x → NodeSound x
 
--- the turns that are left of a list: an order takes at most two, and one that has begun one more
+-- the turns that are left of a list and enter something: an order takes at most two, and one that has begun one more
 abbrev pub turns_of : List Order → Seat → ℕ
 turns_of orders seat = 2 * (length orders - seat.number) - (if is_some seat.begun then 1 else 0)
 

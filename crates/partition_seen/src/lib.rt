@@ -13,6 +13,10 @@
 //! A partition has 1 to 8 brokers: one leads, others follow, and elections, stops and starts change which. A follow
 //! takes two turns, and whatever comes between them may stop it. What it has taken at the first is kept as bytes, and
 //! seen as the batches that these are.
+//!
+//! Of the remote tier nothing is seen but how commands on it are answered. A copy, an expiry or a fetch below the local
+//! log that begins at its first turn is answered at a later one, where its broker may have lost the lead. The turns
+//! between the two change nothing that is seen, and enter nothing.
 #![tactic(auto)]
 
 mod begun;

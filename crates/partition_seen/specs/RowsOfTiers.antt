@@ -1,0 +1,91 @@
+-- What a turn of a command comes to that works on the remote tier: copy, expire, and a fetch below the local log.
+--
+-- Of the remote tier nothing is seen here: how its calls end, and what stands there, is answered as it comes. Each of these
+-- commands notes where it begins, and goes on as long as its broker leads as it did. The turns between the first and the last
+-- change nothing that is seen.
+use Rattle.std.specs.Prelude.{◌≡◌, ◌⊎◌, ℕ, ◌<◌, ◌≤◌, true, false, Ok as Done}
+use Rattle.log_terms.specs.Log.{end_of}
+use Rattle.registry.specs.Calls.{after_raise}
+use Rattle.plain_log.specs.declared.answer.Answer.{Answer}
+use Rattle.plain_log.specs.declared.answer.Answer.TheVariants.{Down, NotLeader, MetaFault, StoreFault, DiskFault, Damaged, LostLead, Level, Overtaken, CopiedSegment, Kept, StaleEpoch, Raised, Deleted, Stopped, OutOfRange, Empty, Run}
+use Rattle.plain_log.specs.declared.state.Role.TheVariants.{Leads}
+use Rattle.plain_log.specs.State.{leads, epoch_in}
+use Rattle.partition_seen.specs.declared.begun.Begun.{Begun}
+use Rattle.partition_seen.specs.declared.begun.Turned.{Turned}
+use Rattle.partition_seen.specs.declared.begun.Turned.TheVariants.{Answers, Begins}
+use Rattle.partition_seen.specs.Seen.{Node, Held}
+use Rattle.partition_seen.specs.RowsOfLog.{Notes, IsInLog, GivesRun}
+use Rattle.partition_seen.specs.RowsOfElections.{Leaves}
+use Rattle.partition_seen.specs.RowsOfFollowers.{IsStale}
+
+-- the broker is up, hasn't stopped since the command began, and has the role that it had
+pub record KeepsLead (x : Node) (g : Begun) : Type 0 where
+  pub stops : g.stops ≡ x.stops
+  pub up : x.up ≡ true
+  pub role : g.role ≡ x.role
+
+-- it leads as it did, and nothing changes
+abbrev pub GoesLeading : Held → Node → Begun → Held → Type 0
+GoesLeading h x g h' = KeepsLead x g × (h' ≡ h)
+
+-- copy and expire, first turn: the leader's view of the remote tier is refreshed
+abbrev pub LeadersRow : Held → Node → Turned → Held → Type 0
+LeadersRow h x (Answers Down) h' = (x.up ≡ false) × (h' ≡ h)
+LeadersRow h x (Answers NotLeader) h' = (x.up ≡ true) × (leads x.role ≡ false) × (h' ≡ h)
+LeadersRow h x (Answers MetaFault) h' = (x.up ≡ true) × (leads x.role ≡ true) × (h' ≡ h)
+LeadersRow h x (Begins g) h' = (x.up ≡ true) × (leads x.role ≡ true) × Notes h x g × (h' ≡ h)
+LeadersRow h x other h' = ⊥
+
+-- copy, later turns
+abbrev pub CopyOnRow : Held → Node → Begun → Answer → Held → Type 0
+CopyOnRow h x g LostLead h' = (KeepsLead x g → ⊥) × (h' ≡ h)
+CopyOnRow h x g Level h' = GoesLeading h x g h'
+CopyOnRow h x g DiskFault h' = GoesLeading h x g h'
+CopyOnRow h x g (Damaged place at) h' = GoesLeading h x g h'
+CopyOnRow h x g MetaFault h' = GoesLeading h x g h'
+CopyOnRow h x g StoreFault h' = GoesLeading h x g h'
+CopyOnRow h x g (Overtaken state) h' = GoesLeading h x g h'
+CopyOnRow h x g (CopiedSegment id start last) h' = GoesLeading h x g h'
+CopyOnRow h x g other h' = ⊥
+
+-- the registry raises the log start for the broker
+pub record Raises (h : Held) (x : Node) (start : ℕ) (h' : Held) : Type 0 where
+  pub epoch : ℕ
+  pub role : x.role ≡ Leads epoch
+  pub after : Leaves h (after_raise h.registry epoch start (Done start)) h'
+
+-- expire, later turns
+abbrev pub ExpireOnRow : Held → Node → Begun → Answer → Held → Type 0
+ExpireOnRow h x g LostLead h' = (KeepsLead x g → ⊥) × (h' ≡ h)
+ExpireOnRow h x g Kept h' = GoesLeading h x g h'
+ExpireOnRow h x g (StaleEpoch n) h' = IsStale h (epoch_in g.role) × (n ≡ h.registry.epoch) × GoesLeading h x g h'
+ExpireOnRow h x g (Raised start) h' = KeepsLead x g × Raises h x start h'
+ExpireOnRow h x g MetaFault h' = GoesLeading h x g h'
+ExpireOnRow h x g StoreFault h' = GoesLeading h x g h'
+ExpireOnRow h x g (Deleted id) h' = GoesLeading h x g h'
+ExpireOnRow h x g other h' = ⊥
+
+-- fetch, first turn, of an offset below the local log: it is looked for in the remote tier
+abbrev pub FetchBegins : Held → Node → ℕ → Begun → Held → Type 0
+FetchBegins h x offset g h' =
+    (x.up ≡ true) × (leads x.role ≡ true) × IsInLog h x offset × (offset < x.known) × (offset < x.local) × Notes h x g × (h' ≡ h)
+
+-- the broker leads as it did, and knows that the offset is committed
+pub record Serves (h : Held) (x : Node) (g : Begun) (offset : ℕ) : Type 0 where
+  pub keeps : KeepsLead x g
+  pub within : IsInLog h x offset
+  pub below : offset < x.known
+
+-- fetch, later turns
+abbrev pub FetchOnRow : Held → Node → ℕ → ℕ → Begun → Answer → Held → Type 0
+FetchOnRow h x offset limit g Stopped h' = ((g.stops ≡ x.stops) × (x.up ≡ true) → ⊥) × (h' ≡ h)
+FetchOnRow h x offset limit g NotLeader h' = (g.stops ≡ x.stops) × (x.up ≡ true) × (g.role ≡ x.role → ⊥) × (h' ≡ h)
+FetchOnRow h x offset limit g (OutOfRange start end) h' =
+    KeepsLead x g × ((offset < start) ⊎ (end < offset)) × (start ≡ h.registry.start) × (end ≡ end_of x.log.batches) × (h' ≡ h)
+FetchOnRow h x offset limit g Empty h' = KeepsLead x g × IsInLog h x offset × (x.known ≤ offset) × (h' ≡ h)
+FetchOnRow h x offset limit g (Run tier size stop bytes) h' =
+    Serves h x g offset × GivesRun x offset limit size stop bytes × (h' ≡ h)
+FetchOnRow h x offset limit g MetaFault h' = Serves h x g offset × (h' ≡ h)
+FetchOnRow h x offset limit g StoreFault h' = Serves h x g offset × (h' ≡ h)
+FetchOnRow h x offset limit g (Damaged place at) h' = Serves h x g offset × (h' ≡ h)
+FetchOnRow h x offset limit g other h' = ⊥
