@@ -1,401 +1,296 @@
--- While no call of the brokers' disks can fail, none does: each row without a fault keeps that, and a row with one is impossible.
-use Rattle.std.proofs.Common.{◌≡◌, inl, inr, sym, subst, refl, ℕ, zero, suc, ◌+◌, ◌<◌, ◌≤◌, List, [], ◌∷◌, ◌++◌, slice_get, slice_set, Some, None, Option, Ok as Done, Bool, true, false, arith}
-use Rattle.std.specs.Prelude.{◌-◌, ◌^◌, min, ℤ, IsTrue}
-use Rattle.tier_base.specs.Counts.{Rose}
+-- While no call of the devices can fail, none does: each turn without a fault keeps that, and one with a fault is impossible.
+use Rattle.std.proofs.Common.{◌≡◌, inl, inr, sym, ap, subst, refl, ℕ, zero, suc, ◌+◌, List, [], ◌∷◌, ◌++◌, slice_get, slice_set, Some, None, Option, Ok, Bool, true, false, arith}
+use Rattle.std.specs.Prelude.{IsTrue}
+use Rattle.tier_base.specs.Device.{Control, Fate, Fault, Ran, Arms}
 use Rattle.tier_base.specs.declared.names.PartitionId.{PartitionId}
-use Rattle.tier_base.specs.Device.{Control, Lasts}
+use Rattle.tier_base.specs.declared.object_key.ObjectKey.{ObjectKey}
+use Rattle.tier_base.specs.declared.plain.State.{State}
+use Rattle.tier_base.specs.declared.plain.State.TheVariants.{CopyStarted, CopyFinished, DeleteStarted, DeleteFinished}
+use Rattle.disk_model.specs.declared.disk.Disk.{Ghosts as DiskGhosts}
 use Rattle.disk_model.specs.Call.{call_code}
-use Rattle.disk_model.specs.Content.{Content}
-use Rattle.registry.specs.declared.registry.Registry.{Registry}
-use Rattle.registry.specs.Calls.{after_ack}
-use Rattle.record_batch.specs.Build.{built}
-use Rattle.plain_log.specs.declared.answer.Answer.{Answer}
-use Rattle.plain_log.specs.declared.answer.Answer.TheVariants.{Ok, OkAt, OkSpan, Down, NotLeader, Refused, LastOffset, TooManySegments, EmptySegment, DiskFault, DiskFaultAt, Damaged, OutOfRange, Empty, Run, LastEpoch, NotInSync, DownBroker, BehindStart, Known, Follows, NeedsElection, Leads, NotJoined, StaleEpoch, IsLeader, Behind, NotAbove, AboveMark, NotFollower, NoLeader, Cut, Level, Stopped, Passed, Copied, IsUp, LastIncarnation, Up as IsOpen, Moved, BelowStart, Rebuilt, Kept as Remains, Dropped}
-use Rattle.plain_log.specs.declared.answer.Place.TheVariants.{File, Meta}
+use Rattle.object_store.specs.declared.store.Store.{Ghosts as StoreGhosts}
+use Rattle.meta_log.specs.declared.log.MetaLog.{Ghosts as MetaGhosts}
+use Rattle.meta_log.specs.declared.teller.Teller.{Teller}
+use Rattle.remote_view.specs.Fold.{Seen as View, state_of}
+use Rattle.copy_task.specs.Copying.{Copied, keys}
+use Rattle.copy_task.specs.Turns.{Tiers, StartRow, FinishRow, CheckRow, PutRow, DeleteRow, CopyRow, checked, put_at, delete_at, overtaken}
+use Rattle.copy_task.specs.declared.turn.CopyTurn.{CopyTurn}
+use Rattle.copy_task.specs.declared.turn.CopyTurn.TheVariants.{Goes as GoesOn, Ends}
+use Rattle.copy_task.specs.declared.turn.Next.{Next}
+use Rattle.copy_task.specs.declared.turn.Next.TheVariants.{Start, Put, Finish, Check, Delete}
+use Rattle.plain_log.specs.declared.answer.Answer.TheVariants.{Down, NotLeader, MetaFault, StoreFault, DiskFault, Damaged}
+use Rattle.plain_log.specs.declared.answer.Place.TheVariants.{File}
 use Rattle.plain_log.specs.declared.command.ActorList.{ActorList}
 use Rattle.plain_log.specs.declared.command.Command.{Command}
-use Rattle.plain_log.specs.declared.command.Command.TheVariants.{Append, Raw, Flush, Roll, Elect, Unclean, Learn, Join, Follow, Trim, Ack, Shrink, Expand, Raise, Clock, Stop as StopCommand, Up as UpCommand, Fetch}
+use Rattle.plain_log.specs.declared.command.Command.TheVariants.{Join, Copy, Trim}
 use Rattle.plain_log.specs.declared.command.Config.{Config}
 use Rattle.plain_log.specs.declared.command.Pace.{Pace}
 use Rattle.plain_log.specs.declared.command.Pace.TheVariants.{Until, Times}
 use Rattle.plain_log.specs.declared.journal.JournalEntry.{JournalEntry}
-use Rattle.plain_log.specs.State.{acking}
-use Rattle.broker_log.specs.Seen.{Kept, Up, Down as Closed, Away, OnDisk, Lasting, Faulted}
-use Rattle.broker_log.specs.Seen as log
+use Rattle.broker_log.specs.Seen.{Kept, Up, Down as Closed, Away, OnDisk}
 use Rattle.partition_seen.specs.declared.begun.Begun.{Begun}
 use Rattle.partition_seen.specs.declared.begun.Turned.{Turned}
-use Rattle.partition_seen.specs.declared.begun.Turned.TheVariants.{Answers, Begins}
+use Rattle.partition_seen.specs.declared.begun.Turned.TheVariants as turned
 use Rattle.partition_seen.specs.Turn.{event_of}
-use Rattle.partition_seen.proofs.BoolTests.{some_of}
-use Rattle.partition_world.specs.declared.held.Node.{Node}
-use Rattle.partition_world.specs.declared.held.Held.{Held}
-use Rattle.partition_world.specs.Held.{put_node, end_of, stable_of, the_leader, Rests, Fails, Breaks, IsCalm, BreaksBy}
-use Rattle.partition_world.specs.Calm.{AreCalm, AreUnplanned, IsFaultless, HasNoFault, AreFaultless, IsUnfailing}
-use Rattle.partition_world.specs.Fresh.{IsArmed, AreFreshFrom, IsFresh}
+use Rattle.partition_turns.specs.declared.held.Node.{Node}
+use Rattle.partition_turns.specs.declared.held.Held.{Held}
+use Rattle.partition_turns.specs.Held.{IsCalm as IsCalmDisk}
+use Rattle.partition_turns.specs.Calm.{AreCalm, AreUnplanned, IsFaultless, HasNoFault, AreFaultless}
+use Rattle.partition_turns.specs.Fresh.{IsArmed, AreFreshFrom}
+use Rattle.partition_turns.proofs.CalmRows.{lasting_calm, calm_fault, calm_get, calm_set, row_calm, HasNone}
+use Rattle.partition_world.specs.declared.tier.Side.{Side}
+use Rattle.partition_world.specs.declared.tier.Tier.{Tier}
+use Rattle.partition_world.specs.declared.seat.Outcome.{Outcome}
+use Rattle.partition_world.specs.declared.seat.Outcome.TheVariants.{Answers, Begins, Chose, Goes}
+use Rattle.partition_world.specs.declared.seat.Work.{Work}
+use Rattle.partition_world.specs.declared.seat.Work.TheVariants.{Idle, Noted, Copies}
+use Rattle.partition_world.specs.Calm.{IsCalm, IsUnplanned, IsUnfailing}
+use Rattle.partition_world.specs.Fresh.{IsFresh}
+use Rattle.partition_world.specs.Seats.{outcome_of, copy_outcome, told_of}
 use Rattle.partition_world.specs.Turn.{IsTurn}
-use Rattle.partition_world.specs.Turns.{ClockRow, StopRow, UpRow, AnswerRow, FirstRow, LaterRow, Row}
-use Rattle.partition_world.specs.TurnsOfLog.{Gains, AppendRow, RawRow, FlushRow, RollRow, TrimRow, TrimOnRow}
-use Rattle.partition_world.specs.TurnsOfFetch.{FetchRow}
-use Rattle.partition_world.specs.TurnsOfElections.{Leaves, ElectRow, UncleanRow, LearnRow, AckRow, ShrinkRow, ExpandRow, RaiseRow}
-use Rattle.partition_world.specs.TurnsOfFollowers.{JoinRow, JoinOnRow, FollowRow, FollowOnRow}
-use Rattle.partition_world.specs.Reaches.{Goes, GoesTimes, GoesUntil, Paces, Reaches}
+use Rattle.partition_world.specs.TurnsOfCopy.{ReadsLog, ReadRow, CopyFirstRow, ChooseRow, tiers_of, teller_of}
+use Rattle.partition_world.specs.Turns.{BeginRow, NotedRow, CopyingRow, Row}
+use Rattle.partition_world.specs.Reaches.{Goes as GoesOnce, GoesTimes, GoesUntil, Paces, Reaches}
 use Rattle.partition_world.specs.Whole.{Whole}
-use Rattle.partition_world.proofs.SoundLaw.{leader_at}
+use Rattle.partition_world.proofs.Begins.{row_of}
 
-module _ {D : Type 0} (control : D → Control call_code) where
-  -- calm lasts
-  pub lasting_calm : (old new : Kept D) → Lasting control old new → OnDisk old (λ d. IsCalm (control d)) → OnDisk new (λ d. IsCalm (control d))
-  lasting_calm old new l c = go old new l c
-    where
-      one : (d e : D) → Lasts (control d) (control e) → IsCalm (control d) → IsCalm (control e)
-      one d e l c = let same = l.no_fault c.calm in record { calm = l.stays_calm c.calm; few = omega (arith, c.few, same) }
+-- an outcome that tells of no fault
+abbrev IsQuiet : Outcome → Type 0
+IsQuiet (Answers answer) = IsFaultless answer
+IsQuiet other = Unit {0}
 
-      go : (old new : Kept D) → Lasting control old new → OnDisk old (λ d. IsCalm (control d)) → OnDisk new (λ d. IsCalm (control d))
-      go (Up m) (Up n) l c = one m.disk n.disk l c
-      go (Up m) (Closed j e) l c = one m.disk e l c
-      go (Up m) Away l c = absurd l
-      go (Closed i d) (Up n) l c = one d n.disk l c
-      go (Closed i d) (Closed j e) l c = one d e l c
-      go (Closed i d) Away l c = absurd l
-      go Away new l c = absurd c
+module _ {K : Type 0} {code : K → ℕ} where
+  -- a call of a calm device goes well, and the device stays calm
+  call_calm : (call : K) (fate : Fate) (old new : Control code) → Ran call fate old new → IsCalm old → IsCalm new
+  call_calm call fate old new r c = let same = (r.calm c.calm).1 in record { calm = r.stays_calm c.calm; few = omega (arith, c.few, same) }
 
-  -- while a disk is calm nothing fails
-  pub calm_fault : (old new : Kept D) → Lasting control old new → Faulted control old new → OnDisk old (λ d. IsCalm (control d)) → ⊥
-  calm_fault old new l f c = go old new l f c
-    where
-      rose : (before now : ℕ) → now ≡ before → before < 2 ^ 64 - 1 → min (before + 1) (2 ^ 64 - 1) ≤ now → ⊥
-      rose before now same few up = omega (arith, same, few, up)
+  no_fault : {A : Type 0} (call : K) (old new : Control code) → Ran call Fault old new → IsCalm old → A
+  no_fault call old new r c = absurd ((r.calm c.calm).0 refl)
 
-      one : (d e : D) → Lasts (control d) (control e) → Rose (control d).faults (control e).faults → IsCalm (control d) → ⊥
-      one d e l f c = rose (control d).faults (control e).faults (l.no_fault c.calm) c.few f
+  -- one whose empty plan comes in force stays so
+  armed_calm : (given now : Control code) → Arms given now → IsUnplanned given → IsCalm now
+  armed_calm given now a u = record { calm = a.still_calm u.ruled u.calm.calm u.plan; few = omega (arith, u.calm.few, a.faults) }
 
-      go : (old new : Kept D) → Lasting control old new → Faulted control old new → OnDisk old (λ d. IsCalm (control d)) → ⊥
-      go (Up m) (Up n) l f c = one m.disk n.disk l f c
-      go (Up m) (Closed j e) l f c = one m.disk e l f c
-      go (Up m) Away l f c = absurd l
-      go (Closed i d) (Up n) l f c = one d n.disk l f c
-      go (Closed i d) (Closed j e) l f c = one d e l f c
-      go (Closed i d) Away l f c = absurd l
-      go Away new l f c = absurd c
+-- what a copy finds is no fault
+checked_quiet : (copy : Copied) (notes : ℕ) (state : Option State) → IsQuiet (copy_outcome (checked copy notes state))
+checked_quiet copy notes (Some CopyFinished) = tt
+checked_quiet copy notes (Some DeleteStarted) = tt
+checked_quiet copy notes (Some DeleteFinished) = tt
+checked_quiet copy notes (Some CopyStarted) = tt
+checked_quiet copy notes None = tt
 
-  pub calm_get : (xs : List (Node D)) (i : ℕ) (x : Node D) → AreCalm control xs → slice_get xs i ≡ Some x → OnDisk x.log (λ d. IsCalm (control d))
-  calm_get [] i x c at = absurd cc
-  calm_get (z ∷ xs) zero x c at = let same : z ≡ x = cc in subst (λ (k : Node D). OnDisk k.log (λ d. IsCalm (control d))) same c.0
-  calm_get (z ∷ xs) (suc i) x c at = calm_get xs i x c.1 at
+overtaken_quiet : (notes : ℕ) (state : Option State) → IsFaultless (overtaken notes state)
+overtaken_quiet notes None = tt
+overtaken_quiet notes (Some state) = tt
 
-  pub calm_set : (xs : List (Node D)) (i : ℕ) (x : Node D) → AreCalm control xs → OnDisk x.log (λ d. IsCalm (control d)) → AreCalm control (slice_set xs i x)
-  calm_set [] i x c n = tt
-  calm_set (z ∷ xs) zero x c n = (n, c.1)
-  calm_set (z ∷ xs) (suc i) x c n = (c.0, calm_set xs i x c.1 n)
+deleted_quiet : (copy : Copied) (view : View) (n : ℕ) (key : Option ObjectKey) → IsQuiet (copy_outcome (delete_at copy view n key))
+deleted_quiet copy view n None = overtaken_quiet view.notes (state_of copy.id view.entries)
+deleted_quiet copy view n (Some key) = tt
 
-  -- a disk that wasn't asked
-  calm_same : (h h' : Held D) → h' ≡ h → AreCalm control h.nodes → AreCalm control h'.nodes
-  calm_same h h' is c = subst (λ (k : Held D). AreCalm control k.nodes) (sym is) c
+put_quiet : (n : ℕ) (key : Option ObjectKey) → IsQuiet (copy_outcome (GoesOn (put_at n key)))
+put_quiet n key = tt
 
-  -- a node in its place, whose disk was asked
-  calm_put : (h : Held D) (b : ℕ) (x y : Node D) (h' : Held D) → slice_get h.nodes b ≡ Some x → AreCalm control h.nodes → Lasting control x.log y.log → h' ≡ put_node h b y → AreCalm control h'.nodes
-  calm_put h b x y h' at c lasts is =
-      calm_same (put_node h b y) h' is (calm_set h.nodes b y c (lasting_calm x.log y.log lasts (calm_get h.nodes b x c at)))
+module _ {S M : Type 0} (store : StoreGhosts S) (meta : MetaGhosts M) where
+  -- no call of store and metadata log can fail
+  abbrev AreQuiet : S → M → Type 0
+  AreQuiet s m = IsCalm (store.control s) × IsCalm (meta.control m)
 
-  -- one that wasn't
-  calm_keeps : (h : Held D) (b : ℕ) (x y : Node D) (h' : Held D) → slice_get h.nodes b ≡ Some x → AreCalm control h.nodes → y.log ≡ x.log → h' ≡ put_node h b y → AreCalm control h'.nodes
-  calm_keeps h b x y h' at c same is =
-      calm_same (put_node h b y) h' is (calm_set h.nodes b y c (subst (λ (k : Kept D). OnDisk k (λ d. IsCalm (control d))) (sym same) (calm_get h.nodes b x c at)))
+  -- a turn of a copy
 
-  calm_leaves : (h : Held D) (after : Option Registry) (h' : Held D) → AreCalm control h.nodes → Leaves h after h' → AreCalm control h'.nodes
-  calm_leaves h after h' c w = let r = some_of _ after w in calm_same (record h { registry = r.0 }) h' r.2 c
+  start_calm : (copy : Copied) (teller : Teller) (turn : CopyTurn) (old new : M) → StartRow meta.content meta.control copy teller (Ok turn) old new → IsCalm (meta.control old)
+      → IsCalm (meta.control new) × IsQuiet (copy_outcome turn)
+  start_calm copy teller (Ends MetaFault) old new w c = no_fault _ (meta.control old) (meta.control new) w.control.ran c
+  start_calm copy teller turn old new w c =
+      (call_calm _ _ (meta.control old) (meta.control new) w.1.control.ran c, subst (λ (t : CopyTurn). IsQuiet (copy_outcome t)) (sym w.0) tt)
 
-module _ {D : Type 0} (content : D → Content) (control : D → Control call_code) where
-  -- after a turn the disks are calm, and it was answered no fault
-  abbrev Calmly : Held D → Answer → Type 0
-  Calmly h' answer = AreCalm control h'.nodes × IsFaultless answer
+  finish_calm : (copy : Copied) (teller : Teller) (turn : CopyTurn) (old new : M) → FinishRow meta.content meta.control copy teller (Ok turn) old new → IsCalm (meta.control old)
+      → IsCalm (meta.control new) × IsQuiet (copy_outcome turn)
+  finish_calm copy teller (Ends MetaFault) old new w c = no_fault _ (meta.control old) (meta.control new) w.control.ran c
+  finish_calm copy teller turn old new w c =
+      (call_calm _ _ (meta.control old) (meta.control new) w.1.control.ran c, subst (λ (t : CopyTurn). IsQuiet (copy_outcome t)) (sym w.0) tt)
 
-  calm_rests : (h : Held D) (b : ℕ) (x : Node D) (h' : Held D) → slice_get h.nodes b ≡ Some x → AreCalm control h.nodes → Rests content control h b x h' → AreCalm control h'.nodes
-  calm_rests h b x h' at c k = calm_put control h b x (record x { log = k.0 }) h' at c k.2 k.3
+  check_calm : (copy : Copied) (turn : CopyTurn) (before after : View) (old new : M) → CheckRow meta.content meta.control copy (Ok turn) before after old new → IsCalm (meta.control old)
+      → IsCalm (meta.control new) × IsQuiet (copy_outcome turn)
+  check_calm copy (Ends MetaFault) before after old new w c = no_fault _ (meta.control old) (meta.control new) w.control.ran c
+  check_calm copy turn before after old new w c = (
+    call_calm _ _ (meta.control old) (meta.control new) w.1.control.ran c,
+    subst (λ (t : CopyTurn). IsQuiet (copy_outcome t)) (sym w.0) (checked_quiet copy after.notes (state_of copy.id after.entries)),
+  )
 
-  calm_fails : {A : Type 0} (h : Held D) (b : ℕ) (x : Node D) (h' : Held D) → slice_get h.nodes b ≡ Some x → AreCalm control h.nodes → Fails content control h b x h' → A
-  calm_fails h b x h' at c k = absurd (calm_fault control x.log k.0 k.2 k.3 (calm_get control h.nodes b x c at))
+  put_calm : (copy : Copied) (n : ℕ) (key : Option ObjectKey) (turn : CopyTurn) (old new : S) → PutRow store.content store.control copy n key (Ok turn) old new → IsCalm (store.control old)
+      → IsCalm (store.control new) × IsQuiet (copy_outcome turn)
+  put_calm copy n None turn old new w c = let is : turn ≡ GoesOn Finish = cc (w.0) in (rw w.1 c, subst (λ (t : CopyTurn). IsQuiet (copy_outcome t)) (sym is) tt)
+  put_calm copy n (Some key) (Ends StoreFault) old new w c = no_fault _ (store.control old) (store.control new) w.puts.control.ran c
+  put_calm copy n (Some key) turn old new w c = (
+    call_calm _ _ (store.control old) (store.control new) w.1.puts.control.ran c,
+    subst (λ (t : CopyTurn). IsQuiet (copy_outcome t)) (sym w.0) (put_quiet (n + 1) (slice_get (keys copy) (n + 1))),
+  )
 
-  calm_breaks : {A : Type 0} (h : Held D) (b : ℕ) (x : Node D) (makes : log.Seen → log.Seen) (h' : Held D) → slice_get h.nodes b ≡ Some x → AreCalm control h.nodes → Breaks content control h b x makes h' → A
-  calm_breaks h b x makes h' at c k = absurd (calm_fault control x.log k.kept k.lasts k.cause (calm_get control h.nodes b x c at))
+  delete_calm : (copy : Copied) (view : View) (n : ℕ) (key : Option ObjectKey) (turn : CopyTurn) (old new : S) → DeleteRow store.content store.control copy view n key turn old new
+      → IsCalm (store.control old) → IsCalm (store.control new) × IsQuiet (copy_outcome turn)
+  delete_calm copy view n None turn old new w c = (rw w.1 c, subst (λ (t : CopyTurn). IsQuiet (copy_outcome t)) (sym w.0) (deleted_quiet copy view n None))
+  delete_calm copy view n (Some key) (Ends StoreFault) old new w c = no_fault _ (store.control old) (store.control new) w.control.ran c
+  delete_calm copy view n (Some key) turn old new w c = (
+    call_calm _ _ (store.control old) (store.control new) w.1.control.ran c,
+    subst (λ (t : CopyTurn). IsQuiet (copy_outcome t)) (sym w.0) (deleted_quiet copy view (n + 1) (slice_get (keys copy) (n + 1))),
+  )
 
-  calm_gains : (h : Held D) (b : ℕ) (x : Node D) (batch : List ℕ) (h' : Held D) → slice_get h.nodes b ≡ Some x → AreCalm control h.nodes → Gains content control h b x batch h' → AreCalm control h'.nodes
-  calm_gains h b x batch h' at c k = calm_put control h b x (record x { log = k.0 }) h' at c k.4 k.5
+  copy_calm : (copy : Copied) (teller : Teller) (next : Next) (turn : CopyTurn) (old new : Tiers S M) → CopyRow store.content store.control meta.content meta.control copy teller next (Ok turn) old new
+      → AreQuiet old.store old.meta → AreQuiet new.store new.meta × IsQuiet (copy_outcome turn)
+  copy_calm copy teller Start turn old new w c =
+      let k = start_calm copy teller turn old.meta new.meta w.1 c.1 in
+      ((subst (λ (s : S). IsCalm (store.control s)) (sym (ap (λ (t : Tiers S M). t.store) w.0)) c.0, k.0), k.1)
+  copy_calm copy teller (Put n) turn old new w c =
+      let k = put_calm copy n (slice_get (keys copy) n) turn old.store new.store w.1 c.0 in
+      ((k.0, subst (λ (m : M). IsCalm (meta.control m)) (sym (ap (λ (t : Tiers S M). t.meta) w.0)) c.1), k.1)
+  copy_calm copy teller Finish turn old new w c =
+      let k = finish_calm copy teller turn old.meta new.meta w.1 c.1 in
+      ((subst (λ (s : S). IsCalm (store.control s)) (sym (ap (λ (t : Tiers S M). t.store) w.0)) c.0, k.0), k.1)
+  copy_calm copy teller Check turn old new w c =
+      let k = check_calm copy turn old.view new.view old.meta new.meta w.1 c.1 in
+      ((subst (λ (s : S). IsCalm (store.control s)) (sym w.0) c.0, k.0), k.1)
+  copy_calm copy teller (Delete n) turn old new w c =
+      let k = delete_calm copy old.view n (slice_get (keys copy) n) turn old.store new.store w.1 c.0 in
+      ((k.0, subst (λ (m : M). IsCalm (meta.control m)) (sym (ap (λ (t : Tiers S M). t.meta) w.0)) c.1), k.1)
 
-  append_calm : (h : Held D) (b : ℕ) (x : Node D) (batch : List ℕ) (answer : Answer) (h' : Held D) → slice_get h.nodes b ≡ Some x → AreCalm control h.nodes → AppendRow content control h b x batch answer h' → Calmly h' answer
-  append_calm h b x batch Down h' at c w = (calm_same control h h' w.1 c, tt)
-  append_calm h b x batch NotLeader h' at c w = (calm_same control h h' w.2 c, tt)
-  append_calm h b x batch LastOffset h' at c w = (calm_same control h h' w.3 c, tt)
-  append_calm h b x batch TooManySegments h' at c w = (calm_same control h h' w.4 c, tt)
-  append_calm h b x batch DiskFault h' at c w = calm_breaks h b x _ h' at c w.4
-  append_calm h b x batch (OkSpan base last e) h' at c w = (calm_gains h b x _ h' at c w.6, tt)
-  append_calm h b x batch other h' at c w = elim w [ ]
+module _ {D S M : Type 0} (disk : DiskGhosts D) (store : StoreGhosts S) (meta : MetaGhosts M) where
+  -- no call of the devices can fail
+  record AreAllCalm (h : Held D) (t : Tier S M) : Type 0 where
+    held : AreCalm disk.control h.nodes
+    stores : AreQuiet store meta t.store t.meta
 
-  raw_calm : (h : Held D) (b : ℕ) (x : Node D) (bytes : List ℕ) (answer : Answer) (h' : Held D) → slice_get h.nodes b ≡ Some x → AreCalm control h.nodes → RawRow content control h b x bytes answer h' → Calmly h' answer
-  raw_calm h b x bytes Down h' at c w = append_calm h b x bytes Down h' at c w
-  raw_calm h b x bytes NotLeader h' at c w = append_calm h b x bytes NotLeader h' at c w
-  raw_calm h b x bytes (Refused cause) h' at c w = (calm_same control h h' w.3 c, tt)
-  raw_calm h b x bytes LastOffset h' at c w = append_calm h b x bytes LastOffset h' at c w.1
-  raw_calm h b x bytes TooManySegments h' at c w = append_calm h b x bytes TooManySegments h' at c w.1
-  raw_calm h b x bytes DiskFault h' at c w = append_calm h b x bytes DiskFault h' at c w.1
-  raw_calm h b x bytes (OkSpan base last e) h' at c w = append_calm h b x bytes (OkSpan base last e) h' at c w.1
-  raw_calm h b x bytes other h' at c w = elim w [ ]
+  -- a turn that tells of no fault leaves them so
+  abbrev Calmly : Held D → Tier S M → Outcome → Type 0
+  Calmly h t outcome = AreAllCalm h t × IsQuiet outcome
 
-  flush_calm : (h : Held D) (b : ℕ) (x : Node D) (answer : Answer) (h' : Held D) → slice_get h.nodes b ≡ Some x → AreCalm control h.nodes → FlushRow content control h b x answer h' → Calmly h' answer
-  flush_calm h b x Down h' at c w = (calm_same control h h' w.1 c, tt)
-  flush_calm h b x DiskFault h' at c w = calm_breaks h b x _ h' at c w.1
-  flush_calm h b x (OkAt n) h' at c w = (calm_put control h b x (record x { log = w.1.0 }) h' at c w.1.2 w.1.3, tt)
-  flush_calm h b x other h' at c w = elim w [ ]
+  same_calm : (h : Held D) (t : Tier S M) (h' : Held D) (t' : Tier S M) → h' ≡ h → t' ≡ t → AreAllCalm h t → AreAllCalm h' t'
+  same_calm h t h' t' one two c = rw (one, two) c
 
-  roll_calm : (h : Held D) (b : ℕ) (x : Node D) (answer : Answer) (h' : Held D) → slice_get h.nodes b ≡ Some x → AreCalm control h.nodes → RollRow content control h b x answer h' → Calmly h' answer
-  roll_calm h b x Down h' at c w = (calm_same control h h' w.1 c, tt)
-  roll_calm h b x EmptySegment h' at c w = (calm_same control h h' w.2 c, tt)
-  roll_calm h b x TooManySegments h' at c w = (calm_same control h h' w.2 c, tt)
-  roll_calm h b x DiskFault h' at c w = calm_breaks h b x _ h' at c w.2
-  roll_calm h b x (OkAt n) h' at c w = (calm_put control h b x (record x { log = w.3.0 }) h' at c w.3.2 w.3.3, tt)
-  roll_calm h b x other h' at c w = elim w [ ]
+  first_calm : (h : Held D) (t : Tier S M) (b : ℕ) (x : Node D) (side : Side) (outcome : Outcome) (h' : Held D) (t' : Tier S M) → AreAllCalm h t → h' ≡ h
+      → CopyFirstRow meta h t b x side outcome t' → Calmly h' t' outcome
+  first_calm h t b x side (Answers Down) h' t' c same w = (same_calm h t h' t' same w.1 c, tt)
+  first_calm h t b x side (Answers NotLeader) h' t' c same w = (same_calm h t h' t' same w.2 c, tt)
+  first_calm h t b x side (Answers MetaFault) h' t' c same w = no_fault _ (meta.control t.meta) (meta.control t'.meta) w.2.reads.control.ran c.stores.1
+  first_calm h t b x side (Begins g) h' t' c same w = (
+    record {
+      held = rw same c.held;
+      stores = (
+        subst (λ (s : S). IsCalm (store.control s)) (sym (ap (λ (k : Tier S M). k.store) w.3.after)) c.stores.0,
+        call_calm _ _ (meta.control t.meta) (meta.control t'.meta) w.3.reads.control.ran c.stores.1,
+      );
+    },
+    tt,
+  )
+  first_calm h t b x side other h' t' c same w = elim w [ ]
 
-  fetch_calm : (h : Held D) (b : ℕ) (x : Node D) (offset limit : ℕ) (answer : Answer) (h' : Held D) → slice_get h.nodes b ≡ Some x → AreCalm control h.nodes
-      → FetchRow content control h b x offset limit answer h' → Calmly h' answer
-  fetch_calm h b x offset limit Down h' at c w = (calm_same control h h' w.1 c, tt)
-  fetch_calm h b x offset limit NotLeader h' at c w = (calm_same control h h' w.2 c, tt)
-  fetch_calm h b x offset limit (OutOfRange start end) h' at c w = (calm_same control h h' w.5 c, tt)
-  fetch_calm h b x offset limit Empty h' at c w = (calm_same control h h' w.4 c, tt)
-  fetch_calm h b x offset limit (Run tier size stop bytes) h' at c w = (calm_put control h b x (record x { log = w.4.kept }) h' at c w.4.lasts w.4.after, tt)
-  fetch_calm h b x offset limit DiskFault h' at c w = calm_fails h b x h' at c w.4
-  fetch_calm h b x offset limit (Damaged (File name) from) h' at c w = (calm_put control h b x (record x { log = w.4.kept }) h' at c w.4.lasts w.4.after, tt)
-  fetch_calm h b x offset limit (Damaged Meta from) h' at c w = (calm_same control h h' w.5 c, tt)
-  fetch_calm h b x offset limit other h' at c w = elim w [ ]
+  own_quiet : (turn : Turned) → HasNone disk.content disk.control turn → IsQuiet (outcome_of turn)
+  own_quiet (turned.Answers answer) n = n
+  own_quiet (turned.Begins g) n = tt
 
-  elect_calm : (h : Held D) (b : ℕ) (x : Node D) (answer : Answer) (h' : Held D) → AreCalm control h.nodes → ElectRow h b x answer h' → Calmly h' answer
-  elect_calm h b x LastEpoch h' c w = let t = some_of _ (slice_get h.registry.replicas b) w in (calm_leaves control h _ h' c t.2, tt)
-  elect_calm h b x NotInSync h' c w = let t = some_of _ (slice_get h.registry.replicas b) w in (calm_leaves control h _ h' c t.2, tt)
-  elect_calm h b x DownBroker h' c w = let t = some_of _ (slice_get h.registry.replicas b) w in (calm_leaves control h _ h' c t.2, tt)
-  elect_calm h b x (OkAt n) h' c w = let t = some_of _ (slice_get h.registry.replicas b) w in (calm_leaves control h _ h' c t.2, tt)
-  elect_calm h b x other h' c w = elim w [ ]
+  begin_calm : (h : Held D) (t : Tier S M) (b : ℕ) (x : Node D) (side : Side) (command : Command) (outcome : Outcome) (h' : Held D) (t' : Tier S M) → slice_get h.nodes b ≡ Some x → AreAllCalm h t
+      → BeginRow disk store meta h t b x side command outcome h' t' → Calmly h' t' outcome
+  begin_calm h t b x side Copy outcome h' t' at c w = first_calm h t b x side outcome h' t' c w.1 w.0
+  begin_calm h t b x side other outcome h' t' at c w =
+      let k = row_calm disk.content disk.control h b x None other w.0.0 h' at c.held w.0.2 in
+      (record { held = k.0; stores = rw w.1 c.stores }, rw w.0.1 (own_quiet w.0.0 k.1))
 
-  unclean_calm : (h : Held D) (b : ℕ) (x : Node D) (answer : Answer) (h' : Held D) → AreCalm control h.nodes → UncleanRow h b x answer h' → Calmly h' answer
-  unclean_calm h b x LastEpoch h' c w = (calm_leaves control h _ h' c w, tt)
-  unclean_calm h b x DownBroker h' c w = (calm_leaves control h _ h' c w, tt)
-  unclean_calm h b x (BehindStart end start) h' c w = (calm_leaves control h _ h' c w, tt)
-  unclean_calm h b x (OkAt n) h' c w = (calm_leaves control h _ h' c w, tt)
-  unclean_calm h b x other h' c w = elim w [ ]
+  -- a log that was read
+  read_calm : (h : Held D) (b : ℕ) (x y : Node D) (h' : Held D) → slice_get h.nodes b ≡ Some x → AreCalm disk.control h.nodes → ReadsLog disk x y → h' ≡ record h { nodes = slice_set h.nodes b y }
+      → AreCalm disk.control h'.nodes
+  read_calm h b x y h' at c r is =
+      let old = calm_get disk.control h.nodes b x c at in
+      let new = lasting_calm disk.control x.log r.kept r.lasts old in
+      let now : OnDisk y.log (λ d. IsCalmDisk (disk.control d)) = rw r.after new in
+      rw is (calm_set disk.control h.nodes b y c now)
 
-  learn_calm : (h : Held D) (b : ℕ) (x : Node D) (answer : Answer) (h' : Held D) → slice_get h.nodes b ≡ Some x → AreCalm control h.nodes → LearnRow content control h b x answer h' → Calmly h' answer
-  learn_calm h b x Down h' at c w = (calm_same control h h' w.1 c, tt)
-  learn_calm h b x Known h' at c w = (calm_same control h h' w.2 c, tt)
-  learn_calm h b x (Follows n) h' at c w = (calm_keeps control h b x _ h' at c refl w.4, tt)
-  learn_calm h b x (NeedsElection n) h' at c w = (calm_same control h h' w.5 c, tt)
-  learn_calm h b x (Leads n) h' at c w = let g = w.4.1 in (calm_put control h b x _ h' at c g.lasts g.after, tt)
-  learn_calm h b x DiskFault h' at c w = calm_breaks h b x _ h' at c w.4
-  learn_calm h b x other h' at c w = elim w [ ]
+  next_calm : (p : PartitionId) (h : Held D) (t : Tier S M) (b : ℕ) (x y : Node D) (side z : Side) (offset : ℕ) (outcome : Outcome) (h' : Held D) (t' : Tier S M) → slice_get h.nodes b ≡ Some x
+      → AreAllCalm h t → ReadRow disk p b x side offset outcome y z → h' ≡ record h { nodes = slice_set h.nodes b y } → t' ≡ record t { sides = slice_set t.sides b z } → Calmly h' t' outcome
+  next_calm p h t b x y side z offset (Answers DiskFault) h' t' at c w held tier =
+      absurd (calm_fault disk.control x.log w.0.reads.kept w.0.reads.lasts w.0.cause (calm_get disk.control h.nodes b x c.held at))
+  next_calm p h t b x y side z offset (Answers (Damaged (File name) place)) h' t' at c w held tier = (record { held = read_calm h b x y h' at c.held w.0.reads held; stores = rw tier c.stores }, tt)
+  next_calm p h t b x y side z offset (Chose copy) h' t' at c w held tier = (record { held = read_calm h b x y h' at c.held w.0.reads held; stores = rw tier c.stores }, tt)
+  next_calm p h t b x y side z offset other h' t' at c w held tier = elim w [ ]
 
-  ack_calm : (h : Held D) (b : ℕ) (x : Node D) (answer : Answer) (h' : Held D) → slice_get h.nodes b ≡ Some x → AreCalm control h.nodes → AckRow h b x answer h' → Calmly h' answer
-  ack_calm h b x Down h' at c w = (calm_same control h h' w.1 c, tt)
-  ack_calm h b x NotJoined h' at c w = (calm_same control h h' w.2 c, tt)
-  ack_calm h b x (StaleEpoch e) h' at c w =
-      let o = some_of _ (acking x.role) w.1 in
-      let t = some_of _ (slice_get h.registry.replicas b) o.2 in
-      (calm_leaves control h _ h' c t.2, tt)
-  ack_calm h b x (OkAt mark) h' at c w =
-      let o = some_of _ (acking x.role) w.1 in
-      let t = some_of _ (slice_get h.registry.replicas b) o.2 in
-      let r = some_of _ (after_ack h.registry b t.0 o.0 (stable_of x) (Done mark)) t.2 in
-      let y = record x { known = min r.0.mark (end_of x) } in
-      let put = calm_keeps control h b x y (put_node h b y) at c refl refl in
-      (calm_same control (record (put_node h b y) { registry = r.0 }) h' r.2 put, tt)
-  ack_calm h b x other h' at c w = elim w [ ]
+  choose_calm : (p : PartitionId) (h : Held D) (t : Tier S M) (b : ℕ) (x : Node D) (side : Side) (g : Begun) (outcome : Outcome) (h' : Held D) (t' : Tier S M) → slice_get h.nodes b ≡ Some x
+      → AreAllCalm h t → ChooseRow disk p h t b x side g outcome h' t' → Calmly h' t' outcome
+  choose_calm p h t b x side g outcome h' t' at c (inl lost) = (same_calm h t h' t' lost.2 lost.3 c, rw lost.1 tt)
+  choose_calm p h t b x side g outcome h' t' at c (inr (keeps, inl level)) = (same_calm h t h' t' level.2 level.3 c, rw level.1 tt)
+  choose_calm p h t b x side g outcome h' t' at c (inr (keeps, inr r)) = next_calm p h t b x r.node side r.side_after _ outcome h' t' at c r.row r.held r.tier
 
-  shrink_calm : (h : Held D) (b : ℕ) (answer : Answer) (h' : Held D) → AreCalm control h.nodes → ShrinkRow h b answer h' → Calmly h' answer
-  shrink_calm h b NotInSync h' c w = let t = some_of _ (slice_get h.registry.replicas b) w in (calm_leaves control h _ h' c t.2, tt)
-  shrink_calm h b IsLeader h' c w = let t = some_of _ (slice_get h.registry.replicas b) w in (calm_leaves control h _ h' c t.2, tt)
-  shrink_calm h b Ok h' c w = let t = some_of _ (slice_get h.registry.replicas b) w in (calm_leaves control h _ h' c t.2, tt)
-  shrink_calm h b other h' c w = elim w [ ]
+  noted_calm : (p : PartitionId) (h : Held D) (t : Tier S M) (b : ℕ) (x : Node D) (side : Side) (g : Begun) (command : Command) (outcome : Outcome) (h' : Held D) (t' : Tier S M) → slice_get h.nodes b ≡ Some x
+      → AreAllCalm h t → NotedRow disk p h t b x side g command outcome h' t' → Calmly h' t' outcome
+  noted_calm p h t b x side g Copy outcome h' t' at c w = choose_calm p h t b x side g outcome h' t' at c w
+  noted_calm p h t b x side g Trim outcome h' t' at c w = absurd w
+  noted_calm p h t b x side g other outcome h' t' at c w =
+      let k = row_calm disk.content disk.control h b x (Some g) other (turned.Answers w.0.0) h' at c.held w.0.2 in
+      (record { held = k.0; stores = rw w.1 c.stores }, rw w.0.1 k.1)
 
-  expand_calm : (h : Held D) (b : ℕ) (x : Node D) (answer : Answer) (h' : Held D) → AreCalm control h.nodes → ExpandRow h b x answer h' → Calmly h' answer
-  expand_calm h b x DownBroker h' c w = let t = some_of _ (slice_get h.registry.replicas b) w in (calm_leaves control h _ h' c t.2, tt)
-  expand_calm h b x (Behind ack mark) h' c w = let t = some_of _ (slice_get h.registry.replicas b) w in (calm_leaves control h _ h' c t.2, tt)
-  expand_calm h b x Ok h' c w = let t = some_of _ (slice_get h.registry.replicas b) w in (calm_leaves control h _ h' c t.2, tt)
-  expand_calm h b x other h' c w = elim w [ ]
+  copying_calm : (h : Held D) (t : Tier S M) (b : ℕ) (x : Node D) (side : Side) (g : Begun) (copy : Copied) (next : Next) (command : Command) (outcome : Outcome) (h' : Held D) (t' : Tier S M)
+      → AreAllCalm h t → CopyingRow store meta h t b x side g copy next command outcome h' t' → Calmly h' t' outcome
+  copying_calm h t b x side g copy next Copy outcome h' t' c (inl lost, same) = (same_calm h t h' t' same lost.2 c, rw lost.1 tt)
+  copying_calm h t b x side g copy next Copy outcome h' t' c (inr (keeps, (turn, is, goes)), same) =
+      let k = copy_calm store meta copy (teller_of h b) next turn (tiers_of side.view t) (tiers_of goes.view t') goes.row c.stores in
+      (record { held = rw same c.held; stores = k.0 }, rw is k.1)
+  copying_calm h t b x side g copy next other outcome h' t' c w = elim w [ ]
 
-  raise_calm : (h : Held D) (b : ℕ) (x : Node D) (wanted : ℕ) (answer : Answer) (h' : Held D) → AreCalm control h.nodes → RaiseRow h b x wanted answer h' → Calmly h' answer
-  raise_calm h b x wanted Down h' c w = (calm_same control h h' w.1 c, tt)
-  raise_calm h b x wanted NotLeader h' c w = (calm_same control h h' w.2 c, tt)
-  raise_calm h b x wanted (StaleEpoch e) h' c w = (calm_leaves control h _ h' c w.1.2, tt)
-  raise_calm h b x wanted (NotAbove start) h' c w = (calm_leaves control h _ h' c w.1.2, tt)
-  raise_calm h b x wanted (AboveMark mark) h' c w = (calm_leaves control h _ h' c w.1.2, tt)
-  raise_calm h b x wanted (OkAt start) h' c w = (calm_leaves control h _ h' c w.1.2, tt)
-  raise_calm h b x wanted other h' c w = elim w [ ]
+  work_calm : (p : PartitionId) (h : Held D) (t : Tier S M) (b : ℕ) (x : Node D) (side : Side) (work : Work) (command : Command) (outcome : Outcome) (h' : Held D) (t' : Tier S M)
+      → slice_get h.nodes b ≡ Some x → AreAllCalm h t → Row disk store meta p h t b x side work command outcome h' t' → Calmly h' t' outcome
+  work_calm p h t b x side Idle command outcome h' t' at c w = begin_calm h t b x side command outcome h' t' at c w
+  work_calm p h t b x side (Noted g) command outcome h' t' at c w = noted_calm p h t b x side g command outcome h' t' at c w
+  work_calm p h t b x side (Copies g copy next) command outcome h' t' at c w = copying_calm h t b x side g copy next command outcome h' t' c w
 
-  stop_calm : (h : Held D) (b : ℕ) (x : Node D) (answer : Answer) (h' : Held D) → slice_get h.nodes b ≡ Some x → AreCalm control h.nodes → StopRow content control h b x answer h' → Calmly h' answer
-  stop_calm h b x Down h' at c w = (calm_same control h h' w.1 c, tt)
-  stop_calm h b x Ok h' at c w = (calm_put control h b x _ h' at c w.1.2 w.1.3, tt)
-  stop_calm h b x other h' at c w = elim w [ ]
+  -- the journal
 
-  up_calm : (h : Held D) (b : ℕ) (x : Node D) (answer : Answer) (h' : Held D) → slice_get h.nodes b ≡ Some x → AreCalm control h.nodes → UpRow content control h b x answer h' → Calmly h' answer
-  up_calm h b x IsUp h' at c w = (calm_same control h h' w.1 c, tt)
-  up_calm h b x (IsOpen n) h' at c w = (calm_put control h b x _ h' at c w.1.2 w.1.3, tt)
-  up_calm h b x DiskFault h' at c w = calm_fails h b x h' at c w.1
-  up_calm h b x (Damaged (File name) from) h' at c w = (calm_put control h b x _ h' at c w.1.2 w.1.3, tt)
-  up_calm h b x LastIncarnation h' at c w = (calm_put control h b x _ h' at c w.1.2 w.1.3, tt)
-  up_calm h b x other h' at c w = elim w [ ]
-
-  clock_calm : (h : Held D) (ms : ℤ) (answer : Answer) (h' : Held D) → AreCalm control h.nodes → ClockRow h ms answer h' → Calmly h' answer
-  clock_calm h ms Ok h' c w = (calm_same control (record h { clock = ms }) h' w c, tt)
-  clock_calm h ms other h' c w = elim w [ ]
-
-  answer_calm : (h : Held D) (b : ℕ) (x : Node D) (command : Command) (answer : Answer) (h' : Held D) → slice_get h.nodes b ≡ Some x → AreCalm control h.nodes
-      → AnswerRow content control h b x command answer h' → Calmly h' answer
-  answer_calm h b x (Append recs) answer h' at c w = append_calm h b x (built recs) answer h' at c w
-  answer_calm h b x (Raw bytes) answer h' at c w = raw_calm h b x bytes answer h' at c w
-  answer_calm h b x Flush answer h' at c w = flush_calm h b x answer h' at c w
-  answer_calm h b x Roll answer h' at c w = roll_calm h b x answer h' at c w
-  answer_calm h b x Elect answer h' at c w = elect_calm h b x answer h' c w
-  answer_calm h b x Unclean answer h' at c w = unclean_calm h b x answer h' c w
-  answer_calm h b x Learn answer h' at c w = learn_calm h b x answer h' at c w
-  answer_calm h b x Ack answer h' at c w = ack_calm h b x answer h' at c w
-  answer_calm h b x Shrink answer h' at c w = shrink_calm h b answer h' c w
-  answer_calm h b x Expand answer h' at c w = expand_calm h b x answer h' c w
-  answer_calm h b x (Raise start) answer h' at c w = raise_calm h b x start answer h' c w
-  answer_calm h b x (Clock ms) answer h' at c w = clock_calm h ms answer h' c w
-  answer_calm h b x StopCommand answer h' at c w = stop_calm h b x answer h' at c w
-  answer_calm h b x UpCommand answer h' at c w = up_calm h b x answer h' at c w
-  answer_calm h b x (Fetch offset limit) answer h' at c w = fetch_calm h b x offset limit answer h' at c w
-  answer_calm h b x other answer h' at c w = elim w [ ]
-
-  -- a turn tells of no fault
-  abbrev HasNone : Turned → Type 0
-  HasNone (Answers answer) = IsFaultless answer
-  HasNone (Begins g) = Unit {0}
-
-  no_fault : (turned : Turned) (command : Command) → HasNone turned → HasNoFault (event_of turned command)
-  no_fault (Answers answer) command n = n
-  no_fault (Begins g) Join n = tt
-  no_fault (Begins g) command n = tt
-
-  -- what a turn of any command leaves
-  abbrev CalmAfter : Held D → Turned → Type 0
-  CalmAfter h' turned = AreCalm control h'.nodes × HasNone turned
-
-  -- a write that fails, whatever it makes of the log
-  calm_broken : {A : Type 0} (h : Held D) (b : ℕ) (x : Node D) (B : Kept D → Kept D → Type 0) (h' : Held D) → slice_get h.nodes b ≡ Some x → AreCalm control h.nodes → BreaksBy content control h b x B h' → A
-  calm_broken h b x B h' at c k = absurd (calm_fault control x.log k.kept k.lasts k.cause (calm_get control h.nodes b x c at))
-
-  join_calm : (h : Held D) (b : ℕ) (x : Node D) (turned : Turned) (h' : Held D) → slice_get h.nodes b ≡ Some x → AreCalm control h.nodes → JoinRow content control h b x turned h' → CalmAfter h' turned
-  join_calm h b x (Answers Down) h' at c w = (calm_same control h h' w.1 c, tt)
-  join_calm h b x (Answers NotFollower) h' at c w = (calm_same control h h' w.2 c, tt)
-  join_calm h b x (Answers (StaleEpoch e)) h' at c w = (calm_same control h h' w.3 c, tt)
-  join_calm h b x (Answers NoLeader) h' at c w = (calm_same control h h' w.3 c, tt)
-  join_calm h b x (Answers (Cut n)) h' at c w = let g = (some_of _ (the_leader h) w.2).2.5 in (calm_put control h b x _ h' at c g.lasts g.after, tt)
-  join_calm h b x (Answers (DiskFaultAt n)) h' at c w = calm_broken h b x _ h' at c (some_of _ (the_leader h) w.2).2.4.1
-  join_calm h b x (Begins g) h' at c w = let k = (some_of _ (the_leader h) w.2).2.4.cuts in (calm_put control h b x _ h' at c k.lasts k.after, tt)
-  join_calm h b x other h' at c w = elim w [ ]
-
-  join_on_calm : (h : Held D) (b : ℕ) (x : Node D) (g : Begun) (answer : Answer) (h' : Held D) → slice_get h.nodes b ≡ Some x → AreCalm control h.nodes → JoinOnRow content control h b x g answer h' → Calmly h' answer
-  join_on_calm h b x g Stopped h' at c w = (calm_same control h h' w.1 c, tt)
-  join_on_calm h b x g (StaleEpoch e) h' at c w = (calm_same control h h' w.3 c, tt)
-  join_on_calm h b x g (Passed n) h' at c w = (calm_same control h h' w.3 c, tt)
-  join_on_calm h b x g (BelowStart start) h' at c w = (calm_same control h h' w.5 c, tt)
-  join_on_calm h b x g (DiskFaultAt n) h' at c w = calm_broken h b x _ h' at c w.2
-  join_on_calm h b x g (Rebuilt n) h' at c w = (calm_put control h b x (record x { log = w.2.kept }) h' at c w.2.lasts w.2.after, tt)
-  join_on_calm h b x g other h' at c w = elim w [ ]
-
-  trim_calm : (h : Held D) (x : Node D) (turned : Turned) (h' : Held D) → AreCalm control h.nodes → TrimRow content control h x turned h' → CalmAfter h' turned
-  trim_calm h x (Answers Down) h' c w = (calm_same control h h' w.1 c, tt)
-  trim_calm h x (Begins g) h' c w = (calm_same control h h' w.2 c, tt)
-  trim_calm h x other h' c w = elim w [ ]
-
-  trim_on_calm : (h : Held D) (b : ℕ) (x : Node D) (g : Begun) (answer : Answer) (h' : Held D) → slice_get h.nodes b ≡ Some x → AreCalm control h.nodes → TrimOnRow content control h b x g answer h' → Calmly h' answer
-  trim_on_calm h b x g Stopped h' at c w = (calm_same control h h' w.1 c, tt)
-  trim_on_calm h b x g Remains h' at c w = (calm_same control h h' w.1 c, tt)
-  trim_on_calm h b x g DiskFault h' at c w = calm_broken h b x _ h' at c w.2
-  trim_on_calm h b x g (Dropped base last) h' at c w = (calm_put control h b x (record x { log = w.2.0 }) h' at c w.2.2 w.2.3, tt)
-  trim_on_calm h b x g other h' at c w = elim w [ ]
-
-  follow_calm : (h : Held D) (b : ℕ) (x : Node D) (limit : ℕ) (turned : Turned) (h' : Held D) → AreCalm control h.nodes → FollowRow content control h b x limit turned h' → CalmAfter h' turned
-  follow_calm h b x limit (Answers Down) h' c w = (calm_same control h h' w.1 c, tt)
-  follow_calm h b x limit (Answers NotJoined) h' c w = (calm_same control h h' w.2 c, tt)
-  follow_calm h b x limit (Answers (StaleEpoch e)) h' c w = (calm_same control h h' w.3 c, tt)
-  follow_calm h b x limit (Answers NoLeader) h' c w = (calm_same control h h' w.3 c, tt)
-  follow_calm h b x limit (Answers Level) h' c w = (calm_same control h h' w.3 c, tt)
-  follow_calm h b x limit (Answers DiskFault) h' c w =
-      let y = some_of _ (the_leader h) w.2 in
-      calm_fails h h.registry.leader.0 y.0 h' (leader_at h y.0 y.1) c y.2.2
-  follow_calm h b x limit (Answers (Moved n)) h' c w = (calm_same control h h' w.3 c, tt)
-  follow_calm h b x limit (Answers (Damaged (File name) from)) h' c w =
-      let y = some_of _ (the_leader h) w.2 in
-      (calm_put control h h.registry.leader.0 y.0 (record y.0 { log = y.2.2.kept }) h' (leader_at h y.0 y.1) c y.2.2.lasts y.2.2.after, tt)
-  follow_calm h b x limit (Begins g) h' c w =
-      let y = some_of _ (the_leader h) w.2 in
-      (calm_put control h h.registry.leader.0 y.0 (record y.0 { log = y.2.2.kept }) h' (leader_at h y.0 y.1) c y.2.2.lasts y.2.2.after, tt)
-  follow_calm h b x limit other h' c w = elim w [ ]
-
-  follow_on_calm : (h : Held D) (b : ℕ) (x : Node D) (g : Begun) (answer : Answer) (h' : Held D) → slice_get h.nodes b ≡ Some x → AreCalm control h.nodes
-      → FollowOnRow content control h b x g answer h' → Calmly h' answer
-  follow_on_calm h b x g Stopped h' at c w = (calm_same control h h' w.1 c, tt)
-  follow_on_calm h b x g (StaleEpoch e) h' at c w = (calm_same control h h' w.3 c, tt)
-  follow_on_calm h b x g (Passed n) h' at c w = (calm_same control h h' w.3 c, tt)
-  follow_on_calm h b x g TooManySegments h' at c w = (calm_same control h h' w.3 c, tt)
-  follow_on_calm h b x g DiskFault h' at c w = calm_breaks h b x _ h' at c w.3
-  follow_on_calm h b x g (Copied n) h' at c w = (calm_put control h b x (record x { log = w.3.kept }) h' at c w.3.lasts w.3.after, tt)
-  follow_on_calm h b x g other h' at c w = elim w [ ]
-
-  first_calm : (h : Held D) (b : ℕ) (x : Node D) (command : Command) (turned : Turned) (h' : Held D) → slice_get h.nodes b ≡ Some x → AreCalm control h.nodes
-      → FirstRow content control h b x command turned h' → CalmAfter h' turned
-  first_calm h b x (Follow limit) turned h' at c w = follow_calm h b x limit turned h' c w
-  first_calm h b x Join turned h' at c w = join_calm h b x turned h' at c w
-  first_calm h b x Trim turned h' at c w = trim_calm h x turned h' c w
-  first_calm h b x command (Answers answer) h' at c w = answer_calm h b x command answer h' at c w
-  first_calm h b x command (Begins g) h' at c w = elim w [ ]
-
-  later_calm : (h : Held D) (b : ℕ) (x : Node D) (command : Command) (g : Begun) (turned : Turned) (h' : Held D) → slice_get h.nodes b ≡ Some x → AreCalm control h.nodes
-      → LaterRow content control h b x command g turned h' → CalmAfter h' turned
-  later_calm h b x (Follow limit) g (Answers answer) h' at c w = follow_on_calm h b x g answer h' at c w
-  later_calm h b x Join g (Answers answer) h' at c w = join_on_calm h b x g answer h' at c w
-  later_calm h b x Trim g (Answers answer) h' at c w = trim_on_calm h b x g answer h' at c w
-  later_calm h b x command g turned h' at c w = elim w [ ]
-
-  row_calm : (h : Held D) (b : ℕ) (x : Node D) (begun : Option Begun) (command : Command) (turned : Turned) (h' : Held D) → slice_get h.nodes b ≡ Some x → AreCalm control h.nodes
-      → Row content control h b x begun command turned h' → CalmAfter h' turned
-  row_calm h b x None command turned h' at c w = first_calm h b x command turned h' at c w
-  row_calm h b x (Some g) command turned h' at c w = later_calm h b x command g turned h' at c w
+  event_quiet : (g : Begun) (command : Command) → HasNoFault (event_of (turned.Begins g) command)
+  event_quiet g Join = tt
+  event_quiet g command = tt
 
   faultless_more : (entries : List JournalEntry) (entry : JournalEntry) → AreFaultless entries → HasNoFault entry.event → AreFaultless (entries ++ entry ∷ [])
   faultless_more [] entry f n = (n, tt)
   faultless_more (one ∷ entries) entry f n = (f.0, faultless_more entries entry f.1 n)
 
-  turn_unfailing : (w : Whole D) (a : ℕ) (turned : Turned) (w' : Whole D) → IsTurn content control w a turned w' → IsUnfailing control w → IsUnfailing control w'
-  turn_unfailing w a turned w' t u =
-      let x = some_of _ (slice_get w.held.nodes t.order.broker.0) t.row in
-      let k = row_calm w.held t.order.broker.0 x.0 t.seat.begun t.order.command turned w'.held x.1 u.calm x.2 in
-      record { calm = k.0; journal = subst AreFaultless (sym t.entered) (faultless_more w.journal.items _ u.journal (no_fault turned t.order.command k.1)) }
+  faultless_same : (entries : List JournalEntry) → AreFaultless entries → AreFaultless (entries ++ [])
+  faultless_same [] f = tt
+  faultless_same (one ∷ entries) f = (f.0, faultless_same entries f.1)
 
-  same_unfailing : (w w' : Whole D) → w' ≡ w → IsUnfailing control w → IsUnfailing control w'
-  same_unfailing w w' is u = subst (IsUnfailing control) (sym is) u
+  turn_unfailing : (w : Whole D S M) (a : ℕ) (outcome : Outcome) (w' : Whole D S M) → IsTurn disk store meta w a outcome w' → IsUnfailing disk store meta w → IsUnfailing disk store meta w'
+  turn_unfailing w a outcome w' t u =
+      let r = row_of disk store meta w.partition w.held w.tier t.order.broker.0 t.seat.work t.order.command outcome w'.held w'.tier t.row in
+      let k = work_calm w.partition w.held w.tier t.order.broker.0 r.x r.side t.seat.work t.order.command outcome w'.held w'.tier r.at (record { held = u.calm; stores = (u.store_calm, u.meta_calm) }) r.row in
+      record { calm = k.0.held; store_calm = k.0.stores.0; meta_calm = k.0.stores.1; journal = subst AreFaultless (sym t.entered) (told outcome k.1) }
+    where
+      told : (o : Outcome) → IsQuiet o → AreFaultless (w.journal.items ++ told_of t.list.actor t.seat.number t.order.command o)
+      told (Answers answer) q = faultless_more w.journal.items _ u.journal q
+      told (Begins g) q = faultless_more w.journal.items _ u.journal (event_quiet g t.order.command)
+      told (Chose copy) q = faultless_same w.journal.items u.journal
+      told (Goes next) q = faultless_same w.journal.items u.journal
 
-  goes_unfailing : (w : Whole D) (a : ℕ) (w' : Whole D) → Goes content control w a w' → IsUnfailing control w → IsUnfailing control w'
+  same_unfailing : (w w' : Whole D S M) → w' ≡ w → IsUnfailing disk store meta w → IsUnfailing disk store meta w'
+  same_unfailing w w' is u = subst (IsUnfailing disk store meta) (sym is) u
+
+  goes_unfailing : (w : Whole D S M) (a : ℕ) (w' : Whole D S M) → GoesOnce disk store meta w a w' → IsUnfailing disk store meta w → IsUnfailing disk store meta w'
   goes_unfailing w a w' (inl t) u = turn_unfailing w a t.0 w' t.1 u
   goes_unfailing w a w' (inr e) u = same_unfailing w w' e.1 u
 
-  times_unfailing : (w : Whole D) (a turns : ℕ) (w' : Whole D) → GoesTimes content control w a turns w' → IsUnfailing control w → IsUnfailing control w'
+  times_unfailing : (w : Whole D S M) (a turns : ℕ) (w' : Whole D S M) → GoesTimes disk store meta w a turns w' → IsUnfailing disk store meta w → IsUnfailing disk store meta w'
   times_unfailing w a zero w' g u = same_unfailing w w' g u
   times_unfailing w a (suc turns) w' g u = times_unfailing g.0 a turns w' g.2 (goes_unfailing w a g.0 g.1 u)
 
-  until_unfailing : (w : Whole D) (a number turns : ℕ) (w' : Whole D) → GoesUntil content control w a number turns w' → IsUnfailing control w → IsUnfailing control w'
+  until_unfailing : (w : Whole D S M) (a number turns : ℕ) (w' : Whole D S M) → GoesUntil disk store meta w a number turns w' → IsUnfailing disk store meta w → IsUnfailing disk store meta w'
   until_unfailing w a number zero w' g u = same_unfailing w w' g.1 u
   until_unfailing w a number (suc turns) w' g u = until_unfailing g.1.0 a number turns w' g.1.2 (goes_unfailing w a g.1.0 g.1.1 u)
 
-  paces_unfailing : (w : Whole D) (pace : Pace) (w' : Whole D) → Paces content control w pace w' → IsUnfailing control w → IsUnfailing control w'
+  paces_unfailing : (w : Whole D S M) (pace : Pace) (w' : Whole D S M) → Paces disk store meta w pace w' → IsUnfailing disk store meta w → IsUnfailing disk store meta w'
   paces_unfailing w (Until actor number) w' g u = until_unfailing w actor.0 number g.0 w' g.1 u
   paces_unfailing w (Times actor turns) w' g u = times_unfailing w actor.0 turns w' g u
 
-  pub reaches_unfailing : (w : Whole D) (schedule : List Pace) (w' : Whole D) → Reaches content control w schedule w' → IsUnfailing control w → IsUnfailing control w'
+  pub reaches_unfailing : (w : Whole D S M) (schedule : List Pace) (w' : Whole D S M) → Reaches disk store meta w schedule w' → IsUnfailing disk store meta w → IsUnfailing disk store meta w'
   reaches_unfailing w [] w' r u = same_unfailing w w' r u
   reaches_unfailing w (pace ∷ schedule) w' r u = reaches_unfailing r.0 schedule w' r.2 (paces_unfailing w pace r.0 r.1 u)
 
 module _ {D : Type 0} (control : D → Control call_code) where
-  armed_calm : (given now : Control call_code) → IsTrue given.ruled → given.plan ≡ [] → IsCalm given → IsArmed given now → IsCalm now
-  armed_calm given now ruled none c a = record { calm = a.still_calm c.calm ruled none; few = omega (arith, c.few, a.no_fault c.calm) }
+  disk_calm : (given now : Control call_code) → IsTrue given.ruled → given.plan ≡ [] → IsCalmDisk given → IsArmed given now → IsCalmDisk now
+  disk_calm given now ruled none c a = record { calm = a.still_calm c.calm ruled none; few = omega (arith, c.few, a.no_fault c.calm) }
 
   on_disk : (P Q : D → Type 0) (k : Kept D) → ((d : D) → P d → Q d) → OnDisk k P → OnDisk k Q
   on_disk P Q (Up l) f p = f l.disk p
@@ -407,13 +302,16 @@ module _ {D : Type 0} (control : D → Control call_code) where
   nodes_calm leads [] (x ∷ xs) f u = absurd f
   nodes_calm leads (d ∷ disks) [] f u = absurd f
   nodes_calm leads (d ∷ disks) (x ∷ xs) f u = (
-    on_disk (λ e. IsArmed (control d) (control e)) (λ e. IsCalm (control e)) x.log (λ e a. armed_calm (control d) (control e) u.0 u.1 u.2 a) f.0.armed,
+    on_disk (λ e. IsArmed (control d) (control e)) (λ e. IsCalmDisk (control e)) x.log (λ e a. disk_calm (control d) (control e) u.0 u.1 u.2 a) f.0.armed,
     nodes_calm false disks xs f.1 u.3,
   )
 
-  pub fresh_is_unfailing : (partition : PartitionId) (config : Config) (lists : List ActorList) (disks : List D) (w : Whole D) → IsFresh control partition config lists disks w → AreUnplanned control disks
-      → IsUnfailing control w
-  fresh_is_unfailing partition config lists disks w f u = record {
-    calm = nodes_calm true disks w.held.nodes f.held.nodes u;
+module _ {D S M : Type 0} (disk : DiskGhosts D) (store : StoreGhosts S) (meta : MetaGhosts M) where
+  pub fresh_is_unfailing : (partition : PartitionId) (config : Config) (lists : List ActorList) (disks : List D) (s : S) (m : M) (w : Whole D S M) → IsFresh disk store meta partition config lists disks s m w
+      → AreUnplanned disk.control disks → IsUnplanned (store.control s) → IsUnplanned (meta.control m) → IsUnfailing disk store meta w
+  fresh_is_unfailing partition config lists disks s m w f u us um = record {
+    calm = nodes_calm disk.control true disks w.held.nodes f.held.nodes u;
+    store_calm = armed_calm (store.control s) (store.control w.tier.store) f.tier.store_armed us;
+    meta_calm = armed_calm (meta.control m) (meta.control w.tier.meta) f.tier.meta_armed um;
     journal = subst AreFaultless (sym f.journal) tt;
   }

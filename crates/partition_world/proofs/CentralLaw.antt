@@ -1,9 +1,18 @@
 -- Each turn keeps the central fact, and at the end it says that the run is complete.
-use Rattle.std.proofs.Common.{◌≡◌, ◌∙◌, ◌<◌, sym, ap, subst, refl, ℕ, Some, slice_get, length, List, true, arith}
+use Rattle.std.proofs.Common.{◌≡◌, ◌∙◌, ◌^◌, ◌<◌, ◌≤◌, ◌+◌, inl, inr, sym, ap, subst, refl, ℕ, zero, suc, Some, None, Option, slice_get, slice_set, length, List, [], ◌∷◌, true, arith}
 use Rattle.std.proofs.lemmas.List.{length-map}
-use Rattle.tier_base.specs.Device.{Control}
-use Rattle.disk_model.specs.Call.{call_code}
-use Rattle.disk_model.specs.Content.{Content}
+use Rattle.disk_model.specs.declared.disk.Disk.{Ghosts as DiskGhosts}
+use Rattle.object_store.specs.declared.store.Store.{Ghosts as StoreGhosts}
+use Rattle.meta_log.specs.declared.log.MetaLog.{Ghosts as MetaGhosts}
+use Rattle.segment_meta.specs.declared.note.Note.{Note}
+use Rattle.registry.specs.declared.registry.Registry.{Registry}
+use Rattle.registry.specs.declared.registry.Replica.{Replica}
+use Rattle.log_terms.proofs.Lists.{look, within}
+use Rattle.plain_log.specs.declared.answer.Answer.TheVariants.{Down, MetaFault}
+use Rattle.plain_log.specs.declared.command.ActorList.{ActorList}
+use Rattle.plain_log.specs.declared.command.Command.{Command}
+use Rattle.plain_log.specs.declared.command.Command.TheVariants.{Follow, Join, Trim, Copy}
+use Rattle.plain_log.specs.declared.command.Order.{Order}
 use Rattle.plain_log.specs.declared.state.Actor.{Actor}
 use Rattle.plain_log.specs.declared.state.Broker.{Broker}
 use Rattle.plain_log.specs.declared.state.State.{State}
@@ -12,36 +21,58 @@ use Rattle.plain_log.specs.Fresh.{fresh}
 use Rattle.plain_log.specs.Safe.{NotedSafe}
 use Rattle.partition_seen.specs.declared.begun.Begun.{Begun}
 use Rattle.partition_seen.specs.declared.begun.Turned.{Turned}
-use Rattle.partition_seen.specs.declared.begun.Turned.TheVariants.{Answers, Begins}
+use Rattle.partition_seen.specs.declared.begun.Turned.TheVariants as turned
 use Rattle.partition_seen.specs.declared.seat.Stepped.{Stepped}
 use Rattle.partition_seen.specs.declared.seat.Stepped.TheVariants.{Ran, Done, Nothing, NoMemory}
+use Rattle.partition_seen.specs.declared.seat.Seat as seen_seat
 use Rattle.partition_seen.specs.Seen as seen
 use Rattle.partition_seen.specs.Held as seen_held
 use Rattle.partition_seen.specs.Rows as seen_rows
-use Rattle.partition_seen.specs.Turn as seen_turn
+use Rattle.partition_seen.specs.RowsOfLog.{TrimRow}
 use Rattle.partition_seen.specs.Central as seen_central
 use Rattle.partition_seen.proofs.BoolTests.{some_of}
-use Rattle.partition_seen.proofs.Standing.{Standing, broker_at}
+use Rattle.partition_seen.proofs.Standing.{Standing, broker_at, map_get}
 use Rattle.partition_seen.proofs.SeatLaw.{noted_some, going}
 use Rattle.partition_seen.proofs.TurnRows.{GoingOn}
 use Rattle.partition_seen.proofs.FollowRows.{meet_ends}
 use Rattle.partition_seen.proofs.RebuildRows.{on_way}
-use Rattle.registry.specs.declared.registry.Replica.{Replica}
-use Rattle.registry.specs.declared.registry.Registry.{Registry}
-use Rattle.plain_log.specs.declared.command.Command.{Command}
-use Rattle.plain_log.specs.declared.command.Command.TheVariants.{Follow, Join, Trim}
-use Rattle.plain_log.specs.declared.command.Order.{Order}
-use Rattle.log_terms.proofs.Lists.{look, within}
 use Rattle.partition_seen.proofs.CentralLaw as seen_law
 use Rattle.partition_seen.proofs.CompleteLaw.{ends_complete}
-use Rattle.partition_world.specs.Held.{node_of}
-use Rattle.partition_world.specs.Whole.{Whole, seen_as}
-use Rattle.partition_world.specs.Turns.{Row}
-use Rattle.partition_world.specs.Turn.{IsTurn, IsAtEnd, StaysWhole, Steps}
-use Rattle.partition_world.specs.Central.{IsCentral, KeepsCentral}
+use Rattle.partition_tier.specs.Laws.{after_turn as after_own}
+use Rattle.partition_tier.specs.Sites.{sites_of, Side as SideSeen}
+use Rattle.partition_tier.specs.Turns.{OwesTier}
+use Rattle.partition_tier.specs.Works.{KeepsWork, work_of as work_seen, begun_after}
+use Rattle.partition_tier.proofs.OwnTurns.{own_turns}
+use Rattle.partition_turns.specs.declared.held.Held.{Held}
+use Rattle.partition_turns.specs.Held.{node_of, ShowsHeld}
+use Rattle.partition_turns.specs.Shown.{Knows, KnowsBegun}
+use Rattle.partition_turns.specs.Turns as turns
+use Rattle.partition_turns.proofs.Refinement.{row_refined}
+use Rattle.partition_turns.proofs.Shown.{held_stays}
+use Rattle.tier_safe.specs.Scene.{Scene, Work as WorkSeen, Free}
+use Rattle.tier_safe.specs.May.{IsChanged}
+use Rattle.tier_safe.proofs.Turning.{halts, copy_dry}
+use Rattle.partition_world.specs.declared.seat.Outcome.{Outcome}
+use Rattle.partition_world.specs.declared.seat.Outcome.TheVariants.{Answers}
+use Rattle.partition_world.specs.declared.seat.Seat.{Seat}
+use Rattle.partition_world.specs.declared.seat.Work.{Work}
+use Rattle.partition_world.specs.declared.seat.Work.TheVariants.{Idle, Noted, Copies}
+use Rattle.partition_world.specs.declared.tier.Side.{Side}
+use Rattle.partition_world.specs.declared.tier.Tier.{Tier}
+use Rattle.partition_world.specs.Seats.{noted_in, outcome_of, seat_after, seat_seen, desk_seen}
+use Rattle.partition_world.specs.TurnsOfCopy.{tiers_of, teller_of}
+use Rattle.partition_world.specs.Central.{IsCentral, KeepsCentral, ShowsTier, sides_seen, work_of, desk_of, notes_left}
 use Rattle.partition_world.specs.Laws.{IsCompleteRun}
-use Rattle.partition_world.proofs.Refinement.{Knows, KnowsBegun, row_refined}
-use Rattle.partition_world.proofs.Shown.{some_at, sees_at, held_stays}
+use Rattle.partition_world.specs.Turn.{IsTurn, IsAtEnd, StaysWhole, Steps}
+use Rattle.partition_world.specs.Turns.{Row, HaltsTier, StaysTier}
+use Rattle.partition_world.specs.Whole.{Whole, seen_as}
+use Rattle.partition_world.proofs.Begins.{row_of}
+use Rattle.partition_world.proofs.CopyCentral.{copy_central}
+use Rattle.partition_world.proofs.CopyEnds.{dry_tells}
+use Rattle.partition_world.proofs.Entered.{both_of, sided, enters, entry_for, seen_turn_of, stands_of, turned_central, silent_central}
+use Rattle.partition_world.proofs.NotesLeft.{notes_stay}
+use Rattle.partition_world.proofs.SceneParts.{seat_set, idle_free, keeps_noted}
+use Rattle.partition_world.proofs.Scenes.{Place, place_of, site, seated, scene_after, shows_at, shows_kept, work_after, few_now, few_after}
 
 -- the leader is a node
 leader_in : (p : seen.Held) (q : State) (b : ℕ) (y : seen.Node) (s : Replica) → Standing p q b y s → p.registry.leader.0 < length p.nodes
@@ -52,15 +83,42 @@ leader_in p q b y s st =
     let leader = ap (λ (r : Registry). r.leader.0) st.held.registry in
     omega (arith, low, count, nodes, leader)
 
-module _ {D : Type 0} (content : D → Content) (control : D → Control call_code) where
+-- a command that nothing is kept of shows no work
+none_free : (b : ℕ) (command : Command) → work_seen b command None ≡ Free
+none_free b Join = refl
+none_free b command = refl
+
+keeps_none : (b : ℕ) (command : Command) → KeepsWork b command None Free
+keeps_none b Join = refl
+keeps_none b command = refl
+
+-- what holds of each seat in its place holds of a seat as it is seen
+seen_low : (n : ℕ) (desk : List Seat) (place : ℕ) (seat : seen_seat.Seat) → slice_get (desk_seen desk) place ≡ Some seat → ((s : Seat) → slice_get desk place ≡ Some s → n ≤ s.number) → n ≤ seat.number
+seen_low n [] place seat at low = absurd cc
+seen_low n (s ∷ desk) zero seat at low = let is : seat_seen s ≡ seat = cc (at) in subst (λ (k : seen_seat.Seat). n ≤ k.number) is (low s refl)
+seen_low n (s ∷ desk) (suc place) seat at low = seen_low n desk place seat at low
+
+-- a trim owes nothing at its first turn
+trim_owes : (h : seen.Held) (b : ℕ) (x : seen.Node) (turn : Turned) (sides : List SideSeen) (h' : seen.Held) → slice_get h.nodes b ≡ Some x → TrimRow h x turn h' → OwesTier h b x Trim sides h'
+trim_owes h b x turn sides h' at row = λ y side there beside.
+    let same : x ≡ y = cc (at, there, ap (λ (k : seen.Held). slice_get k.nodes b) (stays turn row)) in
+    rw same (record { rises = omega arith; covered = λ o from low high. absurd (omega (arith, low, high)) })
+  where
+    stays : (turn : Turned) → TrimRow h x turn h' → h' ≡ h
+    stays (turned.Answers Down) row = row.1
+    stays (turned.Answers MetaFault) row = row.1
+    stays (turned.Begins g) row = row.2
+    stays other row = elim row [ ]
+
+module _ {D S M : Type 0} (disk : DiskGhosts D) (store : StoreGhosts S) (meta : MetaGhosts M) where
   -- what a turn starts from
-  stands_at : (opening : State) (w : Whole D) (p : seen.Held) (b : ℕ) (y : seen.Node) → (c : seen_central.IsCentral opening (seen_as w p)) → slice_get p.nodes b ≡ Some y → (s : Replica) × Standing p c.plain b y s
+  stands_at : (opening : State) (w : Whole D S M) (p : seen.Held) (b : ℕ) (y : seen.Node) → (c : seen_central.IsCentral opening (seen_as w p)) → slice_get p.nodes b ≡ Some y → (s : Replica) × Standing p c.plain b y s
   stands_at opening w p b y c at =
       let bx = broker_at p c.plain b y c.stands.held at in
       let s = look c.plain.registry.replicas b (omega (arith, c.safe.same_count, within c.plain.brokers b (seen_held.broker_of y) bx)) in
       (s.0, record { safe = c.safe; held = c.stands.held; lines = c.stands.lines; at = at; replica = s.1 })
 
-  knows : (opening : State) (w : Whole D) (p : seen.Held) (b : ℕ) (y : seen.Node) → seen_central.IsCentral opening (seen_as w p) → slice_get p.nodes b ≡ Some y → Knows p b y
+  knows : (opening : State) (w : Whole D S M) (p : seen.Held) (b : ℕ) (y : seen.Node) → seen_central.IsCentral opening (seen_as w p) → slice_get p.nodes b ≡ Some y → Knows p y
   knows opening w p b y c at =
       let st = stands_at opening w p b y c at in
       record {
@@ -69,67 +127,203 @@ module _ {D : Type 0} (content : D → Content) (control : D → Control call_co
       }
 
   -- what is known of what the turn's seat keeps
-  kept_at : (opening : State) (w : Whole D) (a : ℕ) (turned : Turned) (w' : Whole D) (p : seen.Held) (y : seen.Node) (t : IsTurn content control w a turned w')
-      → seen_central.IsCentral opening (seen_as w p) → slice_get p.nodes t.order.broker.0 ≡ Some y → (g : Begun) → t.seat.begun ≡ Some g → KnowsBegun p y t.order.command g
-  kept_at opening w a turned w' p y t c at g begun =
-      let st = c.stands.desk t.place t.list t.seat t.at.list t.at.seat_is in
+  kept_at : (opening : State) (w : Whole D S M) (a : ℕ) (outcome : Outcome) (w' : Whole D S M) (p : seen.Held) (y : seen.Node) (t : IsTurn disk store meta w a outcome w')
+      → seen_central.IsCentral opening (seen_as w p) → slice_get p.nodes t.order.broker.0 ≡ Some y → (g : Begun) → noted_in t.seat.work ≡ Some g → KnowsBegun p y t.order.command g
+  kept_at opening w a outcome w' p y t c at g begun =
+      let seat = seat_seen t.seat in
+      let st = c.stands.desk t.place t.list seat t.at.list (map_get seat_seen w.desk t.place t.seat t.at.seat_is) in
       let b = t.order.broker.0 in
-      let noted : (actor_at c.plain.actors t.list.actor.0).begun ≡ Some (seen_held.noted_of t.order g) = ap (λ (k : Actor). k.begun) st.actor ∙ noted_some t.list.orders t.seat t.order g t.next begun in
+      let noted : (actor_at c.plain.actors t.list.actor.0).begun ≡ Some (seen_held.noted_of t.order g) = ap (λ (k : Actor). k.begun) st.actor ∙ noted_some t.list.orders seat t.order g t.next begun in
       let k : NotedSafe c.plain.paths c.plain.registry.epoch (seen_held.noted_of t.order g) (seen_held.broker_of y) =
       c.safe.noted t.list.actor.0 (seen_held.noted_of t.order g) (seen_held.broker_of y) noted (broker_at p c.plain b y c.stands.held at) in
-      let going_on = going c.plain y t.order t.list t.seat g c.safe st t.next begun (broker_at p c.plain b y c.stands.held at) in
+      let going_on = going c.plain y t.order t.list seat g c.safe st t.next begun (broker_at p c.plain b y c.stands.held at) in
       let s = stands_at opening w p b y c at in
       by c t.order t.order.command going_on k.up s.0 s.1
     where
-      by : (c : seen_central.IsCentral opening (seen_as w p)) (order : Order) (command : Command) → GoingOn c.plain y order command g → (g.stops ≡ y.stops → y.up ≡ true) → (s : Replica) → Standing p c.plain t.order.broker.0 y s → KnowsBegun p y command g
+      by : (c : seen_central.IsCentral opening (seen_as w p)) (order : Order) (command : Command) → GoingOn c.plain y order command g → (g.stops ≡ y.stops → y.up ≡ true) → (s : Replica)
+          → Standing p c.plain t.order.broker.0 y s → KnowsBegun p y command g
       by c order (Follow limit) k up s st = record { noted = up; are = k.stands.are; epochs = k.stands.epochs; small = k.stands.small }
       by c order Join k up s st =
           let there = look p.nodes p.registry.leader.0 (leader_in p c.plain t.order.broker.0 y s st) in
           record {
             noted = up;
-            way = λ on end z is. (let o = on_way p c.plain t.order.broker.0 y z s order g st (record { run = k.stands; noted = k.joined refl }) on end is in (o.whole, o.line));
+            way = λ on end z is.
+                (let o = on_way p c.plain t.order.broker.0 y z s order g st (record { run = k.stands; noted = k.joined refl }) on end is in
+                record { leads = record { consecutive = o.whole.consecutive; ends = o.whole.ends }; begins = o.whole.begins; line = o.line });
             leader = there;
           }
       by c order Trim k up s st = up
       by c order command k up s st = tt
 
+  -- a turn of a command on brokers' logs and the registry
+  module _ (opening : State) (w : Whole D S M) (a : ℕ) (outcome : Outcome) (w' : Whole D S M) (t : IsTurn disk store meta w a outcome w') (c : IsCentral disk store meta opening w)
+      (z : Place disk store meta opening w c t.place t.list t.seat t.order) where
+    abbrev y : seen.Node
+    y = node_of z.x z.s
+
+    own_shows : (turn : Turned) (after : seen.Held) → outcome ≡ outcome_of turn → w'.tier ≡ w.tier → ShowsTier store meta w' after (after_own c.scene t.place t.order turn (sides_seen w.tier.sides) after)
+    own_shows turn after is same = record {
+      partition = c.shows_tier.partition ∙ sym t.partition;
+      store_tells = ap (λ (k : Tier S M). (store.content k.store).tells) same ∙ c.shows_tier.store_tells;
+      objects = c.shows_tier.objects ∙ sym (ap (λ (k : Tier S M). (store.content k.store).objects) same);
+      meta_tells = ap (λ (k : Tier S M). (meta.content k.meta).tells) same ∙ c.shows_tier.meta_tells;
+      notes = c.shows_tier.notes ∙ sym (ap (λ (k : Tier S M). (meta.content k.meta).notes) same);
+      sites = ap (λ (k : Tier S M). sites_of after.nodes (sides_seen k.sides)) (sym same);
+      desk = ap (λ (k : List WorkSeen). slice_set k t.place (work_seen t.order.broker.0 t.order.command (begun_after turn))) c.shows_tier.desk
+          ∙ (ap (λ (k : WorkSeen). slice_set (desk_of w.lists w.desk) t.place k) (sym (ap (λ (o : Outcome). work_after disk store meta opening w c t.place t.list t.seat t.order z o) is ∙ seat_is turn))
+          ∙ (sym (seat_set w.lists w.desk t.place t.list (seat_after t.seat outcome) t.at.list)
+          ∙ (ap (λ (k : List ActorList). desk_of k (slice_set w.desk t.place (seat_after t.seat outcome))) (sym t.lists) ∙ ap (λ (k : List Seat). desk_of w'.lists k) (sym t.desk))));
+    }
+      where
+        seat_is : (turn : Turned) → work_after disk store meta opening w c t.place t.list t.seat t.order z (outcome_of turn) ≡ work_seen t.order.broker.0 t.order.command (begun_after turn)
+        seat_is (turned.Answers answer) = idle_free (slice_get t.list.orders (t.seat.number + 1)) ∙ sym (none_free t.order.broker.0 t.order.command)
+        seat_is (turned.Begins g) = ap (λ (o : Option Order). work_of o (Noted g)) z.next
+
+    own_central : (turn : Turned) → outcome ≡ outcome_of turn → turns.Row disk.content disk.control w.held t.order.broker.0 z.x (noted_in t.seat.work) t.order.command turn w'.held → w'.tier ≡ w.tier
+        → KeepsWork t.order.broker.0 t.order.command (noted_in t.seat.work) (work_of (Some t.order) t.seat.work)
+        → ((h' : seen.Held) → seen_rows.Row c.partition t.order.broker.0 y (noted_in t.seat.work) t.order.command turn h' → OwesTier c.partition t.order.broker.0 y t.order.command (sides_seen w.tier.sides) h')
+        → IsCentral disk store meta opening w'
+    own_central turn is row same works owes =
+        let r = row_refined disk.content disk.control w.held c.partition t.order.broker.0 z.x z.s (noted_in t.seat.work) t.order.command turn w'.held z.sees
+        (knows opening w c.partition t.order.broker.0 y c.central z.sees.there) (kept_at opening w a outcome w' c.partition y t c.central z.sees.there) row in
+        let e = enters disk store meta w outcome w' c.partition t.list t.seat t.order turn r.after y is r.held z.sees.there r.row in
+        let k = seen_law.turn_went opening (seen_as w c.partition) a turn (seen_as w' r.after) (seen_turn_of disk store meta w a outcome w' c.partition t e) c.central in
+        let stands = stands_of disk store meta opening w a outcome w' c.partition t e c.central k in
+        let both = both_of disk store meta opening w c in
+        let changed = own_turns (length c.partition.nodes) c.partition r.after c.central.plain k.central.plain y (noted_in t.seat.work) turn t.order
+        (entry_for disk store meta w outcome w' c.partition t.list t.seat t.order e) (sides_seen w.tier.sides) c.scene t.place stands both
+        (record { count = sided c.scene c.central.plain c.partition (sides_seen w.tier.sides) both c.central.stands.held c.shows_tier.sites; are = c.shows_tier.sites })
+        (record { work = work_of (Some t.order) t.seat.work; seat = seated disk store meta opening w c t.place t.list t.seat t.order z; is = works }) (owes r.after r.row) in
+        let shows = own_shows turn r.after is same in
+        turned_central disk store meta opening w a outcome w' t c e k (after_own c.scene t.place t.order turn (sides_seen w.tier.sides) r.after) changed shows
+        (few_after disk store meta opening w a outcome w' t c r.after (after_own c.scene t.place t.order turn (sides_seen w.tier.sides) r.after) shows)
+
+    -- at a seat that keeps no segment
+    works_at : (work : Work) → t.seat.work ≡ work → KeepsWork t.order.broker.0 t.order.command (noted_in work) (work_of (Some t.order) work)
+        → KeepsWork t.order.broker.0 t.order.command (noted_in t.seat.work) (work_of (Some t.order) t.seat.work)
+    works_at work is k = subst (λ (u : Work). KeepsWork t.order.broker.0 t.order.command (noted_in u) (work_of (Some t.order) u)) (sym is) k
+
+    row_at : (command : Command) → t.order.command ≡ command → (work : Work) → t.seat.work ≡ work → (turn : Turned)
+        → turns.Row disk.content disk.control w.held t.order.broker.0 z.x (noted_in work) command turn w'.held
+        → turns.Row disk.content disk.control w.held t.order.broker.0 z.x (noted_in t.seat.work) t.order.command turn w'.held
+    row_at command is work keeps turn row =
+        subst (λ (k : Command). turns.Row disk.content disk.control w.held t.order.broker.0 z.x (noted_in t.seat.work) k turn w'.held) (sym is)
+        (subst (λ (k : Work). turns.Row disk.content disk.control w.held t.order.broker.0 z.x (noted_in k) command turn w'.held) (sym keeps) row)
+
+    owes_at : (command : Command) → t.order.command ≡ command → (h' : seen.Held) → OwesTier c.partition t.order.broker.0 y command (sides_seen w.tier.sides) h'
+        → OwesTier c.partition t.order.broker.0 y t.order.command (sides_seen w.tier.sides) h'
+    owes_at command is h' o = subst (λ (k : Command). OwesTier c.partition t.order.broker.0 y k (sides_seen w.tier.sides) h') (sym is) o
+
+    trim_row : t.order.command ≡ Trim → t.seat.work ≡ Idle → (turn : Turned) (h' : seen.Held)
+        → seen_rows.Row c.partition t.order.broker.0 y (noted_in t.seat.work) t.order.command turn h' → TrimRow c.partition y turn h'
+    trim_row is keeps turn h' row =
+        subst (λ (k : Command). seen_rows.Row c.partition t.order.broker.0 y None k turn h') is
+        (subst (λ (k : Work). seen_rows.Row c.partition t.order.broker.0 y (noted_in k) t.order.command turn h') keeps row)
+
+    -- a turn of any command
+    by_command : (command : Command) → t.order.command ≡ command → (work : Work) → t.seat.work ≡ work
+        → Row disk store meta w.partition w.held w.tier t.order.broker.0 z.x z.side work command outcome w'.held w'.tier → IsCentral disk store meta opening w'
+    by_command Copy is work keeps row = copy_central disk store meta opening w a outcome w' t c z is work keeps row
+    by_command Trim is Idle keeps row =
+        own_central row.0.0 row.0.1 (row_at Trim is Idle keeps row.0.0 row.0.2) row.1 (works_at Idle keeps (keeps_none t.order.broker.0 t.order.command))
+        (λ h' seen_row. owes_at Trim is h' (trim_owes c.partition t.order.broker.0 y row.0.0 (sides_seen w.tier.sides) h' z.sees.there (trim_row is keeps row.0.0 h' seen_row)))
+    by_command Trim is (Noted g) keeps row = absurd row
+    by_command Trim is (Copies g copy next) keeps row = absurd row
+    by_command command is Idle keeps row =
+        own_central row.0.0 row.0.1 (row_at command is Idle keeps row.0.0 row.0.2) row.1 (works_at Idle keeps (keeps_none t.order.broker.0 t.order.command)) (λ h' seen_row. owes_at command is h' tt)
+    by_command command is (Noted g) keeps row =
+        own_central (turned.Answers row.0.0) row.0.1 (row_at command is (Noted g) keeps (turned.Answers row.0.0) row.0.2) row.1
+        (works_at (Noted g) keeps (keeps_noted t.order.broker.0 t.order.command g)) (λ h' seen_row. owes_at command is h' tt)
+    by_command command is (Copies g copy next) keeps row = elim row [ ]
+
   -- a turn keeps the central fact
-  pub turn_central : (opening : State) (w : Whole D) (a : ℕ) (turned : Turned) (w' : Whole D) → IsTurn content control w a turned w' → IsCentral content opening w → IsCentral content opening w'
-  turn_central opening w a turned w' t c =
-      let b = t.order.broker.0 in
-      let x = some_of (λ x. Row content control w.held b x t.seat.begun t.order.command turned w'.held) (slice_get w.held.nodes b) t.row in
-      let v = sees_at content control w.held c.partition b x.0 c.shows x.1 in
-      let y = node_of x.0 v.0 in
-      let r = row_refined content control w.held c.partition b x.0 v.0 t.seat.begun t.order.command turned w'.held v.1 (knows opening w c.partition b y c.central v.1.there)
-      (kept_at opening w a turned w' c.partition y t c.central v.1.there) x.2 in
-      let turn : seen_turn.IsTurn (seen_as w c.partition) a turned (seen_as w' r.after) = record {
-        place = t.place;
-        list = t.list;
-        seat = t.seat;
-        order = t.order;
-        at = record { list = t.at.list; actor = t.at.actor; seat_is = t.at.seat_is };
-        next = t.next;
-        row = some_at (λ (z : seen.Node). seen_rows.Row c.partition b z t.seat.begun t.order.command turned r.after) (slice_get c.partition.nodes b) y v.1.there r.row;
-        desk = t.desk;
-        entered = t.entered;
-        partition = t.partition;
-        config = t.config;
-        lists = t.lists;
-      } in
-      record { partition = r.after; shows = r.held; central = seen_law.turn_central opening (seen_as w c.partition) a turned (seen_as w' r.after) turn c.central }
+  pub turn_central : (opening : State) (w : Whole D S M) (a : ℕ) (outcome : Outcome) (w' : Whole D S M) → IsTurn disk store meta w a outcome w' → IsCentral disk store meta opening w → IsCentral disk store meta opening w'
+  turn_central opening w a outcome w' t c =
+      let r = row_of disk store meta w.partition w.held w.tier t.order.broker.0 t.seat.work t.order.command outcome w'.held w'.tier t.row in
+      by_command opening w a outcome w' t c
+      (place_of disk store meta opening w c t.place t.list t.seat t.order t.at.list t.at.seat_is t.next r.x r.at r.side r.side_at) t.order.command refl t.seat.work refl r.row
 
   -- and so does want of memory
-  whole_central : (opening : State) (w w' : Whole D) → StaysWhole content control w w' → IsCentral content opening w → IsCentral content opening w'
-  whole_central opening w w' s c =
-      subst (IsCentral content opening) (sym s.fields) (record { partition = c.partition; shows = held_stays content control w.held c.partition w'.held c.shows s.held; central = c.central })
+  few_stays : (opening : State) (w : Whole D S M) (a : ℕ) (w' : Whole D S M) → StaysWhole disk store meta w a w' → (c : IsCentral disk store meta opening w) → (d : Scene)
+      → ShowsTier store meta w' c.partition d → length d.notes + notes_left w'.lists w'.desk < 2 ^ 64
+  few_stays opening w a w' s c d shows =
+      let few = c.few in
+      let left = notes_stay disk store meta w a w' s c.shows_tier.meta_tells in
+      let before = ap (λ (k : List Note). length k) c.shows_tier.notes in
+      let after = ap (λ (k : List Note). length k) shows.notes in
+      omega (arith, few, left, before, after)
 
-  pub step_central : (w : Whole D) (a : ℕ) (stepped : Stepped) (w' : Whole D) → Steps content control w a stepped w' → KeepsCentral content w w'
-  step_central w a Ran w' s = λ opening c. turn_central opening w a (Begins s.0) w' s.1 c
+  module _ (opening : State) (w : Whole D S M) (a : ℕ) (w' : Whole D S M) (s : StaysWhole disk store meta w a w') (c : IsCentral disk store meta opening w) where
+    same_part : w'.partition ≡ w.partition
+    same_part = ap (λ (k : Whole D S M). k.partition) s.fields
+
+    same_lists : w'.lists ≡ w.lists
+    same_lists = ap (λ (k : Whole D S M). k.lists) s.fields
+
+    same_desk : w'.desk ≡ w.desk
+    same_desk = ap (λ (k : Whole D S M). k.desk) s.fields
+
+    -- changes of the tier alone
+    waits : ShowsHeld disk.content w'.held c.partition → (d : Scene) → IsChanged c.scene c.central.plain d → ShowsTier store meta w' c.partition d → IsCentral disk store meta opening w'
+    waits held d changed shows =
+        silent_central disk store meta opening w w' c same_lists (ap desk_seen same_desk) (ap (λ (k : Whole D S M). k.journal.items) s.fields) held d changed shows
+        (few_stays opening w a w' s c d shows)
+
+    -- nothing has changed
+    rests : ShowsHeld disk.content w'.held c.partition → w'.tier ≡ w.tier → IsCentral disk store meta opening w'
+    rests held same = waits held c.scene (record { changes = []; may = refl; is = refl }) (record {
+      partition = c.shows_tier.partition ∙ sym same_part;
+      store_tells = ap (λ (k : Tier S M). (store.content k.store).tells) same ∙ c.shows_tier.store_tells;
+      objects = c.shows_tier.objects ∙ sym (ap (λ (k : Tier S M). (store.content k.store).objects) same);
+      meta_tells = ap (λ (k : Tier S M). (meta.content k.meta).tells) same ∙ c.shows_tier.meta_tells;
+      notes = c.shows_tier.notes ∙ sym (ap (λ (k : Tier S M). (meta.content k.meta).notes) same);
+      sites = c.shows_tier.sites ∙ ap (λ (k : Tier S M). sites_of c.partition.nodes (sides_seen k.sides)) (sym same);
+      desk = c.shows_tier.desk ∙ (ap (λ (k : List ActorList). desk_of k w.desk) (sym same_lists) ∙ ap (λ (k : List Seat). desk_of w'.lists k) (sym same_desk));
+    })
+
+    -- a view has taken in some notes
+    halted : (z : Place disk store meta opening w c s.place s.list s.seat s.order) → w'.held ≡ w.held → HaltsTier disk store meta w.held w.tier s.order.broker.0 z.side w'.tier
+        → IsCentral disk store meta opening w'
+    halted z same (inl k) =
+        let changed = halts store.content store.control meta.content meta.control w.tier.meta k.view c.scene c.central.plain s.place s.order.broker.0
+        (site disk store meta opening w c s.place s.list s.seat s.order z) (work_of (Some s.order) s.seat.work) (store.content w.tier.store)
+        (shows_at disk store meta opening w c s.place s.list s.seat s.order z) (few_now disk store meta opening w c) c.tier k.reads.view in
+        waits (subst (λ (h : Held D). ShowsHeld disk.content h c.partition) (sym same) c.shows)
+        (scene_after disk store meta opening w c s.place s.list s.seat s.order z (work_of (Some s.order) s.seat.work) c.scene.objects c.scene.notes k.view) changed
+        (shows_kept disk store meta opening w c s.place s.list s.seat s.order z w' c.scene.objects c.scene.notes k.view same_part same_lists same_desk (ap (λ (u : Tier S M). u.sides) k.after)
+        (ap (λ (u : Tier S M). (store.content u.store).tells) k.after, k.reads.content.tells)
+        (c.shows_tier.objects ∙ sym (ap (λ (u : Tier S M). (store.content u.store).objects) k.after)) (c.shows_tier.notes ∙ sym k.reads.content.notes))
+    halted z same (inr (copy, next, k)) =
+        let changed = copy_dry store.content store.control meta.content meta.control copy (teller_of w.held s.order.broker.0) next k.error (tiers_of z.side.view w.tier) (tiers_of k.view w'.tier)
+        c.scene c.central.plain s.place s.order.broker.0 (site disk store meta opening w c s.place s.list s.seat s.order z) (work_of (Some s.order) s.seat.work) k.row
+        (shows_at disk store meta opening w c s.place s.list s.seat s.order z) (few_now disk store meta opening w c) c.tier in
+        waits (subst (λ (h : Held D). ShowsHeld disk.content h c.partition) (sym same) c.shows)
+        (scene_after disk store meta opening w c s.place s.list s.seat s.order z (work_of (Some s.order) s.seat.work) (store.content w'.tier.store).objects (meta.content w'.tier.meta).notes k.view) changed
+        (shows_kept disk store meta opening w c s.place s.list s.seat s.order z w' (store.content w'.tier.store).objects (meta.content w'.tier.meta).notes k.view same_part same_lists same_desk
+        (ap (λ (u : Tier S M). u.sides) k.after)
+        (dry_tells store meta copy (teller_of w.held s.order.broker.0) next k.error (tiers_of z.side.view w.tier) (tiers_of k.view w'.tier) k.row) refl refl)
+
+    by_tier : StaysTier disk store meta w.held w.tier s.order.broker.0 w'.held w'.tier → IsCentral disk store meta opening w'
+    by_tier (inl k) = rests (held_stays disk.content disk.control w.held c.partition w'.held c.shows k.0) k.1
+    by_tier (inr k) =
+        let side = some_of (λ (side : Side). HaltsTier disk store meta w.held w.tier s.order.broker.0 side w'.tier) (slice_get w.tier.sides s.order.broker.0) k.1 in
+        let x = look w.held.nodes s.order.broker.0 s.node in
+        halted (place_of disk store meta opening w c s.place s.list s.seat s.order s.next.at.list s.next.at.seat_is s.next.next x.0 x.1 side.0 side.1) k.0 side.2
+
+  whole_central : (opening : State) (w : Whole D S M) (a : ℕ) (w' : Whole D S M) → StaysWhole disk store meta w a w' → IsCentral disk store meta opening w → IsCentral disk store meta opening w'
+  whole_central opening w a w' s c = by_tier opening w a w' s c s.tier
+
+  pub step_central : (w : Whole D S M) (a : ℕ) (stepped : Stepped) (w' : Whole D S M) → Steps disk store meta w a stepped w' → KeepsCentral disk store meta w w'
+  step_central w a Ran w' s = λ opening c. turn_central opening w a s.0 w' s.2 c
   step_central w a Done w' s = λ opening c. turn_central opening w a (Answers s.0) w' s.1 c
-  step_central w a Nothing w' s = λ opening c. subst (IsCentral content opening) (sym s.1) c
-  step_central w a NoMemory w' s = λ opening c. whole_central opening w w' s c
+  step_central w a Nothing w' s = λ opening c. subst (IsCentral disk store meta opening) (sym s.1) c
+  step_central w a NoMemory w' s = λ opening c. whole_central opening w a w' s c
 
-  pub complete : (w : Whole D) → IsCentral content (fresh w.config) w → ((a : ℕ) → IsAtEnd w a) → IsCompleteRun w
+  pub complete : (w : Whole D S M) → IsCentral disk store meta (fresh w.config) w → ((a : ℕ) → IsAtEnd w a) → IsCompleteRun w
   complete w c ends =
-      let k = ends_complete (seen_as w c.partition) c.central (λ a place l seat at. ends a place l seat (record { list = at.list; actor = at.actor; seat_is = at.seat_is })) in
+      let k = ends_complete (seen_as w c.partition) c.central (λ a place l seat at. seen_end a place l seat at.list at.actor at.seat_is) in
       record { run = k.run; complete = k.complete }
+    where
+      seen_end : (a place : ℕ) (l : ActorList) (seat : seen_seat.Seat) → slice_get w.lists place ≡ Some l → l.actor.0 ≡ a → slice_get (desk_seen w.desk) place ≡ Some seat
+          → length l.orders ≤ seat.number
+      seen_end a place l seat list actor at = seen_low (length l.orders) w.desk place seat at (λ s to. ends a place l s (record { list = list; actor = actor; seat_is = to }))

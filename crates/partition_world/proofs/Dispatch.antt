@@ -1,32 +1,82 @@
--- A turn's row is that of its command.
-use Rattle.std.proofs.Common.{ℕ, Option, Some, None, slice_get}
-use Rattle.std.specs.Prelude.{IsSomeAnd}
-use Rattle.tier_base.specs.Device.{Control}
-use Rattle.disk_model.specs.Call.{call_code}
-use Rattle.disk_model.specs.Content.{Content}
-use Rattle.plain_log.specs.declared.answer.Answer.{Answer}
+-- A turn's row is that of its command, and a log that was read is as it was.
+use Rattle.std.proofs.Common.{◌≡◌, ◌≢◌, inl, inr, refl, ap, ◌∙◌, ℕ, zero, suc, ◌<◌, List, [], ◌∷◌, length, Some, None, Option, slice_get, true, false, arith}
+use Rattle.std.specs.Prelude.{IsSomeAnd, OnErr}
+use Rattle.std.specs.declared.result.Result.{Result}
+use Rattle.std.specs.declared.result.Result.TheVariants.{Ok, Err}
+use Rattle.disk_model.specs.declared.disk.Disk.{Ghosts as DiskGhosts}
+use Rattle.object_store.specs.declared.store.Store.{Ghosts as StoreGhosts}
+use Rattle.meta_log.specs.declared.log.MetaLog.{Ghosts as MetaGhosts}
+use Rattle.tier_base.specs.declared.names.PartitionId.{PartitionId}
 use Rattle.plain_log.specs.declared.command.Command.{Command}
-use Rattle.plain_log.specs.declared.command.Command.TheVariants.{Follow, Join, Trim}
-use Rattle.partition_seen.specs.declared.begun.Turned.TheVariants.{Answers}
-use Rattle.partition_world.specs.declared.held.Node.{Node}
-use Rattle.partition_world.specs.declared.held.Held.{Held}
-use Rattle.partition_world.specs.Held.{AtNode}
-use Rattle.partition_world.specs.Turns.{AnswerRow, FirstRow}
+use Rattle.plain_log.specs.declared.command.Command.TheVariants.{Copy, Trim}
+use Rattle.tier_base.specs.declared.plain.Settings.{Settings}
+use Rattle.broker_log.specs.Seen.{Kept, Up, Down, Away, is_up, settings_in, WhileUp}
+use Rattle.partition_seen.specs.declared.begun.Begun.{Begun}
+use Rattle.partition_seen.specs.declared.begun.Turned.TheVariants as turned
+use Rattle.partition_turns.specs.declared.held.Node.{Node}
+use Rattle.partition_turns.specs.declared.held.Held.{Held}
+use Rattle.partition_turns.specs.Held.{AtNode, Rests, put_node}
+use Rattle.partition_world.specs.declared.tier.Side.{Side}
+use Rattle.partition_world.specs.declared.tier.Tier.{Tier}
+use Rattle.partition_world.specs.declared.seat.Outcome.{Outcome}
+use Rattle.partition_world.specs.Tier.{AtSide}
+use Rattle.partition_world.specs.TurnsOfCopy.{ReadsLog}
+use Rattle.partition_world.specs.Turns.{OwnRow, OwnOnRow, BeginRow, NotedRow, StaysTier}
 
 -- a fact of what is there implies another
 some_more : {A : Type 0} (P Q : A → Type 0) (o : Option A) → ((x : A) → P x → Q x) → IsSomeAnd o P → IsSomeAnd o Q
 some_more P Q None f h = h
 some_more P Q (Some x) f h = f x h
 
-module _ {D : Type 0} (content : D → Content) (control : D → Control call_code) where
-  first_row : (h : Held D) (b : ℕ) (x : Node D) (command : Command) (answer : Answer) (h' : Held D) → AnswerRow content control h b x command answer h' → FirstRow content control h b x command (Answers answer) h'
-  first_row h b x (Follow limit) answer h' r = absurd r
-  first_row h b x Join answer h' r = absurd r
-  first_row h b x Trim answer h' r = absurd r
-  first_row h b x other answer h' r = r
+-- what holds of each holds of the one at a place
+there : {A : Type 0} (P : A → Type 0) (xs : List A) (i : ℕ) → i < length xs → ((x : A) → P x) → IsSomeAnd (slice_get xs i) P
+there P [] i lt f = absurd (omega (arith, lt))
+there P (x ∷ xs) zero lt f = f x
+there P (x ∷ xs) (suc i) lt f = there P xs i (omega (arith, lt)) f
 
-  -- a command of one turn is answered at its first
-  pub first_at : (h : Held D) (b : ℕ) (command : Command) (answer : Answer) (h' : Held D) → AtNode h b (λ x. AnswerRow content control h b x command answer h')
-      → AtNode h b (λ x. FirstRow content control h b x command (Answers answer) h')
-  first_at h b command answer h' r =
-      some_more (λ x. AnswerRow content control h b x command answer h') (λ x. FirstRow content control h b x command (Answers answer) h') (slice_get h.nodes b) (λ x row. first_row h b x command answer h' row) r
+-- two facts of an error
+pub err_two : {T E P Q R : Type 0} (r : Result T E) → (P → Q → R) → OnErr r P → OnErr r Q → OnErr r R
+err_two (Ok x) f p q = tt
+err_two (Err e) f p q = f p q
+
+-- a log's interval, where the broker is up
+pub interval_up : {D : Type 0} (kept : Kept D) (n : ℕ) (s : Settings) → is_up kept ≡ true → Some s ≡ settings_in kept → n ≡ s.index_interval → WhileUp kept (λ log. n ≡ log.settings.index_interval)
+interval_up (Up log) n s up is e = let same : s ≡ log.settings = cc in e ∙ ap (λ (k : Settings). k.index_interval) same
+interval_up (Down settings d) n s up is e = absurd (let no : false ≡ true = up in cc)
+interval_up Away n s up is e = absurd (let no : false ≡ true = up in cc)
+
+module _ {D S M : Type 0} (disk : DiskGhosts D) (store : StoreGhosts S) (meta : MetaGhosts M) where
+  begin_row : (h : Held D) (t : Tier S M) (b : ℕ) (x : Node D) (side : Side) (command : Command) (outcome : Outcome) (h' : Held D) (t' : Tier S M)
+      → OwnRow disk h t b x command outcome h' t' → BeginRow disk store meta h t b x side command outcome h' t'
+  begin_row h t b x side Copy outcome h' t' ((turned.Answers answer, is, row), same) = absurd row
+  begin_row h t b x side Copy outcome h' t' ((turned.Begins g, is, row), same) = absurd row
+  begin_row h t b x side other outcome h' t' w = w
+
+  -- the first turn of a command that the remote tier has no part in
+  pub begin_at : (h : Held D) (t : Tier S M) (b : ℕ) (command : Command) (outcome : Outcome) (h' : Held D) (t' : Tier S M) → b < length t.sides
+      → AtNode h b (λ x. OwnRow disk h t b x command outcome h' t') → AtNode h b (λ x. AtSide t b (λ side. BeginRow disk store meta h t b x side command outcome h' t'))
+  begin_at h t b command outcome h' t' lt r =
+      some_more (λ x. OwnRow disk h t b x command outcome h' t') (λ x. AtSide t b (λ side. BeginRow disk store meta h t b x side command outcome h' t')) (slice_get h.nodes b)
+      (λ x row. there (λ side. BeginRow disk store meta h t b x side command outcome h' t') t.sides b lt (λ side. begin_row h t b x side command outcome h' t' row)) r
+
+  noted_row : (p : PartitionId) (h : Held D) (t : Tier S M) (b : ℕ) (x : Node D) (side : Side) (g : Begun) (command : Command) (outcome : Outcome) (h' : Held D) (t' : Tier S M)
+      → command ≢ Trim → OwnOnRow disk h t b x g command outcome h' t' → NotedRow disk p h t b x side g command outcome h' t'
+  noted_row p h t b x side g Copy outcome h' t' not ((answer, is, row), same) = absurd row
+  noted_row p h t b x side g Trim outcome h' t' not w = absurd (not refl)
+  noted_row p h t b x side g other outcome h' t' not w = w
+
+  -- and its last one
+  pub noted_at : (p : PartitionId) (h : Held D) (t : Tier S M) (b : ℕ) (g : Begun) (command : Command) (outcome : Outcome) (h' : Held D) (t' : Tier S M) → b < length t.sides → command ≢ Trim
+      → AtNode h b (λ x. OwnOnRow disk h t b x g command outcome h' t') → AtNode h b (λ x. AtSide t b (λ side. NotedRow disk p h t b x side g command outcome h' t'))
+  noted_at p h t b g command outcome h' t' lt not r =
+      some_more (λ x. OwnOnRow disk h t b x g command outcome h' t') (λ x. AtSide t b (λ side. NotedRow disk p h t b x side g command outcome h' t')) (slice_get h.nodes b)
+      (λ x row. there (λ side. NotedRow disk p h t b x side g command outcome h' t') t.sides b lt (λ side. noted_row p h t b x side g command outcome h' t' not row)) r
+
+  read_rests : (h : Held D) (b : ℕ) (x y : Node D) (h' : Held D) → ReadsLog disk x y → h' ≡ put_node h b y → Rests disk.content disk.control h b x h'
+  read_rests h b x y h' r is = (r.kept, r.stays, r.lasts, is ∙ ap (λ (k : Node D). put_node h b k) r.after)
+
+  -- where a broker's log alone was read, nothing that is seen has changed
+  pub read_stays : (h : Held D) (t : Tier S M) (b : ℕ) (h' : Held D) (t' : Tier S M) → AtNode h b (λ x. (y : Node D) × ReadsLog disk x y × (h' ≡ put_node h b y)) → t' ≡ t
+      → StaysTier disk store meta h t b h' t'
+  read_stays h t b h' t' r same =
+      inl (inr (b, some_more (λ x. (y : Node D) × ReadsLog disk x y × (h' ≡ put_node h b y)) (λ x. Rests disk.content disk.control h b x h') (slice_get h.nodes b) (λ x k. read_rests h b x k.0 h' k.1 k.2) r), same)

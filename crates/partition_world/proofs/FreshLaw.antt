@@ -1,24 +1,45 @@
--- A fresh world whose logs are seen has the central fact.
-use Rattle.std.proofs.Common.{◌≡◌, ◌∙◌, sym, ap, subst, refl, ℕ, ◌-◌, ◌≤◌, List, [], ◌∷◌, length, Option, Bool, true, false, arith}
-use Rattle.std.specs.Prelude.{replicate, unwrap_or}
+-- A fresh world whose logs, objects and notes are seen has the central fact.
+use Rattle.std.proofs.Common.{◌≡◌, ◌∙◌, sym, ap, subst, refl, ℕ, zero, suc, ◌+◌, ◌-◌, ◌*◌, ◌<◌, ◌≤◌, List, [], ◌∷◌, length, Option, Some, None, slice_get, Bool, true, false, arith}
+use Rattle.std.specs.Prelude.{replicate, unwrap_or, ◌^◌, All}
 use Rattle.tier_base.specs.declared.names.PartitionId.{PartitionId}
 use Rattle.tier_base.specs.Device.{Control}
+use Rattle.disk_model.specs.declared.disk.Disk.{Ghosts as DiskGhosts}
 use Rattle.disk_model.specs.Call.{call_code}
 use Rattle.disk_model.specs.Content.{Content}
+use Rattle.object_store.specs.declared.store.Store.{Ghosts as StoreGhosts}
+use Rattle.meta_log.specs.declared.log.MetaLog.{Ghosts as MetaGhosts}
 use Rattle.registry.specs.Registry.{fresh_registry}
 use Rattle.plain_log.specs.declared.command.ActorList.{ActorList}
 use Rattle.plain_log.specs.declared.command.Config.{Config}
+use Rattle.plain_log.specs.declared.command.Order.{Order}
 use Rattle.plain_log.specs.declared.state.Role.TheVariants.{Joined}
+use Rattle.plain_log.specs.declared.journal.JournalEntry.{JournalEntry}
+use Rattle.plain_log.specs.declared.state.State.{State}
 use Rattle.plain_log.specs.Fresh.{fresh}
-use Rattle.plain_log.specs.Orders.{AreListsFor, IsConfig}
+use Rattle.plain_log.specs.Runs.{replay}
+use Rattle.plain_log.specs.Orders.{AreListsFor, AreRising, IsListFor, IsConfig}
 use Rattle.broker_log.specs.Seen.{Shows}
+use Rattle.partition_seen.specs.Whole as seen_whole
+use Rattle.partition_seen.specs.Central as seen_central
 use Rattle.partition_seen.specs.Fresh.{fresh_node, fresh_held}
 use Rattle.partition_seen.proofs.CompleteLaw.{fresh_central}
-use Rattle.partition_world.specs.declared.held.Node.{Node}
-use Rattle.partition_world.specs.Held.{is_up, line_of, node_of, ShowsNode, ShowNodes}
+use Rattle.partition_tier.specs.Sites.{sites_of, Side as SideSeen, fresh_side as fresh_seen}
+use Rattle.partition_tier.proofs.FreshLaw.{fresh_tier}
+use Rattle.partition_turns.specs.declared.held.Node.{Node}
+use Rattle.partition_turns.specs.Held.{is_up, line_of, node_of, ShowsNode, ShowNodes}
+use Rattle.partition_turns.specs.Fresh.{IsFreshNode, AreFreshFrom, AllSeen, empty_seen, fresh_role, fresh_line}
+use Rattle.tier_safe.specs.Scene.{Scene, Work as WorkSeen, Free}
+use Rattle.tier_safe.specs.Fresh.{fresh_site}
+use Rattle.tier_safe.specs.Safe.{TierSafe}
+use Rattle.tier_safe.proofs.FreshLaw.{fresh_both}
+use Rattle.partition_world.specs.declared.seat.Seat.{Seat}
+use Rattle.partition_world.specs.declared.seat.Work.TheVariants.{Idle}
+use Rattle.partition_world.specs.declared.tier.Side.{Side}
+use Rattle.partition_world.specs.Seats.{desk_seen}
 use Rattle.partition_world.specs.Whole.{Whole, seen_as}
-use Rattle.partition_world.specs.Central.{IsCentral}
-use Rattle.partition_world.specs.Fresh.{IsFreshNode, AreFreshFrom, IsFresh, AllSeen, empty_seen, fresh_role, fresh_line}
+use Rattle.partition_world.specs.Central.{IsCentral, ShowsTier, sides_seen, work_of, desk_of, notes_left}
+use Rattle.partition_world.specs.Fresh.{IsFresh, IsSeenEmpty, fresh_seat, fresh_side}
+use Rattle.partition_world.proofs.WorldFresh.{all_fresh}
 
 module _ {D : Type 0} (content : D → Content) (control : D → Control call_code) where
   node_shown : (leads : Bool) (x : Node D) → IsFreshNode leads x → Shows content x.log (empty_seen (line_of x)) → ShowsNode content x (fresh_node (fresh_role leads) (fresh_line leads))
@@ -46,15 +67,108 @@ module _ {D : Type 0} (content : D → Content) (control : D → Control call_co
         subst (λ (k : ℕ). ShowNodes content xs (replicate k (fresh_node (Joined 0) []))) many (followers_shown disks xs f.1 seen.1),
       )
 
-  pub fresh_is_central : (partition : PartitionId) (config : Config) (lists : List ActorList) (disks : List D) (w : Whole D) → IsConfig config → AreListsFor config lists
-      → IsFresh control partition config lists disks w → AllSeen content w.held.nodes → IsCentral content (fresh config) w
-  fresh_is_central partition config lists disks w fits fit f seen = record {
+-- the brokers' sides are those of a fresh tier
+sides_fresh : (n : ℕ) → sides_seen (replicate n fresh_side) ≡ replicate n fresh_seen
+sides_fresh zero = refl
+sides_fresh (suc n) = ap (λ (l : List SideSeen). fresh_seen ∷ l) (sides_fresh n)
+
+sites_fresh : (n : ℕ) (sides : List Side) → sides ≡ replicate n fresh_side → replicate n fresh_site ≡ sites_of (fresh_held n).nodes (sides_seen sides)
+sites_fresh n sides is =
+    let all : sides_seen sides ≡ replicate n fresh_seen = ap (λ (l : List Side). sides_seen l) is ∙ sides_fresh n in
+    sym (ap (λ (l : List SideSeen). sites_of (fresh_held n).nodes l) all ∙ fresh_tier n)
+
+-- nothing is under way
+free : (o : Option Order) → work_of o Idle ≡ Free
+free None = refl
+free (Some order) = refl
+
+all_free : (lists : List ActorList) → replicate (length lists) Free ≡ desk_of lists (replicate (length lists) fresh_seat)
+all_free [] = refl
+all_free (l ∷ lists) =
+    ap (λ (ws : List WorkSeen). Free ∷ ws) (all_free lists)
+    ∙ ap (λ (w : WorkSeen). w ∷ desk_of lists (replicate (length lists) fresh_seat)) (sym (free (slice_get l.orders 0)))
+
+-- no list is of an actor below this one
+abbrev IsFrom : ℕ → List ActorList → Type 0
+IsFrom low [] = Unit {0}
+IsFrom low (l ∷ lists) = low ≤ l.actor.0
+
+-- so many notes an actor appends at most
+few_notes : (config : Config) (low : ℕ) (lists : List ActorList) → IsFrom low lists → AreRising lists → All (IsListFor config) lists
+    → notes_left lists (replicate (length lists) fresh_seat) ≤ 8589934592 * (64 - low)
+few_notes config low [] from rising each = omega arith
+few_notes config low (l ∷ []) from rising each = let one = each 0 l (omega arith) in omega (arith, from, one.actor, one.few)
+few_notes config low (l ∷ m ∷ lists) from rising each =
+    let one = each 0 l (omega arith) in
+    let rest = few_notes config (l.actor.0 + 1) (m ∷ lists) (omega (arith, rising.0)) rising.1 (λ k d lt. each (suc k) d (omega (arith, lt))) in
+    omega (arith, from, one.actor, one.few, rest)
+
+low_left : (config : Config) (lists : List ActorList) → AreListsFor config lists → notes_left lists (replicate (length lists) fresh_seat) < 2 ^ 64
+low_left config [] fit = omega arith
+low_left config (l ∷ lists) fit = let few = few_notes config 0 (l ∷ lists) (omega arith) fit.rising fit.each in omega (arith, few)
+
+module _ {D S M : Type 0} (disk : DiskGhosts D) (store : StoreGhosts S) (meta : MetaGhosts M) where
+  -- the tier of a fresh world
+  abbrev scene_of : Config → List ActorList → Whole D S M → Scene
+  scene_of config lists w = record {
+    partition = w.partition;
+    objects = (store.content w.tier.store).objects;
+    notes = [];
+    sites = replicate config.brokers fresh_site;
+    desk = replicate (length lists) Free;
+  }
+
+  tier_shown : (partition : PartitionId) (config : Config) (lists : List ActorList) (disks : List D) (s : S) (m : M) (w : Whole D S M)
+      → IsFresh disk store meta partition config lists disks s m w → IsSeenEmpty disk store meta w → ShowsTier store meta w (fresh_held config.brokers) (scene_of config lists w)
+  tier_shown partition config lists disks s m w f seen = record {
+    partition = refl;
+    store_tells = seen.store_tells;
+    objects = refl;
+    meta_tells = seen.meta_tells;
+    notes = sym (seen.notes seen.meta_tells);
+    sites = sites_fresh config.brokers w.tier.sides f.sides;
+    desk = desk_is w.lists w.desk f.lists_are f.desk;
+  }
+    where
+      desk_is : (ls : List ActorList) (desk : List Seat) → ls ≡ lists → desk ≡ replicate (length lists) fresh_seat → replicate (length lists) Free ≡ desk_of ls desk
+      desk_is ls desk same is = all_free lists ∙ (ap (λ (d : List Seat). desk_of lists d) (sym is) ∙ ap (λ (k : List ActorList). desk_of k desk) (sym same))
+
+  left : (config : Config) (lists ls : List ActorList) (desk : List Seat) → AreListsFor config lists → ls ≡ lists → desk ≡ replicate (length lists) fresh_seat → 0 + notes_left ls desk < 2 ^ 64
+  left config lists ls desk fit same is =
+      let few = low_left config lists fit in
+      let one = ap (λ (d : List Seat). notes_left lists d) is in
+      let two = ap (λ (k : List ActorList). notes_left k desk) same in
+      omega (arith, few, one, two)
+
+  -- the plain log after an empty journal is the opening one
+  plain_fresh : (opening : State) (v : seen_whole.Whole) (c : seen_central.IsCentral opening v) → v.journal.items ≡ [] → opening ≡ c.plain
+  plain_fresh opening v c none = let is : Some opening ≡ Some c.plain = sym (ap (λ (l : List JournalEntry). replay v.lists opening l) none) ∙ c.replays in cc (is)
+
+  pub fresh_is_central : (partition : PartitionId) (config : Config) (lists : List ActorList) (disks : List D) (s : S) (m : M) (w : Whole D S M) → IsConfig config → AreListsFor config lists
+      → IsFresh disk store meta partition config lists disks s m w → IsSeenEmpty disk store meta w → IsCentral disk store meta (fresh config) w
+  fresh_is_central partition config lists disks s m w fits fit f seen = record {
     partition = fresh_held config.brokers;
     shows = record {
       registry = sym (f.held.registry ∙ ap fresh_registry f.count);
-      nodes = nodes_shown config.brokers disks w.held.nodes f.count fits.some f.held.nodes seen;
+      nodes = nodes_shown disk.content disk.control config.brokers disks w.held.nodes f.count fits.some f.held.nodes seen.logs;
       clock = sym f.held.clock;
     };
-    central = fresh_central partition config lists (seen_as w (fresh_held config.brokers)) fits fit
-        (record { partition_is = f.partition_is; config_is = f.config_is; lists_are = f.lists_are; held = refl; desk = f.desk; journal = f.journal });
+    central = central;
+    scene = scene_of config lists w;
+    shows_tier = tier_shown partition config lists disks s m w f seen;
+    tier = subst (λ (p : State). TierSafe (scene_of config lists w) p) (plain_fresh (fresh config) (seen_as w (fresh_held config.brokers)) central f.journal) safe;
+    few = left config lists w.lists w.desk fit f.lists_are f.desk;
   }
+    where
+      central : seen_central.IsCentral (fresh config) (seen_as w (fresh_held config.brokers))
+      central = fresh_central partition config lists (seen_as w (fresh_held config.brokers)) fits fit (record {
+        partition_is = f.partition_is;
+        config_is = f.config_is;
+        lists_are = f.lists_are;
+        held = refl;
+        desk = ap (λ (d : List Seat). desk_seen d) f.desk ∙ all_fresh (length lists);
+        journal = f.journal;
+      })
+
+      safe : TierSafe (scene_of config lists w) (fresh config)
+      safe = (fresh_both config (length lists) (scene_of config lists w) fits.some (record { objects = seen.objects seen.store_tells; notes = refl; sites = refl; desk = refl })).tier

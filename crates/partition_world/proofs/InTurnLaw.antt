@@ -1,10 +1,11 @@
--- Over any disks each turn goes on with its actor's next command, and begins none that has begun.
-use Rattle.std.proofs.Common.{◌≡◌, ◌≢◌, inl, inr, ◌∙◌, sym, ap, subst, refl, ℕ, zero, suc, ◌<◌, ◌==◌, Bool, true, false, List, [], ◌∷◌, ◌++◌, length, replicate, Some, IsSomeAnd, is_some, slice_get, slice_set, if◌then◌else◌, arith}
+-- Over any devices each turn goes on with its actor's next command, and begins none that has begun.
+use Rattle.std.proofs.Common.{◌≡◌, ◌≢◌, inl, inr, ◌⊎◌, ◌∙◌, sym, ap, subst, refl, ℕ, zero, suc, ◌<◌, ◌==◌, Bool, true, false, List, [], ◌∷◌, ◌++◌, length, replicate, Some, Option, IsSomeAnd, is_some, slice_get, slice_set, if◌then◌else◌, arith}
 use Rattle.log_terms.proofs.Lists.{get-set, look, within, length-slice_set}
 use Rattle.tier_base.specs.declared.names.PartitionId.{PartitionId}
-use Rattle.tier_base.specs.Device.{Control}
-use Rattle.disk_model.specs.Call.{call_code}
-use Rattle.disk_model.specs.Content.{Content}
+use Rattle.tier_base.specs.declared.names.ActorId.{ActorId}
+use Rattle.disk_model.specs.declared.disk.Disk.{Ghosts as DiskGhosts}
+use Rattle.object_store.specs.declared.store.Store.{Ghosts as StoreGhosts}
+use Rattle.meta_log.specs.declared.log.MetaLog.{Ghosts as MetaGhosts}
 use Rattle.plain_log.specs.declared.command.ActorList.{ActorList}
 use Rattle.plain_log.specs.declared.command.Command.{Command}
 use Rattle.plain_log.specs.declared.command.Command.TheVariants.{Join}
@@ -15,20 +16,28 @@ use Rattle.plain_log.specs.declared.command.Pace.TheVariants.{Until, Times}
 use Rattle.plain_log.specs.declared.journal.JournalEntry.{JournalEntry}
 use Rattle.plain_log.specs.Orders.{AreRising, AreListsFor}
 use Rattle.plain_log.specs.Runs.{orders_of}
-use Rattle.partition_seen.specs.declared.begun.Turned.{Turned}
-use Rattle.partition_seen.specs.declared.begun.Turned.TheVariants.{Answers, Begins}
-use Rattle.partition_seen.specs.declared.seat.Seat.{Seat}
-use Rattle.partition_seen.specs.Turn.{seat_after, event_of}
+use Rattle.plain_log.specs.declared.journal.Event.{Event}
+use Rattle.plain_log.specs.declared.journal.Event.TheVariants as event
+use Rattle.partition_seen.specs.declared.begun.Begun.{Begun}
+use Rattle.partition_seen.specs.declared.begun.Turned.TheVariants as turned
+use Rattle.partition_seen.specs.Turn.{event_of}
 use Rattle.partition_seen.proofs.BoolTests.{some_of, eq_same, eq_differs}
 use Rattle.partition_seen.proofs.FreshSound.{length_replicate}
-use Rattle.partition_seen.proofs.Lists.{MayTurn, one_list, orders_at, list_or_none}
+use Rattle.partition_seen.proofs.Lists.{one_list, orders_at, list_or_none}
 use Rattle.partition_world.specs.Fresh.{IsFresh, fresh_seat}
 use Rattle.partition_world.specs.InTurn.{entries_of, next_after, AreInTurn, IsInTurn}
-use Rattle.partition_world.specs.Reaches.{Goes, GoesTimes, GoesUntil, Paces, Reaches}
+use Rattle.partition_world.specs.Reaches.{Goes as GoesOnce, GoesTimes, GoesUntil, Paces, Reaches}
 use Rattle.partition_world.specs.Turn.{IsTurn}
 use Rattle.partition_world.specs.Whole.{Whole}
-use Rattle.partition_world.proofs.LaterLaw.{may_turn}
-use Rattle.partition_world.proofs.Shown.{some_at}
+use Rattle.partition_world.specs.declared.seat.Outcome.{Outcome}
+use Rattle.partition_world.specs.declared.seat.Outcome.TheVariants.{Answers, Begins, Chose, Goes}
+use Rattle.partition_world.specs.declared.seat.Seat.{Seat}
+use Rattle.partition_world.specs.declared.seat.Work.TheVariants.{Idle}
+use Rattle.partition_world.specs.Seats.{seat_after, told_of, noted_in}
+use Rattle.partition_world.specs.Turns.{TurnRow}
+use Rattle.partition_world.proofs.Begins.{begins_idle}
+use Rattle.partition_world.proofs.WorldSound.{chosen_seen, moved_seen}
+use Rattle.partition_turns.proofs.Shown.{some_at}
 
 -- the entries lead from the n-th command, which has begun or not, to the m-th one, which has or not
 abbrev LeadTo : ℕ → ℕ → Bool → List JournalEntry → ℕ → Bool → Type 0
@@ -67,65 +76,112 @@ entries_same : (a : ℕ) (journal : List JournalEntry) (entry : JournalEntry) �
 entries_same a [] entry differs = rw (eq_differs entry.actor.0 a differs) refl
 entries_same a (first ∷ journal) entry differs = ap (λ (l : List JournalEntry). if first.actor.0 == a then first ∷ l else l) (entries_same a journal entry differs)
 
--- what a turn makes of its seat is what its entry leads to
-next_of : (seat : Seat) (turned : Turned) (command : Command) → MayTurn seat turned
-    → next_after (event_of turned command) seat.number (is_some seat.begun) ≡ Some ((seat_after seat turned).number, is_some (seat_after seat turned).begun)
-next_of seat (Answers answer) command may = refl
-next_of seat (Begins g) Join may = rw may refl
-next_of seat (Begins g) command may = rw may refl
+-- the command has begun
+abbrev is_going : Seat → Bool
+is_going seat = is_some (noted_in seat.work)
+
+-- what a turn enters leads to what it makes of its seat
+record Enters (actor : ActorId) (seat : Seat) (command : Command) (outcome : Outcome) : Type 0 where
+  event : Event
+  told : told_of actor seat.number command outcome ≡ record { actor = actor; number = seat.number; event = event } ∷ []
+  next : next_after event seat.number (is_going seat) ≡ Some ((seat_after seat outcome).number, is_going (seat_after seat outcome))
+
+-- a turn that enters nothing leaves the seat at its command, which goes on
+record IsSilent (actor : ActorId) (seat : Seat) (command : Command) (outcome : Outcome) : Type 0 where
+  told : told_of actor seat.number command outcome ≡ []
+  number : (seat_after seat outcome).number ≡ seat.number
+  going : is_going (seat_after seat outcome) ≡ is_going seat
+
+begin_next : (seat : Seat) (command : Command) (g : Begun) → seat.work ≡ Idle → next_after (event_of (turned.Begins g) command) seat.number (is_going seat) ≡ Some (seat.number, true)
+begin_next seat Join g idle = rw idle refl
+begin_next seat command g idle = rw idle refl
+
+enters : (actor : ActorId) (seat : Seat) (command : Command) (outcome : Outcome) → ((g : Begun) → outcome ≡ Begins g → seat.work ≡ Idle)
+    → Enters actor seat command outcome ⊎ IsSilent actor seat command outcome
+enters actor seat command (Answers answer) idle = inl (record { event = event.Answers answer; told = refl; next = refl })
+enters actor seat command (Begins g) idle =
+    inl (record { event = event_of (turned.Begins g) command; told = refl; next = begin_next seat command g (idle g refl) })
+enters actor seat command (Chose copy) idle = inr (record { told = refl; number = refl; going = ap (λ (o : Option Begun). is_some o) (chosen_seen seat.work copy) })
+enters actor seat command (Goes next) idle = inr (record { told = refl; number = refl; going = ap (λ (o : Option Begun). is_some o) (moved_seen seat.work next) })
 
 -- each actor's entries lead to its seat; one without orders has none
-record IsOrderly {D : Type 0} (w : Whole D) : Type 0 where
+record IsOrderly {D S M : Type 0} (w : Whole D S M) : Type 0 where
   rising : AreRising w.lists
   seats : length w.desk ≡ length w.lists
   each : (place : ℕ) (l : ActorList) (seat : Seat) → slice_get w.lists place ≡ Some l → slice_get w.desk place ≡ Some seat
-      → LeadTo (length l.orders) 0 false (entries_of l.actor.0 w.journal.items) seat.number (is_some seat.begun)
+      → LeadTo (length l.orders) 0 false (entries_of l.actor.0 w.journal.items) seat.number (is_going seat)
   none : (a : ℕ) → orders_of w.lists a ≡ [] → entries_of a w.journal.items ≡ []
 
-module _ {D : Type 0} (content : D → Content) (control : D → Control call_code) where
-  turn_orderly : (w : Whole D) (a : ℕ) (turned : Turned) (w' : Whole D) → IsTurn content control w a turned w' → IsOrderly w → IsOrderly w'
-  turn_orderly w a turned w' t o = record {
-    rising = subst AreRising (sym t.lists) o.rising;
-    seats = ap (λ (k : List Seat). length k) t.desk ∙ (length-slice_set w.desk t.place (seat_after t.seat turned) ∙ (o.seats ∙ ap (λ (k : List ActorList). length k) (sym t.lists)));
-    each = each;
-    none = none;
-  }
+append_none : (entries : List JournalEntry) → entries ++ [] ≡ entries
+append_none [] = refl
+append_none (entry ∷ entries) = ap (λ (l : List JournalEntry). entry ∷ l) (append_none entries)
+
+module _ {D S M : Type 0} (disk : DiskGhosts D) (store : StoreGhosts S) (meta : MetaGhosts M) where
+  -- what a turn does to its actor's entries, and to those of the others
+  record Leads (w : Whole D S M) (outcome : Outcome) (w' : Whole D S M) (list : ActorList) (seat : Seat) : Type 0 where
+    mine : LeadTo (length list.orders) 0 false (entries_of list.actor.0 w'.journal.items) (seat_after seat outcome).number (is_going (seat_after seat outcome))
+    others : (b : ℕ) → list.actor.0 ≢ b → entries_of b w'.journal.items ≡ entries_of b w.journal.items
+
+  turn_leads : (w : Whole D S M) (a : ℕ) (outcome : Outcome) (w' : Whole D S M) (t : IsTurn disk store meta w a outcome w') → IsOrderly w → Leads w outcome w' t.list t.seat
+  turn_leads w a outcome w' t o = go (enters t.list.actor t.seat t.order.command outcome idle)
     where
-      entry : JournalEntry
-      entry = record { actor = t.list.actor; number = t.seat.number; event = event_of turned t.order.command }
+      idle : (g : Begun) → outcome ≡ Begins g → t.seat.work ≡ Idle
+      idle g is =
+          begins_idle disk store meta w.partition w.held w.tier t.order.broker.0 t.seat.work t.order.command g w'.held w'.tier
+          (subst (λ (k : Outcome). TurnRow disk store meta w.partition w.held w.tier t.order.broker.0 t.seat.work t.order.command k w'.held w'.tier) is t.row)
+
+      was : LeadTo (length t.list.orders) 0 false (entries_of t.list.actor.0 w.journal.items) t.seat.number (is_going t.seat)
+      was = o.each t.place t.list t.seat t.at.list t.at.seat_is
 
       low : t.seat.number < length t.list.orders
       low = within t.list.orders t.seat.number t.order t.next
 
-      may : MayTurn t.seat turned
-      may = may_turn content control w.held t.order.broker.0 t.seat t.order.command turned w'.held t.row
+      go : Enters t.list.actor t.seat t.order.command outcome ⊎ IsSilent t.list.actor t.seat t.order.command outcome → Leads w outcome w' t.list t.seat
+      go (inl e) =
+          let entry : JournalEntry = record { actor = t.list.actor; number = t.seat.number; event = e.event } in
+          let entered : w'.journal.items ≡ w.journal.items ++ entry ∷ [] = t.entered ∙ ap (λ (k : List JournalEntry). w.journal.items ++ k) e.told in
+          record {
+            mine =
+                let more = lead_more (length t.list.orders) 0 false (entries_of t.list.actor.0 w.journal.items) t.seat.number (is_going t.seat) entry (seat_after t.seat outcome).number (is_going (seat_after t.seat outcome)) was refl low e.next in
+                let all : entries_of t.list.actor.0 w'.journal.items ≡ entries_of t.list.actor.0 w.journal.items ++ entry ∷ [] =
+                ap (λ (k : List JournalEntry). entries_of t.list.actor.0 k) entered ∙ entries_more t.list.actor.0 w.journal.items entry refl in
+                subst (λ (k : List JournalEntry). LeadTo (length t.list.orders) 0 false k (seat_after t.seat outcome).number (is_going (seat_after t.seat outcome))) (sym all) more;
+            others = λ b differs. ap (λ (k : List JournalEntry). entries_of b k) entered ∙ entries_same b w.journal.items entry differs;
+          }
+      go (inr e) =
+          let entered : w'.journal.items ≡ w.journal.items = t.entered ∙ (ap (λ (k : List JournalEntry). w.journal.items ++ k) e.told ∙ append_none w.journal.items) in
+          record {
+            mine = rw (entered, e.number, e.going) was;
+            others = λ b differs. ap (λ (k : List JournalEntry). entries_of b k) entered;
+          }
 
-      -- the actor whose turn it was
-      mine : LeadTo (length t.list.orders) 0 false (entries_of t.list.actor.0 w'.journal.items) (seat_after t.seat turned).number (is_some (seat_after t.seat turned).begun)
-      mine =
-          let was = o.each t.place t.list t.seat t.at.list t.at.seat_is in
-          let more = lead_more (length t.list.orders) 0 false (entries_of t.list.actor.0 w.journal.items) t.seat.number (is_some t.seat.begun) entry (seat_after t.seat turned).number (is_some (seat_after t.seat turned).begun)
-          was refl low (next_of t.seat turned t.order.command may) in
-          let all : entries_of t.list.actor.0 w'.journal.items ≡ entries_of t.list.actor.0 w.journal.items ++ entry ∷ [] =
-          ap (λ (k : List JournalEntry). entries_of t.list.actor.0 k) t.entered ∙ entries_more t.list.actor.0 w.journal.items entry refl in
-          subst (λ (k : List JournalEntry). LeadTo (length t.list.orders) 0 false k (seat_after t.seat turned).number (is_some (seat_after t.seat turned).begun)) (sym all) more
+  turn_orderly : (w : Whole D S M) (a : ℕ) (outcome : Outcome) (w' : Whole D S M) → IsTurn disk store meta w a outcome w' → IsOrderly w → IsOrderly w'
+  turn_orderly w a outcome w' t o = record {
+    rising = subst AreRising (sym t.lists) o.rising;
+    seats = ap (λ (k : List Seat). length k) t.desk ∙ (length-slice_set w.desk t.place (seat_after t.seat outcome) ∙ (o.seats ∙ ap (λ (k : List ActorList). length k) (sym t.lists)));
+    each = each;
+    none = none;
+  }
+    where
+      leads : Leads w outcome w' t.list t.seat
+      leads = turn_leads w a outcome w' t o
 
-      others : (b : ℕ) → t.list.actor.0 ≢ b → entries_of b w'.journal.items ≡ entries_of b w.journal.items
-      others b differs = ap (λ (k : List JournalEntry). entries_of b k) t.entered ∙ entries_same b w.journal.items entry differs
+      low : t.seat.number < length t.list.orders
+      low = within t.list.orders t.seat.number t.order t.next
 
       each : (place : ℕ) (l : ActorList) (seat : Seat) → slice_get w'.lists place ≡ Some l → slice_get w'.desk place ≡ Some seat
-          → LeadTo (length l.orders) 0 false (entries_of l.actor.0 w'.journal.items) seat.number (is_some seat.begun)
+          → LeadTo (length l.orders) 0 false (entries_of l.actor.0 w'.journal.items) seat.number (is_going seat)
       each place l seat at to =
           let old : slice_get w.lists place ≡ Some l = ap (λ (k : List ActorList). slice_get k place) (sym t.lists) ∙ at in
-          let new : slice_get (slice_set w.desk t.place (seat_after t.seat turned)) place ≡ Some seat = ap (λ (k : List Seat). slice_get k place) (sym t.desk) ∙ to in
-          elim (get-set w.desk t.place (seat_after t.seat turned) place seat new) [
+          let new : slice_get (slice_set w.desk t.place (seat_after t.seat outcome)) place ≡ Some seat = ap (λ (k : List Seat). slice_get k place) (sym t.desk) ∙ to in
+          elim (get-set w.desk t.place (seat_after t.seat outcome) place seat new) [
             | inl one ↦
                 let list : t.list ≡ l = cc (old, t.at.list, ap (λ (k : ℕ). slice_get w.lists k) one.0) in
-                subst (λ (k : ActorList). LeadTo (length k.orders) 0 false (entries_of k.actor.0 w'.journal.items) seat.number (is_some seat.begun)) list
-                (subst (λ (s : Seat). LeadTo (length t.list.orders) 0 false (entries_of t.list.actor.0 w'.journal.items) s.number (is_some s.begun)) (sym one.1) mine)
+                subst (λ (k : ActorList). LeadTo (length k.orders) 0 false (entries_of k.actor.0 w'.journal.items) seat.number (is_going seat)) list
+                (subst (λ (s : Seat). LeadTo (length t.list.orders) 0 false (entries_of t.list.actor.0 w'.journal.items) s.number (is_going s)) (sym one.1) leads.mine)
             | inr other ↦
                 let differs : t.list.actor.0 ≢ l.actor.0 = λ same. other.0 (one_list w.lists place t.place l t.list o.rising old t.at.list (sym same)) in
-                subst (λ (k : List JournalEntry). LeadTo (length l.orders) 0 false k seat.number (is_some seat.begun)) (sym (others l.actor.0 differs)) (o.each place l seat old other.1)
+                subst (λ (k : List JournalEntry). LeadTo (length l.orders) 0 false k seat.number (is_going seat)) (sym (leads.others l.actor.0 differs)) (o.each place l seat old other.1)
           ]
 
       none : (b : ℕ) → orders_of w'.lists b ≡ [] → entries_of b w'.journal.items ≡ []
@@ -135,28 +191,28 @@ module _ {D : Type 0} (content : D → Content) (control : D → Control call_co
           let short : length t.list.orders ≡ 0 =
           ap (λ (k : List Order). length k) (sym (orders_at w.lists t.place t.list o.rising t.at.list)) ∙ (ap (λ (k : ℕ). length (orders_of w.lists k)) same ∙ ap (λ (k : List Order). length k) was) in
           absurd (omega (arith, short, low)) in
-          others b differs ∙ o.none b was
+          leads.others b differs ∙ o.none b was
 
-  same_orderly : (w w' : Whole D) → w' ≡ w → IsOrderly w → IsOrderly w'
+  same_orderly : (w w' : Whole D S M) → w' ≡ w → IsOrderly w → IsOrderly w'
   same_orderly w w' is o = subst IsOrderly (sym is) o
 
-  goes_orderly : (w : Whole D) (a : ℕ) (w' : Whole D) → Goes content control w a w' → IsOrderly w → IsOrderly w'
+  goes_orderly : (w : Whole D S M) (a : ℕ) (w' : Whole D S M) → GoesOnce disk store meta w a w' → IsOrderly w → IsOrderly w'
   goes_orderly w a w' (inl t) o = turn_orderly w a t.0 w' t.1 o
   goes_orderly w a w' (inr e) o = same_orderly w w' e.1 o
 
-  times_orderly : (w : Whole D) (a turns : ℕ) (w' : Whole D) → GoesTimes content control w a turns w' → IsOrderly w → IsOrderly w'
+  times_orderly : (w : Whole D S M) (a turns : ℕ) (w' : Whole D S M) → GoesTimes disk store meta w a turns w' → IsOrderly w → IsOrderly w'
   times_orderly w a zero w' g o = same_orderly w w' g o
   times_orderly w a (suc turns) w' g o = times_orderly g.0 a turns w' g.2 (goes_orderly w a g.0 g.1 o)
 
-  until_orderly : (w : Whole D) (a number turns : ℕ) (w' : Whole D) → GoesUntil content control w a number turns w' → IsOrderly w → IsOrderly w'
+  until_orderly : (w : Whole D S M) (a number turns : ℕ) (w' : Whole D S M) → GoesUntil disk store meta w a number turns w' → IsOrderly w → IsOrderly w'
   until_orderly w a number zero w' g o = same_orderly w w' g.1 o
   until_orderly w a number (suc turns) w' g o = until_orderly g.1.0 a number turns w' g.1.2 (goes_orderly w a g.1.0 g.1.1 o)
 
-  paces_orderly : (w : Whole D) (pace : Pace) (w' : Whole D) → Paces content control w pace w' → IsOrderly w → IsOrderly w'
+  paces_orderly : (w : Whole D S M) (pace : Pace) (w' : Whole D S M) → Paces disk store meta w pace w' → IsOrderly w → IsOrderly w'
   paces_orderly w (Until actor number) w' g o = until_orderly w actor.0 number g.0 w' g.1 o
   paces_orderly w (Times actor turns) w' g o = times_orderly w actor.0 turns w' g o
 
-  reaches_orderly : (w : Whole D) (schedule : List Pace) (w' : Whole D) → Reaches content control w schedule w' → IsOrderly w → IsOrderly w'
+  reaches_orderly : (w : Whole D S M) (schedule : List Pace) (w' : Whole D S M) → Reaches disk store meta w schedule w' → IsOrderly w → IsOrderly w'
   reaches_orderly w [] w' r o = same_orderly w w' r o
   reaches_orderly w (pace ∷ schedule) w' r o = reaches_orderly r.0 schedule w' r.2 (paces_orderly w pace r.0 r.1 o)
 
@@ -166,28 +222,28 @@ module _ {D : Type 0} (content : D → Content) (control : D → Control call_co
   replicated (suc n) x zero y e = cc
   replicated (suc n) x (suc i) y e = replicated n x i y e
 
-  fresh_orderly : (partition : PartitionId) (config : Config) (lists : List ActorList) (disks : List D) (w : Whole D) → AreListsFor config lists → IsFresh control partition config lists disks w → IsOrderly w
-  fresh_orderly partition config lists disks w fit f = record {
+  fresh_orderly : (partition : PartitionId) (config : Config) (lists : List ActorList) (disks : List D) (s : S) (m : M) (w : Whole D S M) → AreListsFor config lists → IsFresh disk store meta partition config lists disks s m w → IsOrderly w
+  fresh_orderly partition config lists disks s m w fit f = record {
     rising = subst AreRising (sym f.lists_are) fit.rising;
     seats = ap (λ (k : List Seat). length k) f.desk ∙ (length_replicate (length lists) fresh_seat ∙ ap (λ (k : List ActorList). length k) (sym f.lists_are));
     each = λ place l seat at to.
         let is : fresh_seat ≡ seat = replicated (length lists) fresh_seat place seat (ap (λ (k : List Seat). slice_get k place) (sym f.desk) ∙ to) in
-        subst (λ (s : Seat). LeadTo (length l.orders) 0 false (entries_of l.actor.0 w.journal.items) s.number (is_some s.begun)) is
+        subst (λ (s : Seat). LeadTo (length l.orders) 0 false (entries_of l.actor.0 w.journal.items) s.number (is_going s)) is
         (subst (λ (k : List JournalEntry). LeadTo (length l.orders) 0 false (entries_of l.actor.0 k) 0 false) (sym f.journal) (refl, refl));
     none = λ a empty. ap (λ (k : List JournalEntry). entries_of a k) f.journal;
   }
 
-  orderly_in_turn : (w : Whole D) → IsOrderly w → IsInTurn w.lists w.journal.items
+  orderly_in_turn : (w : Whole D S M) → IsOrderly w → IsInTurn w.lists w.journal.items
   orderly_in_turn w o a = elim (list_or_none w.lists a) [
     | inl h ↦
         let seat = look w.desk h.0 (omega (arith, o.seats, within w.lists h.0 h.1 h.2)) in
         let lead = o.each h.0 h.1 seat.0 h.2 seat.1 in
-        let mine = in_turn (length h.1.orders) 0 false (entries_of h.1.actor.0 w.journal.items) seat.0.number (is_some seat.0.begun) lead in
+        let mine = in_turn (length h.1.orders) 0 false (entries_of h.1.actor.0 w.journal.items) seat.0.number (is_going seat.0) lead in
         subst (λ (k : ℕ). AreInTurn (length (orders_of w.lists k)) 0 false (entries_of k w.journal.items)) h.3
         (subst (λ (k : List Order). AreInTurn (length k) 0 false (entries_of h.1.actor.0 w.journal.items)) (sym (orders_at w.lists h.0 h.1 o.rising h.2)) mine)
     | inr empty ↦ subst (λ (k : List JournalEntry). AreInTurn (length (orders_of w.lists a)) 0 false k) (sym (o.none a empty)) tt
   ]
 
-  pub reaches_in_turn : (partition : PartitionId) (config : Config) (lists : List ActorList) (disks : List D) (w : Whole D) (schedule : List Pace) (w' : Whole D) → AreListsFor config lists
-      → IsFresh control partition config lists disks w → Reaches content control w schedule w' → IsInTurn w'.lists w'.journal.items
-  reaches_in_turn partition config lists disks w schedule w' fit f r = orderly_in_turn w' (reaches_orderly w schedule w' r (fresh_orderly partition config lists disks w fit f))
+  pub reaches_in_turn : (partition : PartitionId) (config : Config) (lists : List ActorList) (disks : List D) (s : S) (m : M) (w : Whole D S M) (schedule : List Pace) (w' : Whole D S M) → AreListsFor config lists
+      → IsFresh disk store meta partition config lists disks s m w → Reaches disk store meta w schedule w' → IsInTurn w'.lists w'.journal.items
+  reaches_in_turn partition config lists disks s m w schedule w' fit f r = orderly_in_turn w' (reaches_orderly w schedule w' r (fresh_orderly partition config lists disks s m w fit f))

@@ -1,36 +1,28 @@
 -- Turns lead to later worlds.
-use Rattle.std.proofs.Common.{◌≡◌, ◌≢◌, inl, inr, ◌∙◌, sym, ap, subst, refl, ℕ, ◌+◌, ◌<◌, ◌≤◌, List, length, slice_get, slice_set, Some, None, Option, IsSomeAnd, Bool, true, false, ◌==◌, arith}
+use Rattle.std.proofs.Common.{◌≡◌, ◌≢◌, inl, inr, ◌∙◌, sym, ap, subst, refl, ℕ, ◌+◌, ◌<◌, ◌≤◌, List, length, slice_get, slice_set, Some, Bool, true, false, ◌==◌, arith}
 use Rattle.std.proofs.lemmas.Bool.Decides.{nat_tests}
 use Rattle.log_terms.proofs.Lists.{get-set, within}
 use Rattle.plain_log.specs.declared.command.ActorList.{ActorList}
-use Rattle.plain_log.specs.declared.command.Command.{Command}
-use Rattle.plain_log.specs.declared.command.Command.TheVariants.{Follow}
-use Rattle.partition_seen.specs.declared.begun.Begun.{Begun}
-use Rattle.partition_seen.specs.declared.begun.Turned.{Turned}
-use Rattle.partition_seen.specs.declared.begun.Turned.TheVariants.{Answers, Begins}
-use Rattle.partition_seen.specs.declared.seat.Seat.{Seat}
 use Rattle.partition_seen.specs.declared.seat.Stepped.{Stepped}
 use Rattle.partition_seen.specs.declared.seat.Stepped.TheVariants.{Ran, Done, Nothing, NoMemory}
-use Rattle.partition_seen.specs.Sound.{turns_left}
-use Rattle.partition_seen.specs.Turn.{seat_after}
-use Rattle.partition_seen.proofs.Lists.{MayTurn, turns_less}
-use Rattle.tier_base.specs.Device.{Control}
-use Rattle.disk_model.specs.Call.{call_code}
-use Rattle.disk_model.specs.Content.{Content}
-use Rattle.partition_world.specs.declared.held.Node.{Node}
-use Rattle.partition_world.specs.declared.held.Held.{Held}
-use Rattle.partition_world.specs.Held.{AtNode}
+use Rattle.disk_model.specs.declared.disk.Disk.{Ghosts as DiskGhosts}
+use Rattle.object_store.specs.declared.store.Store.{Ghosts as StoreGhosts}
+use Rattle.meta_log.specs.declared.log.MetaLog.{Ghosts as MetaGhosts}
 use Rattle.partition_world.specs.Whole.{Whole}
-use Rattle.partition_world.specs.Turns.{LaterRow, Row}
+use Rattle.partition_world.specs.declared.seat.Outcome.{Outcome}
+use Rattle.partition_world.specs.declared.seat.Outcome.TheVariants.{Answers, Begins, Chose, Goes}
+use Rattle.partition_world.specs.declared.seat.Seat.{Seat}
+use Rattle.partition_world.specs.Seats.{seat_after}
 use Rattle.partition_world.specs.Turn.{IsTurn, IsAtEnd, StaysWhole, Steps}
+use Rattle.partition_world.proofs.Advancing.{turns_left, advances_at, turns_less}
 use Rattle.partition_world.specs.Central.{KeepsCentral}
 use Rattle.partition_world.specs.Later.{IsLater}
 
-module _ {D : Type 0} (content : D → Content) (control : D → Control call_code) where
-  pub later_same : (w : Whole D) → IsLater content w w
+module _ {D S M : Type 0} (disk : DiskGhosts D) (store : StoreGhosts S) (meta : MetaGhosts M) where
+  pub later_same : (w : Whole D S M) → IsLater disk store meta w w
   later_same w = record { partition = refl; config = refl; lists = refl; central = λ opening c. c; ends = λ a e. e }
 
-  pub later_more : (w v u : Whole D) → IsLater content w v → IsLater content v u → IsLater content w u
+  pub later_more : (w v u : Whole D S M) → IsLater disk store meta w v → IsLater disk store meta v u → IsLater disk store meta w u
   later_more w v u a b = record {
     partition = b.partition ∙ a.partition;
     config = b.config ∙ a.config;
@@ -40,88 +32,73 @@ module _ {D : Type 0} (content : D → Content) (control : D → Control call_co
   }
 
   -- a seat never goes back
-  number_after : (seat : Seat) (turned : Turned) → seat.number ≤ (seat_after seat turned).number
+  number_after : (seat : Seat) (outcome : Outcome) → seat.number ≤ (seat_after seat outcome).number
   number_after seat (Answers answer) = omega arith
   number_after seat (Begins g) = omega arith
+  number_after seat (Chose copy) = omega arith
+  number_after seat (Goes next) = omega arith
 
-  turn_ends : (w : Whole D) (a : ℕ) (turned : Turned) (w' : Whole D) → IsTurn content control w a turned w' → (b : ℕ) → IsAtEnd w b → IsAtEnd w' b
-  turn_ends w a turned w' t b e = λ place l seat s.
+  turn_ends : (w : Whole D S M) (a : ℕ) (outcome : Outcome) (w' : Whole D S M) → IsTurn disk store meta w a outcome w' → (b : ℕ) → IsAtEnd w b → IsAtEnd w' b
+  turn_ends w a outcome w' t b e = λ place l seat s.
       let old : slice_get w.lists place ≡ Some l = ap (λ (k : List ActorList). slice_get k place) (sym t.lists) ∙ s.list in
-      let new : slice_get (slice_set w.desk t.place (seat_after t.seat turned)) place ≡ Some seat = ap (λ (k : List Seat). slice_get k place) (sym t.desk) ∙ s.seat_is in
-      elim (get-set w.desk t.place (seat_after t.seat turned) place seat new) [
+      let new : slice_get (slice_set w.desk t.place (seat_after t.seat outcome)) place ≡ Some seat = ap (λ (k : List Seat). slice_get k place) (sym t.desk) ∙ s.seat_is in
+      elim (get-set w.desk t.place (seat_after t.seat outcome) place seat new) [
         | inl one ↦
             let was : slice_get w.desk place ≡ Some t.seat = ap (λ (k : ℕ). slice_get w.desk k) one.0 ∙ t.at.seat_is in
             let before = e place l t.seat (record { list = old; actor = s.actor; seat_is = was }) in
-            let on = number_after t.seat turned in
+            let on = number_after t.seat outcome in
             omega (arith, before, on, ap (λ (k : Seat). k.number) one.1)
         | inr other ↦ e place l seat (record { list = old; actor = s.actor; seat_is = other.1 })
       ]
 
-  pub turn_later : (w : Whole D) (a : ℕ) (turned : Turned) (w' : Whole D) → IsTurn content control w a turned w' → KeepsCentral content w w' → IsLater content w w'
-  turn_later w a turned w' t keeps = record {
+  pub turn_later : (w : Whole D S M) (a : ℕ) (outcome : Outcome) (w' : Whole D S M) → IsTurn disk store meta w a outcome w' → KeepsCentral disk store meta w w' → IsLater disk store meta w w'
+  turn_later w a outcome w' t keeps = record {
     partition = t.partition;
     config = t.config;
     lists = t.lists;
     central = keeps;
-    ends = turn_ends w a turned w' t;
+    ends = turn_ends w a outcome w' t;
   }
 
-  pub same_later : (w w' : Whole D) → w' ≡ w → IsLater content w w'
-  same_later w w' e = subst (λ (k : Whole D). IsLater content w k) (sym e) (later_same w)
+  pub same_later : (w w' : Whole D S M) → w' ≡ w → IsLater disk store meta w w'
+  same_later w w' e = subst (λ (k : Whole D S M). IsLater disk store meta w k) (sym e) (later_same w)
 
-  whole_later : (w w' : Whole D) → StaysWhole content control w w' → KeepsCentral content w w' → IsLater content w w'
-  whole_later w w' s keeps = record {
-    partition = ap (λ (k : Whole D). k.partition) s.fields;
-    config = ap (λ (k : Whole D). k.config) s.fields;
-    lists = ap (λ (k : Whole D). k.lists) s.fields;
+  whole_later : (w : Whole D S M) (a : ℕ) (w' : Whole D S M) → StaysWhole disk store meta w a w' → KeepsCentral disk store meta w w' → IsLater disk store meta w w'
+  whole_later w a w' s keeps = record {
+    partition = ap (λ (k : Whole D S M). k.partition) s.fields;
+    config = ap (λ (k : Whole D S M). k.config) s.fields;
+    lists = ap (λ (k : Whole D S M). k.lists) s.fields;
     central = keeps;
-    ends = λ a e. subst (λ (k : Whole D). IsAtEnd k a) (sym s.fields) (λ place l seat at. e place l seat (record { list = at.list; actor = at.actor; seat_is = at.seat_is }));
+    ends = λ b e. subst (λ (k : Whole D S M). IsAtEnd k b) (sym s.fields) (λ place l seat at. e place l seat (record { list = at.list; actor = at.actor; seat_is = at.seat_is }));
   }
 
-  pub step_later : (w : Whole D) (a : ℕ) (stepped : Stepped) (w' : Whole D) → Steps content control w a stepped w' → KeepsCentral content w w' → IsLater content w w'
-  step_later w a Ran w' s keeps = turn_later w a (Begins s.0) w' s.1 keeps
+  pub step_later : (w : Whole D S M) (a : ℕ) (stepped : Stepped) (w' : Whole D S M) → Steps disk store meta w a stepped w' → KeepsCentral disk store meta w w' → IsLater disk store meta w w'
+  step_later w a Ran w' s keeps = turn_later w a s.0 w' s.2 keeps
   step_later w a Done w' s keeps = turn_later w a (Answers s.0) w' s.1 keeps
   step_later w a Nothing w' s keeps = same_later w w' s.1
-  step_later w a NoMemory w' s keeps = whole_later w w' s keeps
-
-  -- a command begins once
-  no_later : (h : Held D) (b : ℕ) (x : Node D) (command : Command) (g f : Begun) (h' : Held D) → LaterRow content control h b x command g (Begins f) h' → ⊥
-  no_later h b x (Follow limit) g f h' w = w
-  no_later h b x command g f h' w = w
-
-  begun_none : (h : Held D) (b : ℕ) (x : Node D) (begun : Option Begun) (command : Command) (g : Begun) (h' : Held D) → Row content control h b x begun command (Begins g) h' → begun ≡ None
-  begun_none h b x None command g h' w = refl
-  begun_none h b x (Some f) command g h' w = absurd (no_later h b x command f g h' w)
-
-  pub may_turn : (h : Held D) (b : ℕ) (seat : Seat) (command : Command) (turned : Turned) (h' : Held D) → AtNode h b (λ x. Row content control h b x seat.begun command turned h') → MayTurn seat turned
-  may_turn h b seat command (Answers answer) h' r = tt
-  may_turn h b seat command (Begins g) h' r = go (slice_get h.nodes b) r
-    where
-      go : (o : Option (Node D)) → IsSomeAnd o (λ x. Row content control h b x seat.begun command (Begins g) h') → seat.begun ≡ None
-      go None w = absurd w
-      go (Some x) w = begun_none h b x seat.begun command g h' w
+  step_later w a NoMemory w' s keeps = whole_later w a w' s keeps
 
   -- a turn leaves a turn less
-  pub turn_left : (w : Whole D) (a : ℕ) (turned : Turned) (w' : Whole D) → IsTurn content control w a turned w' → turns_left w'.lists w'.desk < turns_left w.lists w.desk
-  turn_left w a turned w' t =
-      let may = may_turn w.held t.order.broker.0 t.seat t.order.command turned w'.held t.row in
-      let less = turns_less w.lists w.desk t.place t.list t.seat turned t.at.list t.at.seat_is (within t.list.orders t.seat.number t.order t.next) may in
+  pub turn_left : (w : Whole D S M) (a : ℕ) (outcome : Outcome) (w' : Whole D S M) → IsTurn disk store meta w a outcome w' → turns_left w'.lists w'.desk < turns_left w.lists w.desk
+  turn_left w a outcome w' t =
+      let on = advances_at disk store meta w.partition w.held w.tier t.order.broker.0 t.seat.work t.order.command outcome w'.held w'.tier t.row in
+      let less = turns_less w.lists w.desk t.place t.list t.seat outcome t.at.list t.at.seat_is (within t.list.orders t.seat.number t.order t.next) on in
       rw (t.lists, t.desk) (omega (arith, less))
 
   -- a step that goes on does
-  pub step_left : (w : Whole D) (a : ℕ) (stepped : Stepped) (w' : Whole D) → Steps content control w a stepped w' → stepped ≢ Nothing → stepped ≢ NoMemory
+  pub step_left : (w : Whole D S M) (a : ℕ) (stepped : Stepped) (w' : Whole D S M) → Steps disk store meta w a stepped w' → stepped ≢ Nothing → stepped ≢ NoMemory
       → turns_left w'.lists w'.desk < turns_left w.lists w.desk
-  step_left w a Ran w' s n m = turn_left w a (Begins s.0) w' s.1
+  step_left w a Ran w' s n m = turn_left w a s.0 w' s.2
   step_left w a Done w' s n m = turn_left w a (Answers s.0) w' s.1
   step_left w a Nothing w' s n m = absurd (n refl)
   step_left w a NoMemory w' s n m = absurd (m refl)
 
   -- where the actor of each list is at its end, each actor is
-  pub all_ended : (w : Whole D) → ((place : ℕ) (l : ActorList) → slice_get w.lists place ≡ Some l → IsAtEnd w l.actor.0) → (a : ℕ) → IsAtEnd w a
+  pub all_ended : (w : Whole D S M) → ((place : ℕ) (l : ActorList) → slice_get w.lists place ≡ Some l → IsAtEnd w l.actor.0) → (a : ℕ) → IsAtEnd w a
   all_ended w h a = λ place l seat s. h place l s.list place l seat (record { list = s.list; actor = refl; seat_is = s.seat_is })
 
   -- one list more is at its end
-  pub place_ended : (w w' : Whole D) (place : ℕ) (list : ActorList) → IsLater content w w' → slice_get w.lists place ≡ Some list → IsAtEnd w' list.actor.0
+  pub place_ended : (w w' : Whole D S M) (place : ℕ) (list : ActorList) → IsLater disk store meta w w' → slice_get w.lists place ≡ Some list → IsAtEnd w' list.actor.0
       → ((i : ℕ) (l : ActorList) → i < place → slice_get w.lists i ≡ Some l → IsAtEnd w l.actor.0)
       → (i : ℕ) (l : ActorList) → i < place + 1 → slice_get w'.lists i ≡ Some l → IsAtEnd w' l.actor.0
   place_ended w w' place list later at ended h i l lt is = go (i == place) refl
@@ -139,5 +116,5 @@ module _ {D : Type 0} (content : D → Content) (control : D → Control call_co
           later.ends l.actor.0 (h i l (omega (arith, lt, differs)) old)
 
   -- all lists are at their ends
-  pub places_ended : (w : Whole D) (place : ℕ) → length w.lists ≤ place → ((i : ℕ) (l : ActorList) → i < place → slice_get w.lists i ≡ Some l → IsAtEnd w l.actor.0) → (a : ℕ) → IsAtEnd w a
+  pub places_ended : (w : Whole D S M) (place : ℕ) → length w.lists ≤ place → ((i : ℕ) (l : ActorList) → i < place → slice_get w.lists i ≡ Some l → IsAtEnd w l.actor.0) → (a : ℕ) → IsAtEnd w a
   places_ended w place many h = all_ended w (λ i l at. h i l (let lt = within w.lists i l at in omega (arith, lt, many)) at)

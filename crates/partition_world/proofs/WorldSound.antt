@@ -1,5 +1,5 @@
 -- A world has what a turn of it needs, also after the turn.
-use Rattle.std.proofs.Common.{◌≡◌, ◌⊎◌, ◌∙◌, inl, inr, sym, ap, subst, ℕ, ◌-◌, ◌<◌, ◌≤◌, List, length, slice_get, slice_set, Some, true, arith}
+use Rattle.std.proofs.Common.{◌≡◌, ◌⊎◌, ◌∙◌, inl, inr, sym, ap, subst, refl, Option, ℕ, ◌+◌, ◌-◌, ◌<◌, ◌≤◌, List, length, slice_get, slice_set, Some, true, arith}
 use Rattle.std.specs.Prelude.{All, IsTrue, nat_le}
 use Rattle.std.proofs.lemmas.Bool.{le-leb}
 use Rattle.std.proofs.lemmas.Bool.Decides.{nat_tests}
@@ -9,67 +9,125 @@ use Rattle.plain_log.specs.declared.command.ActorList.{ActorList}
 use Rattle.plain_log.specs.declared.command.Config.{Config}
 use Rattle.plain_log.specs.declared.command.Order.{Order}
 use Rattle.plain_log.specs.Orders.{AreRising, IsListFor, IsOrderFor}
-use Rattle.partition_seen.specs.declared.begun.Turned.{Turned}
-use Rattle.partition_seen.specs.declared.seat.Seat.{Seat}
-use Rattle.partition_seen.specs.Turn.{seat_after}
 use Rattle.partition_seen.proofs.Lists.{turns_some, turns_less, one_list}
-use Rattle.tier_base.specs.Device.{Control}
-use Rattle.disk_model.specs.Call.{call_code}
-use Rattle.disk_model.specs.Content.{Content}
-use Rattle.partition_world.specs.declared.held.Held.{Held}
-use Rattle.partition_world.specs.Held.{AtNode, StaysHeld}
+use Rattle.partition_turns.specs.declared.held.Held.{Held}
 use Rattle.partition_world.specs.Sound.{IsSound}
 use Rattle.partition_world.specs.Whole.{Whole}
-use Rattle.partition_world.specs.Turns.{Row}
-use Rattle.partition_world.specs.Turn.{IsSeat, IsAtEnd}
+use Rattle.tier_base.specs.declared.names.PartitionId.{PartitionId}
+use Rattle.disk_model.specs.declared.disk.Disk.{Ghosts as DiskGhosts}
+use Rattle.object_store.specs.declared.store.Store.{Ghosts as StoreGhosts}
+use Rattle.meta_log.specs.declared.log.MetaLog.{Ghosts as MetaGhosts}
+use Rattle.copy_task.specs.Copying.{Copied}
+use Rattle.copy_task.specs.declared.turn.Next.{Next}
+use Rattle.partition_seen.specs.declared.begun.Begun.{Begun}
+use Rattle.partition_seen.specs.declared.begun.Turned.TheVariants as seen
+use Rattle.partition_seen.specs.Sound.{turns_left}
+use Rattle.partition_seen.proofs.Standing.{map_set, map_get}
+use Rattle.partition_world.specs.declared.tier.Side.{Side}
+use Rattle.partition_world.specs.declared.tier.Tier.{Tier}
+use Rattle.partition_world.specs.declared.seat.Outcome.{Outcome}
+use Rattle.partition_world.specs.declared.seat.Outcome.TheVariants.{Answers, Begins, Chose, Goes}
+use Rattle.partition_world.specs.declared.seat.Seat.{Seat}
+use Rattle.partition_world.specs.declared.seat.Work.{Work}
+use Rattle.partition_world.specs.declared.seat.Work.TheVariants.{Idle, Noted, Copies}
+use Rattle.partition_world.specs.Seats.{seat_seen, desk_seen, noted_in, chosen, moved, seat_after, told_count, stepped_of}
+use Rattle.partition_world.specs.Turn.{IsSeat, IsAtEnd, IsTurn, Steps}
+use Rattle.partition_world.specs.Turns.{TurnRow, StaysTier}
+use Rattle.partition_world.proofs.Begins.{begins_idle}
+use Rattle.partition_world.proofs.TurnSound.{turn_sound, stays_sound, turn_sides, stays_sides}
+use Rattle.partition_world.proofs.Sides.{set_same}
 use Rattle.partition_world.specs.Reaches.{HasAnswered}
-use Rattle.partition_world.proofs.LaterLaw.{may_turn}
-use Rattle.partition_world.proofs.SoundLaw.{turn_sound, stays_held_sound}
 
-module _ {D : Type 0} (content : D → Content) (control : D → Control call_code) where
+-- what was noted stays
+pub chosen_seen : (work : Work) (copy : Copied) → noted_in (chosen work copy) ≡ noted_in work
+chosen_seen Idle copy = refl
+chosen_seen (Noted g) copy = refl
+chosen_seen (Copies g c next) copy = refl
+
+pub moved_seen : (work : Work) (next : Next) → noted_in (moved work next) ≡ noted_in work
+moved_seen Idle next = refl
+moved_seen (Noted g) next = refl
+moved_seen (Copies g c before) next = refl
+
+module _ {D S M : Type 0} (disk : DiskGhosts D) (store : StoreGhosts S) (meta : MetaGhosts M) where
   -- what holds of all holds of the one that stands at a place
   all_at : {A : Type 0} (P : A → Type 0) (xs : List A) (i : ℕ) (x : A) → All P xs → slice_get xs i ≡ Some x → P x
   all_at P xs i x h at = subst P (get_or_from_slice_get xs i x x at) (h i x (slice_get_within xs i x at))
 
-  pub list_at : (config : Config) (lists : List ActorList) (h : Held D) (desk : List Seat) (free place : ℕ) (l : ActorList) → IsSound config lists h desk free → slice_get lists place ≡ Some l → IsListFor config l
-  list_at config lists h desk free place l s at = all_at (IsListFor config) lists place l s.fit.each at
+  pub list_at : (config : Config) (lists : List ActorList) (h : Held D) (sides : List Side) (desk : List Seat) (free place : ℕ) (l : ActorList) → IsSound config lists h sides desk free → slice_get lists place ≡ Some l → IsListFor config l
+  list_at config lists h sides desk free place l s at = all_at (IsListFor config) lists place l s.fit.each at
 
-  pub order_at : (config : Config) (lists : List ActorList) (h : Held D) (desk : List Seat) (free place n : ℕ) (l : ActorList) (order : Order) → IsSound config lists h desk free
+  pub order_at : (config : Config) (lists : List ActorList) (h : Held D) (sides : List Side) (desk : List Seat) (free place n : ℕ) (l : ActorList) (order : Order) → IsSound config lists h sides desk free
       → slice_get lists place ≡ Some l → slice_get l.orders n ≡ Some order → IsOrderFor config order
-  order_at config lists h desk free place n l order s at to = all_at (IsOrderFor config) l.orders n order (list_at config lists h desk free place l s at).orders to
+  order_at config lists h sides desk free place n l order s at to = all_at (IsOrderFor config) l.orders n order (list_at config lists h sides desk free place l s at).orders to
 
   -- there is room for the turn's entry
-  pub room_at : (config : Config) (lists : List ActorList) (h : Held D) (desk : List Seat) (free place : ℕ) (l : ActorList) (seat : Seat) → IsSound config lists h desk free
+  pub room_at : (config : Config) (lists : List ActorList) (h : Held D) (sides : List Side) (desk : List Seat) (free place : ℕ) (l : ActorList) (seat : Seat) → IsSound config lists h sides desk free
       → slice_get lists place ≡ Some l → slice_get desk place ≡ Some seat → seat.number < length l.orders → 0 < free
-  room_at config lists h desk free place l seat s at to lt = let some = turns_some lists desk place l seat at to lt in omega (arith, some, s.room)
+  room_at config lists h sides desk free place l seat s at to lt = let some = turns_some lists (desk_seen desk) place l (seat_seen seat) at (map_get seat_seen desk place seat to) lt in omega (arith, some, s.room)
+
+  -- the desk as it is seen after a turn that neither began a command nor answered it
+  pub seen_stays : (desk : List Seat) (place : ℕ) (seat after : Seat) → slice_get desk place ≡ Some seat → seat_seen after ≡ seat_seen seat
+      → desk_seen (slice_set desk place after) ≡ desk_seen desk
+  seen_stays desk place seat after to same =
+      map_set seat_seen desk place after ∙ (ap (λ k. slice_set (desk_seen desk) place k) same ∙ set_same (desk_seen desk) place (seat_seen seat) (map_get seat_seen desk place seat to))
+
+  -- the entries that are left after a turn
+  entries_after : (lists : List ActorList) (p : PartitionId) (h : Held D) (t : Tier S M) (h' : Held D) (t' : Tier S M) (desk : List Seat) (place : ℕ) (l : ActorList) (seat : Seat) (order : Order) (outcome : Outcome)
+      → slice_get lists place ≡ Some l → slice_get desk place ≡ Some seat → seat.number < length l.orders
+      → TurnRow disk store meta p h t order.broker.0 seat.work order.command outcome h' t'
+      → turns_left lists (desk_seen (slice_set desk place (seat_after seat outcome))) + told_count outcome ≤ turns_left lists (desk_seen desk)
+  entries_after lists p h t h' t' desk place l seat order (Answers answer) at to lt row =
+      let less = turns_less lists (desk_seen desk) place l (seat_seen seat) (seen.Answers answer) at (map_get seat_seen desk place seat to) lt tt in
+      rw (map_set seat_seen desk place (seat_after seat (Answers answer))) less
+  entries_after lists p h t h' t' desk place l seat order (Begins g) at to lt row =
+      let idle = begins_idle disk store meta p h t order.broker.0 seat.work order.command g h' t' row in
+      let less = turns_less lists (desk_seen desk) place l (seat_seen seat) (seen.Begins g) at (map_get seat_seen desk place seat to) lt (ap noted_in idle) in
+      rw (map_set seat_seen desk place (seat_after seat (Begins g))) less
+  entries_after lists p h t h' t' desk place l seat order (Chose copy) at to lt row =
+      let same = seen_stays desk place seat (seat_after seat (Chose copy)) to (ap (λ (o : Option Begun). record { number = seat.number; begun = o }) (chosen_seen seat.work copy)) in
+      omega (arith, ap (λ k. turns_left lists k) same)
+  entries_after lists p h t h' t' desk place l seat order (Goes next) at to lt row =
+      let same = seen_stays desk place seat (seat_after seat (Goes next)) to (ap (λ (o : Option Begun). record { number = seat.number; begun = o }) (moved_seen seat.work next)) in
+      omega (arith, ap (λ k. turns_left lists k) same)
 
   -- the world after the turn
-  pub sound_after : (config : Config) (lists : List ActorList) (h h' : Held D) (desk desk' : List Seat) (free free' place : ℕ) (l : ActorList) (seat : Seat) (order : Order) (turned : Turned)
-      → IsSound config lists h desk free → slice_get lists place ≡ Some l → slice_get desk place ≡ Some seat → seat.number < length l.orders
-      → AtNode h order.broker.0 (λ x. Row content control h order.broker.0 x seat.begun order.command turned h') → desk' ≡ slice_set desk place (seat_after seat turned) → free' ≡ free - 1
-      → IsSound config lists h' desk' free'
-  sound_after config lists h h' desk desk' free free' place l seat order turned s at to lt row desk_is free_is =
-      let less = turns_less lists desk place l seat turned at to lt (may_turn content control h order.broker.0 seat order.command turned h' row) in
+  pub sound_after : (config : Config) (lists : List ActorList) (p : PartitionId) (h : Held D) (t : Tier S M) (h' : Held D) (t' : Tier S M) (desk desk' : List Seat) (free free' place : ℕ) (l : ActorList) (seat : Seat) (order : Order) (outcome : Outcome)
+      → IsSound config lists h t.sides desk free → slice_get lists place ≡ Some l → slice_get desk place ≡ Some seat → seat.number < length l.orders
+      → TurnRow disk store meta p h t order.broker.0 seat.work order.command outcome h' t' → desk' ≡ slice_set desk place (seat_after seat outcome)
+      → free' ≡ free - told_count outcome → IsSound config lists h' t'.sides desk' free'
+  sound_after config lists p h t h' t' desk desk' free free' place l seat order outcome s at to lt row desk_is free_is =
+      let less = entries_after lists p h t h' t' desk place l seat order outcome at to lt row in
       record {
         config_fits = s.config_fits;
         fit = s.fit;
-        held = turn_sound content control config.brokers h order.broker.0 seat.begun order.command turned h' s.held row;
-        seats = ap (λ (k : List Seat). length k) desk_is ∙ (length-slice_set desk place (seat_after seat turned) ∙ s.seats);
+        held = turn_sound disk store meta config.brokers p h t order.broker.0 seat.work order.command outcome h' t' s.held row;
+        sided = turn_sides disk store meta p h t order.broker.0 seat.work order.command outcome h' t' row ∙ s.sided;
+        seats = ap (λ (k : List Seat). length k) desk_is ∙ (length-slice_set desk place (seat_after seat outcome) ∙ s.seats);
         room = rw (desk_is, free_is) (omega (arith, less, s.room));
       }
 
   -- the world where there was no memory for one
-  pub sound_stays : (config : Config) (lists : List ActorList) (h h' : Held D) (desk : List Seat) (free : ℕ) → IsSound config lists h desk free → StaysHeld content control h h' → IsSound config lists h' desk free
-  sound_stays config lists h h' desk free s k = record {
+  pub sound_after_none : (config : Config) (lists : List ActorList) (h : Held D) (t : Tier S M) (b : ℕ) (h' : Held D) (t' : Tier S M) (desk : List Seat) (free : ℕ) → IsSound config lists h t.sides desk free
+      → StaysTier disk store meta h t b h' t' → IsSound config lists h' t'.sides desk free
+  sound_after_none config lists h t b h' t' desk free s k = record {
     config_fits = s.config_fits;
     fit = s.fit;
-    held = stays_held_sound content control config.brokers h h' s.held k;
+    held = stays_sound disk store meta config.brokers h t b h' t' s.held k;
+    sided = stays_sides disk store meta h t b h' t' k ∙ s.sided;
     seats = s.seats;
     room = s.room;
   }
 
+  -- a turn is a step, by what it came to
+  pub steps_of : (w : Whole D S M) (a : ℕ) (outcome : Outcome) (w' : Whole D S M) → IsTurn disk store meta w a outcome w' → Steps disk store meta w a (stepped_of outcome) w'
+  steps_of w a (Answers answer) w' t = (answer, t)
+  steps_of w a (Begins g) w' t = (Begins g, tt, t)
+  steps_of w a (Chose copy) w' t = (Chose copy, tt, t)
+  steps_of w a (Goes next) w' t = (Goes next, tt, t)
+
   -- an actor whose list is at its end is at its end
-  pub at_end : (w : Whole D) (a place : ℕ) (l : ActorList) (seat : Seat) → AreRising w.lists → IsSeat w a place l seat → length l.orders ≤ seat.number → IsAtEnd w a
+  pub at_end : (w : Whole D S M) (a place : ℕ) (l : ActorList) (seat : Seat) → AreRising w.lists → IsSeat w a place l seat → length l.orders ≤ seat.number → IsAtEnd w a
   at_end w a place l seat r s le = λ place2 l2 seat2 s2.
       let same : place2 ≡ place = one_list w.lists place2 place l2 l r s2.list s.list (s2.actor ∙ sym s.actor) in
       let one : l2 ≡ l = cc (s2.list, s.list, ap (λ (k : ℕ). slice_get w.lists k) same) in
@@ -77,7 +135,7 @@ module _ {D : Type 0} (content : D → Content) (control : D → Control call_co
       omega (arith, le, ap (λ (k : ActorList). length k.orders) one, ap (λ (k : Seat). k.number) two)
 
   -- an actor whose list has come so far has answered
-  pub answered_at : (w : Whole D) (a number place : ℕ) (l : ActorList) (seat : Seat) → IsSound w.config w.lists w.held w.desk w.journal.room → IsSeat w a place l seat
+  pub answered_at : (w : Whole D S M) (a number place : ℕ) (l : ActorList) (seat : Seat) → IsSound w.config w.lists w.held w.tier.sides w.desk w.journal.room → IsSeat w a place l seat
       → ◌⊎◌ (number ≤ seat.number) (length l.orders ≤ seat.number) → HasAnswered w a number
   answered_at w a number place l seat sound s done = λ place2 l2 seat2 s2.
       let same : place2 ≡ place = one_list w.lists place2 place l2 l sound.fit.rising s2.list s.list (s2.actor ∙ sym s.actor) in
@@ -91,11 +149,11 @@ module _ {D : Type 0} (content : D → Content) (control : D → Control call_co
   is_le : (a b : ℕ) → a ≤ b → IsTrue (nat_le a b)
   is_le a b le = le-leb a b le
 
-  pub answers_now : (w : Whole D) (a number place : ℕ) (l : ActorList) (seat : Seat) → IsSound w.config w.lists w.held w.desk w.journal.room → IsSeat w a place l seat → number ≤ seat.number
+  pub answers_now : (w : Whole D S M) (a number place : ℕ) (l : ActorList) (seat : Seat) → IsSound w.config w.lists w.held w.tier.sides w.desk w.journal.room → IsSeat w a place l seat → number ≤ seat.number
       → (IsTrue (nat_le number seat.number) → HasAnswered w a number) × (HasAnswered w a number → IsTrue (nat_le number seat.number))
   answers_now w a number place l seat sound s le = (λ t. answered_at w a number place l seat sound s (inl le), λ h. is_le number seat.number le)
 
-  pub answers_so_far : (w : Whole D) (a number place : ℕ) (l : ActorList) (seat : Seat) → IsSound w.config w.lists w.held w.desk w.journal.room → IsSeat w a place l seat
+  pub answers_so_far : (w : Whole D S M) (a number place : ℕ) (l : ActorList) (seat : Seat) → IsSound w.config w.lists w.held w.tier.sides w.desk w.journal.room → IsSeat w a place l seat
       → (number ≤ seat.number → ⊥)
       → (IsTrue (nat_le (length l.orders) seat.number) → HasAnswered w a number) × (HasAnswered w a number → IsTrue (nat_le (length l.orders) seat.number))
   answers_so_far w a number place l seat sound s more = (

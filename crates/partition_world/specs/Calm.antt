@@ -1,45 +1,28 @@
--- Disks that fail no call, and turns that tell of no fault.
-use Rattle.std.specs.Prelude.{◌≡◌, List, [], ◌∷◌, IsTrue}
+-- Devices that fail no call, and turns that tell of no fault.
+use Rattle.std.specs.Prelude.{◌≡◌, ◌^◌, ◌-◌, ◌<◌, ℕ, [], IsTrue}
 use Rattle.tier_base.specs.Device.{Control}
-use Rattle.disk_model.specs.Call.{call_code}
-use Rattle.plain_log.specs.declared.answer.Answer.{Answer}
-use Rattle.plain_log.specs.declared.answer.Answer.TheVariants.{DiskFault, DiskFaultAt}
-use Rattle.plain_log.specs.declared.journal.Event.{Event}
-use Rattle.plain_log.specs.declared.journal.Event.TheVariants as event
-use Rattle.plain_log.specs.declared.journal.JournalEntry.{JournalEntry}
-use Rattle.broker_log.specs.Seen.{OnDisk}
-use Rattle.partition_world.specs.declared.held.Node.{Node}
-use Rattle.partition_world.specs.Held.{IsCalm}
+use Rattle.disk_model.specs.declared.disk.Disk.{Ghosts as DiskGhosts}
+use Rattle.object_store.specs.declared.store.Store.{Ghosts as StoreGhosts}
+use Rattle.meta_log.specs.declared.log.MetaLog.{Ghosts as MetaGhosts}
+use Rattle.partition_turns.specs.Calm.{AreCalm, AreFaultless}
 use Rattle.partition_world.specs.Whole.{Whole}
 
--- no call of these brokers' disks can fail
-abbrev pub AreCalm : {D : Type 0} → (D → Control call_code) → List (Node D) → Type 0
-AreCalm control [] = Unit {0}
-AreCalm control (x ∷ xs) = OnDisk x.log (λ d. IsCalm (control d)) × AreCalm control xs
+module _ {K : Type 0} {code : K → ℕ} where
+  -- no call of the device can fail yet, and its count of faults could still rise
+  pub record IsCalm (c : Control code) : Type 0 where
+    pub calm : IsTrue c.calm
+    pub few : c.faults < 2 ^ 64 - 1
 
--- no call of these disks can fail, and their plans alone decide which do once they are in force, and are empty
-abbrev pub AreUnplanned : {D : Type 0} → (D → Control call_code) → List D → Type 0
-AreUnplanned control [] = Unit {0}
-AreUnplanned control (disk ∷ disks) =
-    IsTrue (control disk).ruled × ((control disk).plan ≡ []) × IsCalm (control disk) × AreUnplanned control disks
+  -- no call of the device can fail, and its plan alone decides which do once it is in force, and is empty
+  pub record IsUnplanned (c : Control code) : Type 0 where
+    pub ruled : IsTrue c.ruled
+    pub plan : c.plan ≡ []
+    pub calm : IsCalm c
 
--- the answer tells of no fault of a disk
-abbrev pub IsFaultless : Answer → Type 0
-IsFaultless DiskFault = ⊥
-IsFaultless (DiskFaultAt n) = ⊥
-IsFaultless other = Unit {0}
-
--- so does what happened
-abbrev pub HasNoFault : Event → Type 0
-HasNoFault (event.Answers answer) = IsFaultless answer
-HasNoFault (event.Begins cut) = Unit {0}
-
--- and all of a journal
-abbrev pub AreFaultless : List JournalEntry → Type 0
-AreFaultless [] = Unit {0}
-AreFaultless (entry ∷ entries) = HasNoFault entry.event × AreFaultless entries
-
--- no call of the disks can fail, and nothing has failed
-pub record IsUnfailing {D : Type 0} (control : D → Control call_code) (w : Whole D) : Type 0 where
-  pub calm : AreCalm control w.held.nodes
+-- no call of the devices can fail, and nothing has failed
+pub record IsUnfailing {D S M : Type 0} (disk : DiskGhosts D) (store : StoreGhosts S) (meta : MetaGhosts M) (w : Whole D S M)
+    : Type 0 where
+  pub calm : AreCalm disk.control w.held.nodes
+  pub store_calm : IsCalm (store.control w.tier.store)
+  pub meta_calm : IsCalm (meta.control w.tier.meta)
   pub journal : AreFaultless w.journal.items

@@ -1,19 +1,86 @@
--- The central fact, which holds between any two turns where the disks tell: the world, as its partition is seen, is the plain
--- log after the world's own journal.
-use Rattle.disk_model.specs.Content.{Content}
+-- The central fact, which holds between any two turns where the devices tell.
+--
+-- The world, as its partition is seen, is the plain log after the world's own journal; and the remote tier, as it is seen
+-- beside that state of the plain log, keeps its safety rules.
+use Rattle.std.specs.Prelude.{◌≡◌, ℕ, ◌+◌, ◌-◌, ◌*◌, ◌^◌, ◌<◌, length, List, [], ◌∷◌, Option, Some, None, slice_get, IsTrue}
+use Rattle.disk_model.specs.declared.disk.Disk.{Ghosts as DiskGhosts}
+use Rattle.object_store.specs.declared.store.Store.{Ghosts as StoreGhosts}
+use Rattle.meta_log.specs.declared.log.MetaLog.{Ghosts as MetaGhosts}
+use Rattle.copy_task.specs.declared.turn.Next.TheVariants.{Start, Put, Finish}
+use Rattle.plain_log.specs.declared.command.ActorList.{ActorList}
+use Rattle.plain_log.specs.declared.command.Order.{Order}
 use Rattle.plain_log.specs.declared.state.State.{State}
 use Rattle.partition_seen.specs.Seen as seen
 use Rattle.partition_seen.specs.Central as seen_central
-use Rattle.partition_world.specs.Held.{ShowsHeld}
+use Rattle.partition_tier.specs.Sites.{sites_of, Side as SideSeen}
+use Rattle.partition_tier.specs.Works.{work_of as work_seen}
+use Rattle.partition_turns.specs.Held.{ShowsHeld}
+use Rattle.tier_safe.specs.Scene.{Scene, Work as WorkSeen, Free, Copies as CopiesSeen}
+use Rattle.tier_safe.specs.Safe.{TierSafe}
+use Rattle.partition_world.specs.declared.seat.Seat.{Seat}
+use Rattle.partition_world.specs.declared.seat.Work.{Work}
+use Rattle.partition_world.specs.declared.seat.Work.TheVariants.{Idle, Noted, Copies}
+use Rattle.partition_world.specs.declared.tier.Side.{Side}
 use Rattle.partition_world.specs.Whole.{Whole, seen_as}
 
-module _ {D : Type 0} (content : D → Content) where
-  -- the partition is seen so that the central fact holds of it
-  pub record IsCentral (opening : State) (w : Whole D) : Type 0 where
+-- a broker's side as it is seen
+abbrev pub side_seen : Side → SideSeen
+side_seen side = record { view = side.view; incarnation = side.incarnation; attempt = side.attempt; cache = [] }
+
+abbrev pub sides_seen : List Side → List SideSeen
+sides_seen [] = []
+sides_seen (side ∷ sides) = side_seen side ∷ sides_seen sides
+
+-- what the tier sees of a seat's work, of a command that the order asks for
+abbrev pub work_of : Option Order → Work → WorkSeen
+work_of None work = Free
+work_of (Some order) Idle = Free
+work_of (Some order) (Noted g) = work_seen order.broker.0 order.command (Some g)
+work_of (Some order) (Copies g copy next) = CopiesSeen copy next
+
+-- of the whole desk
+abbrev pub desk_of : List ActorList → List Seat → List WorkSeen
+desk_of [] desk = []
+desk_of (l ∷ lists) [] = []
+desk_of (l ∷ lists) (seat ∷ desk) = work_of (slice_get l.orders seat.number) seat.work ∷ desk_of lists desk
+
+-- how many notes a command has appended at most, of the two that it may
+abbrev pub told_by : Work → ℕ
+told_by (Copies g copy Start) = 0
+told_by (Copies g copy (Put n)) = 1
+told_by (Copies g copy Finish) = 1
+told_by (Copies g copy next) = 2
+told_by other = 0
+
+-- how many notes may be appended yet
+abbrev pub notes_left : List ActorList → List Seat → ℕ
+notes_left [] desk = 0
+notes_left (l ∷ lists) [] = 0
+notes_left (l ∷ lists) (seat ∷ desk) = 2 * (length l.orders - seat.number) - told_by seat.work + notes_left lists desk
+
+module _ {D S M : Type 0} (store : StoreGhosts S) (meta : MetaGhosts M) where
+  -- the remote tier is seen so, beside the partition
+  pub record ShowsTier (w : Whole D S M) (a : seen.Held) (c : Scene) : Type 0 where
+    pub partition : c.partition ≡ w.partition
+    pub store_tells : IsTrue (store.content w.tier.store).tells
+    pub objects : c.objects ≡ (store.content w.tier.store).objects
+    pub meta_tells : IsTrue (meta.content w.tier.meta).tells
+    pub notes : c.notes ≡ (meta.content w.tier.meta).notes
+    pub sites : c.sites ≡ sites_of a.nodes (sides_seen w.tier.sides)
+    pub desk : c.desk ≡ desk_of w.lists w.desk
+
+module _ {D S M : Type 0} (disk : DiskGhosts D) (store : StoreGhosts S) (meta : MetaGhosts M) where
+  -- the partition and the tier are seen so that the central fact holds of both
+  pub record IsCentral (opening : State) (w : Whole D S M) : Type 0 where
     pub partition : seen.Held
-    pub shows : ShowsHeld content w.held partition
+    pub shows : ShowsHeld disk.content w.held partition
     pub central : seen_central.IsCentral opening (seen_as w partition)
+    pub scene : Scene
+    pub shows_tier : ShowsTier store meta w partition scene
+    pub tier : TierSafe scene central.plain
+    -- a view can count all notes that there will be
+    pub few : length scene.notes + notes_left w.lists w.desk < 2 ^ 64
 
   -- for each opening state the central fact goes on
-  abbrev pub KeepsCentral : Whole D → Whole D → Type 0
+  abbrev pub KeepsCentral : Whole D S M → Whole D S M → Type 0
   KeepsCentral w w' = (opening : State) → IsCentral opening w → IsCentral opening w'

@@ -1,185 +1,65 @@
--- A world where nothing has happened yet, over disks whose plans are in force.
-use Rattle.std.specs.Prelude.{◌≡◌, ◌≤◌, ◌⊎◌, ℕ, Bool, List, [], ◌∷◌, ◌++◌, None, Some, true, false, pos, replicate, length, IsTrue}
+-- A world where nothing has happened yet, over devices whose plans are in force.
+use Rattle.std.specs.Prelude.{◌≡◌, ◌≤◌, List, [], None, replicate, length, IsTrue}
 use Rattle.tier_base.specs.declared.names.PartitionId.{PartitionId}
-use Rattle.tier_base.specs.declared.plain.FileName.{FileName}
-use Rattle.tier_base.specs.declared.plain.Settings.{Settings}
-use Rattle.tier_base.specs.Counts.{Rose}
+use Rattle.tier_base.specs.declared.object_key.ObjectKey.{ObjectKey}
 use Rattle.tier_base.specs.Roll.{Rolled}
-use Rattle.tier_base.specs.Device.{Control, Lasts}
-use Rattle.disk_model.specs.Call.{call_code}
-use Rattle.disk_model.specs.Content.{Content}
-use Rattle.registry.specs.Registry.{fresh_registry}
+use Rattle.disk_model.specs.declared.disk.Disk.{Ghosts as DiskGhosts}
+use Rattle.object_store.specs.declared.store.Store.{Ghosts as StoreGhosts}
+use Rattle.object_store.specs.Content as store
+use Rattle.meta_log.specs.declared.log.MetaLog.{Ghosts as MetaGhosts}
+use Rattle.meta_log.specs.Content as meta
 use Rattle.plain_log.specs.declared.command.ActorList.{ActorList}
 use Rattle.plain_log.specs.declared.command.Config.{Config}
 use Rattle.plain_log.specs.declared.journal.JournalEntry.{JournalEntry}
-use Rattle.plain_log.specs.declared.state.Role.{Role}
-use Rattle.plain_log.specs.declared.state.Role.TheVariants.{Leads, Joined}
-use Rattle.broker_log.specs.Seen.{Seen, Shows, OnDisk, end_in, stable_in, line_in, layout_in}
-use Rattle.broker_log.specs.Turns.{first_layout}
-use Rattle.partition_seen.specs.declared.seat.Seat.{Seat}
-use Rattle.partition_seen.specs.Sound.{turns_left}
-use Rattle.partition_world.specs.declared.held.Node.{Node}
-use Rattle.partition_world.specs.declared.held.Held.{Held}
-use Rattle.partition_world.specs.declared.refusal.WorldRefusal.{WorldRefusal}
-use Rattle.partition_world.specs.declared.refusal.WorldRefusal.TheVariants.{DiskFault}
-use Rattle.partition_world.specs.Held.{is_up, line_of, IsCalm}
+use Rattle.partition_seen.specs.Sound.{turns_left as entries_left}
+use Rattle.partition_turns.specs.Fresh.{IsFreshHeld, AreLaid, AllSeen}
+use Rattle.partition_world.specs.declared.seat.Seat.{Seat}
+use Rattle.partition_world.specs.declared.seat.Work.TheVariants.{Idle}
+use Rattle.partition_world.specs.declared.tier.Side.{Side}
+use Rattle.partition_world.specs.Tier.{IsArmedTier}
 use Rattle.partition_world.specs.Whole.{Whole}
 
 -- a seat at the front of its list
 abbrev pub fresh_seat : Seat
-fresh_seat = record { number = 0; begun = None }
+fresh_seat = record { number = 0; work = Idle }
 
--- an empty journal with room for all turns of the lists, and a seat at the front of each list
+-- an empty journal with room for all entries of the lists, and a seat at the front of each list
 pub record AreFreshBooks (lists : List ActorList) (journal : Rolled JournalEntry) (desk : List Seat) : Type 0 where
   pub empty : journal.items ≡ []
-  pub room : turns_left lists [] ≤ journal.room
+  pub room : entries_left lists [] ≤ journal.room
   pub desk_is : desk ≡ replicate (length lists) fresh_seat
 
--- the disks tell
-abbrev pub DisksTell : {D : Type 0} → (D → Content) → List D → Type 0
-DisksTell content [] = Unit {0}
-DisksTell content (disk ∷ disks) = IsTrue (content disk).tells × DisksTell content disks
+-- a broker that has seen no notes, and has chosen nothing to copy
+abbrev pub fresh_side : Side
+fresh_side = record { view = record { entries = []; notes = 0 }; incarnation = 0; attempt = 0 }
 
--- an empty log with this line, as it is seen
-abbrev pub empty_seen : List (ℕ × ℕ) → Seen
-empty_seen line = record { batches = []; line = line; stable = 0; saved = line; local = 0; loose = None; incarnation = 1 }
+-- no object stands in the store
+abbrev pub IsEmptyStore : store.Content → Type 0
+IsEmptyStore content = IsTrue content.tells → (key : ObjectKey) → content.objects key ≡ None
 
--- the brokers' logs are seen, and empty
-abbrev pub AllSeen : {D : Type 0} → (D → Content) → List (Node D) → Type 0
-AllSeen content [] = Unit {0}
-AllSeen content (x ∷ xs) = Shows content x.log (empty_seen (line_of x)) × AllSeen content xs
+-- no note stands in the metadata log
+abbrev pub IsEmptyLog : meta.Content → Type 0
+IsEmptyLog content = IsTrue content.tells → content.notes ≡ []
 
-module _ {D : Type 0} (content : D → Content) (control : D → Control call_code) where
-  -- a disk without files, whose plan isn't in force yet
-  pub record IsFreshDisk (disk : D) : Type 0 where
-    pub empty : IsTrue (content disk).tells → (n : FileName) → (content disk).files n ≡ None
-    pub unarmed : (control disk).armed ≡ false
-
-  abbrev pub AreFreshDisks : List D → Type 0
-  AreFreshDisks [] = Unit {0}
-  AreFreshDisks (disk ∷ disks) = IsFreshDisk disk × AreFreshDisks disks
-
--- the given disk's plan is in force; one of which no call could fail has failed none, and fails none where its plan rules it
--- and is empty
-pub record IsArmed (given now : Control call_code) : Type 0 where
-  pub plan : now.plan ≡ given.plan
-  pub armed : IsTrue now.armed
-  pub ruled : now.ruled ≡ given.ruled
-  pub never_falls : given.faults ≤ now.faults
-  pub no_fault : IsTrue given.calm → now.faults ≡ given.faults
-  pub still_calm : IsTrue given.calm → IsTrue given.ruled → given.plan ≡ [] → IsTrue now.calm
-
--- the leader's role and line, and a follower's
-abbrev pub fresh_role : Bool → Role
-fresh_role true = Leads 0
-fresh_role false = Joined 0
-
-abbrev pub fresh_line : Bool → List (ℕ × ℕ)
-fresh_line true = (0, 0) ∷ []
-fresh_line false = []
-
-module _ {D : Type 0} where
-  -- a node that is up, with an empty log, and leads epoch 0 or has joined it
-  pub record IsFreshNode (leads : Bool) (x : Node D) : Type 0 where
-    pub stops : x.stops ≡ 0
-    pub role_is : x.role ≡ fresh_role leads
-    pub known : x.known ≡ 0
-    pub up : is_up x ≡ true
-    pub end : end_in x.log ≡ Some 0
-    pub stable : stable_in x.log ≡ Some 0
-    pub line_is : line_in x.log ≡ Some (fresh_line leads)
-
-  -- a node's log has these settings, and one segment, which is open and empty
-  abbrev pub IsLaid : Settings → Node D → Type 0
-  IsLaid settings x = layout_in x.log ≡ Some (first_layout settings)
-
-  abbrev pub AreLaid : Settings → List (Node D) → Type 0
-  AreLaid settings [] = Unit {0}
-  AreLaid settings (x ∷ xs) = IsLaid settings x × AreLaid settings xs
-
-  -- no node comes before
-  abbrev pub is_first : List (Node D) → Bool
-  is_first [] = true
-  is_first (x ∷ xs) = false
-
-  -- the disks of these nodes' logs
-  abbrev pub AreDisksOf : List (Node D) → List D → Type 0
-  AreDisksOf [] [] = Unit {0}
-  AreDisksOf (x ∷ xs) (disk ∷ disks) = OnDisk x.log (λ d. disk ≡ d) × AreDisksOf xs disks
-  AreDisksOf [] (disk ∷ disks) = ⊥
-  AreDisksOf (x ∷ xs) [] = ⊥
-
-module _ {D : Type 0} (control : D → Control call_code) where
-  -- one over this disk
-  pub record IsFreshOver (leads : Bool) (disk : D) (x : Node D) : Type 0 where
-    pub node : IsFreshNode leads x
-    pub armed : OnDisk x.log (λ d. IsArmed (control disk) (control d))
-
-  -- nodes over these disks, of which the first one leads or not, and no other does
-  abbrev pub AreFreshFrom : Bool → List D → List (Node D) → Type 0
-  AreFreshFrom leads [] [] = Unit {0}
-  AreFreshFrom leads (disk ∷ disks) (x ∷ xs) = IsFreshOver leads disk x × AreFreshFrom false disks xs
-  AreFreshFrom leads [] (x ∷ xs) = ⊥
-  AreFreshFrom leads (disk ∷ disks) [] = ⊥
-
-  -- one over this disk, whose plan isn't in force yet
-  pub record IsMadeOver (leads : Bool) (disk : D) (x : Node D) : Type 0 where
-    pub node : IsFreshNode leads x
-    pub lasts : OnDisk x.log (λ d. Lasts (control disk) (control d))
-
-  abbrev pub AreMadeFrom : Bool → List D → List (Node D) → Type 0
-  AreMadeFrom leads [] [] = Unit {0}
-  AreMadeFrom leads (disk ∷ disks) (x ∷ xs) = IsMadeOver leads disk x × AreMadeFrom false disks xs
-  AreMadeFrom leads [] (x ∷ xs) = ⊥
-  AreMadeFrom leads (disk ∷ disks) [] = ⊥
-
-  -- a node over a fresh disk stands behind these nodes; the first one leads
-  pub record AddsNode (content : D → Content) (xs : List (Node D)) (disk : D) (new : List (Node D)) : Type 0 where
-    pub node : Node D
-    pub after : new ≡ xs ++ node ∷ []
-    pub made : IsMadeOver (is_first xs) disk node
-    pub seen : IsTrue (content disk).tells → Shows content node.log (empty_seen (line_of node))
-
-  -- a refusal over this disk, which is back: a fault is told only where its count of faults has risen
-  pub record RefusesOver (disk now : D) (why : WorldRefusal) : Type 0 where
-    pub lasts : Lasts (control disk) (control now)
-    pub cause : why ≡ DiskFault → Rose (control disk).faults (control now).faults
-
-  -- the disks are back, in their order, and no plan is in force
-  abbrev pub ComeBack : List D → List D → Type 0
-  ComeBack [] [] = Unit {0}
-  ComeBack (disk ∷ disks) (now ∷ nows) = Lasts (control disk) (control now) × ((control now).armed ≡ false) × ComeBack disks nows
-  ComeBack [] (now ∷ nows) = ⊥
-  ComeBack (disk ∷ disks) [] = ⊥
-
-  -- a call of one of the disks has failed
-  abbrev pub OneFailed : List D → List D → Type 0
-  OneFailed (disk ∷ disks) (now ∷ nows) = Rose (control disk).faults (control now).faults ⊎ OneFailed disks nows
-  OneFailed disks nows = ⊥
-
-  -- a refusal: the disks are back, and a fault is told only where the count of faults of one of them has risen
-  pub record Refuses (disks nows : List D) (why : WorldRefusal) : Type 0 where
-    pub back : ComeBack disks nows
-    pub cause : why ≡ DiskFault → OneFailed disks nows
-
-  -- no call of these disks can fail
-  abbrev pub AreCalmDisks : List D → Type 0
-  AreCalmDisks [] = Unit {0}
-  AreCalmDisks (disk ∷ disks) = IsCalm (control disk) × AreCalmDisks disks
-
-  -- brokers over these disks: broker 0 leads epoch 0, the others have joined it, and all are in sync
-  pub record IsFreshHeld (disks : List D) (h : Held D) : Type 0 where
-    pub registry : h.registry ≡ fresh_registry (length disks)
-    pub nodes : AreFreshFrom true disks h.nodes
-    pub clock : h.clock ≡ pos 0
-
+module _ {D S M : Type 0} (disk : DiskGhosts D) (store : StoreGhosts S) (meta : MetaGhosts M) where
   -- nothing has happened
-  pub record IsFresh (partition : PartitionId) (config : Config) (lists : List ActorList) (disks : List D) (w : Whole D) : Type 0 where
+  pub record IsFresh (partition : PartitionId) (config : Config) (lists : List ActorList) (disks : List D) (s : S) (m : M)
+      (w : Whole D S M) : Type 0 where
     pub partition_is : w.partition ≡ partition
     pub config_is : w.config ≡ config
     pub lists_are : w.lists ≡ lists
     pub count : length disks ≡ config.brokers
-    pub held : IsFreshHeld disks w.held
+    pub held : IsFreshHeld disk.control disks w.held
     pub laid : AreLaid config.settings w.held.nodes
+    pub tier : IsArmedTier store meta s m w.tier
+    pub sides : w.tier.sides ≡ replicate config.brokers fresh_side
     pub desk : w.desk ≡ replicate (length lists) fresh_seat
     pub journal : w.journal.items ≡ []
+
+  -- the brokers' logs, the store and the metadata log are seen, and empty
+  pub record IsSeenEmpty (w : Whole D S M) : Type 0 where
+    pub logs : AllSeen disk.content w.held.nodes
+    pub store_tells : IsTrue (store.content w.tier.store).tells
+    pub objects : IsEmptyStore (store.content w.tier.store)
+    pub meta_tells : IsTrue (meta.content w.tier.meta).tells
+    pub notes : IsEmptyLog (meta.content w.tier.meta)

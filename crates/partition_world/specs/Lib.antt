@@ -1,8 +1,6 @@
-pub mod Held
-pub mod TurnsOfLog
-pub mod TurnsOfFetch
-pub mod TurnsOfElections
-pub mod TurnsOfFollowers
+pub mod Tier
+pub mod Seats
+pub mod TurnsOfCopy
 pub mod Turns
 pub mod Sound
 pub mod Whole

@@ -1,35 +1,22 @@
--- What a world keeps over any disks: what its turns need to be carried out.
-use Rattle.std.specs.Prelude.{◌≡◌, ℕ, ◌^◌, ◌<◌, ◌≤◌, Some, true, false, List, length, slice_get}
-use Rattle.epoch_line.specs.Line.{last_epoch}
+-- What a world keeps over any devices: what its turns need to be carried out.
+use Rattle.std.specs.Prelude.{◌≡◌, ◌≤◌, ℕ, List, length}
 use Rattle.plain_log.specs.declared.command.ActorList.{ActorList}
 use Rattle.plain_log.specs.declared.command.Config.{Config}
-use Rattle.plain_log.specs.declared.state.Role.TheVariants.{Leads, Idle}
 use Rattle.plain_log.specs.Orders.{AreListsFor, IsConfig}
-use Rattle.partition_seen.specs.declared.seat.Seat.{Seat}
-use Rattle.partition_seen.specs.Sound.{turns_left}
-use Rattle.partition_world.specs.declared.held.Node.{Node}
-use Rattle.partition_world.specs.declared.held.Held.{Held}
-use Rattle.partition_world.specs.Held.{is_up, line_of}
+use Rattle.partition_seen.specs.Sound.{turns_left as entries_left}
+use Rattle.partition_turns.specs.declared.held.Held.{Held}
+use Rattle.partition_turns.specs.Sound.{HeldSound}
+use Rattle.partition_world.specs.declared.seat.Seat.{Seat}
+use Rattle.partition_world.specs.declared.tier.Side.{Side}
+use Rattle.partition_world.specs.Seats.{desk_seen}
 
-module _ {D : Type 0} where
-  -- a leader is up, and its line ends with its epoch; a node that is down is idle and knows no high watermark
-  pub record NodeSound (x : Node D) : Type 0 where
-    pub up : (e : ℕ) → x.role ≡ Leads e → is_up x ≡ true
-    pub leads : (e : ℕ) → x.role ≡ Leads e → last_epoch (line_of x) ≡ Some e
-    pub fits : (e : ℕ) → x.role ≡ Leads e → e < 2 ^ 31
-    pub down : is_up x ≡ false → (x.role ≡ Idle) × (x.known ≡ 0)
-
-  -- as many nodes and replicas as brokers, and an epoch that a line can have
-  pub record HeldSound (brokers : ℕ) (h : Held D) : Type 0 where
-    pub count : length h.nodes ≡ brokers
-    pub same : length h.registry.replicas ≡ brokers
-    pub epoch : h.registry.epoch < 2 ^ 31
-    pub nodes : (b : ℕ) (x : Node D) → slice_get h.nodes b ≡ Some x → NodeSound x
-
-  -- the whole world: its lists can be run, and the journal has room for an entry of each turn that is left
-  pub record IsSound (config : Config) (lists : List ActorList) (h : Held D) (desk : List Seat) (free : ℕ) : Type 0 where
-    pub config_fits : IsConfig config
-    pub fit : AreListsFor config lists
-    pub held : HeldSound config.brokers h
-    pub seats : length desk ≡ length lists
-    pub room : turns_left lists desk ≤ free
+-- its lists can be run, each broker has a side of the tier, and the journal has room for each entry that is left: a beginning
+-- and an answer of each order
+pub record IsSound {D : Type 0} (config : Config) (lists : List ActorList) (h : Held D) (sides : List Side) (desk : List Seat)
+    (free : ℕ) : Type 0 where
+  pub config_fits : IsConfig config
+  pub fit : AreListsFor config lists
+  pub held : HeldSound config.brokers h
+  pub sided : length sides ≡ config.brokers
+  pub seats : length desk ≡ length lists
+  pub room : entries_left lists (desk_seen desk) ≤ free

@@ -1,92 +1,81 @@
--- What a turn of each command comes to over disks: its answer's cause, or what its seat keeps, and what it does to the
--- partition.
+-- A turn of a command of any kind, over all devices.
 --
--- A row says for each answer the tests before it, in their order, its own, and the partition afterwards. Follow
--- is the one command of two turns. A fault of a broker's disk in a write stops the broker.
-use Rattle.std.specs.Prelude.{◌≡◌, ℕ, ℤ, true, false, Option, None, Some}
-use Rattle.tier_base.specs.Device.{Control}
-use Rattle.disk_model.specs.Call.{call_code}
-use Rattle.disk_model.specs.Content.{Content}
-use Rattle.record_batch.specs.Build.{built}
+-- Commands on brokers' logs and the registry leave the remote tier as it is (the crate `partition_turns` has their rows).
+use Rattle.std.specs.Prelude.{◌≡◌, ◌⊎◌, ℕ}
+use Rattle.disk_model.specs.declared.disk.Disk.{Ghosts as DiskGhosts}
+use Rattle.object_store.specs.declared.store.Store.{Ghosts as StoreGhosts}
+use Rattle.meta_log.specs.declared.log.MetaLog.{Ghosts as MetaGhosts}
+use Rattle.tier_base.specs.declared.names.PartitionId.{PartitionId}
+use Rattle.copy_task.specs.Copying.{Copied}
+use Rattle.copy_task.specs.declared.turn.Next.{Next}
 use Rattle.plain_log.specs.declared.answer.Answer.{Answer}
-use Rattle.plain_log.specs.declared.answer.Answer.TheVariants.{Ok, Down, IsUp, DiskFault, Damaged, LastIncarnation, Up}
-use Rattle.plain_log.specs.declared.answer.Place.TheVariants.{File}
 use Rattle.plain_log.specs.declared.command.Command.{Command}
-use Rattle.plain_log.specs.declared.command.Command.TheVariants.{Append, Raw, Flush, Roll, Elect, Unclean, Learn, Join, Follow, Trim, Ack, Shrink, Expand, Raise, Clock, Stop as StopCommand, Up as UpCommand, Fetch}
-use Rattle.broker_log.specs.Seen.{Kept, Lasting}
-use Rattle.broker_log.specs.Turns.{Stops, ComesUp, Unopened, IsSpent}
+use Rattle.plain_log.specs.declared.command.Command.TheVariants.{Copy, Trim}
 use Rattle.partition_seen.specs.declared.begun.Begun.{Begun}
 use Rattle.partition_seen.specs.declared.begun.Turned.{Turned}
-use Rattle.partition_seen.specs.declared.begun.Turned.TheVariants.{Answers, Begins}
-use Rattle.partition_world.specs.declared.held.Node.{Node}
-use Rattle.partition_world.specs.declared.held.Held.{Held}
-use Rattle.partition_world.specs.Held.{is_up, stopped, put_node, Fails}
-use Rattle.partition_world.specs.TurnsOfLog.{AppendRow, RawRow, FlushRow, RollRow, TrimRow, TrimOnRow}
-use Rattle.partition_world.specs.TurnsOfFetch.{FetchRow}
-use Rattle.partition_world.specs.TurnsOfElections.{ElectRow, UncleanRow, LearnRow, AckRow, ShrinkRow, ExpandRow, RaiseRow}
-use Rattle.partition_world.specs.TurnsOfFollowers.{JoinRow, JoinOnRow, FollowRow, FollowOnRow}
+use Rattle.partition_seen.specs.declared.begun.Turned.TheVariants as turned
+use Rattle.partition_turns.specs.declared.held.Node.{Node}
+use Rattle.partition_turns.specs.declared.held.Held.{Held}
+use Rattle.partition_turns.specs.Held.{AtNode, StaysHeld}
+use Rattle.partition_turns.specs.Turns.{FirstRow, LaterRow}
+use Rattle.partition_world.specs.declared.tier.Side.{Side}
+use Rattle.partition_world.specs.declared.tier.Tier.{Tier}
+use Rattle.partition_world.specs.declared.seat.Outcome.{Outcome}
+use Rattle.partition_world.specs.declared.seat.Outcome.TheVariants.{Answers}
+use Rattle.partition_world.specs.declared.seat.Work.{Work}
+use Rattle.partition_world.specs.declared.seat.Work.TheVariants.{Idle, Noted, Copies}
+use Rattle.partition_world.specs.Tier.{AtSide, Halts}
+use Rattle.partition_world.specs.Seats.{outcome_of}
+use Rattle.partition_world.specs.TurnsOfCopy.{CopyFirstRow, ChooseRow, CopyOnRow, WantsForCopy}
 
-module _ {D : Type 0} where
-  -- clock
-  abbrev pub ClockRow : Held D → ℤ → Answer → Held D → Type 0
-  ClockRow h ms Ok h' = h' ≡ record h { clock = ms }
-  ClockRow h ms other h' = ⊥
+module _ {D S M : Type 0} (disk : DiskGhosts D) where
+  -- the first turn of a command that the remote tier has no part in
+  abbrev pub OwnRow : Held D → Tier S M → ℕ → Node D → Command → Outcome → Held D → Tier S M → Type 0
+  OwnRow h t b x command outcome h' t' =
+      ((turn : Turned) × (outcome ≡ outcome_of turn) × FirstRow disk.content disk.control h b x command turn h') × (t' ≡ t)
 
-module _ {D : Type 0} (content : D → Content) (control : D → Control call_code) where
-  -- stop
-  abbrev pub StopRow : Held D → ℕ → Node D → Answer → Held D → Type 0
-  StopRow h b x Down h' = (is_up x ≡ false) × (h' ≡ h)
-  StopRow h b x Ok h' = (is_up x ≡ true) × ((kept : Kept D) × Stops content x.log kept × Lasting control x.log kept
-      × (h' ≡ put_node h b (record (stopped x) { log = kept })))
-  StopRow h b x other h' = ⊥
+  -- its last one
+  abbrev pub OwnOnRow : Held D → Tier S M → ℕ → Node D → Begun → Command → Outcome → Held D → Tier S M → Type 0
+  OwnOnRow h t b x g command outcome h' t' =
+      ((answer : Answer) × (outcome ≡ Answers answer) × LaterRow disk.content disk.control h b x command g (turned.Answers answer) h')
+      × (t' ≡ t)
 
-  -- up: what wasn't stable is gone; after a write that failed, what it was to make stable may be there
-  abbrev pub UpRow : Held D → ℕ → Node D → Answer → Held D → Type 0
-  UpRow h b x IsUp h' = (is_up x ≡ true) × (h' ≡ h)
-  UpRow h b x (Up n) h' = (is_up x ≡ false) × ((kept : Kept D) × ComesUp content x.log kept n × Lasting control x.log kept
-      × (h' ≡ put_node h b (record x { log = kept })))
-  UpRow h b x DiskFault h' = (is_up x ≡ false) × Fails content control h b x h'
-  UpRow h b x (Damaged (File name) at) h' = (is_up x ≡ false) × ((kept : Kept D) × Unopened content control x.log kept name at
-      × Lasting control x.log kept × (h' ≡ put_node h b (record x { log = kept })))
-  UpRow h b x LastIncarnation h' = (is_up x ≡ false) × ((kept : Kept D) × IsSpent content control x.log kept
-      × Lasting control x.log kept × (h' ≡ put_node h b (record x { log = kept })))
-  UpRow h b x other h' = ⊥
+  -- the second turn, of a command of which its seat keeps what was noted
+  abbrev pub NotedRow : PartitionId → Held D → Tier S M → ℕ → Node D → Side → Begun → Command → Outcome → Held D → Tier S M → Type 0
+  NotedRow p h t b x side g Copy outcome h' t' = ChooseRow disk p h t b x side g outcome h' t'
+  NotedRow p h t b x side g Trim outcome h' t' = ⊥
+  NotedRow p h t b x side g command outcome h' t' = OwnOnRow h t b x g command outcome h' t'
 
-  -- a command of one turn
-  abbrev pub AnswerRow : Held D → ℕ → Node D → Command → Answer → Held D → Type 0
-  AnswerRow h b x (Append recs) answer h' = AppendRow content control h b x (built recs) answer h'
-  AnswerRow h b x (Raw bytes) answer h' = RawRow content control h b x bytes answer h'
-  AnswerRow h b x Flush answer h' = FlushRow content control h b x answer h'
-  AnswerRow h b x Roll answer h' = RollRow content control h b x answer h'
-  AnswerRow h b x Elect answer h' = ElectRow h b x answer h'
-  AnswerRow h b x Unclean answer h' = UncleanRow h b x answer h'
-  AnswerRow h b x Learn answer h' = LearnRow content control h b x answer h'
-  AnswerRow h b x Ack answer h' = AckRow h b x answer h'
-  AnswerRow h b x Shrink answer h' = ShrinkRow h b answer h'
-  AnswerRow h b x Expand answer h' = ExpandRow h b x answer h'
-  AnswerRow h b x (Raise start) answer h' = RaiseRow h b x start answer h'
-  AnswerRow h b x (Clock ms) answer h' = ClockRow h ms answer h'
-  AnswerRow h b x StopCommand answer h' = StopRow h b x answer h'
-  AnswerRow h b x UpCommand answer h' = UpRow h b x answer h'
-  AnswerRow h b x (Fetch offset limit) answer h' = FetchRow content control h b x offset limit answer h'
-  AnswerRow h b x other answer h' = ⊥
+module _ {D S M : Type 0} (store : StoreGhosts S) (meta : MetaGhosts M) where
+  -- a later turn of a copy; no other command has one
+  abbrev pub CopyingRow : Held D → Tier S M → ℕ → Node D → Side → Begun → Copied → Next → Command → Outcome → Held D → Tier S M → Type 0
+  CopyingRow h t b x side g copy next Copy outcome h' t' = CopyOnRow store meta h t b x side g copy next outcome t' × (h' ≡ h)
+  CopyingRow h t b x side g copy next command outcome h' t' = ⊥
 
-  -- a first turn
-  abbrev pub FirstRow : Held D → ℕ → Node D → Command → Turned → Held D → Type 0
-  FirstRow h b x (Follow limit) turned h' = FollowRow content control h b x limit turned h'
-  FirstRow h b x Join turned h' = JoinRow content control h b x turned h'
-  FirstRow h b x Trim turned h' = TrimRow content control h x turned h'
-  FirstRow h b x command (Answers answer) h' = AnswerRow h b x command answer h'
-  FirstRow h b x command (Begins g) h' = ⊥
+module _ {D S M : Type 0} (disk : DiskGhosts D) (store : StoreGhosts S) (meta : MetaGhosts M) where
+  -- a command's first turn
+  abbrev pub BeginRow : Held D → Tier S M → ℕ → Node D → Side → Command → Outcome → Held D → Tier S M → Type 0
+  BeginRow h t b x side Copy outcome h' t' = CopyFirstRow meta h t b x side outcome t' × (h' ≡ h)
+  BeginRow h t b x side command outcome h' t' = OwnRow disk h t b x command outcome h' t'
 
-  -- a later turn
-  abbrev pub LaterRow : Held D → ℕ → Node D → Command → Begun → Turned → Held D → Type 0
-  LaterRow h b x (Follow limit) g (Answers answer) h' = FollowOnRow content control h b x g answer h'
-  LaterRow h b x Join g (Answers answer) h' = JoinOnRow content control h b x g answer h'
-  LaterRow h b x Trim g (Answers answer) h' = TrimOnRow content control h b x g answer h'
-  LaterRow h b x command g turned h' = ⊥
+  -- a turn of a command of broker b, of which so much is kept
+  abbrev pub Row : PartitionId → Held D → Tier S M → ℕ → Node D → Side → Work → Command → Outcome → Held D → Tier S M → Type 0
+  Row p h t b x side Idle command outcome h' t' = BeginRow h t b x side command outcome h' t'
+  Row p h t b x side (Noted g) command outcome h' t' = NotedRow disk p h t b x side g command outcome h' t'
+  Row p h t b x side (Copies g copy next) command outcome h' t' =
+      CopyingRow store meta h t b x side g copy next command outcome h' t'
 
-  -- a turn of a command of broker b, of which so much has begun
-  abbrev pub Row : Held D → ℕ → Node D → Option Begun → Command → Turned → Held D → Type 0
-  Row h b x None command turned h' = FirstRow h b x command turned h'
-  Row h b x (Some g) command turned h' = LaterRow h b x command g turned h'
+  -- there are such a broker and such a side, and the row holds of them
+  abbrev pub TurnRow : PartitionId → Held D → Tier S M → ℕ → Work → Command → Outcome → Held D → Tier S M → Type 0
+  TurnRow p h t b work command outcome h' t' =
+      AtNode h b (λ x. AtSide t b (λ side. Row p h t b x side work command outcome h' t'))
+
+  -- memory was wanting for the tier: nothing that is seen has changed, but that a view may have taken in some notes
+  abbrev pub HaltsTier : Held D → Tier S M → ℕ → Side → Tier S M → Type 0
+  HaltsTier h t b side t' =
+      Halts meta t b side t' ⊎ ((copy : Copied) × (next : Next) × WantsForCopy store meta h t b side copy next t')
+
+  -- memory was wanting
+  abbrev pub StaysTier : Held D → Tier S M → ℕ → Held D → Tier S M → Type 0
+  StaysTier h t b h' t' = (StaysHeld disk.content disk.control h h' × (t' ≡ t))
+      ⊎ ((h' ≡ h) × AtSide t b (λ side. HaltsTier h t b side t'))

@@ -1,12 +1,19 @@
 //! The desk: a seat for each list, at the list's place.
 
-ghost use Rattle.std.specs.Prelude.{◌≡◌, ◌≢◌, ◌<◌, ℕ, length, replicate, slice_get, Some, None, IfSome, IfOk, IsSomeAnd, []};
+ghost use Rattle.std.specs.Prelude.{◌≡◌, ◌≢◌, ◌<◌, ◌-◌, ◌++◌, ℕ, length, replicate, slice_get, slice_set, Some, None, IfSome, IfOk, IsSomeAnd, []};
 ghost use Rattle.plain_log.specs.declared.command.ActorList.{ActorList};
 ghost use Rattle.partition_world.specs.Fresh.{fresh_seat};
 ghost use Rattle.partition_seen.specs.Sound.{turns_left};
+ghost use Rattle.partition_seen.specs.Turn.{event_of};
+ghost use Rattle.partition_seen.specs.declared.begun.Turned.TheVariants as turned;
+ghost use Rattle.plain_log.specs.declared.journal.Event.TheVariants as event;
+ghost use Rattle.partition_world.specs.declared.seat.Outcome.TheVariants.{Chose, Goes};
+ghost use Rattle.partition_world.specs.Seats.{seat_after, told_of, told_count, stepped_of};
 
-use partition_seen::Seat;
-use plain_log::ActorList;
+use crate::seat::{Outcome, Seat, Work};
+use copy_task::{Copying, Next};
+use partition_seen::{Begun, Stepped};
+use plain_log::{ActorList, Command, Event, Journal, JournalEntry};
 use std::alloc::{AllocError, Global};
 use tier_base::{ActorId, Row};
 
@@ -23,8 +30,8 @@ pub(crate) fn place_of(lists: &[ActorList], actor: ActorId) -> Option<usize>
     None
 }
 
-/// Counts the turns that all lists may take, where a machine's word can: an order takes at most two.
-pub(crate) fn count_turns(lists: &[ActorList]) -> Option<usize>
+/// Counts the entries of all lists, where a machine's word can: a beginning and an answer of each order.
+pub(crate) fn count_entries(lists: &[ActorList]) -> Option<usize>
     ensures { IfSome result (λ count. count ≡ turns_left lists.now []) }
 {
     let mut count: usize = 0;
@@ -43,8 +50,113 @@ pub(crate) fn fresh_desk(alloc: Global, count: usize) -> Result<Row<Seat>, Alloc
     for _i in 0..count {
         desk.push(Seat {
             number: 0,
-            begun: None,
+            work: Work::Idle,
         })?;
     }
     Ok(desk)
+}
+
+/// Puts a work at a seat.
+fn set_seat(desk: &mut Row<Seat>, place: usize, number: u32, work: Work)
+    requires { place < length desk.old }
+    ensures { desk.new ≡ slice_set desk.old place (record { number = number; work = work }) }
+{
+    let _ = desk.replace(place, Seat { number, work });
+}
+
+/// Takes what stands at a seat.
+fn take_seat(desk: &mut Row<Seat>, place: usize) -> Seat
+    requires { place < length desk.old }
+    ensures seat { slice_get desk.old place ≡ Some result }
+    ensures desk { desk.new ≡ slice_set desk.old place fresh_seat }
+{
+    let idle = Seat {
+        number: 0,
+        work: Work::Idle,
+    };
+    desk.replace(place, idle)
+}
+
+/// Lets a copy go on with the segment that it has chosen.
+#[tactic(auto, using(crate::proofs::Sides::set_twice))]
+fn choose_at(desk: &mut Row<Seat>, place: usize, copying: Copying)
+    requires { place < length desk.old }
+    ensures { IsSomeAnd (slice_get desk.old place) (λ seat. desk.new ≡ slice_set desk.old place (seat_after seat (Chose copying))) }
+{
+    let seat = take_seat(desk, place);
+    let number = seat.number;
+    let work = seat.work.chosen(copying);
+    set_seat(desk, place, number, work);
+}
+
+/// Lets a copy go on with a turn.
+#[tactic(auto, using(crate::proofs::Sides::set_twice))]
+fn move_at(desk: &mut Row<Seat>, place: usize, next: Next)
+    requires { place < length desk.old }
+    ensures { IsSomeAnd (slice_get desk.old place) (λ seat. desk.new ≡ slice_set desk.old place (seat_after seat (Goes next))) }
+{
+    let seat = take_seat(desk, place);
+    let number = seat.number;
+    let work = seat.work.moved(next);
+    set_seat(desk, place, number, work);
+}
+
+/// Where the log was cut, of a join that begins.
+fn cut_of(command: &Command, begun: &Begun) -> Option<u64>
+    ensures { event_of (turned.Begins begun.now) command.now ≡ event.Begins result }
+{
+    match command {
+        Command::Join => Some(begun.end),
+        _ => None,
+    }
+}
+
+/// Enters what a turn came to into the journal and at the desk.
+pub(crate) fn enter(
+    journal: &mut Journal,
+    desk: &mut Row<Seat>,
+    place: usize,
+    actor: ActorId,
+    command: &Command,
+    outcome: Outcome,
+) -> Stepped
+    requires place { place < length desk.old }
+    requires few { IsSomeAnd (slice_get desk.old place) (λ seat. seat.number < 4294967295) }
+    requires room { 0 < journal.old.room }
+    ensures desk { IsSomeAnd (slice_get desk.old place) (λ seat. desk.new ≡ slice_set desk.old place (seat_after seat outcome)) }
+    ensures entered { IsSomeAnd (slice_get desk.old place) (λ seat.
+        journal.new.items ≡ journal.old.items ++ told_of actor seat.number command.now outcome) }
+    ensures room { journal.new.room ≡ journal.old.room - told_count outcome }
+    ensures stepped { result ≡ stepped_of outcome }
+{
+    let number = desk.get(place).number;
+    match outcome {
+        Outcome::Answers(answer) => {
+            journal.put(JournalEntry {
+                actor,
+                number,
+                event: Event::Answers(answer),
+            });
+            set_seat(desk, place, number + 1, Work::Idle);
+            Stepped::Done
+        }
+        Outcome::Begins(begun) => {
+            let cut = cut_of(command, &begun);
+            journal.put(JournalEntry {
+                actor,
+                number,
+                event: Event::Begins { cut },
+            });
+            set_seat(desk, place, number, Work::Noted(begun));
+            Stepped::Ran
+        }
+        Outcome::Chose(copying) => {
+            choose_at(desk, place, copying);
+            Stepped::Ran
+        }
+        Outcome::Goes(next) => {
+            move_at(desk, place, next);
+            Stepped::Ran
+        }
+    }
 }

@@ -3,38 +3,40 @@
 ghost use Rattle.partition_world.specs.Laws.{StepsKeepCentral, FreshIsCentral, ReachesLater, EndsAreComplete, ReachesInTurn, ReachesUnfailing, FreshIsUnfailing};
 
 use disk_model::Disk;
+use meta_log::MetaLog;
+use object_store::Store;
 
 /// Each step keeps the central fact, for each opening state.
-pub fn steps_keep_central<D: Disk>()
-    ensures { StepsKeepCentral D.content D.control }
+pub fn steps_keep_central<D: Disk, S: Store, M: MetaLog>()
+    ensures { StepsKeepCentral D.Disk S.Store M.MetaLog }
 {}
 
-/// A fresh world whose brokers' logs are seen has it.
-pub fn fresh_is_central<D: Disk>()
-    ensures { FreshIsCentral D.content D.control }
+/// A fresh world whose logs, objects and notes are seen has it.
+pub fn fresh_is_central<D: Disk, S: Store, M: MetaLog>()
+    ensures { FreshIsCentral D.Disk S.Store M.MetaLog }
 {}
 
 /// A world that a schedule reaches is a later one.
-pub fn reaches_later<D: Disk>()
-    ensures { ReachesLater D.content D.control }
+pub fn reaches_later<D: Disk, S: Store, M: MetaLog>()
+    ensures { ReachesLater D.Disk S.Store M.MetaLog }
 {}
 
 /// Where each actor is at its end, the journal is a complete run of the plain log.
-pub fn ends_are_complete<D: Disk>()
-    ensures { EndsAreComplete D.content }
+pub fn ends_are_complete<D: Disk, S: Store, M: MetaLog>()
+    ensures { EndsAreComplete D.Disk S.Store M.MetaLog }
 {}
 
-/// The journal of a world that a schedule reaches tells each actor's commands in turn, whatever the disks.
-pub fn reaches_in_turn<D: Disk>()
-    ensures { ReachesInTurn D.content D.control }
+/// The journal of a world that a schedule reaches tells each actor's commands in turn, whatever the devices.
+pub fn reaches_in_turn<D: Disk, S: Store, M: MetaLog>()
+    ensures { ReachesInTurn D.Disk S.Store M.MetaLog }
 {}
 
-/// Over disks of which no call can fail, no turn that a schedule leads through is answered a fault.
-pub fn reaches_unfailing<D: Disk>()
-    ensures { ReachesUnfailing D.content D.control }
+/// Over devices of which no call can fail, no turn that a schedule leads through is answered a fault.
+pub fn reaches_unfailing<D: Disk, S: Store, M: MetaLog>()
+    ensures { ReachesUnfailing D.Disk S.Store M.MetaLog }
 {}
 
-/// A fresh world stands on such disks where no call is planned to fail.
-pub fn fresh_is_unfailing<D: Disk>()
-    ensures { FreshIsUnfailing D.control }
+/// A fresh world stands on such devices where no call is planned to fail.
+pub fn fresh_is_unfailing<D: Disk, S: Store, M: MetaLog>()
+    ensures { FreshIsUnfailing D.Disk S.Store M.MetaLog }
 {}

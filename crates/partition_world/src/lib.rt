@@ -1,35 +1,34 @@
-//! A partition's world: its registry, its brokers' logs on their disks, the lists of commands and the journal of what they
+//! A partition's world: its brokers with their disks, the remote tier, the lists of commands and the journal of what they
 //! came to.
 //!
-//! A turn of an actor carries out its next command, or goes on with one that has begun, and enters what it came to.
-//! `specs/Turns.antt` says for each command which answer it is given and what that does; the code proves its row and
-//! nothing else. Where the disks tell, each turn is a row of the partition as it is seen (the crate `partition_seen`), and
-//! `specs/Central.antt` has the central fact, that the world is the plain log after the world's own journal, with the plain
-//! log's safety rules; that each turn keeps it is a law over the rows, and a clause of `World::step`.
+//! A turn of an actor carries out its next command, or goes on with one that has begun, and enters what it came to; a turn
+//! that neither begins a command nor answers it is entered nowhere. `specs/Turns.antt` says for each command which answer it
+//! is given and what that does: those on brokers' logs and the registry by the rows of the crate `partition_turns`. The code
+//! proves its row and nothing else.
 //!
-//! A world has 1 to 8 brokers: one leads, others follow, and elections, stops and starts change which. A broker that stops
-//! closes its log, and one that comes up opens it again from its disk. A follow takes two turns, and whatever comes between
-//! them may stop it.
+//! `specs/Central.antt` has the central fact, for devices that tell: the world is the plain log after the world's own journal,
+//! with the plain log's safety rules, and the remote tier beside it keeps its own (the crate `tier_safe`). That each turn
+//! keeps it is a law over the rows, and a clause of `World::step`.
+//!
+//! Stops, elections and other actors' commands may come between any two turns of a command, and each call of a device may
+//! fail, done or not.
 #![tactic(auto)]
 
+mod copies;
 mod desk;
-mod elections;
-mod followers;
-mod held;
 mod laws;
-mod making;
-mod own_log;
-mod refusal;
-mod roles;
 mod runs;
-mod stops;
+mod seat;
+mod tier;
+mod turning;
 mod world;
 
-pub use held::{Held, Node};
 pub use laws::{
     ends_are_complete, fresh_is_central, fresh_is_unfailing, reaches_in_turn, reaches_later,
     reaches_unfailing, steps_keep_central,
 };
-pub use refusal::WorldRefusal;
+pub use partition_turns::{Held, Node, WorldRefusal};
 pub use runs::{run_in_order, run_to_end};
+pub use seat::{Outcome, Seat, Work};
+pub use tier::{Devices, Side, Tier};
 pub use world::World;

@@ -7,20 +7,22 @@ ghost use Rattle.partition_world.specs.Reaches.{GoesTimes, GoesUntil, Paces, Rea
 
 use crate::world::World;
 use disk_model::Disk;
+use meta_log::MetaLog;
+use object_store::Store;
 use partition_seen::Stepped;
 use plain_log::Pace;
 use std::alloc::{AllocError, Global};
 use tier_base::ActorId;
 
 /// Steps an actor until it has answered so many of its commands, or all of them.
-fn run_until<D: Disk>(
+fn run_until<D: Disk, S: Store, M: MetaLog>(
     alloc: Global,
-    world: &mut World<D>,
+    world: &mut World<D, S, M>,
     actor: ActorId,
     number: u32,
 ) -> Result<(), AllocError>
-    ensures later { IsLater D.content world.old world.new }
-    ensures reaches { OnOk result ((turns : ℕ) × GoesUntil D.content D.control world.old actor.0 number turns world.new) }
+    ensures later { IsLater D.Disk S.Store M.MetaLog world.old world.new }
+    ensures reaches { OnOk result ((turns : ℕ) × GoesUntil D.Disk S.Store M.MetaLog world.old actor.0 number turns world.new) }
 {
     while !world.has_answered(actor, number) {
         match world.step(alloc, actor) {
@@ -32,14 +34,14 @@ fn run_until<D: Disk>(
 }
 
 /// Steps an actor so many times, and no longer once it is at the end of its list.
-fn run_times<D: Disk>(
+fn run_times<D: Disk, S: Store, M: MetaLog>(
     alloc: Global,
-    world: &mut World<D>,
+    world: &mut World<D, S, M>,
     actor: ActorId,
     turns: u32,
 ) -> Result<(), AllocError>
-    ensures later { IsLater D.content world.old world.new }
-    ensures reaches { OnOk result (GoesTimes D.content D.control world.old actor.0 turns world.new) }
+    ensures later { IsLater D.Disk S.Store M.MetaLog world.old world.new }
+    ensures reaches { OnOk result (GoesTimes D.Disk S.Store M.MetaLog world.old actor.0 turns world.new) }
 {
     for _i in 0..turns {
         match world.step(alloc, actor) {
@@ -52,9 +54,13 @@ fn run_times<D: Disk>(
 }
 
 /// Steps an actor as one item of a schedule says.
-fn run_pace<D: Disk>(alloc: Global, world: &mut World<D>, pace: Pace) -> Result<(), AllocError>
-    ensures later { IsLater D.content world.old world.new }
-    ensures reaches { OnOk result (Paces D.content D.control world.old pace world.new) }
+fn run_pace<D: Disk, S: Store, M: MetaLog>(
+    alloc: Global,
+    world: &mut World<D, S, M>,
+    pace: Pace,
+) -> Result<(), AllocError>
+    ensures later { IsLater D.Disk S.Store M.MetaLog world.old world.new }
+    ensures reaches { OnOk result (Paces D.Disk S.Store M.MetaLog world.old pace world.new) }
 {
     match pace {
         Pace::Until { actor, number } => run_until(alloc, world, actor, number),
@@ -63,13 +69,13 @@ fn run_pace<D: Disk>(alloc: Global, world: &mut World<D>, pace: Pace) -> Result<
 }
 
 /// Steps the actors as a schedule says. Where there is no memory the turns so far have been taken.
-pub fn run_in_order<D: Disk>(
+pub fn run_in_order<D: Disk, S: Store, M: MetaLog>(
     alloc: Global,
-    world: &mut World<D>,
+    world: &mut World<D, S, M>,
     schedule: &[Pace],
 ) -> Result<(), AllocError>
-    ensures later { IsLater D.content world.old world.new }
-    ensures reaches { OnOk result (Reaches D.content D.control world.old schedule.now world.new) }
+    ensures later { IsLater D.Disk S.Store M.MetaLog world.old world.new }
+    ensures reaches { OnOk result (Reaches D.Disk S.Store M.MetaLog world.old schedule.now world.new) }
 {
     for pace in schedule {
         run_pace(alloc, world, *pace)?;
@@ -78,8 +84,12 @@ pub fn run_in_order<D: Disk>(
 }
 
 /// Steps an actor to the end of its list.
-fn run_actor<D: Disk>(alloc: Global, world: &mut World<D>, actor: ActorId) -> Result<(), AllocError>
-    ensures later { IsLater D.content world.old world.new }
+fn run_actor<D: Disk, S: Store, M: MetaLog>(
+    alloc: Global,
+    world: &mut World<D, S, M>,
+    actor: ActorId,
+) -> Result<(), AllocError>
+    ensures later { IsLater D.Disk S.Store M.MetaLog world.old world.new }
     ensures ended { OnOk result (IsAtEnd world.new actor.0) }
 {
     loop {
@@ -92,8 +102,11 @@ fn run_actor<D: Disk>(alloc: Global, world: &mut World<D>, actor: ActorId) -> Re
 }
 
 /// Steps the actors, in the order of their lists, each to the end of its list.
-pub fn run_to_end<D: Disk>(alloc: Global, world: &mut World<D>) -> Result<(), AllocError>
-    ensures later { IsLater D.content world.old world.new }
+pub fn run_to_end<D: Disk, S: Store, M: MetaLog>(
+    alloc: Global,
+    world: &mut World<D, S, M>,
+) -> Result<(), AllocError>
+    ensures later { IsLater D.Disk S.Store M.MetaLog world.old world.new }
     ensures ended { OnOk result ((a : ℕ) → IsAtEnd world.new a) }
 {
     let count = world.lists().len();

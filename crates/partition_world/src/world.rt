@@ -1,84 +1,92 @@
 //! The world: a turn is the next one of an actor's command, carried out and entered.
 //!
-//! The journal's room is made for all turns at the beginning, so a turn that finds no memory has changed nothing.
+//! The journal's room is made for all entries at the beginning, so a turn that finds no memory has entered nothing.
 
-ghost use Rattle.std.specs.Prelude.{◌≡◌, ◌<◌, ◌+◌, length, true, false, IfOk, IfErr, IsTrue, ◌↔◌};
+ghost use Rattle.std.specs.Prelude.{◌≡◌, ◌<◌, ◌+◌, length, replicate, IfOk, IfErr, IsTrue, ◌↔◌};
+ghost use Rattle.tier_base.specs.Device.{Lasts};
 ghost use Rattle.plain_log.specs.Fresh.{fresh as fresh_plain};
 ghost use Rattle.plain_log.specs.Orders.{AreListsFor, IsConfig};
-ghost use Rattle.partition_world.specs.Fresh.{IsFresh, AreFreshBooks, AreFreshDisks, AreCalmDisks, DisksTell, AllSeen, Refuses};
-ghost use Rattle.partition_world.specs.declared.refusal.WorldRefusal.TheVariants as refusal;
+ghost use Rattle.partition_turns.specs.Fresh.{AreFreshDisks, AreCalmDisks, DisksTell, AllSeen, Refuses};
+ghost use Rattle.partition_turns.specs.declared.refusal.WorldRefusal.TheVariants as refusal;
+ghost use Rattle.partition_world.specs.Fresh.{IsFresh, IsSeenEmpty, AreFreshBooks, fresh_side};
 ghost use Rattle.partition_world.specs.Turn.{Steps};
 ghost use Rattle.partition_world.specs.Central.{IsCentral, KeepsCentral};
 ghost use Rattle.partition_world.specs.Reaches.{HasAnswered};
-ghost use Rattle.partition_seen.specs.Turn.{event_of};
-ghost use Rattle.partition_seen.specs.declared.begun.Turned.TheVariants as Turned;
-ghost use Rattle.plain_log.specs.declared.journal.Event.TheVariants as Event;
 
-use crate::desk::{count_turns, fresh_desk, place_of};
-use crate::held::Held;
+use crate::desk::{count_entries, enter, fresh_desk, place_of};
 use crate::laws::{fresh_is_central, steps_keep_central};
-use crate::refusal::WorldRefusal;
+use crate::seat::Seat;
+use crate::tier::{Devices, Side, Tier};
 use disk_model::Disk;
-use partition_seen::{Begun, Seat, Stepped, Turned};
-use plain_log::{ActorList, Command, Config, Event, Journal, JournalEntry};
+use meta_log::MetaLog;
+use object_store::Store;
+use partition_seen::Stepped;
+use partition_turns::{Held, WorldRefusal};
+use plain_log::{ActorList, Config, Journal};
+use remote_view::View;
 use std::alloc::{AllocError, Global};
 use std::marker::Model;
 use tier_base::{ActorId, PartitionId, Row};
 
 /// A partition with its lists of commands and its journal.
 #[derive(Drop)]
-pub struct World<D: Disk> {
+pub struct World<D: Disk, S: Store, M: MetaLog> {
     partition: PartitionId,
     config: Config,
     lists: Row<ActorList>,
     held: Held<D>,
+    tier: Tier<S, M>,
     desk: Row<Seat>,
     journal: Journal,
 }
 
-impl<D: Disk> Model for World<D> {
+impl<D: Disk, S: Store, M: MetaLog> Model for World<D, S, M> {
     ghost use Rattle.partition_world.specs.Whole.{Whole};
     ghost use Rattle.partition_world.specs.Sound.{IsSound};
 
-    ghost Value = { Whole D };
+    ghost Value = { Whole D S M };
 
     ghost view = { λ w. record {
       partition = w.partition;
       config = w.config;
       lists = w.lists;
       held = w.held;
+      tier = w.tier;
       desk = w.desk;
       journal = w.journal;
     } };
 
-    ghost invariant = { λ w. IsSound w.config w.lists w.held w.desk w.journal.room };
+    ghost invariant = { λ w. IsSound w.config w.lists w.held w.tier.sides w.desk w.journal.room };
 }
 
-impl<D: Disk> World<D> {
+impl<D: Disk, S: Store, M: MetaLog> World<D, S, M> {
     /// Makes a world where nothing has happened, whose brokers have these disks, in their order. The first broker leads
-    /// epoch 0. From then on the disks' planned calls fail.
+    /// epoch 0. From then on the devices' planned calls fail.
     pub fn fresh(
         alloc: Global,
         partition: PartitionId,
         config: Config,
         lists: Row<ActorList>,
-        disks: Vec<D>,
-    ) -> Result<World<D>, (Vec<D>, WorldRefusal)>
+        devices: Devices<D, S, M>,
+    ) -> Result<World<D, S, M>, (Devices<D, S, M>, WorldRefusal)>
         requires brokers { IsConfig config }
         requires fit { AreListsFor config lists }
-        requires count { length disks.items ≡ config.brokers }
-        requires disks { AreFreshDisks D.content D.control disks.items }
-        ensures fresh { IfOk result (IsFresh D.control partition config lists disks.items) }
-        ensures told { IfOk result (λ w. DisksTell D.content disks.items → AllSeen D.content w.held.nodes) }
-        ensures central { IfOk result (λ w. AllSeen D.content w.held.nodes
-            → IsCentral D.content (fresh_plain config) w) }
+        requires count { length devices.disks.items ≡ config.brokers }
+        requires disks { AreFreshDisks D.content D.control devices.disks.items }
+        ensures fresh { IfOk result (IsFresh D.Disk S.Store M.MetaLog partition config lists
+            devices.disks.items devices.store devices.meta) }
+        ensures told { IfOk result (λ w. DisksTell D.content devices.disks.items → AllSeen D.content w.held.nodes) }
+        ensures central { IfOk result (λ w. IsSeenEmpty D.Disk S.Store M.MetaLog w
+            → IsCentral D.Disk S.Store M.MetaLog (fresh_plain config) w) }
 
-        // A refusal gives the disks back. Where no call of them can fail it was memory.
-        ensures err { IfErr result (λ e. Refuses D.control disks.items e.0.items e.1) }
-        ensures memory { AreCalmDisks D.control disks.items → IfErr result (λ e. e.1 ≡ refusal.NoMemory) }
+        // A refusal gives the devices back. Where no call of the disks can fail it was memory.
+        ensures err { IfErr result (λ e. Refuses D.control devices.disks.items e.0.disks.items e.1) }
+        ensures store { IfErr result (λ e. e.0.store ≡ devices.store) }
+        ensures meta { IfErr result (λ e. e.0.meta ≡ devices.meta) }
+        ensures memory { AreCalmDisks D.control devices.disks.items → IfErr result (λ e. e.1 ≡ refusal.NoMemory) }
     {
-        fresh_is_central::<D>();
-        Self::made(alloc, partition, config, lists, disks)
+        fresh_is_central::<D, S, M>();
+        Self::made(alloc, partition, config, lists, devices)
     }
 
     fn made(
@@ -86,26 +94,39 @@ impl<D: Disk> World<D> {
         partition: PartitionId,
         config: Config,
         lists: Row<ActorList>,
-        disks: Vec<D>,
-    ) -> Result<World<D>, (Vec<D>, WorldRefusal)>
+        devices: Devices<D, S, M>,
+    ) -> Result<World<D, S, M>, (Devices<D, S, M>, WorldRefusal)>
         requires brokers { IsConfig config }
         requires fit { AreListsFor config lists }
-        requires count { length disks.items ≡ config.brokers }
-        requires disks { AreFreshDisks D.content D.control disks.items }
-        ensures fresh { IfOk result (IsFresh D.control partition config lists disks.items) }
-        ensures told { IfOk result (λ w. DisksTell D.content disks.items → AllSeen D.content w.held.nodes) }
-        ensures err { IfErr result (λ e. Refuses D.control disks.items e.0.items e.1) }
+        requires count { length devices.disks.items ≡ config.brokers }
+        requires disks { AreFreshDisks D.content D.control devices.disks.items }
+        ensures fresh { IfOk result (IsFresh D.Disk S.Store M.MetaLog partition config lists
+            devices.disks.items devices.store devices.meta) }
+        ensures told { IfOk result (λ w. DisksTell D.content devices.disks.items → AllSeen D.content w.held.nodes) }
+        ensures err { IfErr result (λ e. Refuses D.control devices.disks.items e.0.disks.items e.1) }
+        ensures store { IfErr result (λ e. e.0.store ≡ devices.store) }
+        ensures meta { IfErr result (λ e. e.0.meta ≡ devices.meta) }
     {
         let Ok((journal, desk)) = fresh_books(alloc, lists.as_slice()) else {
-            return Err((disks, WorldRefusal::NoMemory));
+            return Err((devices, WorldRefusal::NoMemory));
         };
-        // The disks' plans are in force once this is done.
-        let held = Held::fresh(alloc, disks, config.settings)?;
+        let Ok(sides) = fresh_sides(alloc, config.brokers) else {
+            return Err((devices, WorldRefusal::NoMemory));
+        };
+        let Devices { disks, store, meta } = devices;
+        // The devices' plans are in force once this is done.
+        let held = match Held::fresh(alloc, disks, config.settings) {
+            Ok(held) => held,
+            Err((disks, why)) => return Err((Devices { disks, store, meta }, why)),
+        };
+        let mut tier = Tier { store, meta, sides };
+        tier.arm();
         Ok(World {
             partition,
             config,
             lists,
             held,
+            tier,
             desk,
             journal,
         })
@@ -146,15 +167,15 @@ impl<D: Disk> World<D> {
 
     /// Takes the next turn of an actor's commands.
     pub fn step(&mut self, alloc: Global, actor: ActorId) -> Stepped
-        ensures steps { Steps D.content D.control self.old actor.0 result self.new }
-        ensures central { KeepsCentral D.content self.old self.new }
+        ensures steps { Steps D.Disk S.Store M.MetaLog self.old actor.0 result self.new }
+        ensures central { KeepsCentral D.Disk S.Store M.MetaLog self.old self.new }
     {
-        steps_keep_central::<D>();
+        steps_keep_central::<D, S, M>();
         self.take_turn(alloc, actor)
     }
 
     fn take_turn(&mut self, alloc: Global, actor: ActorId) -> Stepped
-        ensures { Steps D.content D.control self.old actor.0 result self.new }
+        ensures { Steps D.Disk S.Store M.MetaLog self.old actor.0 result self.new }
     {
         let Some(place) = place_of(self.lists.as_slice(), actor) else {
             return Stepped::Nothing;
@@ -166,47 +187,29 @@ impl<D: Disk> World<D> {
             return Stepped::Nothing;
         }
         let order = list.orders.get(number as usize);
-        let Ok(turned) = self.held.turn(alloc, order, &seat.begun) else {
-            return Stepped::NoMemory;
-        };
         let actor = list.actor;
-        match turned {
-            Turned::Answers(answer) => {
-                self.journal.put(JournalEntry {
-                    actor,
-                    number,
-                    event: Event::Answers(answer),
-                });
-                let next = Seat {
-                    number: number + 1,
-                    begun: None,
-                };
-                let _ = self.desk.replace(place, next);
-                Stepped::Done
-            }
-            Turned::Begins(begun) => {
-                let cut = cut_of(&order.command, &begun);
-                self.journal.put(JournalEntry {
-                    actor,
-                    number,
-                    event: Event::Begins { cut },
-                });
-                let goes_on = Seat {
-                    number,
-                    begun: Some(begun),
-                };
-                let _ = self.desk.replace(place, goes_on);
-                Stepped::Ran
-            }
+        match self
+            .tier
+            .turn(alloc, self.partition, order, &seat.work, &mut self.held)
+        {
+            Ok(outcome) => enter(
+                &mut self.journal,
+                &mut self.desk,
+                place,
+                actor,
+                &order.command,
+                outcome,
+            ),
+            Err(_) => Stepped::NoMemory,
         }
     }
 }
 
-/// Makes an empty journal with room for all turns, and a desk where no list has begun.
+/// Makes an empty journal with room for all entries, and a desk where no list has begun.
 fn fresh_books(alloc: Global, lists: &[ActorList]) -> Result<(Journal, Row<Seat>), AllocError>
     ensures { IfOk result (λ books. AreFreshBooks lists.now books.0 books.1) }
 {
-    let Some(count) = count_turns(lists) else {
+    let Some(count) = count_entries(lists) else {
         return Err(AllocError);
     };
     let mut journal = Journal::new(alloc);
@@ -215,12 +218,17 @@ fn fresh_books(alloc: Global, lists: &[ActorList]) -> Result<(Journal, Row<Seat>
     Ok((journal, desk))
 }
 
-/// Where the log was cut, of a join that begins.
-fn cut_of(command: &Command, begun: &Begun) -> Option<u64>
-    ensures { event_of (Turned.Begins begun.now) command.now ≡ Event.Begins result }
+/// Makes the sides of so many brokers, which know of no remote segment.
+fn fresh_sides(alloc: Global, count: u16) -> Result<Row<Side>, AllocError>
+    ensures { IfOk result (λ sides. sides ≡ replicate count fresh_side) }
 {
-    match command {
-        Command::Join => Some(begun.end),
-        _ => None,
+    let mut sides = Row::new(alloc);
+    for _i in 0..count {
+        sides.push(Side {
+            view: View::new(alloc),
+            incarnation: 0,
+            attempt: 0,
+        })?;
     }
+    Ok(sides)
 }

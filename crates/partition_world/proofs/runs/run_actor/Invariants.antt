@@ -1,9 +1,9 @@
-use Rattle.partition_seen.specs.Sound.{turns_left}
+use Rattle.partition_world.proofs.Advancing.{turns_left}
 use Rattle.partition_world.specs.Later.{IsLater}
 use Rattle.partition_world.proofs.runs.run_actor.Given as goal
 
 abbrev pub invariant-loop : goal.invariant-loop
-invariant-loop g l = IsLater g.D.Disk.content l.initial.world l.world
+invariant-loop g l = IsLater g.D.Disk g.S.Store g.M.MetaLog l.initial.world l.world
 
 abbrev pub decreases-loop : goal.decreases-loop
 decreases-loop g l = turns_left l.world.lists l.world.desk

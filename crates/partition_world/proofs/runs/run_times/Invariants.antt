@@ -4,6 +4,6 @@ use Rattle.partition_world.proofs.runs.run_times.Given as goal
 
 abbrev pub invariant-loop-i : goal.invariant-loop-i
 invariant-loop-i g l = record {
-  later : IsLater g.D.Disk.content l.initial.world l.world;
-  adds : AddsTimes g.D.Disk.content g.D.Disk.control l.initial.world l.actor.0 l._i l.world;
+  later : IsLater g.D.Disk g.S.Store g.M.MetaLog l.initial.world l.world;
+  adds : AddsTimes g.D.Disk g.S.Store g.M.MetaLog l.initial.world l.actor.0 l._i l.world;
 }

@@ -11,11 +11,11 @@ loop-place-preserved g c =
     let lt : c.loop-place.place < length c.lists.result.now = omega (arith, c.loop-place.invariant.many, c.loop-place-test.true, ap (λ (k : List ActorList). length k) c.lists.ensures) in
     let at = got c.lists.result.now c.loop-place.place c.index-lists-place.result lt c.index-lists-place.is in
     record {
-      later = later_more g.D.Disk.content g.D.Disk.control c.args.world.now w c.run_actor.new.world c.loop-place.invariant.later c.in_ok-run_actor.ensures.later;
+      later = later_more g.D.Disk g.S.Store g.M.MetaLog c.args.world.now w c.run_actor.new.world c.loop-place.invariant.later c.in_ok-run_actor.ensures.later;
       many = c.loop-place.invariant.many ∙ ap (λ (k : List ActorList). length k) (sym c.in_ok-run_actor.ensures.later.lists);
-      ended = place_ended g.D.Disk.content g.D.Disk.control w c.run_actor.new.world c.loop-place.place c.index-lists-place.result c.in_ok-run_actor.ensures.later
+      ended = place_ended g.D.Disk g.S.Store g.M.MetaLog w c.run_actor.new.world c.loop-place.place c.index-lists-place.result c.in_ok-run_actor.ensures.later
           (subst (λ (k : List ActorList). slice_get k c.loop-place.place ≡ Some c.index-lists-place.result) c.lists.ensures at) (subst (λ (k : ActorList). IsAtEnd c.run_actor.new.world k.actor.0) (sym c.index-lists-place.is) c.in_ok-run_actor.ensures.ended) c.loop-place.invariant.ended;
     }
 
 pub returns-clause-ended : goal.returns-clause-ended
-returns-clause-ended g c = places_ended g.D.Disk.content g.D.Disk.control c.loop-place.world c.loop-place.place (omega (arith, c.loop-place.invariant.many, c.loop-place-test.false)) c.loop-place.invariant.ended
+returns-clause-ended g c = places_ended g.D.Disk g.S.Store g.M.MetaLog c.loop-place.world c.loop-place.place (omega (arith, c.loop-place.invariant.many, c.loop-place-test.false)) c.loop-place.invariant.ended

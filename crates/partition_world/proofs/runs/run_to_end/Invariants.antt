@@ -6,7 +6,7 @@ use Rattle.partition_world.proofs.runs.run_to_end.Given as goal
 
 abbrev pub invariant-loop-place : goal.invariant-loop-place
 invariant-loop-place g l = record {
-  later : IsLater g.D.Disk.content l.initial.world l.world;
+  later : IsLater g.D.Disk g.S.Store g.M.MetaLog l.initial.world l.world;
   many : l.count ≡ length l.world.lists;
   ended : (i : ℕ) (list : ActorList) → i < l.place → slice_get l.world.lists i ≡ Some list → IsAtEnd l.world list.actor.0;
 }

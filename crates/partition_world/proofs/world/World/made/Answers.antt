@@ -1,13 +1,19 @@
-use Rattle.std.proofs.Common.{ap, refl, length, List, [], arith}
+use Rattle.std.proofs.Common.{◌∙◌, ap, refl, length, List, [], arith}
 use Rattle.plain_log.specs.declared.command.ActorList.{ActorList}
 use Rattle.partition_seen.specs.Sound.{turns_left}
-use Rattle.partition_seen.proofs.FreshSound.{fresh_seats, fresh_left}
-use Rattle.partition_world.proofs.FreshDisks.{refuses_same}
-use Rattle.partition_world.proofs.FreshSound.{fresh_sound}
+use Rattle.partition_seen.proofs.FreshSound.{length_replicate}
+use Rattle.partition_turns.proofs.FreshDisks.{refuses_same}
+use Rattle.partition_turns.proofs.FreshSound.{fresh_sound}
+use Rattle.partition_world.specs.declared.tier.Side.{Side}
+use Rattle.partition_world.specs.Fresh.{fresh_side}
+use Rattle.partition_world.proofs.WorldFresh.{fresh_seats, fresh_left}
 use Rattle.partition_world.proofs.world.World.made.Goals as goal
 
 pub returns-in_default-clause-err : goal.returns-in_default-clause-err
-returns-in_default-clause-err g c = refuses_same g.D.Disk.content g.D.Disk.control c.args.disks.items _ refl c.requires.disks
+returns-in_default-clause-err g c = refuses_same g.D.Disk.content g.D.Disk.control c.args.devices.disks.items _ refl c.requires.disks
+
+pub returns-in_default-fresh_sides-clause-err : goal.returns-in_default-fresh_sides-clause-err
+returns-in_default-fresh_sides-clause-err g c = refuses_same g.D.Disk.content g.D.Disk.control c.args.devices.disks.items _ refl c.requires.disks
 
 pub invariant_of-result : goal.invariant_of-result
 invariant_of-result g c =
@@ -17,7 +23,8 @@ invariant_of-result g c =
     record {
       config_fits = c.requires.brokers;
       fit = c.requires.fit;
-      held = fresh_sound g.D.Disk.control c.args.config.brokers c.args.disks.items c.in_ok-held.held c.requires.count c.in_ok-held.ensures.held;
+      held = fresh_sound g.D.Disk.control c.args.config.brokers c.args.devices.disks.items c.in-Ok-fresh.held c.requires.count c.in-Ok-fresh.ensures.held;
+      sided = ap (λ (k : List Side). length k) (c.arm.ensures.sides ∙ c.in-Ok-fresh_sides.ensures) ∙ length_replicate c.args.config.brokers fresh_side;
       seats = fresh_seats c.args.lists count c.in-Ok.desk (ap (λ (k : List ActorList). length k) same) books.desk_is;
       room = omega (arith, fresh_left c.args.lists count c.in-Ok.desk books.desk_is, books.room, ap (λ (k : List ActorList). turns_left k []) same);
     }

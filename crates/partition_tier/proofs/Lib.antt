@@ -1,0 +1,13 @@
+pub mod Places
+pub mod Nodes
+pub mod OwnRows
+pub mod RegistryRows
+pub mod FollowerRows
+pub mod Goes
+pub mod Follow
+pub mod FreshLaw
+pub mod Chains
+pub mod Trims
+pub mod Begins
+pub mod Rebuilds
+pub mod OwnTurns

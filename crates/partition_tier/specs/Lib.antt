@@ -1,0 +1,4 @@
+pub mod Sites
+pub mod Works
+pub mod Turns
+pub mod Laws

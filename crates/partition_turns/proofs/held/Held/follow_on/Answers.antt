@@ -1,0 +1,30 @@
+use Rattle.std.proofs.Common.{◌∙◌, ap, sym, subst, ◌<◌, Option, ℕ}
+use Rattle.std.specs.Prelude.{IsSome, IsSomeAnd, not}
+use Rattle.partition_turns.specs.TurnsOfFollowers.{ExtendRow, FollowOnRow}
+use Rattle.partition_turns.proofs.Writes.{ok_more}
+use Rattle.partition_turns.proofs.Staying.{at_node}
+use Rattle.partition_turns.proofs.Putting.{of_node}
+use Rattle.partition_turns.proofs.FollowedOn.{taken_run, extend_follows}
+use Rattle.partition_turns.proofs.held.Held.follow_on.Goals as goal
+
+pub returns-clause-row : goal.returns-clause-row
+returns-clause-row g c =
+    let content = g.D.Disk.content in
+    let control = g.D.Disk.control in
+    let h = c.args.self.now in
+    let b = c.args.b in
+    let x = c.get-node.result.now in
+    let begun = c.args.begun.now in
+    let run = c.as_slice-2.result.now in
+    ok_more _ _ c.extend.result (λ answer at. at_node h b x (λ y. FollowOnRow content control h b y begun answer c.extend.new.self) c.get-node.ensures
+    (extend_follows content control h b x begun run answer c.extend.new.self (
+      c.if-begun-node.false,
+      sym c.is_up.ensures ∙ c.if-not-is_up.false,
+      λ stale. c.is_behind.ensures.not c.if-is_behind.false (subst (λ (o : Option ℕ). IsSomeAnd o (λ e. e < h.registry.epoch)) (sym c.followed.ensures) stale),
+    )
+    (c.if-begun-end.false ∙ c.end-end.ensures)
+    (subst (λ (o : Option ℕ). IsSome o) c.joined.ensures (c.is_none.ensures ∙ ap not c.if-is_none.false))
+    (taken_run x c.takes.result c.as_slice.result.now _ c.takes.ensures c.if-not-takes.false c.as_slice.ensures.all)
+    c.as_slice-2.ensures.all
+    (of_node h b x (λ y. ExtendRow content control h b y run answer c.extend.new.self) c.get-node.ensures at)))
+    c.extend.ensures.row

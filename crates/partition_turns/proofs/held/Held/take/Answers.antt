@@ -1,0 +1,26 @@
+use Rattle.std.proofs.Common.{◌∙◌, ap, refl, subst, ℕ, Err}
+use Rattle.broker_log.specs.Turns.{Misreads}
+use Rattle.partition_turns.specs.TurnsOfFollowers.{MayTake}
+use Rattle.partition_turns.proofs.Putting.{of_node}
+use Rattle.partition_turns.proofs.Staying.{at_node, stays_at}
+use Rattle.partition_turns.proofs.held.Held.take.Goals as goal
+
+pub returns : goal.returns
+returns g c = record {
+  row = tt;
+  err = stays_at g.D.Disk.content g.D.Disk.control c.args.self.now c.args.leader c.at_mut-node.result.now c.read_run.new.self _ c.at_mut-node.ensures.value c.read_run.ensures.stays c.read_run.ensures.control refl;
+}
+
+pub returns-in-Err-Damaged-clause-row : goal.returns-in-Err-Damaged-clause-row
+returns-in-Err-Damaged-clause-row g c =
+    let node = c.at_mut-node.result.now in
+    let e = c.in-Err-Damaged in
+    let end = c.args.noted.end in
+    let may : MayTake node end c.args.bound = of_node c.args.self.now c.args.leader node (λ y. MayTake y end c.args.bound) c.at_mut-node.ensures.value c.requires.node in
+    at_node c.args.self.now c.args.leader node _ c.at_mut-node.ensures.value (record {
+      kept = c.read_run.new.self;
+      misreads = subst (λ (bound : ℕ). Misreads g.D.Disk.content g.D.Disk.control node.log c.read_run.new.self end c.args.limit bound e.file e.at) may.1
+          (c.read_run.ensures.damaged e.file e.at (e.is ∙ ap Err e.field-0-is));
+      lasts = c.read_run.ensures.control;
+      after = refl;
+    })

@@ -1,0 +1,11 @@
+pub mod Held
+pub mod TurnsOfLog
+pub mod TurnsOfFetch
+pub mod TurnsOfElections
+pub mod TurnsOfFollowers
+pub mod Turns
+pub mod Sound
+pub mod Calm
+pub mod Fresh
+pub mod Shown
+pub mod Laws

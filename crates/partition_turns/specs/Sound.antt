@@ -1,0 +1,22 @@
+-- What a partition keeps over any disks: what its turns need to be carried out.
+use Rattle.std.specs.Prelude.{◌≡◌, ℕ, ◌^◌, ◌<◌, Some, true, false, length, slice_get}
+use Rattle.epoch_line.specs.Line.{last_epoch}
+use Rattle.plain_log.specs.declared.state.Role.TheVariants.{Leads, Idle}
+use Rattle.partition_turns.specs.declared.held.Node.{Node}
+use Rattle.partition_turns.specs.declared.held.Held.{Held}
+use Rattle.partition_turns.specs.Held.{is_up, line_of}
+
+module _ {D : Type 0} where
+  -- a leader is up, and its line ends with its epoch; a node that is down is idle and knows no high watermark
+  pub record NodeSound (x : Node D) : Type 0 where
+    pub up : (e : ℕ) → x.role ≡ Leads e → is_up x ≡ true
+    pub leads : (e : ℕ) → x.role ≡ Leads e → last_epoch (line_of x) ≡ Some e
+    pub fits : (e : ℕ) → x.role ≡ Leads e → e < 2 ^ 31
+    pub down : is_up x ≡ false → (x.role ≡ Idle) × (x.known ≡ 0)
+
+  -- as many nodes and replicas as brokers, and an epoch that a line can have
+  pub record HeldSound (brokers : ℕ) (h : Held D) : Type 0 where
+    pub count : length h.nodes ≡ brokers
+    pub same : length h.registry.replicas ≡ brokers
+    pub epoch : h.registry.epoch < 2 ^ 31
+    pub nodes : (b : ℕ) (x : Node D) → slice_get h.nodes b ≡ Some x → NodeSound x

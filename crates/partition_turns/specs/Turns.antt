@@ -1,0 +1,93 @@
+-- What a turn of each command comes to over disks: its answer's cause, or what its seat keeps, and what it does to the
+-- partition.
+--
+-- A row says for each answer the tests before it, in their order, its own, and the partition afterwards. A fault of a
+-- broker's disk in a write stops the broker. Follow and some joins take two turns. What a later turn of a fetch comes to, which
+-- only begins here, the remote tier has a part in.
+use Rattle.std.specs.Prelude.{◌≡◌, ℕ, ℤ, true, false, Option, None, Some}
+use Rattle.tier_base.specs.Device.{Control}
+use Rattle.disk_model.specs.Call.{call_code}
+use Rattle.disk_model.specs.Content.{Content}
+use Rattle.record_batch.specs.Build.{built}
+use Rattle.plain_log.specs.declared.answer.Answer.{Answer}
+use Rattle.plain_log.specs.declared.answer.Answer.TheVariants.{Ok, Down, IsUp, DiskFault, Damaged, LastIncarnation, Up}
+use Rattle.plain_log.specs.declared.answer.Place.TheVariants.{File}
+use Rattle.plain_log.specs.declared.command.Command.{Command}
+use Rattle.plain_log.specs.declared.command.Command.TheVariants.{Append, Raw, Flush, Roll, Elect, Unclean, Learn, Join, Follow, Trim, Ack, Shrink, Expand, Raise, Clock, Stop as StopCommand, Up as UpCommand, Fetch}
+use Rattle.broker_log.specs.Seen.{Kept, Lasting}
+use Rattle.broker_log.specs.Turns.{Stops, ComesUp, Unopened, IsSpent}
+use Rattle.partition_seen.specs.declared.begun.Begun.{Begun}
+use Rattle.partition_seen.specs.declared.begun.Turned.{Turned}
+use Rattle.partition_seen.specs.declared.begun.Turned.TheVariants.{Answers, Begins}
+use Rattle.partition_turns.specs.declared.held.Node.{Node}
+use Rattle.partition_turns.specs.declared.held.Held.{Held}
+use Rattle.partition_turns.specs.Held.{is_up, stopped, put_node, Fails}
+use Rattle.partition_turns.specs.TurnsOfLog.{AppendRow, RawRow, FlushRow, RollRow, TrimRow, TrimOnRow}
+use Rattle.partition_turns.specs.TurnsOfFetch.{FetchTurn}
+use Rattle.partition_turns.specs.TurnsOfElections.{ElectRow, UncleanRow, LearnRow, AckRow, ShrinkRow, ExpandRow, RaiseRow}
+use Rattle.partition_turns.specs.TurnsOfFollowers.{JoinRow, JoinOnRow, FollowRow, FollowOnRow}
+
+module _ {D : Type 0} where
+  -- clock
+  abbrev pub ClockRow : Held D → ℤ → Answer → Held D → Type 0
+  ClockRow h ms Ok h' = h' ≡ record h { clock = ms }
+  ClockRow h ms other h' = ⊥
+
+module _ {D : Type 0} (content : D → Content) (control : D → Control call_code) where
+  -- stop
+  abbrev pub StopRow : Held D → ℕ → Node D → Answer → Held D → Type 0
+  StopRow h b x Down h' = (is_up x ≡ false) × (h' ≡ h)
+  StopRow h b x Ok h' = (is_up x ≡ true) × ((kept : Kept D) × Stops content x.log kept × Lasting control x.log kept
+      × (h' ≡ put_node h b (record (stopped x) { log = kept })))
+  StopRow h b x other h' = ⊥
+
+  -- up: what wasn't stable is gone; after a write that failed, what it was to make stable may be there
+  abbrev pub UpRow : Held D → ℕ → Node D → Answer → Held D → Type 0
+  UpRow h b x IsUp h' = (is_up x ≡ true) × (h' ≡ h)
+  UpRow h b x (Up n) h' = (is_up x ≡ false) × ((kept : Kept D) × ComesUp content x.log kept n × Lasting control x.log kept
+      × (h' ≡ put_node h b (record x { log = kept })))
+  UpRow h b x DiskFault h' = (is_up x ≡ false) × Fails content control h b x h'
+  UpRow h b x (Damaged (File name) at) h' = (is_up x ≡ false) × ((kept : Kept D) × Unopened content control x.log kept name at
+      × Lasting control x.log kept × (h' ≡ put_node h b (record x { log = kept })))
+  UpRow h b x LastIncarnation h' = (is_up x ≡ false) × ((kept : Kept D) × IsSpent content control x.log kept
+      × Lasting control x.log kept × (h' ≡ put_node h b (record x { log = kept })))
+  UpRow h b x other h' = ⊥
+
+  -- a command of one turn
+  abbrev pub AnswerRow : Held D → ℕ → Node D → Command → Answer → Held D → Type 0
+  AnswerRow h b x (Append recs) answer h' = AppendRow content control h b x (built recs) answer h'
+  AnswerRow h b x (Raw bytes) answer h' = RawRow content control h b x bytes answer h'
+  AnswerRow h b x Flush answer h' = FlushRow content control h b x answer h'
+  AnswerRow h b x Roll answer h' = RollRow content control h b x answer h'
+  AnswerRow h b x Elect answer h' = ElectRow h b x answer h'
+  AnswerRow h b x Unclean answer h' = UncleanRow h b x answer h'
+  AnswerRow h b x Learn answer h' = LearnRow content control h b x answer h'
+  AnswerRow h b x Ack answer h' = AckRow h b x answer h'
+  AnswerRow h b x Shrink answer h' = ShrinkRow h b answer h'
+  AnswerRow h b x Expand answer h' = ExpandRow h b x answer h'
+  AnswerRow h b x (Raise start) answer h' = RaiseRow h b x start answer h'
+  AnswerRow h b x (Clock ms) answer h' = ClockRow h ms answer h'
+  AnswerRow h b x StopCommand answer h' = StopRow h b x answer h'
+  AnswerRow h b x UpCommand answer h' = UpRow h b x answer h'
+  AnswerRow h b x other answer h' = ⊥
+
+  -- a first turn
+  abbrev pub FirstRow : Held D → ℕ → Node D → Command → Turned → Held D → Type 0
+  FirstRow h b x (Follow limit) turned h' = FollowRow content control h b x limit turned h'
+  FirstRow h b x Join turned h' = JoinRow content control h b x turned h'
+  FirstRow h b x Trim turned h' = TrimRow content control h x turned h'
+  FirstRow h b x (Fetch offset limit) turned h' = FetchTurn content control h b x offset limit turned h'
+  FirstRow h b x command (Answers answer) h' = AnswerRow h b x command answer h'
+  FirstRow h b x command (Begins g) h' = ⊥
+
+  -- a later turn
+  abbrev pub LaterRow : Held D → ℕ → Node D → Command → Begun → Turned → Held D → Type 0
+  LaterRow h b x (Follow limit) g (Answers answer) h' = FollowOnRow content control h b x g answer h'
+  LaterRow h b x Join g (Answers answer) h' = JoinOnRow content control h b x g answer h'
+  LaterRow h b x Trim g (Answers answer) h' = TrimOnRow content control h b x g answer h'
+  LaterRow h b x command g turned h' = ⊥
+
+  -- a turn of a command of broker b, of which so much has begun
+  abbrev pub Row : Held D → ℕ → Node D → Option Begun → Command → Turned → Held D → Type 0
+  Row h b x None command turned h' = FirstRow h b x command turned h'
+  Row h b x (Some g) command turned h' = LaterRow h b x command g turned h'

@@ -1,0 +1,283 @@
+//! Commands of a follower: it joins where its log meets the leader's, and copies from there on.
+//!
+//! A follow reads a run of the leader's log at its first turn, and puts of it at the end of its own log at the second what
+//! stands in one segment, where nothing has come between.
+
+ghost use Rattle.std.specs.Prelude.{◌≡◌, ◌<◌, ◌≤◌, true, false, length, IfOk, OnErr, IsSomeAnd, IsTrue, ◌↔◌, option_copied};
+ghost use Rattle.partition_turns.specs.Held.{AtNode, CanStop, StaysHeld, the_leader, is_up};
+ghost use Rattle.partition_turns.specs.TurnsOfFollowers.{IsMeet, MayCut, CutRow, JoinRow, JoinOnRow, MayTake, TakeRow, FollowRow, MayExtend, ExtendRow, FollowOnRow};
+
+use crate::held::{Held, Node};
+use crate::roles::{followed, joined};
+use broker_log::LogRefusal;
+use bytes::Bytes;
+use disk_model::Disk;
+use epoch_line::Line;
+use partition_seen::{Begun, LocalStart, Taken, Turned};
+use plain_log::{Answer, Place, Role};
+use std::alloc::{AllocError, Global};
+
+impl<D: Disk> Node<D> {
+    /// Where its log and another's meet.
+    fn meet(&self, other: &Node<D>) -> u64
+        requires up { is_up self.now ≡ true }
+        requires other_up { is_up other.now ≡ true }
+        ensures { IsMeet self.now other.now result }
+    {
+        let (Some(own), Some(its)) = (self.log.line(), other.log.line()) else {
+            unreachable!()
+        };
+        own.meet(self.end(), its, other.end())
+    }
+}
+
+impl<D: Disk> Held<D> {
+    /// The registry's leader, where it is up and leads the registry's epoch.
+    fn leader(&self) -> Option<&Node<D>>
+        ensures { option_copied result ≡ the_leader self.now }
+    {
+        let place = self.registry.leader.0 as usize;
+        if place >= self.nodes.len() {
+            return None;
+        }
+        let node = self.nodes.get(place);
+        match node.role {
+            Role::Leads(epoch) if node.is_up() && epoch == self.registry.epoch => Some(node),
+            _ => None,
+        }
+    }
+
+    /// Brings a follower's log to where it meets the leader's. Where that lies below the leader's local log, the follower
+    /// is to begin its own anew, where that begins.
+    pub(crate) fn join(&mut self, alloc: Global, b: usize) -> Result<Turned, AllocError>
+        requires { CanStop self.old b }
+        ensures row { IfOk result (λ turned. AtNode self.old b (λ x. JoinRow D.content D.control self.old b x turned self.new)) }
+        ensures err { OnErr result (StaysHeld D.content D.control self.old self.new) }
+    {
+        let node = self.nodes.get(b);
+        if !node.is_up() {
+            return Ok(Turned::Answers(Answer::Down));
+        }
+        let Some(epoch) = followed(node.role) else {
+            return Ok(Turned::Answers(Answer::NotFollower));
+        };
+        if epoch < self.registry.epoch {
+            return Ok(Turned::Answers(Answer::StaleEpoch(self.registry.epoch as u64)));
+        }
+        let Some(leader) = self.leader() else {
+            return Ok(Turned::Answers(Answer::NoLeader));
+        };
+        let met = node.meet(leader);
+        let (Some(wanted), Some(line)) = (leader.log.local_start(), leader.log.line()) else {
+            unreachable!()
+        };
+        let mut line = line.copy(alloc)?;
+        line.cut_end(wanted);
+        let stops = node.stops;
+        let start = self.registry.start;
+        match self.cut(b, epoch, met)? {
+            Answer::Cut(end) if end < wanted => Ok(Turned::Begins(Begun {
+                stops,
+                role: Role::Joined(epoch),
+                end,
+                start,
+                batches: Taken::new(Bytes::new()),
+                wanted: LocalStart::new(wanted),
+                line,
+            })),
+            answer => Ok(Turned::Answers(answer)),
+        }
+    }
+
+    /// Goes on with a join: the follower's log is begun anew, where nothing has come between.
+    pub(crate) fn join_on(
+        &mut self,
+        alloc: Global,
+        b: usize,
+        begun: &Begun,
+    ) -> Result<Answer, AllocError>
+        requires { CanStop self.old b }
+        ensures row { IfOk result (λ answer. AtNode self.old b (λ x. JoinOnRow D.content D.control self.old b x begun.now answer self.new)) }
+        ensures err { OnErr result (StaysHeld D.content D.control self.old self.new) }
+    {
+        let node = self.nodes.get(b);
+        if begun.stops != node.stops || !node.is_up() {
+            return Ok(Answer::Stopped);
+        }
+        if is_behind(followed(begun.role), self.registry.epoch) {
+            return Ok(Answer::StaleEpoch(self.registry.epoch as u64));
+        }
+        let end = node.end();
+        if begun.end != end || joined(node.role).is_none() {
+            return Ok(Answer::Passed(end));
+        }
+        let start = self.registry.start;
+        let wanted = begun.wanted.offset();
+        if begun.start < wanted && wanted <= start {
+            return Ok(Answer::BelowStart(start));
+        }
+        let mut line = begun.line.copy(alloc)?;
+        line.cut_end(wanted + 1);
+        let node = self.nodes.at_mut(b);
+        match node.log.restart_at(wanted, line) {
+            Ok(()) => Ok(Answer::Rebuilt(wanted)),
+            Err(LogRefusal::DiskFault) => {
+                node.note_stop();
+                Ok(Answer::DiskFaultAt(wanted))
+            }
+            Err(LogRefusal::NoMemory) => Err(AllocError),
+            Err(_) => unreachable!(),
+        }
+    }
+
+    /// Cuts a follower's log, which has joined an epoch then.
+    fn cut(&mut self, b: usize, epoch: u32, met: u64) -> Result<Answer, AllocError>
+        requires node { CanStop self.old b }
+        requires up { AtNode self.old b (λ x. MayCut x met) }
+        ensures row { IfOk result (λ answer. AtNode self.old b (λ x. CutRow D.content D.control self.old b x epoch met answer self.new)) }
+        ensures err { OnErr result (StaysHeld D.content D.control self.old self.new) }
+    {
+        let node = self.nodes.at_mut(b);
+        let end = node.log.end_up_to(met);
+        match node.log.cut_to(met) {
+            Ok(end) => {
+                node.role = Role::Joined(epoch);
+                node.known = node.known.min(end);
+                Ok(Answer::Cut(end))
+            }
+            Err(LogRefusal::DiskFault) => {
+                node.note_stop();
+                Ok(Answer::DiskFaultAt(end))
+            }
+            Err(LogRefusal::NoMemory) => Err(AllocError),
+            Err(_) => unreachable!(),
+        }
+    }
+
+    /// Reads a run of the leader's log for a follower that isn't as far.
+    pub(crate) fn follow(
+        &mut self,
+        alloc: Global,
+        b: usize,
+        limit: u32,
+    ) -> Result<Turned, AllocError>
+        requires { b < length self.old.nodes }
+        ensures row { IfOk result (λ turned. AtNode self.old b (λ x. FollowRow D.content D.control self.old b x limit turned self.new)) }
+        ensures err { OnErr result (StaysHeld D.content D.control self.old self.new) }
+    {
+        let node = self.nodes.get(b);
+        if !node.is_up() {
+            return Ok(Turned::Answers(Answer::Down));
+        }
+        let Some(epoch) = joined(node.role) else {
+            return Ok(Turned::Answers(Answer::NotJoined));
+        };
+        if epoch < self.registry.epoch {
+            return Ok(Turned::Answers(Answer::StaleEpoch(self.registry.epoch as u64)));
+        }
+        let Some(leader) = self.leader() else {
+            return Ok(Turned::Answers(Answer::NoLeader));
+        };
+        let (end, bound) = (node.end(), leader.end());
+        if bound <= end {
+            return Ok(Turned::Answers(Answer::Level));
+        }
+        let Some(local) = leader.log.local_start() else {
+            unreachable!()
+        };
+        if end < local {
+            return Ok(Turned::Answers(Answer::Moved(local)));
+        }
+        let noted = self.notes(alloc, b);
+        self.take(self.registry.leader.0 as usize, noted, limit, bound)
+    }
+
+    /// Reads the run that a follow takes, of the leader's log up to its end.
+    fn take(
+        &mut self,
+        leader: usize,
+        noted: Begun,
+        limit: u32,
+        bound: u64,
+    ) -> Result<Turned, AllocError>
+        requires node { AtNode self.old leader (λ y. MayTake y noted.end bound) }
+        ensures row { IfOk result (λ turned. AtNode self.old leader (λ y.
+            TakeRow D.content D.control self.old leader y noted limit turned self.new)) }
+        ensures err { OnErr result (StaysHeld D.content D.control self.old self.new) }
+    {
+        let node = self.nodes.at_mut(leader);
+        match node.log.read_run(noted.end, limit as u64, bound) {
+            Ok(run) => Ok(Turned::Begins(Begun {
+                stops: noted.stops,
+                role: noted.role,
+                end: noted.end,
+                start: noted.start,
+                batches: Taken::new(run.bytes),
+                wanted: noted.wanted,
+                line: noted.line,
+            })),
+            Err(LogRefusal::DiskFault) => Ok(Turned::Answers(Answer::DiskFault)),
+            Err(LogRefusal::Damaged { file, at }) => {
+                Ok(Turned::Answers(Answer::Damaged(Place::File(file), at)))
+            }
+            Err(_) => Err(AllocError),
+        }
+    }
+
+    /// Puts of the run that a follow has read at the end of the follower's log what stands in one segment.
+    #[tactic(auto, using(crate::proofs::Writes::set_same))]
+    pub(crate) fn follow_on(&mut self, b: usize, begun: &Begun) -> Result<Answer, AllocError>
+        requires { CanStop self.old b }
+        ensures row { IfOk result (λ answer. AtNode self.old b (λ x. FollowOnRow D.content D.control self.old b x begun.now answer self.new)) }
+        ensures err { OnErr result (StaysHeld D.content D.control self.old self.new) }
+    {
+        let node = self.nodes.get(b);
+        if begun.stops != node.stops || !node.is_up() {
+            return Ok(Answer::Stopped);
+        }
+        if is_behind(followed(begun.role), self.registry.epoch) {
+            return Ok(Answer::StaleEpoch(self.registry.epoch as u64));
+        }
+        let end = node.end();
+        if begun.end != end
+            || joined(node.role).is_none()
+            || !node.log.takes(begun.batches.as_slice())
+        {
+            return Ok(Answer::Passed(end));
+        }
+        self.extend(b, begun.batches.as_slice())
+    }
+
+    /// Appends a run to a follower's log.
+    #[tactic(auto, using(crate::proofs::Writes::set_same))]
+    fn extend(&mut self, b: usize, run: &[u8]) -> Result<Answer, AllocError>
+        requires node { CanStop self.old b }
+        requires fits { AtNode self.old b (λ x. MayExtend x run.now) }
+        ensures row { IfOk result (λ answer. AtNode self.old b (λ x. ExtendRow D.content D.control self.old b x run.now answer self.new)) }
+        ensures err { OnErr result (StaysHeld D.content D.control self.old self.new) }
+    {
+        let node = self.nodes.at_mut(b);
+        match node.log.append(run) {
+            Ok(_) => Ok(Answer::Copied(node.end())),
+            Err(LogRefusal::LastOffset) => Ok(Answer::Passed(node.end())),
+            Err(LogRefusal::TooManySegments) => Ok(Answer::TooManySegments),
+            Err(LogRefusal::DiskFault) => {
+                node.note_stop();
+                Ok(Answer::DiskFault)
+            }
+            Err(LogRefusal::NoMemory) => Err(AllocError),
+            Err(_) => unreachable!(),
+        }
+    }
+}
+
+/// Whether an epoch is below another.
+fn is_behind(epoch: Option<u32>, other: u32) -> bool
+    ensures behind { result ≡ true → IsSomeAnd epoch (λ e. e < other) }
+    ensures not { result ≡ false → IsSomeAnd epoch (λ e. e < other) → ⊥ }
+{
+    match epoch {
+        Some(epoch) => epoch < other,
+        None => false,
+    }
+}

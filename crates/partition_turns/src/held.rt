@@ -1,0 +1,185 @@
+//! What the turns of commands work on: the registry, the brokers with their logs, and the clock.
+//!
+//! Each command has a method of its own, which makes its tests in their order. Where it finds no memory nothing that is
+//! seen has changed. A fault of a broker's disk in a write stops the broker.
+
+ghost use Rattle.std.specs.Prelude.{◌≡◌, ◌<◌, ◌≤◌, ◌+◌, ◌↔◌, length, IfOk, OnErr, IsTrue};
+ghost use Rattle.epoch_line.specs.Line.{last_epoch};
+ghost use Rattle.plain_log.specs.Orders.{IsInRange};
+ghost use Rattle.partition_turns.specs.Held.{AtNode, CanStop, StaysHeld, stopped, is_up, end_of, stable_of, line_of};
+ghost use Rattle.partition_turns.specs.Turns.{FirstRow, LaterRow, AnswerRow};
+ghost use Rattle.partition_turns.specs.TurnsOfLog.{Notes};
+ghost use Rattle.partition_turns.specs.Sound.{HeldSound};
+
+use broker_log::BrokerLog;
+use bytes::Bytes;
+use disk_model::Disk;
+use epoch_line::Line;
+use partition_seen::{Begun, LocalStart, Taken, Turned};
+use plain_log::{Answer, Command, Order, Registry, Role};
+use std::alloc::{AllocError, Global};
+use tier_base::Row;
+
+/// A broker.
+#[derive(Drop)]
+pub struct Node<D: Disk> {
+    /// How often it has stopped.
+    pub stops: u64,
+    pub role: Role,
+    /// Its log, or its disk alone while it is down.
+    pub log: BrokerLog<D>,
+    /// The high watermark that it knows, as far as its log goes.
+    pub known: u64,
+}
+
+/// The registry, the brokers, and the partition's clock in milliseconds.
+#[derive(Drop)]
+pub struct Held<D: Disk> {
+    pub registry: Registry,
+    pub nodes: Row<Node<D>>,
+    pub clock: i64,
+}
+
+impl<D: Disk> Node<D> {
+    /// Whether it is up.
+    pub fn is_up(&self) -> bool
+        ensures { result ≡ is_up self.now }
+    {
+        self.log.is_up()
+    }
+
+    /// Its log end offset, 0 while it is down.
+    pub fn end(&self) -> u64
+        ensures { result ≡ end_of self.now }
+    {
+        self.log.end().unwrap_or(0)
+    }
+
+    /// Its stable end, 0 while it is down.
+    pub fn stable(&self) -> u64
+        ensures { result ≡ stable_of self.now }
+    {
+        self.log.stable().unwrap_or(0)
+    }
+
+    /// The last leader epoch of its line.
+    pub(crate) fn last_epoch(&self) -> Option<u32>
+        ensures { result ≡ last_epoch (line_of self.now) }
+    {
+        match self.log.line() {
+            Some(line) => line.last_epoch(),
+            None => None,
+        }
+    }
+
+    /// Notes a stop: the broker does nothing, and knows no high watermark.
+    pub(crate) fn note_stop(&mut self)
+        requires { self.old.stops < 18446744073709551615 }
+        ensures { self.new ≡ record (stopped self.old) { log = self.old.log } }
+    {
+        self.stops += 1;
+        self.role = Role::Idle;
+        self.known = 0;
+    }
+}
+
+impl<D: Disk> Held<D> {
+    /// Whether a broker can stop once more. A count of stops that stood still would let a command of before a stop go on.
+    pub fn can_stop(&self, b: usize) -> bool
+        requires { b < length self.now.nodes }
+        ensures { IsTrue result ↔ CanStop self.now b }
+    {
+        self.nodes.get(b).stops < u64::MAX
+    }
+
+    /// What a seat keeps of a command of a broker that begins.
+    pub fn notes(&self, alloc: Global, b: usize) -> Begun
+        requires { b < length self.now.nodes }
+        ensures { AtNode self.now b (λ x. Notes self.now x result) }
+    {
+        let node = self.nodes.get(b);
+        Begun {
+            stops: node.stops,
+            role: node.role,
+            end: node.end(),
+            start: self.registry.start,
+            batches: Taken::new(Bytes::new()),
+            wanted: LocalStart::new(0),
+            line: Line::new(alloc),
+        }
+    }
+
+    /// Carries out the first turn of a command.
+    pub fn first_turn(&mut self, alloc: Global, order: &Order) -> Result<Turned, AllocError>
+        requires node { CanStop self.old order.now.broker.0 }
+        requires sound { HeldSound (length self.old.nodes) self.old }
+        requires fit { IsInRange order.now.command }
+        ensures row { IfOk result (λ turned.
+            AtNode self.old order.now.broker.0 (λ x.
+            FirstRow D.content D.control self.old order.now.broker.0 x order.now.command turned self.new)) }
+        ensures err { OnErr result (StaysHeld D.content D.control self.old self.new) }
+    {
+        match &order.command {
+            Command::Follow { limit } => self.follow(alloc, order.broker.0 as usize, *limit),
+            Command::Join => self.join(alloc, order.broker.0 as usize),
+            Command::Fetch { offset, limit } => {
+                self.fetch(alloc, order.broker.0 as usize, *offset, *limit)
+            }
+            _ => Ok(Turned::Answers(self.answer(alloc, order)?)),
+        }
+    }
+
+    /// Carries out the last turn of a command that has begun.
+    pub fn later_turn(
+        &mut self,
+        alloc: Global,
+        order: &Order,
+        begun: &Begun,
+    ) -> Result<Answer, AllocError>
+        requires node { CanStop self.old order.now.broker.0 }
+        requires sound { HeldSound (length self.old.nodes) self.old }
+        ensures row { IfOk result (λ answer.
+            AtNode self.old order.now.broker.0 (λ x.
+            LaterRow D.content D.control self.old order.now.broker.0 x order.now.command begun.now (Turned.Answers answer) self.new)) }
+        ensures err { OnErr result (StaysHeld D.content D.control self.old self.new) }
+    {
+        match &order.command {
+            Command::Follow { .. } => self.follow_on(order.broker.0 as usize, begun),
+            Command::Join => self.join_on(alloc, order.broker.0 as usize, begun),
+            // The others begin over the remote tier, or not at all.
+            _ => Err(AllocError),
+        }
+    }
+
+    /// Carries out a command of one turn.
+    fn answer(&mut self, alloc: Global, order: &Order) -> Result<Answer, AllocError>
+        requires node { CanStop self.old order.now.broker.0 }
+        requires sound { HeldSound (length self.old.nodes) self.old }
+        requires fit { IsInRange order.now.command }
+        ensures row { IfOk result (λ answer.
+            AtNode self.old order.now.broker.0 (λ x.
+            AnswerRow D.content D.control self.old order.now.broker.0 x order.now.command answer self.new)) }
+        ensures err { OnErr result (StaysHeld D.content D.control self.old self.new) }
+    {
+        let broker = order.broker;
+        let b = broker.0 as usize;
+        match &order.command {
+            Command::Append(recs) => self.append(alloc, b, recs.as_slice()),
+            Command::Raw(bytes) => self.raw(alloc, b, bytes.as_slice()),
+            Command::Flush => self.flush(b),
+            Command::Roll => self.roll(b),
+            Command::Elect => Ok(self.elect(broker)),
+            Command::Unclean => Ok(self.unclean(broker)),
+            Command::Learn => self.learn(broker),
+            Command::Ack => Ok(self.ack(broker)),
+            Command::Shrink => Ok(self.shrink(broker)),
+            Command::Expand => Ok(self.expand(broker)),
+            Command::Raise { start } => Ok(self.raise(b, *start)),
+            Command::Clock { ms } => Ok(self.set_clock(*ms)),
+            Command::Stop => Ok(self.stop(b)),
+            Command::Up => self.up(b),
+            // The others have turns of their own, or are carried out over the remote tier too.
+            _ => Err(AllocError),
+        }
+    }
+}

@@ -1,0 +1,20 @@
+//! Laws of the rows. Each is the contract of a function that does nothing: calling it cites the law.
+
+ghost use Rattle.partition_turns.specs.Laws.{RowsAreSeen, RowsKeepSound, RowsStayCalm};
+
+use disk_model::Disk;
+
+/// Where the partition is seen, each row is one of what is seen.
+pub fn rows_are_seen<D: Disk>()
+    ensures { RowsAreSeen D.content D.control }
+{}
+
+/// Each row keeps what later turns need, over any disks.
+pub fn rows_keep_sound<D: Disk>()
+    ensures { RowsKeepSound D.content D.control }
+{}
+
+/// Over disks of which no call can fail each row stays so, and tells of no fault.
+pub fn rows_stay_calm<D: Disk>()
+    ensures { RowsStayCalm D.content D.control }
+{}

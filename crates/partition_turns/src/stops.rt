@@ -1,0 +1,53 @@
+//! A broker's stops and starts, and the partition's clock.
+
+ghost use Rattle.std.specs.Prelude.{◌≡◌, ◌<◌, length, IfOk, OnErr};
+ghost use Rattle.partition_turns.specs.Held.{AtNode, CanStop, StaysHeld};
+ghost use Rattle.partition_turns.specs.Turns.{StopRow, UpRow, ClockRow};
+
+use crate::held::Held;
+use broker_log::OpenRefusal;
+use disk_model::{Disk, FileName};
+use plain_log::{Answer, Place};
+use std::alloc::AllocError;
+
+impl<D: Disk> Held<D> {
+    /// Stops a broker. What isn't stable is gone when it comes up again.
+    pub(crate) fn stop(&mut self, b: usize) -> Answer
+        requires { CanStop self.old b }
+        ensures { AtNode self.old b (λ x. StopRow D.content D.control self.old b x result self.new) }
+    {
+        if !self.nodes.get(b).is_up() {
+            return Answer::Down;
+        }
+        let node = self.nodes.at_mut(b);
+        node.log.stop();
+        node.note_stop();
+        Answer::Ok
+    }
+
+    /// Lets a broker come up with what it has stable.
+    pub(crate) fn up(&mut self, b: usize) -> Result<Answer, AllocError>
+        requires { b < length self.old.nodes }
+        ensures row { IfOk result (λ answer. AtNode self.old b (λ x. UpRow D.content D.control self.old b x answer self.new)) }
+        ensures err { OnErr result (StaysHeld D.content D.control self.old self.new) }
+    {
+        if self.nodes.get(b).is_up() {
+            return Ok(Answer::IsUp);
+        }
+        match self.nodes.at_mut(b).log.up() {
+            Ok(end) => Ok(Answer::Up(end)),
+            Err(OpenRefusal::DiskFault) => Ok(Answer::DiskFault),
+            Err(OpenRefusal::Damaged { file, at }) => { Ok(Answer::Damaged(Place::File(file), at)) }
+            Err(OpenRefusal::LastIncarnation) => Ok(Answer::LastIncarnation),
+            Err(OpenRefusal::NoMemory) => Err(AllocError),
+        }
+    }
+
+    /// Sets the clock.
+    pub(crate) fn set_clock(&mut self, ms: i64) -> Answer
+        ensures { ClockRow self.old ms result self.new }
+    {
+        self.clock = ms;
+        Answer::Ok
+    }
+}

@@ -1,0 +1,212 @@
+-- Each turn of a command leaves fewer: an order takes at most 14 of them.
+use Rattle.std.proofs.Common.{◌≡◌, inl, inr, refl, ap, subst, ℕ, zero, suc, ◌+◌, ◌-◌, ◌*◌, ◌<◌, ◌≤◌, List, [], ◌∷◌, length, slice_get, slice_set, Some, None, Option, Ok, arith}
+use Rattle.std.specs.Prelude.{min}
+use Rattle.disk_model.specs.declared.disk.Disk.{Ghosts as DiskGhosts}
+use Rattle.object_store.specs.declared.store.Store.{Ghosts as StoreGhosts}
+use Rattle.meta_log.specs.declared.log.MetaLog.{Ghosts as MetaGhosts}
+use Rattle.tier_base.specs.declared.names.PartitionId.{PartitionId}
+use Rattle.tier_base.specs.declared.plain.State.{State}
+use Rattle.tier_base.specs.declared.plain.State.TheVariants.{CopyStarted, CopyFinished, DeleteStarted, DeleteFinished}
+use Rattle.tier_base.specs.declared.object_key.ObjectKey.{ObjectKey}
+use Rattle.meta_log.specs.declared.teller.Teller.{Teller}
+use Rattle.remote_view.specs.Fold.{Seen, state_of}
+use Rattle.copy_task.specs.Copying.{Copied, keys}
+use Rattle.copy_task.specs.Turns.{Tiers, PutRow, DeleteRow, CopyRow, put_at, delete_at, checked}
+use Rattle.copy_task.specs.declared.turn.CopyTurn.{CopyTurn}
+use Rattle.copy_task.specs.declared.turn.CopyTurn.TheVariants.{Goes as GoesOn, Ends}
+use Rattle.copy_task.specs.declared.turn.Next.{Next}
+use Rattle.copy_task.specs.declared.turn.Next.TheVariants.{Start, Put, Finish, Check, Delete}
+use Rattle.plain_log.specs.declared.command.ActorList.{ActorList}
+use Rattle.plain_log.specs.declared.command.Command.{Command}
+use Rattle.plain_log.specs.declared.command.Command.TheVariants.{Copy, Trim}
+use Rattle.plain_log.specs.declared.command.Order.{Order}
+use Rattle.partition_seen.specs.declared.begun.Begun.{Begun}
+use Rattle.partition_seen.specs.declared.begun.Turned.{Turned}
+use Rattle.partition_seen.specs.declared.begun.Turned.TheVariants as turned
+use Rattle.partition_turns.specs.declared.held.Node.{Node}
+use Rattle.partition_turns.specs.declared.held.Held.{Held}
+use Rattle.partition_world.specs.declared.tier.Side.{Side}
+use Rattle.partition_world.specs.declared.tier.Tier.{Tier}
+use Rattle.partition_world.specs.declared.seat.Outcome.{Outcome}
+use Rattle.partition_world.specs.declared.seat.Outcome.TheVariants.{Answers, Begins, Chose, Goes}
+use Rattle.partition_world.specs.declared.seat.Seat.{Seat}
+use Rattle.partition_world.specs.declared.seat.Work.{Work}
+use Rattle.partition_world.specs.declared.seat.Work.TheVariants.{Idle, Noted, Copies}
+use Rattle.partition_world.specs.Seats.{chosen, moved, outcome_of, copy_outcome, seat_after}
+use Rattle.partition_world.specs.Turns.{BeginRow, NotedRow, CopyingRow, Row, TurnRow}
+use Rattle.partition_world.proofs.Begins.{begins_idle, row_of}
+
+-- how many turns a copy has taken at most that does this next
+abbrev pub taken_before : Next → ℕ
+taken_before Start = 2
+taken_before (Put n) = 3 + min n 4
+taken_before Finish = 8
+taken_before Check = 9
+taken_before (Delete n) = 10 + min n 3
+
+-- how many a command has taken at most; it has one more at least
+abbrev pub taken_of : Work → ℕ
+taken_of Idle = 0
+taken_of (Noted g) = 1
+taken_of (Copies g copy next) = taken_before next
+
+-- the turns that are left of a list
+abbrev pub turns_of : List Order → Seat → ℕ
+turns_of orders seat = 14 * (length orders - seat.number) - taken_of seat.work
+
+-- the turns that are left
+abbrev pub turns_left : List ActorList → List Seat → ℕ
+turns_left [] desk = 0
+turns_left (l ∷ lists) [] = 14 * length l.orders + turns_left lists []
+turns_left (l ∷ lists) (seat ∷ desk) = turns_of l.orders seat + turns_left lists desk
+
+-- the command has taken a turn more
+abbrev pub Advances : Work → Outcome → Type 0
+Advances work (Answers answer) = Unit {0}
+Advances work (Begins g) = taken_of work < taken_of (Noted g)
+Advances work (Chose copy) = taken_of work < taken_of (chosen work copy)
+Advances work (Goes next) = taken_of work < taken_of (moved work next)
+
+few_before : (next : Next) → taken_before next ≤ 13
+few_before Start = omega arith
+few_before (Put n) = omega arith
+few_before Finish = omega arith
+few_before Check = omega arith
+few_before (Delete n) = omega arith
+
+few_taken : (work : Work) → taken_of work ≤ 13
+few_taken Idle = omega arith
+few_taken (Noted g) = omega arith
+few_taken (Copies g copy next) = few_before next
+
+-- a copy goes on with a later turn
+to : (before next after : Next) → GoesOn next ≡ GoesOn after → taken_before before < taken_before after → taken_before before < taken_before next
+to before next after is lt = let e : next ≡ after = cc in rw e lt
+
+-- a segment has four keys
+key_low : (copy : Copied) (n : ℕ) (key : ObjectKey) → slice_get (keys copy) n ≡ Some key → n < 4
+key_low copy zero key is = omega arith
+key_low copy (suc zero) key is = omega arith
+key_low copy (suc (suc zero)) key is = omega arith
+key_low copy (suc (suc (suc zero))) key is = omega arith
+key_low copy (suc (suc (suc (suc n)))) key is = absurd cc
+
+put_advances : (copy : Copied) (n : ℕ) (key : Option ObjectKey) (next : Next) → slice_get (keys copy) (n + 1) ≡ key → GoesOn next ≡ GoesOn (put_at (n + 1) key) → taken_before (Put n) < taken_before next
+put_advances copy n None next at is = to (Put n) next Finish is (omega arith)
+put_advances copy n (Some key) next at is = let low = key_low copy (n + 1) key at in to (Put n) next (Put (n + 1)) is (omega (arith, low))
+
+delete_advances : (copy : Copied) (view : Seen) (n : ℕ) (key : Option ObjectKey) (next : Next) → slice_get (keys copy) (n + 1) ≡ key → GoesOn next ≡ delete_at copy view (n + 1) key
+    → taken_before (Delete n) < taken_before next
+delete_advances copy view n None next at is = absurd cc
+delete_advances copy view n (Some key) next at is = let low = key_low copy (n + 1) key at in to (Delete n) next (Delete (n + 1)) is (omega (arith, low))
+
+checked_advances : (copy : Copied) (notes : ℕ) (state : Option State) (next : Next) → GoesOn next ≡ checked copy notes state → taken_before Check < taken_before next
+checked_advances copy notes (Some CopyFinished) next is = absurd cc
+checked_advances copy notes (Some DeleteStarted) next is = to Check next (Delete 0) is (omega arith)
+checked_advances copy notes (Some DeleteFinished) next is = to Check next (Delete 0) is (omega arith)
+checked_advances copy notes (Some CopyStarted) next is = absurd cc
+checked_advances copy notes None next is = absurd cc
+
+module _ {S M : Type 0} (store : StoreGhosts S) (meta : MetaGhosts M) where
+  put_row : (copy : Copied) (n : ℕ) (key : Option ObjectKey) (next : Next) (old new : S) → PutRow store.content store.control copy n key (Ok (GoesOn next)) old new → taken_before (Put n) < taken_before next
+  put_row copy n None next old new w = let e : next ≡ Finish = cc (w.0) in rw e (omega arith)
+  put_row copy n (Some key) next old new w = put_advances copy n (slice_get (keys copy) (n + 1)) next refl w.0
+
+  delete_row : (copy : Copied) (view : Seen) (n : ℕ) (key : Option ObjectKey) (next : Next) (old new : S) → DeleteRow store.content store.control copy view n key (GoesOn next) old new
+      → taken_before (Delete n) < taken_before next
+  delete_row copy view n None next old new w = let e = w.0 in absurd (cc (e))
+  delete_row copy view n (Some key) next old new w = delete_advances copy view n (slice_get (keys copy) (n + 1)) next refl w.0
+
+  copy_advances : (copy : Copied) (teller : Teller) (before next : Next) (old new : Tiers S M)
+      → CopyRow store.content store.control meta.content meta.control copy teller before (Ok (GoesOn next)) old new → taken_before before < taken_before next
+  copy_advances copy teller Start next old new w = to Start next (Put 0) w.1.0 (omega arith)
+  copy_advances copy teller (Put n) next old new w = put_row copy n (slice_get (keys copy) n) next old.store new.store w.1
+  copy_advances copy teller Finish next old new w = to Finish next Check w.1.0 (omega arith)
+  copy_advances copy teller Check next old new w = checked_advances copy new.view.notes (state_of copy.id new.view.entries) next w.1.0
+  copy_advances copy teller (Delete n) next old new w = delete_row copy old.view n (slice_get (keys copy) n) next old.store new.store w.1
+
+-- what isn't a copy's
+own_chose : {A : Type 0} (turn : Turned) (copy : Copied) → Chose copy ≡ outcome_of turn → A
+own_chose (turned.Answers answer) copy is = absurd cc
+own_chose (turned.Begins g) copy is = absurd cc
+
+own_goes : {A : Type 0} (turn : Turned) (next : Next) → Goes next ≡ outcome_of turn → A
+own_goes (turned.Answers answer) next is = absurd cc
+own_goes (turned.Begins g) next is = absurd cc
+
+copy_chose : {A : Type 0} (turn : CopyTurn) (copy : Copied) → Chose copy ≡ copy_outcome turn → A
+copy_chose (GoesOn next) copy is = absurd cc
+copy_chose (Ends answer) copy is = absurd cc
+
+copy_goes : (turn : CopyTurn) (next : Next) → Goes next ≡ copy_outcome turn → turn ≡ GoesOn next
+copy_goes (GoesOn n) next is = cc
+copy_goes (Ends answer) next is = absurd cc
+
+module _ {D S M : Type 0} (disk : DiskGhosts D) (store : StoreGhosts S) (meta : MetaGhosts M) where
+  begin_chose : {A : Type 0} (h : Held D) (t : Tier S M) (b : ℕ) (x : Node D) (side : Side) (command : Command) (copy : Copied) (h' : Held D) (t' : Tier S M)
+      → BeginRow disk store meta h t b x side command (Chose copy) h' t' → A
+  begin_chose h t b x side Copy copy h' t' w = elim w.0 [ ]
+  begin_chose h t b x side other copy h' t' w = own_chose w.0.0 copy w.0.1
+
+  begin_goes : {A : Type 0} (h : Held D) (t : Tier S M) (b : ℕ) (x : Node D) (side : Side) (command : Command) (next : Next) (h' : Held D) (t' : Tier S M)
+      → BeginRow disk store meta h t b x side command (Goes next) h' t' → A
+  begin_goes h t b x side Copy next h' t' w = elim w.0 [ ]
+  begin_goes h t b x side other next h' t' w = own_goes w.0.0 next w.0.1
+
+  noted_goes : {A : Type 0} (p : PartitionId) (h : Held D) (t : Tier S M) (b : ℕ) (x : Node D) (side : Side) (g : Begun) (command : Command) (next : Next) (h' : Held D) (t' : Tier S M)
+      → NotedRow disk p h t b x side g command (Goes next) h' t' → A
+  noted_goes p h t b x side g Copy next h' t' (inl lost) = let e = lost.1 in absurd (cc (e))
+  noted_goes p h t b x side g Copy next h' t' (inr (keeps, inl level)) = let e = level.1 in absurd (cc (e))
+  noted_goes p h t b x side g Copy next h' t' (inr (keeps, inr reads)) = elim reads.row [ ]
+  noted_goes p h t b x side g Trim next h' t' w = absurd w
+  noted_goes p h t b x side g other next h' t' w = let e = w.0.1 in absurd (cc (e))
+
+  copying_chose : {A : Type 0} (h : Held D) (t : Tier S M) (b : ℕ) (x : Node D) (side : Side) (g : Begun) (copy : Copied) (next : Next) (command : Command) (other : Copied) (h' : Held D) (t' : Tier S M)
+      → CopyingRow store meta h t b x side g copy next command (Chose other) h' t' → A
+  copying_chose h t b x side g copy next Copy other h' t' (inl lost, same) = let e = lost.1 in absurd (cc (e))
+  copying_chose h t b x side g copy next Copy other h' t' (inr (keeps, (turn, is, goes)), same) = copy_chose turn other is
+  copying_chose h t b x side g copy next command other h' t' w = elim w [ ]
+
+  copying_goes : (h : Held D) (t : Tier S M) (b : ℕ) (x : Node D) (side : Side) (g : Begun) (copy : Copied) (before : Next) (command : Command) (next : Next) (h' : Held D) (t' : Tier S M)
+      → CopyingRow store meta h t b x side g copy before command (Goes next) h' t' → taken_before before < taken_before next
+  copying_goes h t b x side g copy before Copy next h' t' (inl lost, same) = let e = lost.1 in absurd (cc (e))
+  copying_goes h t b x side g copy before Copy next h' t' (inr (keeps, (turn, is, goes)), same) =
+      let one = copy_goes turn next is in
+      copy_advances store meta copy _ before next _ _ (rw one at goes.row)
+  copying_goes h t b x side g copy before command next h' t' w = elim w [ ]
+
+  advances : (p : PartitionId) (h : Held D) (t : Tier S M) (b : ℕ) (x : Node D) (side : Side) (work : Work) (command : Command) (outcome : Outcome) (h' : Held D) (t' : Tier S M)
+      → ((f : Begun) → outcome ≡ Begins f → work ≡ Idle) → Row disk store meta p h t b x side work command outcome h' t' → Advances work outcome
+  advances p h t b x side work command (Answers answer) h' t' f w = tt
+  advances p h t b x side work command (Begins g) h' t' f w = let idle = f g refl in rw idle (omega arith)
+  advances p h t b x side Idle command (Chose copy) h' t' f w = begin_chose h t b x side command copy h' t' w
+  advances p h t b x side (Noted g) command (Chose copy) h' t' f w = omega arith
+  advances p h t b x side (Copies g c before) command (Chose copy) h' t' f w = copying_chose h t b x side g c before command copy h' t' w
+  advances p h t b x side Idle command (Goes next) h' t' f w = begin_goes h t b x side command next h' t' w
+  advances p h t b x side (Noted g) command (Goes next) h' t' f w = noted_goes p h t b x side g command next h' t' w
+  advances p h t b x side (Copies g c before) command (Goes next) h' t' f w = copying_goes h t b x side g c before command next h' t' w
+
+  pub advances_at : (p : PartitionId) (h : Held D) (t : Tier S M) (b : ℕ) (work : Work) (command : Command) (outcome : Outcome) (h' : Held D) (t' : Tier S M)
+      → TurnRow disk store meta p h t b work command outcome h' t' → Advances work outcome
+  advances_at p h t b work command outcome h' t' w =
+      let r = row_of disk store meta p h t b work command outcome h' t' w in
+      advances p h t b r.x r.side work command outcome h' t'
+      (λ f is. begins_idle disk store meta p h t b work command f h' t' (subst (λ (o : Outcome). TurnRow disk store meta p h t b work command o h' t') is w)) r.row
+
+-- a seat after a turn leaves a turn less
+of_less : (orders : List Order) (seat : Seat) (outcome : Outcome) → seat.number < length orders → Advances seat.work outcome → turns_of orders (seat_after seat outcome) + 1 ≤ turns_of orders seat
+of_less orders seat (Answers answer) lt on = let few = few_taken seat.work in omega (arith, lt, few)
+of_less orders seat (Begins g) lt on = omega (arith, lt, on)
+of_less orders seat (Chose copy) lt on = let few = few_taken (chosen seat.work copy) in omega (arith, lt, few, on)
+of_less orders seat (Goes next) lt on = let few = few_taken (moved seat.work next) in omega (arith, lt, few, on)
+
+pub turns_less : (lists : List ActorList) (desk : List Seat) (i : ℕ) (l : ActorList) (seat : Seat) (outcome : Outcome) → slice_get lists i ≡ Some l → slice_get desk i ≡ Some seat
+    → seat.number < length l.orders → Advances seat.work outcome → turns_left lists (slice_set desk i (seat_after seat outcome)) + 1 ≤ turns_left lists desk
+turns_less [] desk i l seat outcome at to lt on = absurd cc
+turns_less (k ∷ lists) [] i l seat outcome at to lt on = absurd cc
+turns_less (k ∷ lists) (s ∷ desk) zero l seat outcome at to lt on =
+    let one : l ≡ k = cc in
+    let two : s ≡ seat = cc in
+    let less = of_less k.orders seat outcome (omega (arith, lt, ap (λ (t : ActorList). length t.orders) one)) on in
+    omega (arith, less, ap (λ (t : Seat). turns_of k.orders t) two)
+turns_less (k ∷ lists) (s ∷ desk) (suc i) l seat outcome at to lt on = let h = turns_less lists desk i l seat outcome at to lt on in omega (arith, h)

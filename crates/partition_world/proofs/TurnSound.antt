@@ -1,0 +1,159 @@
+-- Each turn keeps what the turns need, over any devices.
+use Rattle.std.proofs.Common.{◌≡◌, ◌∙◌, inl, inr, sym, ap, refl, ℕ, List, [], length, slice_get, slice_set, Some, Option}
+use Rattle.std.specs.Prelude.{unwrap_or}
+use Rattle.disk_model.specs.declared.disk.Disk.{Ghosts as DiskGhosts}
+use Rattle.object_store.specs.declared.store.Store.{Ghosts as StoreGhosts}
+use Rattle.meta_log.specs.declared.log.MetaLog.{Ghosts as MetaGhosts}
+use Rattle.tier_base.specs.declared.names.PartitionId.{PartitionId}
+use Rattle.log_terms.proofs.Lists.{length-slice_set}
+use Rattle.epoch_line.specs.Line.{last_epoch}
+use Rattle.copy_task.specs.Copying.{Copied}
+use Rattle.copy_task.specs.declared.turn.Next.{Next}
+use Rattle.plain_log.specs.declared.answer.Answer.TheVariants.{Down, NotLeader, MetaFault, DiskFault, Damaged}
+use Rattle.plain_log.specs.declared.answer.Place.TheVariants.{File}
+use Rattle.plain_log.specs.declared.command.Command.{Command}
+use Rattle.plain_log.specs.declared.command.Command.TheVariants.{Copy, Trim}
+use Rattle.partition_seen.specs.declared.begun.Begun.{Begun}
+use Rattle.partition_seen.specs.declared.begun.Turned.TheVariants as turned
+use Rattle.partition_seen.proofs.BoolTests.{some_of}
+use Rattle.partition_turns.specs.declared.held.Node.{Node}
+use Rattle.partition_turns.specs.declared.held.Held.{Held}
+use Rattle.partition_turns.specs.Held.{is_up, line_of}
+use Rattle.partition_turns.specs.Sound.{NodeSound, HeldSound}
+use Rattle.partition_turns.proofs.SoundLaw.{same, put_is, first_sound, later_sound, stays_held_sound}
+use Rattle.partition_world.specs.declared.tier.Side.{Side}
+use Rattle.partition_world.specs.declared.tier.Tier.{Tier}
+use Rattle.partition_world.specs.declared.seat.Outcome.{Outcome}
+use Rattle.partition_world.specs.declared.seat.Outcome.TheVariants.{Answers, Begins, Chose}
+use Rattle.partition_world.specs.declared.seat.Work.{Work}
+use Rattle.partition_world.specs.declared.seat.Work.TheVariants.{Idle, Noted, Copies}
+use Rattle.partition_world.specs.TurnsOfCopy.{ReadsLog, ReadRow, ChooseRow, CopyFirstRow}
+use Rattle.partition_world.specs.Turns.{NotedRow, CopyingRow, BeginRow, Row, TurnRow, HaltsTier, StaysTier}
+use Rattle.partition_world.proofs.Begins.{row_of}
+
+module _ {D : Type 0} where
+  -- two nodes are alike in all that their turns need
+  record Alike (x x' : Node D) : Type 0 where
+    pub role : x'.role ≡ x.role
+    pub known : x'.known ≡ x.known
+    pub up : is_up x' ≡ is_up x
+    pub line : line_of x' ≡ line_of x
+
+  alike_sound : (x x' : Node D) → NodeSound x → Alike x x' → NodeSound x'
+  alike_sound x x' s k = record {
+    up = λ e is. k.up ∙ s.up e (sym k.role ∙ is);
+    leads = λ e is. ap last_epoch k.line ∙ s.leads e (sym k.role ∙ is);
+    fits = λ e is. s.fits e (sym k.role ∙ is);
+    down = λ down. let d = s.down (sym k.up ∙ down) in (k.role ∙ d.0, k.known ∙ d.1);
+  }
+
+module _ {D : Type 0} (disk : DiskGhosts D) where
+  -- a node whose log was read
+  read_alike : (x x' : Node D) → ReadsLog disk x x' → Alike x x'
+  read_alike x x' r = rw r.after (record {
+    role = refl;
+    known = refl;
+    up = r.stays.up;
+    line = ap (λ (o : Option (List (ℕ × ℕ))). unwrap_or o []) r.stays.line;
+  })
+
+  next_alike : (p : PartitionId) (b : ℕ) (x : Node D) (side : Side) (offset : ℕ) (outcome : Outcome) (x' : Node D) (side' : Side) → ReadRow disk p b x side offset outcome x' side' → Alike x x'
+  next_alike p b x side offset (Answers DiskFault) x' side' w = read_alike x x' w.0.reads
+  next_alike p b x side offset (Answers (Damaged (File name) at)) x' side' w = read_alike x x' w.0.reads
+  next_alike p b x side offset (Chose copy) x' side' w = read_alike x x' w.0.reads
+  next_alike p b x side offset other x' side' w = elim w [ ]
+
+module _ {D S M : Type 0} (disk : DiskGhosts D) (store : StoreGhosts S) (meta : MetaGhosts M) where
+  choose_sound : (n : ℕ) (p : PartitionId) (h : Held D) (t : Tier S M) (b : ℕ) (x : Node D) (side : Side) (g : Begun) (outcome : Outcome) (h' : Held D) (t' : Tier S M)
+      → slice_get h.nodes b ≡ Some x → HeldSound n h → ChooseRow disk p h t b x side g outcome h' t' → HeldSound n h'
+  choose_sound n p h t b x side g outcome h' t' at s (inl lost) = same n h h' lost.2 s
+  choose_sound n p h t b x side g outcome h' t' at s (inr (keeps, inl level)) = same n h h' level.2 s
+  choose_sound n p h t b x side g outcome h' t' at s (inr (keeps, inr reads)) =
+      put_is n h b reads.node h' reads.held s (alike_sound x reads.node (s.nodes b x at) (next_alike disk p b x side _ outcome reads.node reads.side_after reads.row))
+
+  noted_sound : (n : ℕ) (p : PartitionId) (h : Held D) (t : Tier S M) (b : ℕ) (x : Node D) (side : Side) (g : Begun) (command : Command) (outcome : Outcome) (h' : Held D) (t' : Tier S M)
+      → slice_get h.nodes b ≡ Some x → HeldSound n h → NotedRow disk p h t b x side g command outcome h' t' → HeldSound n h'
+  noted_sound n p h t b x side g Copy outcome h' t' at s w = choose_sound n p h t b x side g outcome h' t' at s w
+  noted_sound n p h t b x side g Trim outcome h' t' at s w = absurd w
+  noted_sound n p h t b x side g other outcome h' t' at s w = later_sound disk.content disk.control n h b x other g (turned.Answers w.0.0) h' at s w.0.2
+
+  begins_sound : (n : ℕ) (h : Held D) (t : Tier S M) (b : ℕ) (x : Node D) (side : Side) (command : Command) (outcome : Outcome) (h' : Held D) (t' : Tier S M)
+      → slice_get h.nodes b ≡ Some x → HeldSound n h → BeginRow disk store meta h t b x side command outcome h' t' → HeldSound n h'
+  begins_sound n h t b x side Copy outcome h' t' at s w = same n h h' w.1 s
+  begins_sound n h t b x side other outcome h' t' at s w = first_sound disk.content disk.control n h b x other w.0.0 h' at s w.0.2
+
+  copying_sound : (n : ℕ) (h : Held D) (t : Tier S M) (b : ℕ) (x : Node D) (side : Side) (g : Begun) (copy : Copied) (next : Next) (command : Command) (outcome : Outcome) (h' : Held D) (t' : Tier S M)
+      → HeldSound n h → CopyingRow store meta h t b x side g copy next command outcome h' t' → HeldSound n h'
+  copying_sound n h t b x side g copy next Copy outcome h' t' s w = same n h h' w.1 s
+  copying_sound n h t b x side g copy next other outcome h' t' s w = elim w [ ]
+
+  row_sound : (n : ℕ) (p : PartitionId) (h : Held D) (t : Tier S M) (b : ℕ) (x : Node D) (side : Side) (work : Work) (command : Command) (outcome : Outcome) (h' : Held D) (t' : Tier S M)
+      → slice_get h.nodes b ≡ Some x → HeldSound n h → Row disk store meta p h t b x side work command outcome h' t' → HeldSound n h'
+  row_sound n p h t b x side Idle command outcome h' t' at s w = begins_sound n h t b x side command outcome h' t' at s w
+  row_sound n p h t b x side (Noted g) command outcome h' t' at s w = noted_sound n p h t b x side g command outcome h' t' at s w
+  row_sound n p h t b x side (Copies g copy next) command outcome h' t' at s w = copying_sound n h t b x side g copy next command outcome h' t' s w
+
+  -- each turn does
+  pub turn_sound : (n : ℕ) (p : PartitionId) (h : Held D) (t : Tier S M) (b : ℕ) (work : Work) (command : Command) (outcome : Outcome) (h' : Held D) (t' : Tier S M) → HeldSound n h
+      → TurnRow disk store meta p h t b work command outcome h' t' → HeldSound n h'
+  turn_sound n p h t b work command outcome h' t' s w =
+      let r = row_of disk store meta p h t b work command outcome h' t' w in row_sound n p h t b r.x r.side work command outcome h' t' r.at s r.row
+
+  -- and want of memory
+  pub stays_sound : (n : ℕ) (h : Held D) (t : Tier S M) (b : ℕ) (h' : Held D) (t' : Tier S M) → HeldSound n h → StaysTier disk store meta h t b h' t' → HeldSound n h'
+  stays_sound n h t b h' t' s (inl k) = stays_held_sound disk.content disk.control n h h' s k.0
+  stays_sound n h t b h' t' s (inr k) = same n h h' k.0 s
+
+  -- and each leaves as many sides
+  sides_put : (t : Tier S M) (b : ℕ) (side : Side) (t' : Tier S M) → t'.sides ≡ slice_set t.sides b side → length t'.sides ≡ length t.sides
+  sides_put t b side t' is = ap (λ (k : List Side). length k) is ∙ length-slice_set t.sides b side
+
+  choose_sides : (p : PartitionId) (h : Held D) (t : Tier S M) (b : ℕ) (x : Node D) (side : Side) (g : Begun) (outcome : Outcome) (h' : Held D) (t' : Tier S M)
+      → ChooseRow disk p h t b x side g outcome h' t' → length t'.sides ≡ length t.sides
+  choose_sides p h t b x side g outcome h' t' (inl lost) = ap (λ (k : Tier S M). length k.sides) lost.3
+  choose_sides p h t b x side g outcome h' t' (inr (keeps, inl level)) = ap (λ (k : Tier S M). length k.sides) level.3
+  choose_sides p h t b x side g outcome h' t' (inr (keeps, inr reads)) = sides_put t b reads.side_after t' (ap (λ (k : Tier S M). k.sides) reads.tier)
+
+  noted_sides : (p : PartitionId) (h : Held D) (t : Tier S M) (b : ℕ) (x : Node D) (side : Side) (g : Begun) (command : Command) (outcome : Outcome) (h' : Held D) (t' : Tier S M)
+      → NotedRow disk p h t b x side g command outcome h' t' → length t'.sides ≡ length t.sides
+  noted_sides p h t b x side g Copy outcome h' t' w = choose_sides p h t b x side g outcome h' t' w
+  noted_sides p h t b x side g Trim outcome h' t' w = absurd w
+  noted_sides p h t b x side g other outcome h' t' w = ap (λ (k : Tier S M). length k.sides) w.1
+
+  first_sides : (h : Held D) (t : Tier S M) (b : ℕ) (x : Node D) (side : Side) (outcome : Outcome) (t' : Tier S M) → CopyFirstRow meta h t b x side outcome t' → length t'.sides ≡ length t.sides
+  first_sides h t b x side (Answers Down) t' w = ap (λ (k : Tier S M). length k.sides) w.1
+  first_sides h t b x side (Answers NotLeader) t' w = ap (λ (k : Tier S M). length k.sides) w.2
+  first_sides h t b x side (Answers MetaFault) t' w = ap (λ (k : Tier S M). length k.sides) w.2.after
+  first_sides h t b x side (Begins g) t' w = sides_put t b (record side { view = w.3.view }) t' (ap (λ (k : Tier S M). k.sides) w.3.after)
+  first_sides h t b x side other t' w = elim w [ ]
+
+  begins_sides : (h : Held D) (t : Tier S M) (b : ℕ) (x : Node D) (side : Side) (command : Command) (outcome : Outcome) (h' : Held D) (t' : Tier S M)
+      → BeginRow disk store meta h t b x side command outcome h' t' → length t'.sides ≡ length t.sides
+  begins_sides h t b x side Copy outcome h' t' w = first_sides h t b x side outcome t' w.0
+  begins_sides h t b x side other outcome h' t' w = ap (λ (k : Tier S M). length k.sides) w.1
+
+  copying_sides : (h : Held D) (t : Tier S M) (b : ℕ) (x : Node D) (side : Side) (g : Begun) (copy : Copied) (next : Next) (command : Command) (outcome : Outcome) (h' : Held D) (t' : Tier S M)
+      → CopyingRow store meta h t b x side g copy next command outcome h' t' → length t'.sides ≡ length t.sides
+  copying_sides h t b x side g copy next Copy outcome h' t' (inl lost, same) = ap (λ (k : Tier S M). length k.sides) lost.2
+  copying_sides h t b x side g copy next Copy outcome h' t' (inr (keeps, (turn, is, goes)), same) = sides_put t b (record side { view = goes.view }) t' (ap (λ (k : Tier S M). k.sides) goes.after)
+  copying_sides h t b x side g copy next other outcome h' t' w = elim w [ ]
+
+  row_sides : (p : PartitionId) (h : Held D) (t : Tier S M) (b : ℕ) (x : Node D) (side : Side) (work : Work) (command : Command) (outcome : Outcome) (h' : Held D) (t' : Tier S M)
+      → Row disk store meta p h t b x side work command outcome h' t' → length t'.sides ≡ length t.sides
+  row_sides p h t b x side Idle command outcome h' t' w = begins_sides h t b x side command outcome h' t' w
+  row_sides p h t b x side (Noted g) command outcome h' t' w = noted_sides p h t b x side g command outcome h' t' w
+  row_sides p h t b x side (Copies g copy next) command outcome h' t' w = copying_sides h t b x side g copy next command outcome h' t' w
+
+  pub turn_sides : (p : PartitionId) (h : Held D) (t : Tier S M) (b : ℕ) (work : Work) (command : Command) (outcome : Outcome) (h' : Held D) (t' : Tier S M)
+      → TurnRow disk store meta p h t b work command outcome h' t' → length t'.sides ≡ length t.sides
+  turn_sides p h t b work command outcome h' t' w =
+      let r = row_of disk store meta p h t b work command outcome h' t' w in row_sides p h t b r.x r.side work command outcome h' t' r.row
+
+  halts_sides : (h : Held D) (t : Tier S M) (b : ℕ) (side : Side) (t' : Tier S M) → HaltsTier disk store meta h t b side t' → length t'.sides ≡ length t.sides
+  halts_sides h t b side t' (inl halts) = sides_put t b (record side { view = halts.view }) t' (ap (λ (k : Tier S M). k.sides) halts.after)
+  halts_sides h t b side t' (inr (copy, next, wants)) = sides_put t b (record side { view = wants.view }) t' (ap (λ (k : Tier S M). k.sides) wants.after)
+
+  pub stays_sides : (h : Held D) (t : Tier S M) (b : ℕ) (h' : Held D) (t' : Tier S M) → StaysTier disk store meta h t b h' t' → length t'.sides ≡ length t.sides
+  stays_sides h t b h' t' (inl k) = ap (λ (k : Tier S M). length k.sides) k.1
+  stays_sides h t b h' t' (inr k) =
+      let side = some_of (λ side. HaltsTier disk store meta h t b side t') (slice_get t.sides b) k.1 in halts_sides h t b side.0 t' side.2

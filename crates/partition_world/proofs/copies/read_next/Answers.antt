@@ -1,0 +1,60 @@
+use Rattle.std.proofs.Common.{◌≡◌, ◌∙◌, sym, refl, ap, subst, arith, Option, List, ℕ, ◌<◌, Some, []}
+use Rattle.std.specs.Prelude.{unwrap_or, IfSome, IsSomeAnd, ◌^◌, ◌-◌}
+use Rattle.std.specs.declared.result.Result.TheVariants.{Err}
+use Rattle.segment_file.specs.Closed.{Whole}
+use Rattle.local_log.specs.Reading.{IsClosedFrom, ClosedFails, IsOfDevice}
+use Rattle.local_log.specs.declared.refusal.LogRefusal.{LogRefusal}
+use Rattle.broker_log.specs.Seen.{Seen, Shows, WhileUp, OnDisk}
+use Rattle.broker_log.specs.Turns.{IsSegmentOf}
+use Rattle.tier_safe.specs.Views.{IsIdOf}
+use Rattle.partition_world.specs.Tier.{next_of, counted}
+use Rattle.partition_world.proofs.Dispatch.{interval_up}
+use Rattle.partition_world.proofs.copies.read_next.Goals as goal
+
+pub returns-in_ok-copying-in-Ok-Some-clause-row : goal.returns-in_ok-copying-in-Ok-Some-clause-row
+returns-in_ok-copying-in-Ok-Some-clause-row g c =
+    let x = c.args.node.now in
+    let kept = c.closed_from.new.self in
+    let copy = c.in_ok-copying-in-Ok-Some.ensures in
+    let copied = c.in_ok-copying-in-Ok-Some.copying in
+    let i = c.in-Some.incarnation in
+    let read = subst (λ (o : Option Whole). WhileUp x.log (λ log. OnDisk kept (λ d. IsClosedFrom log c.args.offset (g.D.Disk.control d).handed o))) c.in-Ok-Some.field-0-is c.in-Ok-Some.ensures.segment in
+    let part = subst (λ (o : Option Whole). (s : Seen) → Shows g.D.Disk.content x.log s → IfSome o (λ w. IsSegmentOf s w)) c.in-Ok-Some.field-0-is c.in-Ok-Some.ensures.part in (
+      record {
+        reads = record { kept = kept; stays = c.closed_from.ensures.stays; lasts = c.closed_from.ensures.control; after = refl };
+        handed = subst (λ (w : Whole). WhileUp x.log (λ log. OnDisk kept (λ d. IsClosedFrom log c.args.offset (g.D.Disk.control d).handed (Some w)))) (sym copy.segment) read;
+        part = λ s shows. subst (λ (w : Whole). IsSegmentOf s w) (sym copy.segment) (part s shows);
+      },
+      record {
+        is = copy.is;
+        segment_is = refl;
+        partition_is = copy.partition;
+        id = subst (λ (o : Option ℕ). IsSomeAnd o (λ i. IsIdOf copied.id c.args.partition.0 c.args.broker.0 i (next_of c.args.side.now i))) c.in-Some.ensures
+            (rw copy.id (subst (λ (n : ℕ). IsIdOf c.id_of-id.result c.args.partition.0 c.args.broker.0 i n) c.next-next.ensures c.id_of-id.ensures));
+        few = subst (λ (o : Option ℕ). IsSomeAnd o (λ i. next_of c.args.side.now i < 2 ^ 64 - 1)) c.in-Some.ensures (omega (arith, c.next-next.ensures, c.if-next-lt18446744073709551615.true));
+        line_is = copy.line ∙ ap (λ (o : Option (List (ℕ × ℕ))). unwrap_or o []) c.closed_from.ensures.stays.line;
+        interval_is = interval_up x.log copied.interval c.in-Some-settings.settings c.requires.up c.in-Some-settings.ensures copy.interval;
+      },
+      subst (λ (o : Option ℕ). IsSomeAnd o (λ i. c.count.new.self ≡ counted c.args.side.now i)) c.in-Some.ensures c.count.ensures,
+    )
+
+pub returns-in-Err-DiskFault-clause-row : goal.returns-in-Err-DiskFault-clause-row
+returns-in-Err-DiskFault-clause-row g c = (
+  record {
+    reads = record { kept = c.closed_from.new.self; stays = c.closed_from.ensures.stays; lasts = c.closed_from.ensures.control; after = refl };
+    cause = c.closed_from.ensures.cause (c.in-Err-DiskFault.is ∙ ap (λ (e : LogRefusal). Err e) c.in-Err-DiskFault.field-0-is);
+  },
+  refl,
+)
+
+pub returns-in-Err-Damaged-clause-row : goal.returns-in-Err-Damaged-clause-row
+returns-in-Err-Damaged-clause-row g c =
+    let x = c.args.node.now in
+    let e = c.in-Err-Damaged in
+    let kept = c.closed_from.new.self in
+    let bad = subst (λ (e : LogRefusal). WhileUp x.log (λ log. OnDisk kept (λ d. ClosedFails log c.args.offset (g.D.Disk.control d).handed e))) e.field-0-is e.ensures.err in
+    let whole = subst (λ (e : LogRefusal). (s : Seen) → Shows g.D.Disk.content x.log s → IsOfDevice e) e.field-0-is e.ensures.whole in
+    rw e.field-0-is (
+      record { reads = record { kept = kept; stays = c.closed_from.ensures.stays; lasts = c.closed_from.ensures.control; after = refl }; bad = bad; unseen = whole },
+      refl,
+    )

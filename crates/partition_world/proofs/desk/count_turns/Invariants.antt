@@ -1,6 +1,0 @@
-use Rattle.std.proofs.Common.{◌≡◌, ◌+◌, drop, []}
-use Rattle.partition_seen.specs.Sound.{turns_left}
-use Rattle.partition_world.proofs.desk.count_turns.Given as goal
-
-abbrev pub invariant-loop-list : goal.invariant-loop-list
-invariant-loop-list l = l.count + turns_left (drop l.list-index l.lists) [] ≡ turns_left l.lists []

@@ -1,0 +1,88 @@
+-- What a seat keeps of a command between its turns, and what a turn makes of it.
+use Rattle.std.specs.Prelude.{ℕ, ◌+◌, List, [], ◌∷◌, map, Option, Some, None}
+use Rattle.tier_base.specs.declared.names.ActorId.{ActorId}
+use Rattle.copy_task.specs.Copying.{Copied}
+use Rattle.copy_task.specs.declared.turn.CopyTurn.{CopyTurn}
+use Rattle.copy_task.specs.declared.turn.CopyTurn.TheVariants.{Goes as GoesOn, Ends}
+use Rattle.copy_task.specs.declared.turn.Next.{Next}
+use Rattle.copy_task.specs.declared.turn.Next.TheVariants.{Start}
+use Rattle.plain_log.specs.declared.command.Command.{Command}
+use Rattle.plain_log.specs.declared.journal.Event.TheVariants as event
+use Rattle.plain_log.specs.declared.journal.JournalEntry.{JournalEntry}
+use Rattle.partition_seen.specs.declared.begun.Begun.{Begun}
+use Rattle.partition_seen.specs.declared.begun.Turned.{Turned}
+use Rattle.partition_seen.specs.declared.begun.Turned.TheVariants as turned
+use Rattle.partition_seen.specs.declared.seat.Seat as seen_seat
+use Rattle.partition_seen.specs.declared.seat.Stepped.{Stepped}
+use Rattle.partition_seen.specs.declared.seat.Stepped.TheVariants.{Ran, Done}
+use Rattle.partition_seen.specs.Turn.{event_of}
+use Rattle.partition_world.specs.declared.seat.Outcome.{Outcome}
+use Rattle.partition_world.specs.declared.seat.Outcome.TheVariants.{Answers, Begins, Chose, Goes}
+use Rattle.partition_world.specs.declared.seat.Seat.{Seat}
+use Rattle.partition_world.specs.declared.seat.Work.{Work}
+use Rattle.partition_world.specs.declared.seat.Work.TheVariants.{Idle, Noted, Copies}
+
+-- what was noted where the command began
+abbrev pub noted_in : Work → Option Begun
+noted_in Idle = None
+noted_in (Noted g) = Some g
+noted_in (Copies g copy next) = Some g
+
+-- a copy that has chosen its segment starts with it next
+abbrev pub chosen : Work → Copied → Work
+chosen (Noted g) copy = Copies g copy Start
+chosen other copy = other
+
+-- a copy does this next
+abbrev pub moved : Work → Next → Work
+moved (Copies g copy before) next = Copies g copy next
+moved other next = other
+
+-- the seat as it is seen: of a copy what was noted is seen, and not its segment
+abbrev pub seat_seen : Seat → seen_seat.Seat
+seat_seen seat = record { number = seat.number; begun = noted_in seat.work }
+
+-- the desk as it is seen
+abbrev pub desk_seen : List Seat → List seen_seat.Seat
+desk_seen desk = map seat_seen desk
+
+-- what a turn came to that works on brokers' logs and the registry alone
+abbrev pub outcome_of : Turned → Outcome
+outcome_of (turned.Answers answer) = Answers answer
+outcome_of (turned.Begins g) = Begins g
+
+-- what a turn of a copy came to
+abbrev pub copy_outcome : CopyTurn → Outcome
+copy_outcome (GoesOn next) = Goes next
+copy_outcome (Ends answer) = Answers answer
+
+-- the seat after a turn: at the next order after an answer, else with what the order goes on with
+abbrev pub seat_after : Seat → Outcome → Seat
+seat_after seat (Answers answer) = record { number = seat.number + 1; work = Idle }
+seat_after seat (Begins g) = record seat { work = Noted g }
+seat_after seat (Chose copy) = record seat { work = chosen seat.work copy }
+seat_after seat (Goes next) = record seat { work = moved seat.work next }
+
+-- what the journal says of a turn: nothing of one that neither begins its command nor answers it
+abbrev pub told_of : ActorId → ℕ → Command → Outcome → List JournalEntry
+told_of actor number command (Answers answer) =
+    record { actor = actor; number = number; event = event.Answers answer } ∷ []
+told_of actor number command (Begins g) =
+    record { actor = actor; number = number; event = event_of (turned.Begins g) command } ∷ []
+told_of actor number command other = []
+
+-- how many entries that are
+abbrev pub told_count : Outcome → ℕ
+told_count (Answers answer) = 1
+told_count (Begins g) = 1
+told_count other = 0
+
+-- what a step is that came to it
+abbrev pub stepped_of : Outcome → Stepped
+stepped_of (Answers answer) = Done
+stepped_of other = Ran
+
+-- the command goes on
+abbrev pub IsUnanswered : Outcome → Type 0
+IsUnanswered (Answers answer) = ⊥
+IsUnanswered other = Unit {0}

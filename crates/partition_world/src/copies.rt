@@ -1,0 +1,256 @@
+//! The turns of a copy.
+//!
+//! The first turn refreshes the leader's view, the second chooses a closed segment and reads it; from the third on the
+//! copy makes a call of a device in each. A broker that has stopped, or has another role, has lost its lead.
+
+ghost use Rattle.std.specs.Prelude.{◌≡◌, ◌↔◌, ◌<◌, true, false, None, Some, length, IfOk, OnErr, IsSomeAnd, IsTrue};
+ghost use Rattle.tier_safe.specs.Views.{IsIdOf};
+ghost use Rattle.broker_log.specs.Seen.{closed_in, incarnation_in};
+ghost use Rattle.local_log.specs.Reading.{first_past};
+ghost use Rattle.copy_task.specs.Candidate.{candidate};
+ghost use Rattle.copy_task.specs.Copying.{IsCopied};
+ghost use Rattle.copy_task.specs.Turns.{CopyRow};
+ghost use Rattle.partition_turns.specs.declared.held.Node.{Node as Broker};
+ghost use Rattle.partition_turns.specs.Held.{AtNode, is_up, line_of, put_node};
+ghost use Rattle.partition_world.specs.declared.tier.Side.{Side as Knowledge};
+ghost use Rattle.partition_world.specs.Tier.{AtSide, next_of, put_side, Halts};
+ghost use Rattle.partition_world.specs.TurnsOfCopy.{KeepsLead, copied_to, CopyFirstRow, ChooseRow, ReadRow, ReadsLog, CopyOnRow, tiers_of, teller_of, WantsForCopy};
+ghost use Rattle.partition_world.specs.Turns.{StaysTier};
+
+use crate::seat::{Outcome, copy_outcome};
+use crate::tier::{Side, Tier};
+use broker_log::LogRefusal;
+use copy_task::{Copying, Next, candidate, copy_turn};
+use disk_model::Disk;
+use meta_log::{MetaLog, Teller};
+use object_store::Store;
+use partition_seen::Begun;
+use partition_turns::{Held, Node, leading};
+use plain_log::{Answer, Place};
+use remote_find::covered_to;
+use segment_file::Closed;
+use std::alloc::{AllocError, Global};
+use tier_base::{BrokerId, PartitionId, SegmentId, Trouble, segment_id};
+
+/// Whether a broker is up, has not stopped since a command began, and has the role that it had.
+fn keeps_lead<D: Disk>(node: &Node<D>, noted: &Begun) -> bool
+    ensures { IsTrue result ↔ KeepsLead node.now noted.now }
+{
+    noted.stops == node.stops && node.is_up() && noted.role == node.role
+}
+
+/// The end that the remote tier has all of a broker's log up to, from the log start or the local start on.
+fn copied_to<D: Disk>(node: &Node<D>, side: &Side, start: u64) -> u64
+    requires { is_up node.now ≡ true }
+    ensures { result ≡ copied_to node.now side.now start }
+{
+    let (Some(line), Some(local)) = (node.log.line(), node.log.local_start()) else {
+        unreachable!()
+    };
+    covered_to(&side.view, line, node.end(), local.max(start))
+}
+
+/// Whether a closed segment comes next, behind the end that the remote tier has all up to.
+fn has_next<D: Disk>(node: &Node<D>, copied: u64) -> bool
+    ensures some { result ≡ true → IsSomeAnd (candidate (closed_in node.now.log) copied node.now.known) (λ segment. Unit {0}) }
+    ensures none { result ≡ false → candidate (closed_in node.now.log) copied node.now.known ≡ None }
+{
+    candidate(node.log.closed(), copied, node.known).is_some()
+}
+
+/// The segment of a broker's log under an id.
+fn copying<D: Disk>(
+    alloc: Global,
+    node: &Node<D>,
+    partition: PartitionId,
+    id: SegmentId,
+    segment: Closed,
+    interval: u32,
+) -> Result<Copying, AllocError>
+    requires { is_up node.now ≡ true }
+    ensures is { IfOk result IsCopied }
+    ensures id { IfOk result (λ copy. copy.id ≡ id) }
+    ensures partition { IfOk result (λ copy. copy.partition ≡ partition) }
+    ensures segment { IfOk result (λ copy. copy.segment ≡ segment) }
+    ensures line { IfOk result (λ copy. copy.line ≡ line_of node.now) }
+    ensures interval { IfOk result (λ copy. copy.interval ≡ interval) }
+{
+    let Some(line) = node.log.line() else {
+        unreachable!()
+    };
+    Copying::of(alloc, partition, id, segment, line, interval)
+}
+
+/// The id of a copy by a broker.
+fn id_of(partition: PartitionId, broker: BrokerId, incarnation: u32, attempt: u64) -> SegmentId
+    ensures { IsIdOf result partition.0 broker.0 incarnation attempt }
+{
+    // Reading the numbers shows that they fit their fields.
+    let _partition = partition.0;
+    let _broker = broker.0;
+    segment_id(partition, broker, incarnation, attempt)
+}
+
+/// Reads the first closed segment that ends past an offset, for a copy under the broker's next id.
+fn read_next<D: Disk>(
+    alloc: Global,
+    partition: PartitionId,
+    broker: BrokerId,
+    offset: u64,
+    node: &mut Node<D>,
+    side: &mut Side,
+) -> Result<Outcome, AllocError>
+    requires up { is_up node.old ≡ true }
+    requires next { IsSomeAnd (first_past offset (closed_in node.old.log)) (λ segment. Unit {0}) }
+    ensures row { IfOk result (λ outcome. ReadRow D.Disk partition broker.0 node.old side.old offset outcome node.new side.new) }
+    ensures err { OnErr result (ReadsLog D.Disk node.old node.new) }
+    ensures side { OnErr result (side.new ≡ side.old) }
+{
+    let Some(incarnation) = node.log.incarnation() else {
+        unreachable!()
+    };
+    let next = side.next(incarnation);
+    let id = id_of(partition, broker, incarnation, next);
+    let Some(settings) = node.log.settings() else {
+        unreachable!()
+    };
+    match node.log.closed_from(offset) {
+        Ok(Some(segment)) if next < u64::MAX => {
+            let copying = copying(alloc, node, partition, id, segment, settings.index_interval)?;
+            side.count(incarnation);
+            Ok(Outcome::Chose(copying))
+        }
+        Err(LogRefusal::DiskFault) => Ok(Outcome::Answers(Answer::DiskFault)),
+        Err(LogRefusal::Damaged { file, at }) => {
+            Ok(Outcome::Answers(Answer::Damaged(Place::File(file), at)))
+        }
+        // The last attempt, or no memory.
+        Ok(_) | Err(_) => Err(AllocError),
+    }
+}
+
+/// Who tells of a broker's copy.
+fn teller<D: Disk>(held: &Held<D>, broker: BrokerId) -> Teller
+    ensures { result ≡ teller_of held.now broker.0 }
+{
+    Teller {
+        broker,
+        now: held.clock,
+    }
+}
+
+impl<S: Store, M: MetaLog> Tier<S, M> {
+    /// Begins a copy: the leader's view takes in what the metadata log has more.
+    pub(crate) fn copy<D: Disk>(
+        &mut self,
+        alloc: Global,
+        b: usize,
+        held: &Held<D>,
+    ) -> Result<Outcome, AllocError>
+        requires node { b < length held.now.nodes }
+        requires side { b < length self.old.sides }
+        ensures row { IfOk result (λ outcome. AtNode held.now b (λ x. AtSide self.old b (λ side.
+            CopyFirstRow M.MetaLog held.now self.old b x side outcome self.new))) }
+        ensures err { OnErr result (AtSide self.old b (λ side. Halts M.MetaLog self.old b side self.new)) }
+    {
+        let node = held.nodes.get(b);
+        if !node.is_up() {
+            return Ok(Outcome::Answers(Answer::Down));
+        }
+        if leading(node.role).is_none() {
+            return Ok(Outcome::Answers(Answer::NotLeader));
+        }
+        match self.refresh(b) {
+            Ok(()) => Ok(Outcome::Begins(held.notes(alloc, b))),
+            Err(Trouble::Failed) => Ok(Outcome::Answers(Answer::MetaFault)),
+            Err(Trouble::NoMemory) => Err(AllocError),
+        }
+    }
+
+    /// Chooses the segment that a copy is of, and reads it.
+    pub(crate) fn choose<D: Disk>(
+        &mut self,
+        alloc: Global,
+        partition: PartitionId,
+        broker: BrokerId,
+        noted: &Begun,
+        held: &mut Held<D>,
+    ) -> Result<Outcome, AllocError>
+        requires node { broker.0 < length held.old.nodes }
+        requires side { broker.0 < length self.old.sides }
+        ensures row { IfOk result (λ outcome. AtNode held.old broker.0 (λ x. AtSide self.old broker.0 (λ side.
+            ChooseRow D.Disk partition held.old self.old broker.0 x side noted.now outcome held.new self.new))) }
+        ensures err { OnErr result (StaysTier D.Disk S.Store M.MetaLog held.old self.old broker.0 held.new self.new) }
+    {
+        let b = broker.0 as usize;
+        let node = held.nodes.get(b);
+        if !keeps_lead(node, noted) {
+            return Ok(Outcome::Answers(Answer::LostLead));
+        }
+        let copied = copied_to(node, self.sides.get(b), held.registry.start);
+        if !has_next(node, copied) {
+            return Ok(Outcome::Answers(Answer::Level));
+        }
+        self.read_segment(alloc, partition, broker, copied, held)
+    }
+
+    /// Reads the segment that a copy is of.
+    fn read_segment<D: Disk>(
+        &mut self,
+        alloc: Global,
+        partition: PartitionId,
+        broker: BrokerId,
+        copied: u64,
+        held: &mut Held<D>,
+    ) -> Result<Outcome, AllocError>
+        requires node { AtNode held.old broker.0 (λ x. is_up x ≡ true) }
+        requires next { AtNode held.old broker.0 (λ x. IsSomeAnd (first_past copied (closed_in x.log)) (λ segment. Unit {0})) }
+        requires side { broker.0 < length self.old.sides }
+        ensures row { IfOk result (λ outcome. AtNode held.old broker.0 (λ x. AtSide self.old broker.0 (λ side.
+            (x' : Broker D) × (side' : Knowledge) × ReadRow D.Disk partition broker.0 x side copied outcome x' side'
+            × (held.new ≡ put_node held.old broker.0 x') × (self.new ≡ put_side self.old broker.0 side')))) }
+        ensures err { OnErr result (AtNode held.old broker.0 (λ x. (x' : Broker D) × ReadsLog D.Disk x x'
+            × (held.new ≡ put_node held.old broker.0 x'))) }
+        ensures tier { OnErr result (self.new ≡ self.old) }
+    {
+        let b = broker.0 as usize;
+        let node = held.nodes.at_mut(b);
+        let side = self.sides.at_mut(b);
+        read_next(alloc, partition, broker, copied, node, side)
+    }
+
+    /// Takes a later turn of a copy.
+    pub(crate) fn copy_on<D: Disk>(
+        &mut self,
+        alloc: Global,
+        broker: BrokerId,
+        noted: &Begun,
+        copying: &Copying,
+        next: Next,
+        held: &Held<D>,
+    ) -> Result<Outcome, AllocError>
+        requires node { broker.0 < length held.now.nodes }
+        requires side { broker.0 < length self.old.sides }
+        ensures row { IfOk result (λ outcome. AtNode held.now broker.0 (λ x. AtSide self.old broker.0 (λ side.
+            CopyOnRow S.Store M.MetaLog held.now self.old broker.0 x side noted.now copying.now next outcome self.new))) }
+        ensures err { OnErr result (AtSide self.old broker.0 (λ side.
+            WantsForCopy S.Store M.MetaLog held.now self.old broker.0 side copying.now next self.new)) }
+    {
+        let b = broker.0 as usize;
+        if !keeps_lead(held.nodes.get(b), noted) {
+            return Ok(Outcome::Answers(Answer::LostLead));
+        }
+        let teller = teller(held, broker);
+        let side = self.sides.at_mut(b);
+        let turn = copy_turn(
+            alloc,
+            copying,
+            next,
+            teller,
+            &mut side.view,
+            &mut self.store,
+            &mut self.meta,
+        )?;
+        Ok(copy_outcome(turn))
+    }
+}

@@ -1,0 +1,83 @@
+//! How far an actor has come, what is kept of its command between two turns, and what a turn came to.
+
+ghost use Rattle.std.specs.Prelude.{◌≡◌};
+ghost use Rattle.partition_world.specs.Seats.{chosen, moved, outcome_of, copy_outcome};
+
+use copy_task::{CopyTurn, Copying, Next};
+use partition_seen::{Begun, Turned};
+use plain_log::Answer;
+
+/// What is kept of a command between its turns.
+#[derive(Drop)]
+pub enum Work {
+    /// Nothing: it hasn't begun.
+    Idle,
+    /// What was noted where it began. A follow has its run there, and a copy has yet to choose its segment.
+    Noted(Begun),
+    /// A copy of a segment, and what it does next.
+    Copies(Begun, Copying, Next),
+}
+
+/// An actor's place at the desk.
+#[derive(Drop)]
+pub struct Seat {
+    /// The number of its next order, or of the one that has begun.
+    pub number: u32,
+    /// What is kept of the order.
+    pub work: Work,
+}
+
+/// What a turn of a command came to.
+#[derive(Drop)]
+pub enum Outcome {
+    /// The command was answered.
+    Answers(Answer),
+    /// It began.
+    Begins(Begun),
+    /// A copy has chosen its segment.
+    Chose(Copying),
+    /// A copy goes on with this turn.
+    Goes(Next),
+}
+
+impl Work {
+    /// The work of a copy that has chosen its segment.
+    pub(crate) fn chosen(self, copying: Copying) -> Work
+        ensures { result ≡ chosen self copying }
+    {
+        match self {
+            Work::Noted(begun) => Work::Copies(begun, copying, Next::Start),
+            other => other,
+        }
+    }
+
+    /// The work of a copy that goes on.
+    pub(crate) fn moved(self, next: Next) -> Work
+        ensures { result ≡ moved self next }
+    {
+        match self {
+            Work::Copies(begun, copying, _) => Work::Copies(begun, copying, next),
+            other => other,
+        }
+    }
+}
+
+/// What a turn came to of a command that the remote tier has no part in.
+pub(crate) fn outcome_of(turned: Turned) -> Outcome
+    ensures { result ≡ outcome_of turned }
+{
+    match turned {
+        Turned::Answers(answer) => Outcome::Answers(answer),
+        Turned::Begins(begun) => Outcome::Begins(begun),
+    }
+}
+
+/// What a turn of a copy came to.
+pub(crate) fn copy_outcome(turn: CopyTurn) -> Outcome
+    ensures { result ≡ copy_outcome turn }
+{
+    match turn {
+        CopyTurn::Goes(next) => Outcome::Goes(next),
+        CopyTurn::Ends(answer) => Outcome::Answers(answer),
+    }
+}

@@ -1,0 +1,83 @@
+//! A partition's remote tier: the devices that no broker has for itself, and what each broker knows of it.
+
+ghost use Rattle.std.specs.Prelude.{◌≡◌, ◌<◌, length, OnOk, OnErr, IsErrOf};
+ghost use Rattle.tier_base.specs.declared.fault.Trouble.TheVariants.{Failed, NoMemory};
+ghost use Rattle.partition_world.specs.Tier.{next_of, counted, AtSide, Refreshes, FailsToRead, Halts, IsArmedTier};
+
+use disk_model::Disk;
+use meta_log::MetaLog;
+use object_store::Store;
+use remote_view::View;
+use tier_base::{Row, Trouble};
+use view_refresh::refresh;
+
+/// What a broker knows of the remote tier. It outlives the broker's stops.
+#[derive(Drop)]
+pub struct Side {
+    /// The remote segments that the broker knows of.
+    pub view: View,
+    /// How often its log had been opened when it last chose a segment to copy, and the number of the next
+    /// copy since.
+    pub incarnation: u32,
+    pub attempt: u64,
+}
+
+/// A partition's remote store and remote log metadata, and a side for each broker, in their order.
+#[derive(Drop)]
+pub struct Tier<S: Store, M: MetaLog> {
+    pub store: S,
+    pub meta: M,
+    pub sides: Row<Side>,
+}
+
+/// The devices of a partition: a disk for each broker, in their order, the remote store, and the remote log metadata.
+#[derive(Drop)]
+pub struct Devices<D: Disk, S: Store, M: MetaLog> {
+    pub disks: Vec<D>,
+    pub store: S,
+    pub meta: M,
+}
+
+impl Side {
+    /// The number of the next copy of a log that was opened so often.
+    pub(crate) fn next(&self, incarnation: u32) -> u64
+        ensures { result ≡ next_of self.now incarnation }
+    {
+        if self.incarnation == incarnation {
+            self.attempt
+        } else {
+            0
+        }
+    }
+
+    /// Counts a copy.
+    pub(crate) fn count(&mut self, incarnation: u32)
+        requires { next_of self.old incarnation < 18446744073709551615 }
+        ensures { self.new ≡ counted self.old incarnation }
+    {
+        self.attempt = self.next(incarnation) + 1;
+        self.incarnation = incarnation;
+    }
+}
+
+impl<S: Store, M: MetaLog> Tier<S, M> {
+    /// Puts the plans of store and metadata log in force.
+    pub(crate) fn arm(&mut self)
+        ensures tier { IsArmedTier S.Store M.MetaLog self.old.store self.old.meta self.new }
+        ensures sides { self.new.sides ≡ self.old.sides }
+    {
+        self.store.arm();
+        self.meta.arm();
+    }
+
+    /// Lets a broker's view take in what the metadata log has more.
+    #[tactic(auto, using(crate::proofs::Sides::set_same))]
+    pub(crate) fn refresh(&mut self, b: usize) -> Result<(), Trouble>
+        requires { b < length self.old.sides }
+        ensures ok { OnOk result (AtSide self.old b (λ side. Refreshes M.MetaLog self.old b side self.new)) }
+        ensures failed { IsErrOf result Failed → AtSide self.old b (λ side. FailsToRead M.MetaLog self.old side self.new) }
+        ensures dry { IsErrOf result NoMemory → AtSide self.old b (λ side. Halts M.MetaLog self.old b side self.new) }
+    {
+        refresh(&mut self.sides.at_mut(b).view, &mut self.meta)
+    }
+}

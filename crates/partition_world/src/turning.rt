@@ -1,0 +1,159 @@
+//! A turn of a command, by what its seat keeps of it.
+
+ghost use Rattle.std.specs.Prelude.{◌≡◌, ◌<◌, length, IfOk, OnErr};
+ghost use Rattle.plain_log.specs.Orders.{IsInRange};
+ghost use Rattle.partition_turns.specs.Held.{AtNode, CanStop};
+ghost use Rattle.partition_turns.specs.Sound.{HeldSound};
+ghost use Rattle.partition_world.specs.Tier.{AtSide};
+ghost use Rattle.partition_world.specs.Turns.{OwnRow, OwnOnRow, BeginRow, NotedRow, CopyingRow, TurnRow, StaysTier};
+
+use crate::seat::{Outcome, Work, outcome_of};
+use crate::tier::Tier;
+use copy_task::{Copying, Next};
+use disk_model::Disk;
+use meta_log::MetaLog;
+use object_store::Store;
+use partition_seen::Begun;
+use partition_turns::Held;
+use plain_log::{Command, Order};
+use std::alloc::{AllocError, Global};
+use tier_base::PartitionId;
+
+impl<S: Store, M: MetaLog> Tier<S, M> {
+    /// Carries out a turn of a command, of which so much is kept.
+    pub(crate) fn turn<D: Disk>(
+        &mut self,
+        alloc: Global,
+        partition: PartitionId,
+        order: &Order,
+        work: &Work,
+        held: &mut Held<D>,
+    ) -> Result<Outcome, AllocError>
+        requires node { order.now.broker.0 < length held.old.nodes }
+        requires side { order.now.broker.0 < length self.old.sides }
+        requires sound { HeldSound (length held.old.nodes) held.old }
+        requires fit { IsInRange order.now.command }
+        ensures row { IfOk result (λ outcome. TurnRow D.Disk S.Store M.MetaLog partition held.old self.old
+            order.now.broker.0 work.now order.now.command outcome held.new self.new) }
+        ensures err { OnErr result (StaysTier D.Disk S.Store M.MetaLog held.old self.old order.now.broker.0 held.new self.new) }
+    {
+        if !held.can_stop(order.broker.0 as usize) {
+            return Err(AllocError);
+        }
+        match work {
+            Work::Idle => self.begin(alloc, order, held),
+            Work::Noted(noted) => self.go_on(alloc, partition, order, noted, held),
+            Work::Copies(noted, copying, next) => {
+                self.go_copying(alloc, order, noted, copying, *next, held)
+            }
+        }
+    }
+
+    /// Carries out the first turn of a command.
+    fn begin<D: Disk>(
+        &mut self,
+        alloc: Global,
+        order: &Order,
+        held: &mut Held<D>,
+    ) -> Result<Outcome, AllocError>
+        requires node { CanStop held.old order.now.broker.0 }
+        requires side { order.now.broker.0 < length self.old.sides }
+        requires sound { HeldSound (length held.old.nodes) held.old }
+        requires fit { IsInRange order.now.command }
+        ensures row { IfOk result (λ outcome. AtNode held.old order.now.broker.0 (λ x. AtSide self.old order.now.broker.0 (λ side.
+            BeginRow D.Disk S.Store M.MetaLog held.old self.old order.now.broker.0 x side order.now.command outcome held.new self.new))) }
+        ensures err { OnErr result (StaysTier D.Disk S.Store M.MetaLog held.old self.old order.now.broker.0 held.new self.new) }
+    {
+        match &order.command {
+            Command::Copy => self.copy(alloc, order.broker.0 as usize, held),
+            _ => self.begin_own(alloc, order, held),
+        }
+    }
+
+    /// Carries out the first turn of a command that the remote tier has no part in.
+    fn begin_own<D: Disk>(
+        &mut self,
+        alloc: Global,
+        order: &Order,
+        held: &mut Held<D>,
+    ) -> Result<Outcome, AllocError>
+        requires node { CanStop held.old order.now.broker.0 }
+        requires sound { HeldSound (length held.old.nodes) held.old }
+        requires fit { IsInRange order.now.command }
+        ensures row { IfOk result (λ outcome. AtNode held.old order.now.broker.0 (λ x.
+            OwnRow D.Disk held.old self.old order.now.broker.0 x order.now.command outcome held.new self.new)) }
+        ensures err { OnErr result (StaysTier D.Disk S.Store M.MetaLog held.old self.old order.now.broker.0 held.new self.new) }
+    {
+        match held.first_turn(alloc, order) {
+            Ok(turned) => Ok(outcome_of(turned)),
+            Err(_) => Err(AllocError),
+        }
+    }
+
+    /// Carries out the second turn of a command of which its seat keeps what was noted.
+    fn go_on<D: Disk>(
+        &mut self,
+        alloc: Global,
+        partition: PartitionId,
+        order: &Order,
+        noted: &Begun,
+        held: &mut Held<D>,
+    ) -> Result<Outcome, AllocError>
+        requires node { CanStop held.old order.now.broker.0 }
+        requires side { order.now.broker.0 < length self.old.sides }
+        requires sound { HeldSound (length held.old.nodes) held.old }
+        ensures row { IfOk result (λ outcome. AtNode held.old order.now.broker.0 (λ x. AtSide self.old order.now.broker.0 (λ side.
+            NotedRow D.Disk partition held.old self.old order.now.broker.0 x side noted.now order.now.command outcome held.new self.new))) }
+        ensures err { OnErr result (StaysTier D.Disk S.Store M.MetaLog held.old self.old order.now.broker.0 held.new self.new) }
+    {
+        match &order.command {
+            Command::Copy => self.choose(alloc, partition, order.broker, noted, held),
+            // No script has it yet.
+            Command::Trim => Err(AllocError),
+            _ => self.end_own(alloc, order, noted, held),
+        }
+    }
+
+    /// Carries out the last turn of a command that the remote tier has no part in.
+    fn end_own<D: Disk>(
+        &mut self,
+        alloc: Global,
+        order: &Order,
+        noted: &Begun,
+        held: &mut Held<D>,
+    ) -> Result<Outcome, AllocError>
+        requires node { CanStop held.old order.now.broker.0 }
+        requires sound { HeldSound (length held.old.nodes) held.old }
+        ensures row { IfOk result (λ outcome. AtNode held.old order.now.broker.0 (λ x.
+            OwnOnRow D.Disk held.old self.old order.now.broker.0 x noted.now order.now.command outcome held.new self.new)) }
+        ensures err { OnErr result (StaysTier D.Disk S.Store M.MetaLog held.old self.old order.now.broker.0 held.new self.new) }
+    {
+        match held.later_turn(alloc, order, noted) {
+            Ok(answer) => Ok(Outcome::Answers(answer)),
+            Err(_) => Err(AllocError),
+        }
+    }
+
+    /// Carries out a turn of a copy that has chosen its segment.
+    fn go_copying<D: Disk>(
+        &mut self,
+        alloc: Global,
+        order: &Order,
+        noted: &Begun,
+        copying: &Copying,
+        next: Next,
+        held: &mut Held<D>,
+    ) -> Result<Outcome, AllocError>
+        requires node { order.now.broker.0 < length held.old.nodes }
+        requires side { order.now.broker.0 < length self.old.sides }
+        ensures row { IfOk result (λ outcome. AtNode held.old order.now.broker.0 (λ x. AtSide self.old order.now.broker.0 (λ side.
+            CopyingRow S.Store M.MetaLog held.old self.old order.now.broker.0 x side noted.now copying.now next order.now.command outcome held.new self.new))) }
+        ensures err { OnErr result (StaysTier D.Disk S.Store M.MetaLog held.old self.old order.now.broker.0 held.new self.new) }
+    {
+        match &order.command {
+            Command::Copy => self.copy_on(alloc, order.broker, noted, copying, next, held),
+            // No other command has such a turn.
+            _ => Err(AllocError),
+        }
+    }
+}
