@@ -15,7 +15,7 @@ import subprocess
 import sys
 
 HERE = os.path.dirname(os.path.abspath(__file__))
-LEFT, RIGHT = 46, 52  # columns of commands and of answers
+LEFT, RIGHT = 40, 58  # columns of commands and of answers
 MARK = "<!-- made by examples/view.py -->\n"
 
 

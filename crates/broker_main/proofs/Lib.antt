@@ -1,4 +1,5 @@
-mod MemoryDisks
+mod MemoryDevices
 mod OneWord
+mod Opening
 mod Planning
 mod Running

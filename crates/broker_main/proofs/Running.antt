@@ -1,10 +1,10 @@
 -- What worlds that were run to their ends say of the text of their journals.
-use Rattle.std.proofs.Common.{◌≡◌, inl, inr, ◌∙◌, sym, ap, subst, refl, ℕ, zero, suc, ◌+◌, ◌≤◌, List, [], ◌∷◌, ◌++◌, length, slice_get, Some, arith, append_assoc, append-nil}
+use Rattle.std.proofs.Common.{◌≡◌, inl, inr, ◌∙◌, sym, ap, subst, refl, ℕ, zero, suc, List, [], ◌∷◌, ◌++◌, length, slice_get, Some, arith, append_assoc, append-nil}
 use Rattle.std.specs.Prelude.{All}
 use Rattle.std.proofs.lemmas.Option.{get_or_from_slice_get, slice_get_within}
-use Rattle.tier_base.specs.Device.{Control}
-use Rattle.disk_model.specs.Call.{call_code}
-use Rattle.disk_model.specs.Content.{Content}
+use Rattle.disk_model.specs.declared.disk.Disk.{Ghosts as DiskGhosts}
+use Rattle.object_store.specs.declared.store.Store.{Ghosts as StoreGhosts}
+use Rattle.meta_log.specs.declared.log.MetaLog.{Ghosts as MetaGhosts}
 use Rattle.plain_log.specs.declared.command.ActorList.{ActorList}
 use Rattle.plain_log.specs.declared.command.Config.{Config}
 use Rattle.plain_log.specs.declared.journal.JournalEntry.{JournalEntry}
@@ -17,48 +17,45 @@ use Rattle.plain_log.specs.Laws.{FreshIsSafe, ReplaysKeepSafe}
 use Rattle.plain_log.specs.Safe.{PlainSafe}
 use Rattle.plain_log.proofs.Grows.{replay_led, replay_runs}
 use Rattle.partition_world.specs.Whole.{Whole}
-use Rattle.partition_seen.specs.declared.seat.Seat.{Seat}
-use Rattle.partition_world.specs.Turn.{IsSeat, IsAtEnd}
+use Rattle.partition_world.specs.Turn.{IsAtEnd}
 use Rattle.partition_world.specs.Central.{IsCentral}
-use Rattle.partition_world.specs.Calm.{AreUnplanned}
 use Rattle.partition_world.specs.InTurn.{IsInTurn}
 use Rattle.partition_world.specs.Laws.{EndsAreComplete, ReachesLater, ReachesInTurn, ReachesUnfailing, FreshIsUnfailing}
 use Rattle.partition_world.specs.Reaches.{GoesUntil, HasAnswered, Reaches}
 use Rattle.partition_seen.proofs.Lists.{one_list}
 use Rattle.partition_world.proofs.LaterLaw.{all_ended}
 use Rattle.script_lang.specs.Fit.{StepsTo, StepsToEnds}
-use Rattle.script_lang.specs.declared.fault.Fault.{Fault}
 use Rattle.script_lang.specs.declared.script.PartScript.{PartScript}
 use Rattle.trace_text.specs.Trace.{journal_text, trace_of}
-use Rattle.broker_main.specs.Plans.{plan_of, ArePlanned}
+use Rattle.broker_main.specs.Plans.{store_plan, meta_plan}
 use Rattle.broker_main.specs.Headline.{StartsWith, IsRunOf, AreRunsOf}
 use Rattle.broker_main.specs.Running.{AddsRun, IsRunText, IsSoFar}
-use Rattle.broker_main.proofs.Planning.{disk_calm}
+use Rattle.broker_main.proofs.Planning.{unplanned, unplanned_device}
 
 -- what holds of all holds of the one that stands at a place
 all_at : {A : Type 0} (P : A → Type 0) (xs : List A) (i : ℕ) (x : A) → All P xs → slice_get xs i ≡ Some x → P x
 all_at P xs i x h at = subst P (get_or_from_slice_get xs i x x at) (h i x (slice_get_within xs i x at))
 
-module _ {D : Type 0} (content : D → Content) (control : D → Control call_code) where
+module _ {D S M : Type 0} (disk : DiskGhosts D) (store : StoreGhosts S) (meta : MetaGhosts M) where
   -- a schedule in two parts
-  reaches_split : (w : Whole D) (before after : List Pace) (w' : Whole D) → Reaches content control w (before ++ after) w' → (v : Whole D) × Reaches content control w before v × Reaches content control v after w'
+  reaches_split : (w : Whole D S M) (before after : List Pace) (w' : Whole D S M) → Reaches disk store meta w (before ++ after) w' → (v : Whole D S M) × Reaches disk store meta w before v × Reaches disk store meta v after w'
   reaches_split w [] after w' r = (w, refl, r)
   reaches_split w (pace ∷ before) after w' r =
       let rest = reaches_split r.0 before after w' r.2 in
       (rest.0, (r.0, r.1, rest.1), rest.2)
 
   -- who was stepped until it had answered so many of its commands has
-  until_answered : (w : Whole D) (a number turns : ℕ) (w' : Whole D) → GoesUntil content control w a number turns w' → HasAnswered w' a number
-  until_answered w a number zero w' g = subst (λ (k : Whole D). HasAnswered k a number) (sym g.1) g.0
+  until_answered : (w : Whole D S M) (a number turns : ℕ) (w' : Whole D S M) → GoesUntil disk store meta w a number turns w' → HasAnswered w' a number
+  until_answered w a number zero w' g = subst (λ (k : Whole D S M). HasAnswered k a number) (sym g.1) g.0
   until_answered w a number (suc turns) w' g = until_answered g.1.0 a number turns w' g.1.2
 
   -- where the schedule steps the actor of a list to its end, it comes there
-  stepped_to_end : (w : Whole D) (schedule : List Pace) (w' : Whole D) (place : ℕ) (l : ActorList) → ReachesLater content control → AreRising w.lists → slice_get w.lists place ≡ Some l
-      → Reaches content control w schedule w' → StepsTo schedule l.actor (length l.orders) → IsAtEnd w' l.actor.0
+  stepped_to_end : (w : Whole D S M) (schedule : List Pace) (w' : Whole D S M) (place : ℕ) (l : ActorList) → ReachesLater disk store meta → AreRising w.lists → slice_get w.lists place ≡ Some l
+      → Reaches disk store meta w schedule w' → StepsTo schedule l.actor (length l.orders) → IsAtEnd w' l.actor.0
   stepped_to_end w schedule w' place l law rising at r s =
-      let parts = reaches_split w s.before (Until l.actor (length l.orders) ∷ s.after) w' (subst (λ (k : List Pace). Reaches content control w k w') s.parts r) in
-      let v : Whole D = parts.0 in
-      let u : Whole D = parts.2.0 in
+      let parts = reaches_split w s.before (Until l.actor (length l.orders) ∷ s.after) w' (subst (λ (k : List Pace). Reaches disk store meta w k w') s.parts r) in
+      let v : Whole D S M = parts.0 in
+      let u : Whole D S M = parts.2.0 in
       let lists : u.lists ≡ w.lists =
       (law v (Until l.actor (length l.orders) ∷ []) u (u, parts.2.1, refl)).lists ∙ (law w s.before v parts.1).lists in
       let answered = until_answered v l.actor.0 (length l.orders) parts.2.1.0 u parts.2.1.1 in
@@ -71,27 +68,17 @@ module _ {D : Type 0} (content : D → Content) (control : D → Control call_co
         | inr many ↦ many
       ])
 
-  -- where there are no fault lines no call of the disks is planned to fail
-  unplanned : (faults : List Fault) (broker : ℕ) (disks : List D) → faults ≡ [] → ArePlanned control faults broker disks → AreUnplanned control disks
-  unplanned faults broker [] none p = tt
-  unplanned faults broker (disk ∷ disks) none p = (
-    p.0.ruled,
-    p.0.plan_is ∙ ap (λ (l : List Fault). plan_of broker l) none,
-    disk_calm control (plan_of broker faults) disk p.0,
-    unplanned faults (broker + 1) disks none p.1,
-  )
-
   -- the journal of a world that was run by its schedule is a run of its partition
-  pub is_run_of : (config : Config) (part : PartScript) (w w' : Whole D) → EndsAreComplete content → ReachesLater content control → ReachesInTurn content control → FreshIsSafe → ReplaysKeepSafe → ReachesUnfailing content control → FreshIsUnfailing control → AreListsFor config part.lists → StepsToEnds part
-      → StartsWith content control part.partition config part.lists part.faults w → IsCentral content (fresh config) w → Reaches content control w part.schedule w' → IsRunOf content control config part (part.partition.0, w'.journal.items)
+  pub is_run_of : (config : Config) (part : PartScript) (w w' : Whole D S M) → EndsAreComplete disk store meta → ReachesLater disk store meta → ReachesInTurn disk store meta → FreshIsSafe → ReplaysKeepSafe → ReachesUnfailing disk store meta → FreshIsUnfailing disk store meta → AreListsFor config part.lists → StepsToEnds part
+      → StartsWith disk store meta part.partition config part.lists part.faults w → IsCentral disk store meta (fresh config) w → Reaches disk store meta w part.schedule w' → IsRunOf disk store meta config part (part.partition.0, w'.journal.items)
   is_run_of config part w w' law goes turns opens keeps calm unfailing fit ends starts c reaches =
       let f = starts.fresh in
       let lists = part.lists in
       let later = goes w part.schedule w' reaches in
       let same : w'.config ≡ config = later.config ∙ f.config_is in
       let its : w'.lists ≡ lists = later.lists ∙ f.lists_are in
-      let central : IsCentral content (fresh (w'.config)) w' = subst (λ (k : Config). IsCentral content (fresh k) w') (sym same) (later.central (fresh config) c) in
-      let ended : (a : ℕ) → IsAtEnd w' a = all_ended content control w' (λ place l at.
+      let central : IsCentral disk store meta (fresh (w'.config)) w' = subst (λ (k : Config). IsCentral disk store meta (fresh k) w') (sym same) (later.central (fresh config) c) in
+      let ended : (a : ℕ) → IsAtEnd w' a = all_ended disk store meta w' (λ place l at.
       let old : slice_get w.lists place ≡ Some l = ap (λ (k : List ActorList). slice_get k place) (sym later.lists) ∙ at in
       let here : slice_get lists place ≡ Some l = ap (λ (k : List ActorList). slice_get k place) (sym f.lists_are) ∙ old in
       stepped_to_end w part.schedule w' place l goes (subst AreRising (sym f.lists_are) fit.rising) old reaches
@@ -105,16 +92,19 @@ module _ {D : Type 0} (content : D → Content) (control : D → Control call_co
         plain = run;
         safe = safe;
         complete = subst (λ (k : List ActorList). IsComplete k w'.journal.items) its whole.complete;
-        in_turn = subst (λ (k : List ActorList). IsInTurn k w'.journal.items) its (turns part.partition config lists starts.disks w part.schedule w' fit f reaches);
+        in_turn = subst (λ (k : List ActorList). IsInTurn k w'.journal.items) its (turns part.partition config lists starts.disks starts.objects starts.notes w part.schedule w' fit f reaches);
         led = replay_led lists (fresh config) w'.journal.items run.last run.replays (opens config);
         committed = λ clean. replay_runs lists (fresh config) w'.journal.items run.last run.replays (opens config) clean;
-        faultless = λ none. (calm w part.schedule w' reaches (unfailing part.partition config lists starts.disks w f (unplanned part.faults 0 starts.disks none starts.planned))).journal;
-        reached = record { first = w; last = w'; starts = starts; reaches = reaches; its = refl };
+        faultless = λ none. (calm w part.schedule w' reaches (unfailing part.partition config lists starts.disks starts.objects starts.notes w f
+            (unplanned disk.control part.faults 0 starts.disks none starts.planned.disk_plans)
+            (unplanned_device (store_plan part.faults) (store.control starts.objects) (ap store_plan none) starts.planned.store_plan_is)
+            (unplanned_device (meta_plan part.faults) (meta.control starts.notes) (ap meta_plan none) starts.planned.meta_plan_is))).journal;
+        reached = record { first = w; last = w'; starts = starts; reaches = reaches; central = later.central (fresh config) c; its = refl };
       }
 
   -- one partition more
   pub runs_snoc : (config : Config) (parts : List PartScript) (runs : List (ℕ × List JournalEntry)) (part : PartScript) (run : ℕ × List JournalEntry)
-      → AreRunsOf content control config parts runs → IsRunOf content control config part run → AreRunsOf content control config (parts ++ part ∷ []) (runs ++ run ∷ [])
+      → AreRunsOf disk store meta config parts runs → IsRunOf disk store meta config part run → AreRunsOf disk store meta config (parts ++ part ∷ []) (runs ++ run ∷ [])
   runs_snoc config [] [] part run are is = (is, tt)
   runs_snoc config (first ∷ parts) (one ∷ runs) part run are is = (are.0, runs_snoc config parts runs part run are.1 is)
   runs_snoc config [] (one ∷ runs) part run are is = elim are [ ]
@@ -124,8 +114,8 @@ module _ {D : Type 0} (content : D → Content) (control : D → Control call_co
   trace_snoc [] run = append-nil (journal_text run.0 run.1)
   trace_snoc (one ∷ runs) run = ap (λ (t : List ℕ). journal_text one.0 one.1 ++ t) (trace_snoc runs run) ∙ sym (append_assoc (journal_text one.0 one.1) (trace_of runs) (journal_text run.0 run.1))
 
-  pub text_snoc : (config : Config) (parts : List PartScript) (part : PartScript) (text new : List ℕ) → IsRunText content control config parts text → AddsRun content control config part text new
-      → IsRunText content control config (parts ++ part ∷ []) new
+  pub text_snoc : (config : Config) (parts : List PartScript) (part : PartScript) (text new : List ℕ) → IsRunText disk store meta config parts text → AddsRun disk store meta config part text new
+      → IsRunText disk store meta config (parts ++ part ∷ []) new
   text_snoc config parts part text new t a = record {
     runs = t.runs ++ a.run ∷ [];
     are = runs_snoc config parts t.runs part a.run t.are a.is;
@@ -133,10 +123,10 @@ module _ {D : Type 0} (content : D → Content) (control : D → Control call_co
   }
 
   -- one partition more was run
-  pub goes_on : (config : Config) (parts before after : List PartScript) (part : PartScript) (text new : List ℕ) → before ≡ part ∷ after → IsSoFar content control config parts before text
-      → AddsRun content control config part text new → IsSoFar content control config parts after new
+  pub goes_on : (config : Config) (parts before after : List PartScript) (part : PartScript) (text new : List ℕ) → before ≡ part ∷ after → IsSoFar disk store meta config parts before text
+      → AddsRun disk store meta config part text new → IsSoFar disk store meta config parts after new
   goes_on config parts before after part text new steps so a =
-      let s : IsSoFar content control config parts (part ∷ after) text = subst (λ (k : List PartScript). IsSoFar content control config parts k text) steps so in
+      let s : IsSoFar disk store meta config parts (part ∷ after) text = subst (λ (k : List PartScript). IsSoFar disk store meta config parts k text) steps so in
       record {
         run = s.run ++ part ∷ [];
         all = append_assoc s.run (part ∷ []) after ∙ s.all;

@@ -1,24 +1,26 @@
 -- The headline: whatever the script, the written trace is a run of the plain log.
 --
--- The brokers' logs stand on disks, of which `content` and `control` tell.
+-- The brokers' logs stand on disks, and what they copy in a remote store, with notes in a metadata log.
 use Rattle.std.specs.Prelude.{◌≡◌, ℕ, false, List, [], ◌∷◌, Ok, Err}
 use Rattle.std.specs.declared.option.Option.{Option}
 use Rattle.std.specs.Io.KnownBytes.{Appends}
 use Rattle.std.specs.List.{AllByRecursion}
 use Rattle.tier_base.specs.declared.names.PartitionId.{PartitionId}
 use Rattle.tier_base.specs.Stream.{ReadsWhole, AppendsFront}
-use Rattle.tier_base.specs.Device.{Control}
-use Rattle.disk_model.specs.Call.{call_code}
-use Rattle.disk_model.specs.Content.{Content}
+use Rattle.disk_model.specs.declared.disk.Disk.{Ghosts as DiskGhosts}
+use Rattle.object_store.specs.declared.store.Store.{Ghosts as StoreGhosts}
+use Rattle.meta_log.specs.declared.log.MetaLog.{Ghosts as MetaGhosts}
 use Rattle.plain_log.specs.declared.command.ActorList.{ActorList}
 use Rattle.plain_log.specs.declared.command.Config.{Config}
 use Rattle.plain_log.specs.declared.journal.JournalEntry.{JournalEntry}
+use Rattle.plain_log.specs.Fresh.{fresh}
 use Rattle.plain_log.specs.Runs.{IsPlainRun, IsComplete}
 use Rattle.plain_log.specs.Committed.{IsCommittedRun, IsRunOfPath}
 use Rattle.plain_log.specs.Safe.{PlainSafe}
+use Rattle.partition_world.specs.Central.{IsCentral}
 use Rattle.partition_world.specs.Whole.{Whole}
-use Rattle.partition_world.specs.Calm.{AreFaultless}
-use Rattle.partition_world.specs.Fresh.{IsFresh, AllSeen}
+use Rattle.partition_turns.specs.Calm.{AreFaultless}
+use Rattle.partition_world.specs.Fresh.{IsFresh, IsSeenEmpty}
 use Rattle.partition_world.specs.InTurn.{IsInTurn}
 use Rattle.partition_world.specs.Reaches.{Reaches}
 use Rattle.script_lang.specs.declared.fault.Fault.{Fault}
@@ -27,28 +29,33 @@ use Rattle.script_lang.specs.declared.script.PartScript.{PartScript}
 use Rattle.script_lang.specs.declared.script.Script.{Script}
 use Rattle.script_lang.specs.Script.{script_in}
 use Rattle.trace_text.specs.Trace.{trace_of}
-use Rattle.broker_main.specs.Plans.{ArePlanned}
+use Rattle.broker_main.specs.Devices.{HaveFaults}
 
-module _ {D : Type 0} (content : D → Content) (control : D → Control call_code) where
-  -- a fresh world whose logs are empty, on disks of which those calls fail that the faults name
-  pub record StartsWith (partition : PartitionId) (config : Config) (lists : List ActorList) (faults : List Fault) (w : Whole D) : Type 0 where
+module _ {D S M : Type 0} (disk : DiskGhosts D) (store : StoreGhosts S) (meta : MetaGhosts M) where
+  -- a fresh world whose logs, store and metadata log are empty, on devices of which those calls fail that the faults name
+  pub record StartsWith (partition : PartitionId) (config : Config) (lists : List ActorList) (faults : List Fault) (w : Whole D S M)
+      : Type 0 where
     pub disks : List D
-    pub planned : ArePlanned control faults 0 disks
-    pub fresh : IsFresh control partition config lists disks w
-    pub empty : AllSeen content w.held.nodes
+    pub objects : S
+    pub notes : M
+    pub planned : HaveFaults disk store meta faults disks objects notes
+    pub fresh : IsFresh disk store meta partition config lists disks objects notes w
+    pub empty : IsSeenEmpty disk store meta w
 
-  -- the journal is that of a world which the partition's schedule reaches from the fresh one over its faults
+  -- the journal is that of a world which the partition's schedule reaches from the fresh one over its faults; in it the central
+  -- fact holds: its logs are the plain log's, and the remote tier beside them keeps its safety rules
   pub record IsReached (config : Config) (part : PartScript) (journal : List JournalEntry) : Type 0 where
-    pub first : Whole D
-    pub last : Whole D
+    pub first : Whole D S M
+    pub last : Whole D S M
     pub starts : StartsWith part.partition config part.lists part.faults first
-    pub reaches : Reaches content control first part.schedule last
+    pub reaches : Reaches disk store meta first part.schedule last
+    pub central : IsCentral disk store meta (fresh config) last
     pub its : last.journal.items ≡ journal
 
   -- a partition's number and journal: a run of the plain log over the partition's lists, by its schedule, which ends with
   -- the safety rules; each command is answered once and in order, and begins at most once, right before its answer; each
   -- fetch is given a part of the log of a leader epoch as the run ends, and while elections are clean of what is committed
-  -- then; no disk fails unasked
+  -- then; no device fails unasked
   pub record IsRunOf (config : Config) (part : PartScript) (run : ℕ × List JournalEntry) : Type 0 where
     pub partition : run.0 ≡ part.partition.0
     pub plain : IsPlainRun config part.lists run.1

@@ -1,5 +1,6 @@
 pub mod Words
 pub mod Plans
+pub mod Devices
 pub mod Headline
 pub mod Running
 pub mod Endings

@@ -4,7 +4,8 @@
 //! prints the status's line to standard error, and ends with its number.
 #![tactic(auto)]
 
-mod disks;
+mod devices;
+mod plans;
 mod status;
 mod top;
 

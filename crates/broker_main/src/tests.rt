@@ -140,11 +140,30 @@ const RAW_ROWS: [(&str, &str, &str); 17] = [
     ),
 ];
 
+/// The examples of the remote tier.
+const REMOTE_ROWS: [(&str, &str, &str); 3] = [
+    (
+        "the example of copies",
+        "# A leader copies its closed log segments to the remote tier, the oldest first.\nsegment_bytes 200\n\n# A segment holds two of these batches. The seventh batch stands in the open segment.\n0 0 0 append 1000,-,:a\n0 0 0 append 1000,-,:b\n0 0 0 append 1000,-,:c\n0 0 0 append 1000,-,:d\n0 0 0 append 1000,-,:e\n0 0 0 append 1000,-,:f\n0 0 0 append 1000,-,:g\n\n# What isn't committed isn't copied.\n0 0 0 copy\n0 0 0 flush\n0 0 0 ack\n\n# Each copy takes the first closed segment that isn't copied yet, and tells its id, its first and\n# its last offset. The open segment isn't copied.\n0 0 0 copy\n0 0 0 copy\n0 0 0 copy\n0 0 0 copy\n\n# A roll closes it.\n0 0 0 roll\n0 0 0 copy\n\n# An id names the broker, how often its log was opened, and the copies that it began since then.\n0 0 0 append 1000,-,:h\n0 0 0 roll\n0 0 0 flush\n0 0 0 ack\n0 0 0 stop\n0 0 0 up\n0 0 0 learn\n0 0 0 elect\n0 0 0 learn\n0 0 0 ack\n0 0 0 copy\n0 0 0 copy\n",
+        "0 0 0 = Ok 0 0 0\n0 0 1 = Ok 1 1 0\n0 0 2 = Ok 2 2 0\n0 0 3 = Ok 3 3 0\n0 0 4 = Ok 4 4 0\n0 0 5 = Ok 5 5 0\n0 0 6 = Ok 6 6 0\n0 0 7 begin\n0 0 7 = Level\n0 0 8 = Ok 7\n0 0 9 = Ok 7\n0 0 10 begin\n0 0 10 = Copied 00000000-0000-0001-0000-000000000000 0 1\n0 0 11 begin\n0 0 11 = Copied 00000000-0000-0001-0000-000000000001 2 3\n0 0 12 begin\n0 0 12 = Copied 00000000-0000-0001-0000-000000000002 4 5\n0 0 13 begin\n0 0 13 = Level\n0 0 14 = Ok 7\n0 0 15 begin\n0 0 15 = Copied 00000000-0000-0001-0000-000000000003 6 6\n0 0 16 = Ok 7 7 0\n0 0 17 = Ok 8\n0 0 18 = Ok 8\n0 0 19 = Ok 8\n0 0 20 = Ok\n0 0 21 = Up 8\n0 0 22 = NeedsElection 0\n0 0 23 = Ok 1\n0 0 24 = Leads 1\n0 0 25 = Ok 8\n0 0 26 begin\n0 0 26 = Copied 00000000-0000-0002-0000-000000000000 7 7\n0 0 27 begin\n0 0 27 = Level\n",
+    ),
+    (
+        "the example of a store and a metadata log that fail",
+        "# A store and a metadata log that fail: a copy ends where its call fails, and the next one begins\n# anew, under another id.\nsegment_bytes 200\n\n# A copy appends a note that it starts, puts four objects, appends a note that it is whole, and reads\n# the notes at its first and its last turn. A call that fails before isn't done, and one that fails\n# after is done, but its broker isn't told so.\nfault 0 meta append 1 before\nfault 0 store put 2 before\nfault 0 store put 6 after\nfault 0 meta append 5 before\nfault 0 meta append 7 after\nfault 0 meta read 6 before\nfault 0 meta read 8 before\n\n# Two closed segments, of two batches each, and an open one.\n0 0 0 append 1000,-,:a\n0 0 0 append 1000,-,:b\n0 0 0 append 1000,-,:c\n0 0 0 append 1000,-,:d\n0 0 0 append 1000,-,:e\n0 0 0 flush\n0 0 0 ack\n\n# The note that it starts isn't taken.\n0 0 0 copy\n\n# The second object isn't put. The first one stands, under an id that is never finished.\n0 0 0 copy\n\n# The fourth object is put, which the broker doesn't know.\n0 0 0 copy\n\n# All four objects stand, but the note that the copy is whole isn't taken.\n0 0 0 copy\n\n# That note is taken, so the segment is copied, which the broker doesn't know.\n0 0 0 copy\n\n# The next copy can't read the notes, and doesn't begin. The one after it finds the first segment\n# copied, under the fifth id, and copies the second segment. Its last look at the notes fails.\n0 0 0 copy\n0 0 0 copy\n\n# Both segments are copied. Six copies have begun so far, so the next one has the seventh id.\n0 0 0 copy\n0 0 0 roll\n0 0 0 copy\n",
+        "0 0 0 = Ok 0 0 0\n0 0 1 = Ok 1 1 0\n0 0 2 = Ok 2 2 0\n0 0 3 = Ok 3 3 0\n0 0 4 = Ok 4 4 0\n0 0 5 = Ok 5\n0 0 6 = Ok 5\n0 0 7 begin\n0 0 7 = MetaFault\n0 0 8 begin\n0 0 8 = StoreFault\n0 0 9 begin\n0 0 9 = StoreFault\n0 0 10 begin\n0 0 10 = MetaFault\n0 0 11 begin\n0 0 11 = MetaFault\n0 0 12 = MetaFault\n0 0 13 begin\n0 0 13 = MetaFault\n0 0 14 begin\n0 0 14 = Level\n0 0 15 = Ok 5\n0 0 16 begin\n0 0 16 = Copied 00000000-0000-0001-0000-000000000006 4 4\n",
+    ),
+    (
+        "the example of a leader that was replaced",
+        "# A leader is replaced in the middle of a copy, and the new leader copies the segment again.\nbrokers 2\nsegment_bytes 200\n\n# Broker 0 leads, and broker 1 follows. All is stable on both, and committed.\n0 0 0 append 1000,-,:a\n0 0 0 append 1000,-,:b\n0 0 0 append 1000,-,:c\n1 0 1 follow 1000\n1 0 1 follow 1000\n1 0 1 flush\n1 0 1 ack\n0 0 0 flush\n0 0 0 ack\n\n# Broker 0 begins a copy, and has put three of the four objects when it stops.\nlater 2 0 0 copy\nturn 2 6\n0 0 0 stop\n\n# Broker 1 is elected, learns that it leads, and copies the segment under an id of its own.\n1 0 1 elect\n1 0 1 learn\n1 0 1 copy\n\n# Broker 0's copy ends at its next turn. Three objects stay, under an id that is never finished.\nturn 2 1\n\n# A leader that was replaced and doesn't know it goes on. Broker 1 begins to copy its next segment;\n# broker 0 has taken the batches by then, is elected, and copies the segment too.\n1 0 1 append 1000,-,:d\n1 0 1 append 1000,-,:e\n0 0 0 up\n0 0 0 learn\n0 0 0 join\n0 0 0 follow 1000\n0 0 0 follow 1000\n0 0 0 flush\n0 0 0 ack\n1 0 1 flush\n1 0 1 ack\n0 0 0 expand\nlater 3 0 1 copy\nturn 3 5\n0 0 0 elect\n0 0 0 learn\n0 0 0 copy\n\n# Both copies become whole. They hold the same batches.\nturn 3 4\n",
+        "0 0 0 = Ok 0 0 0\n0 0 1 = Ok 1 1 0\n0 0 2 = Ok 2 2 0\n0 1 0 begin\n0 1 0 = Copied 2\n0 1 1 begin\n0 1 1 = Copied 3\n0 1 2 = Ok 3\n0 1 3 = Ok 0\n0 0 3 = Ok 3\n0 0 4 = Ok 3\n0 2 0 begin\n0 0 5 = Ok\n0 1 4 = Ok 1\n0 1 5 = Leads 1\n0 1 6 begin\n0 1 6 = Copied 00000001-0000-0001-0000-000000000000 0 1\n0 2 0 = LostLead\n0 1 7 = Ok 3 3 1\n0 1 8 = Ok 4 4 1\n0 0 6 = Up 3\n0 0 7 = Follows 1\n0 0 8 = Cut 3\n0 0 9 begin\n0 0 9 = Copied 4\n0 0 10 begin\n0 0 10 = Copied 5\n0 0 11 = Ok 5\n0 0 12 = Ok 3\n0 1 9 = Ok 5\n0 1 10 = Ok 5\n0 0 13 = Ok\n0 3 0 begin\n0 0 14 = Ok 2\n0 0 15 = Leads 2\n0 0 16 begin\n0 0 16 = Copied 00000000-0000-0002-0000-000000000000 2 3\n0 3 0 = Copied 00000001-0000-0001-0000-000000000001 2 3\n",
+    ),
+];
+
 #[test]
 fn scripts_give_their_traces(rt: HostRuntime) -> Result<(), Fail> {
     let alloc = rt.alloc();
     let words = words_of(alloc, &["sim"])?;
-    for rows in [ROWS.as_slice(), RAW_ROWS.as_slice()] {
+    for rows in [ROWS.as_slice(), RAW_ROWS.as_slice(), REMOTE_ROWS.as_slice()] {
         for (name, script, trace) in rows {
             let mut source = source_of(alloc, script.as_bytes(), &[])?;
             let mut sink = MemorySink::new(alloc, 10_000, 7, Vec::new(alloc))?;
@@ -163,7 +182,7 @@ fn statuses_tell_their_causes(rt: HostRuntime) -> Result<(), Fail> {
     let rows: [(&[&str], &[u8], &[u32], Status, &str, u8); 7] = [
         (
             &["sim"],
-            b"0 0 0 copy\n",
+            b"0 0 0 trim\n",
             &[],
             Status::BadScript {
                 line: 1,

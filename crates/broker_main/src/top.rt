@@ -17,9 +17,11 @@ ghost use Rattle.broker_main.specs.Headline.{StartsWith, IsTrace, WritesTrace, W
 ghost use Rattle.broker_main.specs.Running.{AddsRun, IsRunText};
 ghost use Rattle.broker_main.specs.Endings.{IsDoneOrNoMemory, IsRefusedOrNoMemory};
 
-use crate::disks::disks;
+use crate::devices::devices;
 use crate::status::Status;
 use disk_model::{Disk, MemoryDisk};
+use meta_log::{MemoryLog, MetaLog};
+use object_store::{MemoryStore, Store};
 use partition_world::{
     World, WorldRefusal, ends_are_complete, fresh_is_unfailing, reaches_in_turn, reaches_later,
     reaches_unfailing, run_in_order,
@@ -33,22 +35,22 @@ use trace_text::print;
 /// The most bytes that a script may have.
 pub const SCRIPT_LIMIT: usize = 16_777_216;
 
-/// Makes a partition's world, whose brokers have empty disks in memory with these faults.
+/// Makes a partition's world, over empty devices in memory with these faults.
 fn fresh_world(
     alloc: Global,
     partition: PartitionId,
     config: Config,
     lists: Row<ActorList>,
     faults: &[Fault],
-) -> Result<World<MemoryDisk>, AllocError>
+) -> Result<World<MemoryDisk, MemoryStore, MemoryLog>, AllocError>
     requires config { IsConfig config }
     requires fit { AreListsFor config lists }
-    ensures fresh { IfOk result (StartsWith ⟦<MemoryDisk as Disk>⟧.content ⟦<MemoryDisk as Disk>⟧.control
+    ensures fresh { IfOk result (StartsWith ⟦<MemoryDisk as Disk>⟧ ⟦<MemoryStore as Store>⟧ ⟦<MemoryLog as MetaLog>⟧
         partition config lists faults.now) }
-    ensures central { IfOk result (IsCentral ⟦<MemoryDisk as Disk>⟧.content (fresh config)) }
+    ensures central { IfOk result (IsCentral ⟦<MemoryDisk as Disk>⟧ ⟦<MemoryStore as Store>⟧ ⟦<MemoryLog as MetaLog>⟧ (fresh config)) }
 {
-    let disks = disks(alloc, config.brokers, faults)?;
-    match World::fresh(alloc, partition, config, lists, disks) {
+    let devices = devices(alloc, config.brokers, faults)?;
+    match World::fresh(alloc, partition, config, lists, devices) {
         Ok(world) => Ok(world),
         Err((_, WorldRefusal::NoMemory)) => Err(AllocError),
         // No call of these disks can fail before the world is made.
@@ -67,14 +69,14 @@ fn run_part(
     requires config { IsConfig config }
     requires fit { AreListsFor config part.lists }
     requires ends { StepsToEnds part }
-    ensures { IfOk result (λ new. AddsRun ⟦<MemoryDisk as Disk>⟧.content ⟦<MemoryDisk as Disk>⟧.control
+    ensures { IfOk result (λ new. AddsRun ⟦<MemoryDisk as Disk>⟧ ⟦<MemoryStore as Store>⟧ ⟦<MemoryLog as MetaLog>⟧
         config part text.items new.items) }
 {
-    ends_are_complete::<MemoryDisk>();
-    reaches_later::<MemoryDisk>();
-    reaches_in_turn::<MemoryDisk>();
-    reaches_unfailing::<MemoryDisk>();
-    fresh_is_unfailing::<MemoryDisk>();
+    ends_are_complete::<MemoryDisk, MemoryStore, MemoryLog>();
+    reaches_later::<MemoryDisk, MemoryStore, MemoryLog>();
+    reaches_in_turn::<MemoryDisk, MemoryStore, MemoryLog>();
+    reaches_unfailing::<MemoryDisk, MemoryStore, MemoryLog>();
+    fresh_is_unfailing::<MemoryDisk, MemoryStore, MemoryLog>();
     fresh_is_safe();
     replays_keep_safe();
     let PartScript {
@@ -106,7 +108,7 @@ fn run_parts(alloc: Global, config: Config, parts: Row<PartScript>) -> Result<Ve
     requires config { IsConfig config }
     requires fit { All (λ part. AreListsFor config part.lists) parts }
     requires ends { All StepsToEnds parts }
-    ensures { IfOk result (λ text. IsRunText ⟦<MemoryDisk as Disk>⟧.content ⟦<MemoryDisk as Disk>⟧.control
+    ensures { IfOk result (λ text. IsRunText ⟦<MemoryDisk as Disk>⟧ ⟦<MemoryStore as Store>⟧ ⟦<MemoryLog as MetaLog>⟧
         config parts text.items) }
 {
     let mut text = Vec::new(alloc);
@@ -119,7 +121,7 @@ fn run_parts(alloc: Global, config: Config, parts: Row<PartScript>) -> Result<Ve
 /// Reads a script, runs it, and answers the trace.
 fn trace_of(alloc: Global, script: &[u8]) -> Result<Vec<u8>, ScriptRefusal>
     requires { length script.now < 2 ^ 32 - 1 }
-    ensures trace { IfOk result (λ text. IsTrace ⟦<MemoryDisk as Disk>⟧.content ⟦<MemoryDisk as Disk>⟧.control
+    ensures trace { IfOk result (λ text. IsTrace ⟦<MemoryDisk as Disk>⟧ ⟦<MemoryStore as Store>⟧ ⟦<MemoryLog as MetaLog>⟧
         script.now text.items) }
     ensures bad { (line : ℕ) (why : Why) → IsErrOf result (ScriptRefusal.Bad line why)
         → script_in script.now ≡ Err (line, why) }
@@ -149,7 +151,7 @@ pub fn tiered<H: AllocGlobal, R: Source, W: Sink>(
     out: &mut W,
 ) -> Status
     // Every command of the script is answered once and in order, as the plain log allows, and all of that is written.
-    ensures trace { result ≡ Status.Ok → WritesTrace ⟦<MemoryDisk as Disk>⟧.content ⟦<MemoryDisk as Disk>⟧.control
+    ensures trace { result ≡ Status.Ok → WritesTrace ⟦<MemoryDisk as Disk>⟧ ⟦<MemoryStore as Store>⟧ ⟦<MemoryLog as MetaLog>⟧
         (R.left script.old) (R.left script.new)
         (W.written out.old) (W.written out.new) }
 
@@ -162,7 +164,7 @@ pub fn tiered<H: AllocGlobal, R: Source, W: Sink>(
     ensures bad { (line : ℕ) (why : Why) → result ≡ Status.BadScript line why
         → ReadsBad (R.left script.old) (R.left script.new) line why }
     ensures write_fault { result ≡ Status.WriteFault → Rose (W.faults out.old) (W.faults out.new) }
-    ensures front { result ≡ Status.WriteFault → WritesFront ⟦<MemoryDisk as Disk>⟧.content ⟦<MemoryDisk as Disk>⟧.control
+    ensures front { result ≡ Status.WriteFault → WritesFront ⟦<MemoryDisk as Disk>⟧ ⟦<MemoryStore as Store>⟧ ⟦<MemoryLog as MetaLog>⟧
         (R.left script.old) (R.left script.new)
         (W.written out.old) (W.written out.new) }
 

@@ -1,6 +1,6 @@
 -- What holds of the lines so far holds with one form more.
 use Rattle.std.proofs.Common.{◌≡◌, ◌∙◌, ap, refl, ℕ, zero, suc, ◌+◌, ◌≤◌, List, [], ◌∷◌, ◌++◌, Bool, true, false, length, length-append, arith, replicate, add-one}
-use Rattle.std.specs.Prelude.{◌==◌, ◌&&◌, All, slice_set, slice_index_or}
+use Rattle.std.specs.Prelude.{All, slice_set, slice_index_or}
 use Rattle.std.proofs.lemmas.List.Elements.{All-nil, All-cons, All-head, All-tail, All-push, All-weaker}
 use Rattle.log_terms.proofs.Lists.{length-slice_set}
 use Rattle.tier_base.specs.declared.names.ActorId.{ActorId}
@@ -91,9 +91,9 @@ in-range (Follow limit) said fits built = said
 in-range Ack said fits built = tt
 in-range Shrink said fits built = tt
 in-range Expand said fits built = tt
-in-range Copy said fits built = absurd (cc)
-in-range Trim said fits built = absurd (cc)
-in-range Expire said fits built = absurd (cc)
+in-range Copy said fits built = tt
+in-range Trim said fits built = tt
+in-range Expire said fits built = tt
 in-range (Raise start) said fits built = said
 in-range (Clock ms) said fits built = said
 in-range Stop said fits built = tt

@@ -10,11 +10,11 @@
 --   6. Unbuilt                            a form that isn't built yet
 --
 -- Built are blank lines and comments, the options `brokers`, `partitions`, `segment_bytes` and `index_interval_bytes`,
--- later, turn, fault of a disk, and all commands but copy, trim, expire, pack, copying and offset. Not built yet are these,
--- the options on retention, and fault of the store and of the metadata log.
+-- later, turn, fault, and all commands but trim, expire, pack, copying and offset. Not built yet are these and the options
+-- on retention.
 --
 -- Behind the last line each partition's schedule steps its actors in rising order, each to the end of its list.
-use Rattle.std.specs.Prelude.{◌≡◌, ℕ, zero, suc, ◌+◌, ◌==◌, ◌&&◌, Bool, true, false, if◌then◌else◌, is_some, ℤ, pos, negsuc, List, [], ◌∷◌, ◌++◌, length, replicate, take, Option, Some, None, Result, Ok, Err}
+use Rattle.std.specs.Prelude.{◌≡◌, ℕ, zero, suc, ◌+◌, ◌==◌, Bool, true, false, if◌then◌else◌, is_some, ℤ, pos, negsuc, List, [], ◌∷◌, ◌++◌, length, replicate, take, Option, Some, None, Result, Ok, Err}
 use Rattle.std.specs.List.{slice_set, slice_index_or}
 use Rattle.std.specs.Option.{unwrap_or}
 use Rattle.std.specs.Ordering.{int_eq}
@@ -22,7 +22,7 @@ use Rattle.tier_base.specs.declared.names.ActorId.{ActorId}
 use Rattle.tier_base.specs.declared.names.PartitionId.{PartitionId}
 use Rattle.tier_base.specs.declared.plain.Keep.{Keep}
 use Rattle.plain_log.specs.declared.command.Command.{Command}
-use Rattle.plain_log.specs.declared.command.Command.TheVariants.{Append, Raw, Flush, Roll, Elect, Unclean, Learn, Join, Follow, Ack, Shrink, Expand, Raise, Clock, Stop, Up, Fetch}
+use Rattle.plain_log.specs.declared.command.Command.TheVariants.{Append, Raw, Flush, Roll, Elect, Unclean, Learn, Join, Follow, Ack, Shrink, Expand, Copy, Raise, Clock, Stop, Up, Fetch}
 use Rattle.plain_log.specs.declared.command.Config.{Config}
 use Rattle.plain_log.specs.declared.command.Order.{Order}
 use Rattle.plain_log.specs.declared.command.Pace.{Pace}
@@ -30,8 +30,6 @@ use Rattle.plain_log.specs.declared.command.Pace.TheVariants.{Until, Times}
 use Rattle.script_lang.specs.declared.actors.Slot.{Slot}
 use Rattle.script_lang.specs.declared.counting.Counts.{Counts}
 use Rattle.script_lang.specs.declared.fault.Fault.{Fault}
-use Rattle.script_lang.specs.declared.fault.FaultDevice.{FaultDevice}
-use Rattle.script_lang.specs.declared.fault.FaultDevice.TheVariants.{Disk}
 use Rattle.script_lang.specs.declared.form.Form.{Form}
 use Rattle.script_lang.specs.declared.form.Form.TheVariants.{Blank, Given, Placed, Turn, Faulty}
 use Rattle.script_lang.specs.declared.options.Options.{Options}
@@ -156,6 +154,7 @@ is_built_command (Follow limit) = true
 is_built_command Ack = true
 is_built_command Shrink = true
 is_built_command Expand = true
+is_built_command Copy = true
 is_built_command (Raise start) = true
 is_built_command (Clock ms) = true
 is_built_command Stop = true
@@ -171,18 +170,13 @@ is_built_option (SegmentBytes n) = true
 is_built_option (IndexIntervalBytes n) = true
 is_built_option other = false
 
--- the devices whose faults are built
-abbrev pub is_built_device : FaultDevice → Bool
-is_built_device (Disk broker) = true
-is_built_device other = false
-
 -- the forms that are built
 abbrev pub is_built : Form → Bool
 is_built Blank = true
 is_built (Given option) = is_built_option option
 is_built (Placed actor partition order at_once) = is_built_command order.command
 is_built (Turn actor turns) = true
-is_built (Faulty partition fault) = is_built_device fault.device
+is_built (Faulty partition fault) = true
 
 -- a form that is built
 abbrev pub built_form : Form → Result (Unit {0}) Why

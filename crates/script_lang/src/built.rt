@@ -1,9 +1,8 @@
 //! Which forms a program runs so far.
 
 ghost use Rattle.std.specs.Prelude.{◌≡◌, OnOk, IsTrue};
-ghost use Rattle.script_lang.specs.Script.{is_built_command, is_built_option, is_built_device, is_built, built_form};
+ghost use Rattle.script_lang.specs.Script.{is_built_command, is_built_option, is_built, built_form};
 
-use crate::fault::FaultDevice;
 use crate::form::Form;
 use crate::options::OptionLine;
 use crate::refusal::Why;
@@ -13,7 +12,6 @@ fn is_built_command(command: &Command) -> bool
     ensures { result ≡ is_built_command command.now }
 {
     match command {
-        Command::Copy => false,
         Command::Trim => false,
         Command::Expire => false,
         Command::Pack(_) => false,
@@ -35,12 +33,6 @@ fn is_built_option(option: &OptionLine) -> bool
     }
 }
 
-fn is_built_device(device: FaultDevice) -> bool
-    ensures { result ≡ is_built_device device }
-{
-    matches!(device, FaultDevice::Disk(_))
-}
-
 fn is_built(form: &Form) -> bool
     ensures { result ≡ is_built form.now }
 {
@@ -49,7 +41,7 @@ fn is_built(form: &Form) -> bool
         Form::Given(option) => is_built_option(option),
         Form::Placed { order, .. } => is_built_command(&order.command),
         Form::Turn { .. } => true,
-        Form::Faulty { fault, .. } => is_built_device(fault.device),
+        Form::Faulty { .. } => true,
     }
 }
 

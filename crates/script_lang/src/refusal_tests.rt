@@ -5,7 +5,7 @@ use crate::tests::told_of;
 use std::test::Fail;
 
 /// Scripts with a reading.
-static GOOD: [(&str, &str); 23] = [
+static GOOD: [(&str, &str); 26] = [
     ("", "no line"),
     ("\n", "an empty line"),
     (
@@ -71,10 +71,22 @@ static GOOD: [(&str, &str); 23] = [
         "later 1 0 0 flush\nturn 1 1048576\n",
         "turns at their bound",
     ),
+    (
+        "partitions 64\n0 0 0 roll\n63 63 0 copy\n",
+        "a copy in the last partition",
+    ),
+    (
+        "fault 0 store put 1 before\nfault 0 store get 1 after\nfault 0 store delete 1 after\n",
+        "faults of the store",
+    ),
+    (
+        "fault 0 meta append 4294967295 after\nfault 0 meta read 1 before\n",
+        "faults of the metadata log",
+    ),
 ];
 
 /// Scripts without one, and what is told of them.
-static BAD: [(&str, &str); 160] = [
+static BAD: [(&str, &str); 156] = [
     // bytes that no line has
     ("# \x7f\n", "line 1: NotText"),
     ("#\u{e9}\n", "line 1: NotText"),
@@ -251,9 +263,6 @@ static BAD: [(&str, &str); 160] = [
     ),
     ("local_retention_bytes -2\n", "line 1: Unbuilt"),
     ("local_retention_bytes 0\n", "line 1: Unbuilt"),
-    ("fault 0 store put 1 before\n", "line 1: Unbuilt"),
-    ("fault 0 meta append 4294967295 after\n", "line 1: Unbuilt"),
-    ("0 0 0 copy\n", "line 1: Unbuilt"),
     ("0 0 0 trim\n", "line 1: Unbuilt"),
     ("0 0 0 expire\n", "line 1: Unbuilt"),
     ("0 0 0 offset latest\n", "line 1: Unbuilt"),
@@ -261,10 +270,6 @@ static BAD: [(&str, &str); 160] = [
     ("0 0 - pack 0\n", "line 1: Unbuilt"),
     ("0 0 - copying 1\n", "line 1: Unbuilt"),
     ("brokers 8\n0 0 7 roll\n0 0 7 trim\n", "line 3: Unbuilt"),
-    (
-        "partitions 64\n0 0 0 roll\n63 63 0 copy\n",
-        "line 3: Unbuilt",
-    ),
     (
         "later 0 0 0 up\nturn 0 1\nlater 0 0 0 trim\n0 0 0 frob\n",
         "line 3: Unbuilt",

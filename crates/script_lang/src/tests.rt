@@ -39,7 +39,7 @@ fn padded(
 
 /// Long scripts: a front, a text so many times, and an end; and what is told of them. 1,048,576 bytes of a batch are 61 of the
 /// head, 3 of the record's length, 8 of its fields, and the value.
-static LONG: [(&str, &str, u32, &str, &str); 10] = [
+static LONG: [(&str, &str, u32, &str, &str); 13] = [
     ("0 0 0 append 1,-,:", "v", 1_048_504, "\n", ""),
     (
         "0 0 0 append 1,-,:",
@@ -52,6 +52,15 @@ static LONG: [(&str, &str, u32, &str, &str); 10] = [
     ("0 0 0 raw ", "0", 2_097_154, "\n", "line 1: BatchTooLarge"),
     ("", "0 0 0 ack\n", 65_536, "", ""),
     ("", "0 0 0 ack\n", 65_537, "", "line 65537: TooMany"),
+    ("", "0 0 0 copy\n", 2_048, "", ""),
+    ("", "0 0 0 copy\n", 2_049, "", "line 2049: CopySum"),
+    (
+        "segment_bytes 16777216\n",
+        "0 0 0 copy\n",
+        129,
+        "",
+        "line 130: CopySum",
+    ),
     ("# ", "c", 1_000_000, "\n0 0 0 ack\n", ""),
     ("0 0 0 ack", " ", 1_000_000, "\n0 0 0 ack\n", ""),
     ("0 0 0 fetch 0 ", "0", 1_000, "7\n", ""),

@@ -1,13 +1,13 @@
-use Rattle.std.proofs.Common.{◌≡◌, sym, subst, All, List, []}
+use Rattle.std.proofs.Common.{◌≡◌, sym, subst, All, []}
 use Rattle.plain_log.specs.Orders.{AreListsFor}
 use Rattle.script_lang.specs.Fit.{StepsToEnds}
 use Rattle.script_lang.specs.declared.script.PartScript.{PartScript}
 use Rattle.broker_main.proofs.Running.{goes_on}
-use Rattle.broker_main.proofs.MemoryDisks.{content, control}
+use Rattle.broker_main.proofs.MemoryDevices.{disk, store, meta}
 use Rattle.broker_main.proofs.top.run_parts.Goals as goal
 
 pub loop-part-preserved : goal.loop-part-preserved
-loop-part-preserved c = goes_on content control c.args.config c.args.parts c.loop-part.part-iterator.rest.items c.next.new.self.rest.items c.in-Some.part c.loop-part.text.items c.in_ok-text.text.items c.in-Some.ensures.steps.0 c.loop-part.invariant c.in_ok-text.ensures
+loop-part-preserved c = goes_on disk store meta c.args.config c.args.parts c.loop-part.part-iterator.rest.items c.next.new.self.rest.items c.in-Some.part c.loop-part.text.items c.in_ok-text.text.items c.in-Some.ensures.steps.0 c.loop-part.invariant c.in_ok-text.ensures
 
 pub loop-part-init : goal.loop-part-init
 loop-part-init c =

@@ -1,10 +1,10 @@
 use Rattle.std.proofs.Common.{◌≡◌, ◌∙◌, ap, sym, subst, ℕ, List, [], ◌∷◌, ◌++◌, length, arith}
 use Rattle.disk_model.specs.declared.memory_disk.MemoryDisk.{MemoryDisk}
-use Rattle.partition_world.specs.Fresh.{AreFreshDisks, DisksTell}
-use Rattle.partition_world.proofs.FreshNodes.{length_more}
-use Rattle.broker_main.specs.Plans.{plan_of, ArePlanned}
-use Rattle.broker_main.proofs.MemoryDisks.{content, control, fresh_more, tell_more, planned_more}
-use Rattle.broker_main.proofs.disks.disks.Goals as goal
+use Rattle.partition_turns.specs.Fresh.{AreFreshDisks, DisksTell}
+use Rattle.partition_turns.proofs.FreshNodes.{length_more}
+use Rattle.broker_main.specs.Plans.{disk_plan, ArePlanned}
+use Rattle.broker_main.proofs.MemoryDevices.{content, control, fresh_more, tell_more, planned_more}
+use Rattle.broker_main.proofs.devices.disks.Goals as goal
 
 pub loop-broker-init : goal.loop-broker-init
 loop-broker-init c =
@@ -27,13 +27,14 @@ loop-broker-preserved c =
       fresh = subst (λ (l : List MemoryDisk). AreFreshDisks content control l) (sym more) (fresh_more c.loop-broker.disks.items disk was.fresh (record {
         empty = λ t n. made.content.files n;
         unarmed = made.fresh.armed;
+        unmade = made.fresh.made;
       }));
       told = subst (λ (l : List MemoryDisk). DisksTell content l) (sym more) (tell_more c.loop-broker.disks.items disk was.told made.content.tells);
       planned = subst (λ (l : List MemoryDisk). ArePlanned control c.args.faults.now 0 l) (sym more) (planned_more c.args.faults.now 0 c.loop-broker.disks.items disk was.planned (record {
-        plan_is = made.plan ∙ c.in_ok-plan.ensures ∙ ap (λ (b : ℕ). plan_of b c.args.faults.now) (omega (arith, was.count));
+        fresh = made.fresh;
+        plan_is = made.plan ∙ c.in_ok-plan.ensures ∙ ap (λ (b : ℕ). disk_plan b c.args.faults.now) (omega (arith, was.count));
         ruled = made.ruled;
         calm = made.calm;
-        unfailed = made.fresh.faults;
       }));
     }
 

@@ -1,8 +1,8 @@
 use Rattle.std.proofs.Common.{◌≡◌, length}
-use Rattle.partition_world.specs.Fresh.{AreFreshDisks, DisksTell}
+use Rattle.partition_turns.specs.Fresh.{AreFreshDisks, DisksTell}
 use Rattle.broker_main.specs.Plans.{ArePlanned}
-use Rattle.broker_main.proofs.MemoryDisks.{content, control}
-use Rattle.broker_main.proofs.disks.disks.Given as goal
+use Rattle.broker_main.proofs.MemoryDevices.{content, control}
+use Rattle.broker_main.proofs.devices.disks.Given as goal
 
 abbrev pub invariant-loop-broker : goal.invariant-loop-broker
 invariant-loop-broker l = record {
