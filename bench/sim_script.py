@@ -1,7 +1,7 @@
 #!/usr/bin/env python3
 """Writes a script of so many bytes, for bench/sim.sh.
 
-usage: sim_script.py mixed|flush|text|raw|fetch|brokers|segments|faults BYTES
+usage: sim_script.py mixed|flush|text|raw|fetch|brokers|segments|faults|copies|closed BYTES
 
 mixed: groups of 64 lines and 16,384 bytes, so 256 bytes a line: 61 appends with values of 236 or 237 letters, a flush,
 an ack, and a fetch of at most 128 KiB from some offset of the log so far. BYTES is a multiple of 16,384.
@@ -16,6 +16,10 @@ appends, the others follow, all flush and acknowledge; in every eighth group the
 learn and join.
 segments: lines of 256 bytes: appends into segments of their own, half of the lines and 4,096 at most, and then flushes.
 faults: lines of 256 bytes: half of them are faults of the disk's reads, in their order, and half are fetches that meet them.
+copies: 125 copies of segments of 1 MiB for each MiB of BYTES, so 2,000 for 16 MiB, near the most that a script may have. A
+segment is copied 250 times: the last note of each copy but the last fails, so the next copy begins anew. The script has half
+of BYTES, since it appends one segment for each 2 MiB.
+closed: segments of one batch of 69 bytes, one for each 4 KiB of BYTES and 4,095 at most, and a copy of each.
 """
 import struct
 import sys
@@ -156,6 +160,30 @@ def faults(size):
         yield "0 0 0 fetch 0 1".ljust(255) + "\n"
 
 
+def copies(size):
+    """Segments of 128 batches of 8 KiB, and copies of them that fail at their last note, but for each segment's last."""
+    count = size * 125 // 1048576
+    segments = max(1, count // 250)
+    each = count // segments
+    for copy in range(1, count + 1):
+        if copy % each:
+            yield f"fault 0 meta append {2 * copy} before\n"
+    for number in range(segments * 128):
+        yield f"0 0 0 append {1700000000000 + number},-,:" + value(number, 260) * 31 + "\n"
+    for command in ["roll", "flush", "ack"] + ["copy"] * count:
+        yield f"0 0 0 {command}\n"
+
+
+def closed(size):
+    """Segments of a batch each, and a copy of each."""
+    count = min(size // 4096, 4095)
+    yield "segment_bytes 100\n"
+    for _ in range(count):
+        yield "0 0 0 append 1700000000000,-,:x\n"
+    for command in ["roll", "flush", "ack"] + ["copy"] * count:
+        yield f"0 0 0 {command}\n"
+
+
 def main(kind, size):
     if kind == "mixed":
         for number in range(size // GROUP):
@@ -176,6 +204,10 @@ def main(kind, size):
         sys.stdout.writelines(segments(size))
     elif kind == "faults":
         sys.stdout.writelines(faults(size))
+    elif kind == "copies":
+        sys.stdout.writelines(copies(size))
+    elif kind == "closed":
+        sys.stdout.writelines(closed(size))
     else:
         sys.exit(__doc__)
 
