@@ -26,7 +26,7 @@ starts_after n epoch last (b ∷ bs) c low =
     by true same more = same
     by false same more = (let up = end_above (last_of b + 1) bs c.1 in omega (arith, up, low), more)
 
-starts_within : (n last : ℕ) (bs : List (List ℕ)) → IsConsecutive n bs → end_from n bs ≤ last + 1 → AllByRecursion (λ (pair : ℕ × ℕ). pair.1 ≤ last) (line_of bs)
+pub starts_within : (n last : ℕ) (bs : List (List ℕ)) → IsConsecutive n bs → end_from n bs ≤ last + 1 → AllByRecursion (λ (pair : ℕ × ℕ). pair.1 ≤ last) (line_of bs)
 starts_within n last [] c low = tt
 starts_within n last (b ∷ bs) c low =
     (let up = end_above (last_of b + 1) bs c.1 in omega (arith, up, low), starts_after (last_of b + 1) (epoch_of b) last bs c.1 low)

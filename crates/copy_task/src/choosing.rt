@@ -2,19 +2,16 @@
 
 ghost use Rattle.std.specs.Prelude.{◌≡◌};
 ghost use Rattle.std.specs.Option.{option_map};
-ghost use Rattle.copy_task.specs.Candidate.{candidate};
+ghost use Rattle.copy_task.specs.Candidate.{below};
 
 use segment_file::Growing;
 
-/// The closed segment to copy, where the remote tier has all of the log up to the copied mark.
-pub fn candidate(closed: &[Growing], copied: u64, known: u64) -> Option<&Growing>
-    ensures { option_map (λ segment. segment.now) result ≡ candidate closed.now copied known }
+/// The closed segment to copy, of the first one that ends past the end up to which the remote tier has all of the log.
+pub fn candidate(past: Option<&Growing>, known: u64) -> Option<&Growing>
+    ensures { option_map (λ segment. segment.now) result ≡ below known (option_map (λ segment. segment.now) past.entry) }
 {
-    for segment in closed {
-        let end = segment.end();
-        if copied < end {
-            return if end <= known { Some(segment) } else { None };
-        }
+    match past {
+        Some(segment) if segment.end() <= known => Some(segment),
+        _ => None,
     }
-    None
 }

@@ -436,7 +436,8 @@ fn the_first_segment_past_the_copied_mark_is_copied(rt: HostRuntime) -> Result<(
         (6, 9, None),
     ];
     for (copied, known, base) in rows {
-        let found = match candidate(closed.as_slice(), copied, known) {
+        let past = closed.iter().find(|segment| segment.end() > copied);
+        let found = match candidate(past, known) {
             Some(segment) => Some(segment.base()),
             None => None,
         };

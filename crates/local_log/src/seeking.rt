@@ -1,11 +1,13 @@
 //! Where a log's batches end, and which segment holds an offset, found by halving its segments and then the batches of
 //! one of them.
 
-ghost use Rattle.std.specs.Prelude.{◌≡◌, ◌<◌, ◌≤◌, ◌^◌, ◌+◌, length};
+ghost use Rattle.std.specs.Prelude.{◌≡◌, ◌<◌, ◌≤◌, ◌^◌, ◌+◌, length, option_map};
 ghost use Rattle.local_log.specs.Listing.{AreSegmentsOf};
 ghost use Rattle.local_log.specs.Cutting.{closed_by, cut_point};
+ghost use Rattle.local_log.specs.Reading.{first_past};
 
 use crate::log::LocalLog;
+use crate::piece::first_past;
 use disk_model::Disk;
 use segment_file::Growing;
 
@@ -15,6 +17,18 @@ impl<D: Disk> LocalLog<D> {
         ensures { result ≡ cut_point offset self.now.closed self.now.active }
     {
         end_by(
+            self.local_start,
+            self.closed.as_slice(),
+            &self.active,
+            offset,
+        )
+    }
+
+    /// The first closed segment that ends past an offset.
+    pub fn first_past(&self, offset: u64) -> Option<&Growing>
+        ensures { option_map (λ segment. segment.now) result ≡ first_past offset self.now.closed }
+    {
+        first_past(
             self.local_start,
             self.closed.as_slice(),
             &self.active,

@@ -1,5 +1,6 @@
 -- Batches that are laid one after another, and the index that grows with them.
-use Rattle.std.proofs.Common.{◌≡◌, ◌∙◌, ap, sym, refl, ℕ, zero, suc, ◌+◌, ◌-◌, ◌^◌, ◌<◌, ◌≤◌, nat_lt, Bool, true, false, List, [], ◌∷◌, ◌++◌, length, take, get_or, add-one, Some, arith}
+use Rattle.std.proofs.Common.{◌≡◌, ◌∙◌, ap, sym, refl, ℕ, zero, suc, ◌+◌, ◌-◌, ◌^◌, ◌<◌, ◌≤◌, ◌==◌, nat_lt, Bool, true, false, if◌then◌else◌, ℤ, List, [], ◌∷◌, ◌++◌, length, take, get_or, add-one, Some, arith}
+use Rattle.std.specs.Int.{int_max}
 use Rattle.std.specs.List.{slice_get}
 use Rattle.std.specs.List.Sorted.{IsPartitionPoint, IsNonDecreasingBy}
 use Rattle.std.specs.Option.{ForSome}
@@ -9,7 +10,7 @@ use Rattle.sparse_index.specs.Entries.{last_of}
 use Rattle.sparse_index.specs.Offsets.{OffsetTable, Rises}
 use Rattle.segment_file.specs.declared.placed.Placed.{Placed}
 use Rattle.segment_file.specs.Index.{Marks, is_due, with_offset, unmarked, marked, marked_by, index_of}
-use Rattle.segment_file.specs.Growing.{end_after, size_after, ending_by, AreLaid, IsGrowing}
+use Rattle.segment_file.specs.Growing.{end_after, size_after, ending_by, latest_from, latest_ts, AreLaid, IsGrowing}
 
 -- the last batch tells where all of them end
 pub last_size : (at : ℕ) (batches : List Placed) (batch : Placed) → slice_get batches (length batches - 1) ≡ Some batch → size_after at batches ≡ batch.to
@@ -136,11 +137,28 @@ front_ending end (x ∷ xs) (suc i) l h =
     let yes : nat_lt x.last end ≡ true = h.0 0 x (omega arith) (omega arith) in
     rw yes (ap (λ ys. x ∷ ys) (front_ending end xs i (omega (arith, l)) (rest-point (λ y. nat_lt y.last end) x xs i h)))
 
+-- a number that isn't 0
+pub pos_of : (n : ℕ) → (n == 0) ≡ false → 0 < n
+pos_of zero e = absurd cc
+pos_of (suc n) e = omega arith
+
+-- the greatest timestamp with a batch more
+latest_from_push : (ts : ℤ) (batches : List Placed) (batch : Placed) → latest_from ts (batches ++ batch ∷ []) ≡ int_max (latest_from ts batches) batch.max_ts
+latest_from_push ts [] batch = refl
+latest_from_push ts (x ∷ xs) batch = latest_from_push (int_max ts x.max_ts) xs batch
+
+pub latest_push : (first : Bool) (batches : List Placed) (batch : Placed) → (first ≡ true → length batches ≡ 0) → (first ≡ false → 0 < length batches)
+    → (if first then batch.max_ts else int_max (latest_ts batches) batch.max_ts) ≡ latest_ts (batches ++ batch ∷ [])
+latest_push true [] batch none some = refl
+latest_push true (x ∷ xs) batch none some = absurd (omega (arith, none refl))
+latest_push false [] batch none some = absurd (omega (arith, some refl))
+latest_push false (x ∷ xs) batch none some = sym (latest_from_push x.max_ts xs batch)
+
 -- one batch more is a growing segment still
-pub grows : (base interval : ℕ) (batches : List Placed) (batch : Placed) (index more : OffsetTable) → IsGrowing base interval batches index → end_after base batches ≤ batch.last
+pub grows : (base interval : ℕ) (batches : List Placed) (batch : Placed) (index more : OffsetTable) (latest later : ℤ) → IsGrowing base interval batches index latest → end_after base batches ≤ batch.last
     → batch.last < base + 2 ^ 31 → size_after 0 batches < batch.to → batch.to < 2 ^ 31
-    → more ≡ record index { entries = with_offset index.base interval index.entries (size_after 0 batches) batch.last } → IsGrowing base interval (batches ++ batch ∷ []) more
-grows base interval batches batch index more g up near some small is =
+    → more ≡ record index { entries = with_offset index.base interval index.entries (size_after 0 batches) batch.last } → later ≡ latest_ts (batches ++ batch ∷ []) → IsGrowing base interval (batches ++ batch ∷ []) more later
+grows base interval batches batch index more latest later g up near some small is top =
     let end = end_append base batches (batch ∷ []) in
     let size = size_append 0 batches (batch ∷ []) in record {
       base_fits = g.base_fits;
@@ -148,6 +166,7 @@ grows base interval batches batch index more g up near some small is =
       near = omega (arith, end, near);
       small = omega (arith, size, small);
       indexed = is ∙ (ap (λ (t : OffsetTable). grown t) g.indexed ∙ sym (index_push base interval batches batch));
+      latest_is = top;
     }
   where
     grown : OffsetTable → OffsetTable

@@ -1,6 +1,6 @@
 -- A log segment that grows: its batches as its index sees them.
-use Rattle.std.specs.Prelude.{◌≡◌, ℕ, ◌+◌, ◌^◌, ◌<◌, ◌≤◌, nat_lt, if◌then◌else◌, List, [], ◌∷◌, ◌++◌, length}
-use Rattle.std.specs.Int.{w32, w64, cast_unsigned}
+use Rattle.std.specs.Prelude.{◌≡◌, ℕ, ◌+◌, ◌^◌, ◌<◌, ◌≤◌, nat_lt, if◌then◌else◌, ℤ, negsuc, List, [], ◌∷◌, ◌++◌, length}
+use Rattle.std.specs.Int.{w32, w64, cast_unsigned, int_max}
 use Rattle.log_terms.specs.Log.{joined, end_from}
 use Rattle.record_batch.specs.declared.head.Head.{Head}
 use Rattle.sparse_index.specs.Offsets.{OffsetTable}
@@ -33,6 +33,16 @@ abbrev pub ending_by : ℕ → List Placed → List Placed
 ending_by end [] = []
 ending_by end (batch ∷ batches) = if nat_lt batch.last end then batch ∷ ending_by end batches else []
 
+-- the greatest of a timestamp and the batches' own
+abbrev pub latest_from : ℤ → List Placed → ℤ
+latest_from ts [] = ts
+latest_from ts (batch ∷ batches) = latest_from (int_max ts batch.max_ts) batches
+
+-- the greatest timestamp of batches, or -1 where there are none
+abbrev pub latest_ts : List Placed → ℤ
+latest_ts [] = negsuc 0
+latest_ts (batch ∷ batches) = latest_from batch.max_ts batches
+
 -- each batch ends past where it begins, in offsets and in bytes
 abbrev pub AreLaid : ℕ → ℕ → List Placed → Type 0
 AreLaid first at [] = Unit {0}
@@ -46,12 +56,13 @@ pub record MayPush (segment : Grown) (head : Head) : Type 0 where
   pub small : size_after 0 segment.batches + size_in head < 2 ^ 31
 
 -- what a growing segment keeps
-pub record IsGrowing (base interval : ℕ) (batches : List Placed) (index : OffsetTable) : Type 0 where
+pub record IsGrowing (base interval : ℕ) (batches : List Placed) (index : OffsetTable) (latest : ℤ) : Type 0 where
   pub base_fits : base ≤ 2 ^ 62
   pub laid : AreLaid base 0 batches
   pub near : end_after base batches ≤ base + 2 ^ 31
   pub small : size_after 0 batches < 2 ^ 31
   pub indexed : index ≡ index_of base interval batches
+  pub latest_is : latest ≡ latest_ts batches
 
 -- a search from a position misses no batch from the offset on
 pub record BeginsSearch (base : ℕ) (batches : List Placed) (offset position : ℕ) : Type 0 where

@@ -3,12 +3,13 @@
 //! The index is sparse and says where to begin a search. The ends of all batches let a cut, and a test of an offset,
 //! read nothing.
 
-ghost use Rattle.std.specs.Prelude.{◌≡◌, ◌+◌, ◌-◌, ◌<◌, ◌≤◌, ◌^◌, [], ◌↔◌, IsTrue, OnOk, OnErr, length, take};
+ghost use Rattle.std.specs.Prelude.{◌≡◌, ◌+◌, ◌-◌, ◌<◌, ◌≤◌, ◌^◌, [], if◌then◌else◌, ◌↔◌, IsTrue, OnOk, OnErr, length, take};
+ghost use Rattle.std.specs.Int.{int_max};
 ghost use Rattle.std.specs.Option.{ForSome};
 ghost use Rattle.sparse_index.specs.Entries.{last_of};
 ghost use Rattle.sparse_index.specs.Offsets.{Rises, find};
 ghost use Rattle.segment_file.specs.Index.{placed_in, begun_at, is_due, with_offset, index_of};
-ghost use Rattle.segment_file.specs.Growing.{AreLaid, end_after, size_after, ending_by, with_batch, MayPush, BeginsSearch};
+ghost use Rattle.segment_file.specs.Growing.{AreLaid, end_after, size_after, ending_by, latest_ts, with_batch, MayPush, BeginsSearch};
 ghost use Rattle.segment_file.specs.Reach.{reach_at};
 
 use crate::placed::{Placed, place};
@@ -29,6 +30,8 @@ pub struct Growing {
     interval: u32,
     batches: Vec<Placed>,
     index: OffsetIndex,
+    /// The greatest timestamp of the batches, or -1.
+    latest: i64,
 }
 
 impl Model for Growing {
@@ -38,7 +41,7 @@ impl Model for Growing {
 
     ghost view = { λ g. record { base = g.base; interval = g.interval; batches = g.batches.items } };
 
-    ghost invariant = { λ g. IsGrowing g.base g.interval g.batches.items g.index };
+    ghost invariant = { λ g. IsGrowing g.base g.interval g.batches.items g.index g.latest };
 }
 
 impl Growing {
@@ -52,6 +55,7 @@ impl Growing {
             interval,
             batches: Vec::new(alloc),
             index: OffsetIndex::new(alloc, base),
+            latest: -1,
         }
     }
 
@@ -87,9 +91,15 @@ impl Growing {
     {
         let size = size_of(self.batches.as_slice());
         let batch = place(head, size);
+        let latest = later(
+            self.batches.as_slice().is_empty(),
+            self.latest,
+            batch.max_ts,
+        );
         self.batches.reserve(1)?;
         mark(&mut self.index, self.interval, size, batch.last)?;
         self.batches.push_reserved(batch);
+        self.latest = latest;
         Ok(())
     }
 
@@ -113,6 +123,13 @@ impl Growing {
         ensures { result ≡ end_after self.now.base self.now.batches }
     {
         end_of(self.base, self.batches.as_slice())
+    }
+
+    /// The greatest timestamp of all batches, or -1 where there are none.
+    pub fn max_ts(&self) -> i64
+        ensures { result ≡ latest_ts self.now.batches }
+    {
+        self.latest
     }
 
     /// The offset and the position at which the batches end that end at or below an offset: where the batch begins that
@@ -146,8 +163,10 @@ impl Growing {
         let kept = count_ending(self.base, self.batches.as_slice(), end);
         let (front, _) = self.batches.as_slice().split_at(kept);
         let size = size_of(front);
+        let latest = latest_in(self.batches.as_slice(), kept, self.latest);
         self.batches.truncate(kept);
         self.index.cut_to(size);
+        self.latest = latest;
     }
 }
 
@@ -170,6 +189,40 @@ pub(crate) fn end_of(base: u64, batches: &[Placed]) -> u64
         Some(batch) => batch.last + 1,
         None => base,
     }
+}
+
+/// The greatest timestamp of batches, or -1 where there are none.
+fn latest_of(batches: &[Placed]) -> i64
+    ensures { result ≡ latest_ts batches.now }
+{
+    let Some((first, others)) = batches.split_first() else {
+        return -1;
+    };
+    let mut latest = first.max_ts;
+    for batch in others {
+        latest = latest.max(batch.max_ts);
+    }
+    latest
+}
+
+/// The greatest timestamp of the first so many batches, by that of all.
+fn latest_in(batches: &[Placed], kept: usize, latest: i64) -> i64
+    requires within { kept ≤ length batches.now }
+    requires all { latest ≡ latest_ts batches.now }
+    ensures { result ≡ latest_ts (take kept batches.now) }
+{
+    if kept < batches.len() {
+        latest_of(&batches[..kept])
+    } else {
+        latest
+    }
+}
+
+/// The greatest timestamp with a batch more, behind others or as the first one.
+fn later(first: bool, latest: i64, own: i64) -> i64
+    ensures { result ≡ (if first then own else int_max latest own) }
+{
+    if first { own } else { latest.max(own) }
 }
 
 /// How many batches end at or below an offset: those in front.

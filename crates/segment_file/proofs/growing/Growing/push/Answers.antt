@@ -1,8 +1,10 @@
-use Rattle.std.proofs.Common.{◌≡◌, ◌≤◌, ◌<◌, ◌+◌, ◌^◌, ◌∙◌, ap, sym, List, [], ◌∷◌, ◌++◌, arith}
+use Rattle.std.proofs.Common.{◌≡◌, ℕ, ◌≤◌, ◌<◌, ◌+◌, ◌^◌, ◌==◌, ◌∙◌, ap, sym, List, [], ◌∷◌, ◌++◌, length, if◌then◌else◌, arith, rules, to_z, of_z, w64}
+use Rattle.std.specs.Int.{int_max}
+use Rattle.std.proofs.lemmas.Bool.{eqb-true}
 use Rattle.sparse_index.specs.Offsets.{OffsetTable}
 use Rattle.segment_file.specs.declared.placed.Placed.{Placed}
 use Rattle.segment_file.specs.Growing.{Grown, end_after, size_after}
-use Rattle.segment_file.proofs.Laying.{end_up, rises_above, grows}
+use Rattle.segment_file.proofs.Laying.{end_up, rises_above, latest_push, pos_of, grows}
 use Rattle.segment_file.proofs.growing.Growing.push.Goals as goal
 
 pub mark-requires-clause-from_base : goal.mark-requires-clause-from_base
@@ -38,4 +40,12 @@ invariant_of-self-2 c =
     let some : size_after 0 batches < c.place-batch.result.to = omega (arith, to, size) in
     let small : c.place-batch.result.to < 2 ^ 31 = omega (arith, to, size, now, c.requires.small) in
     let items = c.push_reserved.ensures.items ∙ ap (λ (bs : List Placed). bs ++ c.place-batch.result ∷ []) c.in_ok-reserve.ensures.items in
-    rw items (grows inside.base inside.interval batches c.place-batch.result inside.index c.mark.new.index c.self.invariant up near some small (rw size at c.in_ok-mark.ensures.ok))
+    let out : to_z w64 (of_z w64 c.later-latest.result) ≡ c.later-latest.result = search rules in
+    let own : to_z w64 (of_z w64 c.place-batch.result.max_ts) ≡ c.place-batch.result.max_ts = search rules in
+    let was : to_z w64 (of_z w64 inside.latest) ≡ inside.latest = search rules in
+    let first : c.is_empty.result ≡ (length batches == 0) = c.is_empty.ensures ∙ ap (λ (bs : List Placed). length bs == 0) c.as_slice-2.ensures.value in
+    let top =
+    out ∙ (c.later-latest.ensures ∙ (ap (λ z. if c.is_empty.result then z else int_max (to_z w64 (of_z w64 inside.latest)) z) own
+    ∙ (ap (λ z. if c.is_empty.result then c.place-batch.result.max_ts else int_max z c.place-batch.result.max_ts) (was ∙ c.self.invariant.latest_is)
+    ∙ latest_push c.is_empty.result batches c.place-batch.result (λ t. eqb-true (length batches) 0 (sym first ∙ t)) (λ t. pos_of (length batches) (sym first ∙ t))))) in
+    rw items (grows inside.base inside.interval batches c.place-batch.result inside.index c.mark.new.index inside.latest _ c.self.invariant up near some small (rw size at c.in_ok-mark.ensures.ok) top)
