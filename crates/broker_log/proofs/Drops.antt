@@ -96,6 +96,8 @@ module _ {D : Type 0} (content : D → Content) (old : Log D) (some : IsFirstSta
           image_or content old new laws (stable_log (dropped_log old)) opens s h (returning old.incarnation s (s.stable, kept_line s, start)) (opens_dropped s h) c now,
         );
       },
+      ap (λ (n : ℕ). start_behind n old.closed) (sym h.local_is),
+      from s h,
     );
   }
 
@@ -111,7 +113,7 @@ module _ {D : Type 0} (content : D → Content) (old : Log D) (some : IsFirstSta
         stable_is = ap (λ (l : Log D). Some l.stable) b.fields;
         line_is = ap (λ (l : Log D). Some l.line) b.fields;
         layout = ap (λ (l : Log D). Some (layout_of l)) b.fields;
-        ends = λ s h. (base s h, subst (λ (n : ℕ). EndsAt n s.batches) (sym last) (ends s h), subst (λ (n : ℕ). n ≤ s.stable) (sym last) (within s h));
+        ends = λ s h. (base s h, subst (λ (n : ℕ). EndsAt n s.batches) (sym last) (ends s h), subst (λ (n : ℕ). n ≤ s.stable) (sym last) (within s h), subst (λ (n : ℕ). s.local ≤ n) (sym last) (from s h));
         seen = λ s h. (dropped s (answer.1 + 1), subst (λ (n : ℕ). ShowsOpen content new (dropped s n)) (sym last) (shows s h), refl);
       }
     where

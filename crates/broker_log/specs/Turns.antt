@@ -12,7 +12,7 @@ use Rattle.segment_file.specs.Growing.{Grown}
 use Rattle.local_log.specs.declared.refusal.LogRefusal.TheVariants as refusal
 use Rattle.local_log.specs.declared.refusal.OpenRefusal.TheVariants.{Damaged, LastIncarnation}
 use Rattle.local_log.specs.Cutting.{cut_point, cut_at as cut_log, restarted as restarted_log}
-use Rattle.local_log.specs.Dropping.{SpansFirst, dropped as dropped_log}
+use Rattle.local_log.specs.Dropping.{SpansFirst, start_behind, dropped as dropped_log}
 use Rattle.local_log.specs.Opening.{OpenFails, HoldsLast}
 use Rattle.segment_file.specs.Closed.{Whole as Closed}
 use Rattle.local_log.specs.Reading.{segment_at, piece_of, passes, IsCut, RunFails}
@@ -205,14 +205,15 @@ pub record Drops {D : Type 0} (content : D → Content) (old new : Kept D) (answ
   pub layout : WhileUp old (λ log. layout_in new ≡ Some (layout_of (dropped_log log)))
   -- from the local start up to an end of the log that is stable
   pub ends : (s : Seen) → Shows content old s → (answer.0 ≡ s.local) × EndsAt (answer.1 + 1) s.batches × (answer.1 + 1 ≤ s.stable)
+      × (s.local ≤ answer.1 + 1)
   pub seen : Goes content old new (λ s s'. s' ≡ dropped s (answer.1 + 1))
 
--- a write failed that was to drop the first closed segment: the local log begins there, or behind it
+-- a write failed that was to drop the first closed segment: the local log begins there, or where that segment ends
 pub record DropBreaks {D : Type 0} (content : D → Content) (old new : Kept D) : Type 0 where
   pub down : is_up new ≡ false
   pub settings : settings_in new ≡ settings_in old
   pub seen : (s : Seen) → Shows content old s → (start : ℕ) × EndsAt start s.batches × (start ≤ s.stable)
-      × Shows content new (loosened s (s.stable, kept_line s, start))
+      × Shows content new (loosened s (s.stable, kept_line s, start)) × (start ≡ start_behind s.local (closed_in old)) × (s.local ≤ start)
 
 -- these batches lead up to an offset
 pub record LeadsTo (whole : List (List ℕ)) (n : ℕ) : Type 0 where

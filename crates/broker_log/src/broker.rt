@@ -9,7 +9,7 @@ ghost use Rattle.log_steps.specs.Reopens.{Reopens};
 ghost use Rattle.log_terms.specs.Log.{up_to, end_of, EndsAt};
 ghost use Rattle.local_log.specs.Log.{AreSettings};
 ghost use Rattle.local_log.specs.Cutting.{cut_point};
-ghost use Rattle.local_log.specs.Reading.{RunFails, IsOfDevice};
+ghost use Rattle.local_log.specs.Reading.{RunFails, IsOfDevice, first_past};
 ghost use Rattle.local_log.specs.declared.refusal.CreateRefusal.TheVariants as create;
 ghost use Rattle.std.specs.Option.{ForSome};
 ghost use Rattle.log_terms.specs.Batch.{last_of};
@@ -140,6 +140,16 @@ impl<D: Disk> BrokerLog<D> {
         match &self.place {
             Place::Up(log) => log.closed(),
             Place::Down(..) | Place::Away => &[],
+        }
+    }
+
+    /// The first closed segment that ends past an offset. There is none while the broker is down.
+    pub fn first_past(&self, offset: u64) -> Option<&Growing>
+        ensures { option_map (λ segment. segment.now) result ≡ first_past offset (closed_in self.now) }
+    {
+        match &self.place {
+            Place::Up(log) => log.first_past(offset),
+            Place::Down(..) | Place::Away => None,
         }
     }
 
