@@ -2,6 +2,7 @@
 use Rattle.std.proofs.Common.{◌≡◌, inl, inr, ◌∙◌, sym, ap, subst, ℕ, ◌+◌, ◌<◌, ◌≤◌, Bool, true, false, cond, List, [], ◌∷◌, ◌++◌, Option, Some, None, slice_get, slice_set, arith}
 use Rattle.std.specs.Prelude.{nat_lt, nat_le}
 use mathlib.Core.List.{IsPrefix}
+use Rattle.tier_base.specs.declared.names.SegmentId.{SegmentId}
 use Rattle.tier_base.specs.declared.object_key.ObjectKey.{ObjectKey}
 use Rattle.segment_meta.specs.declared.note.Entry.{Entry}
 use Rattle.segment_meta.specs.declared.note.Note.{Note}
@@ -19,15 +20,15 @@ use Rattle.plain_log.specs.State.{path_of}
 use Rattle.copy_task.specs.Copying.{Copied, keys as copy_keys}
 use Rattle.copy_task.specs.declared.turn.Next.TheVariants as copying
 use Rattle.remote_find.specs.declared.piece.Piece.{Piece}
-use Rattle.remote_view.specs.Fold.{entry_of, fold}
+use Rattle.remote_view.specs.Fold.{Seen, entry_of, fold, view_of}
 use Rattle.tier_safe.specs.Scene.{Scene, Site, Sought, Work, Copies, Seeks}
-use Rattle.tier_safe.specs.Changes.{Move, Leaves, Overtakes, Dooms, Wants, Refreshes, Lines, Asks, Finds, Indexes, moved, Telling, CopyStarts, CopyEnds, ExpiryStarts, ExpiryEnds, note_for, after_telling, Storing, Puts, Undoes, Deletes, after_storing, undone, Change, Steps, Moves, Chooses, Tells, Stores, Sees, Caches, Drops, effect}
+use Rattle.tier_safe.specs.Changes.{Move, Leaves, Overtakes, Dooms, Wants, Refreshes, Lines, Asks, Finds, Reads, moved, Telling, CopyStarts, CopyEnds, ExpiryStarts, ExpiryEnds, note_for, after_telling, Storing, Puts, Undoes, Deletes, after_storing, undone, Change, Steps, Moves, Chooses, Tells, Stores, Sees, Caches, Drops, effect}
 use Rattle.tier_safe.specs.Lineage.{IsPart, Describes}
 use Rattle.plain_log.specs.Grows.{BrokerGrows}
 use Rattle.tier_safe.specs.Starts.{DeletedEnd}
-use Rattle.tier_safe.specs.Fetches.{StillLeads, PieceStands, IsIndexOf, IndexStands, FetchStands, FetchesStand}
+use Rattle.tier_safe.specs.Fetches.{StillLeads, PieceStands, IsIndexOf, PositionStands, FetchStands, FetchesStand}
 use Rattle.tier_safe.specs.Safe.{TierSafe}
-use Rattle.tier_safe.specs.Moves.{MayMove, MayAsk, MayFind, MayIndex}
+use Rattle.tier_safe.specs.Moves.{MayMove, MayAsk, MayFind, MayRead}
 use Rattle.tier_safe.specs.May.{MayAlter}
 use Rattle.tier_safe.proofs.Entries.{Follows}
 use Rattle.tier_safe.proofs.Steps.{StepGoes}
@@ -63,8 +64,9 @@ asked a sought c p m site x is bx =
       stops = omega (arith, stops);
       taken = (m.x.log, m.path);
       below = λ leads. subst (λ (s : Site). sought.offset < s.start) one m.below;
+      seen = λ piece has. absurd (cc (has, m.unread.0));
       piece = λ piece has. absurd (cc (has, m.unread.0));
-      index = λ piece index has. absurd (cc (has, m.unread.0));
+      from = λ piece from has. absurd (cc (has, m.unread.0));
     }
 
 found : (a : ℕ) (sought : Sought) (piece : Piece) (c : Scene) (p : Plain) → MayFind a sought piece c p → TierSafe c p → (site : Site) (x : Broker) → slice_get c.sites sought.broker ≡ Some site
@@ -75,22 +77,25 @@ found a sought piece c p m h site x is bx =
       stops = f.stops;
       taken = f.taken;
       below = λ leads. f.below (record { stops = leads.stops; role = leads.role });
+      seen = λ other has. (let same : other ≡ piece = cc (has) in
+          subst (λ (q : Piece). (entry : Entry) × (entry_of q.id site.view.entries ≡ Some entry)) (sym same) (m.seen site is));
       piece = λ other has leads low. (let same : other ≡ piece = cc (has) in
           subst (λ (q : Piece). PieceStands c.notes x.log sought.offset q) (sym same) (m.gives x bx (record { stops = leads.stops; role = leads.role }) low));
-      index = λ other index has read. absurd (cc (read, m.unread));
+      from = λ other from has read. absurd (cc (read, m.unread));
     }
 
-indexed : (a : ℕ) (sought : Sought) (index : OffsetTable) (c : Scene) (p : Plain) → MayIndex a sought index c p → TierSafe c p → (site : Site) (x : Broker) → slice_get c.sites sought.broker ≡ Some site
-    → slice_get p.brokers sought.broker ≡ Some x → FetchStands p.paths c.notes p.registry.start site x (record sought { index = Some index })
-indexed a sought index c p m h site x is bx =
+placed : (a : ℕ) (sought : Sought) (from : ℕ) (c : Scene) (p : Plain) → MayRead a sought from c p → TierSafe c p → (site : Site) (x : Broker) → slice_get c.sites sought.broker ≡ Some site
+    → slice_get p.brokers sought.broker ≡ Some x → FetchStands p.paths c.notes p.registry.start site x (record sought { from = Some from })
+placed a sought from c p m h site x is bx =
     let f = h.fetches a sought site x m.seat is bx in
     record {
       stops = f.stops;
       taken = f.taken;
       below = λ leads. f.below (record { stops = leads.stops; role = leads.role });
+      seen = f.seen;
       piece = λ piece has leads low. f.piece piece has (record { stops = leads.stops; role = leads.role }) low;
-      index = λ piece other has read leads low. (let same : other ≡ index = cc (read) in
-          subst (λ (t : OffsetTable). IndexStands p.paths (fold c.notes) piece.id t) (sym same) (m.is piece has));
+      from = λ piece other has read leads low. (let same : other ≡ from = cc (read) in
+          subst (λ (n : ℕ). PositionStands p.paths (fold c.notes) piece.id sought.offset n) (sym same) (m.is piece has));
     }
 
 moved_fetch : (a : ℕ) (move : Move) (c : Scene) (p : Plain) → MayMove a move c p → TierSafe c p → FetchWork p.paths c.notes p.registry.start c.sites p.brokers (moved move)
@@ -102,7 +107,7 @@ moved_fetch a (Refreshes rebuild) c p m h = tt
 moved_fetch a (Lines rebuild line) c p m h = tt
 moved_fetch a (Asks sought) c p m h = asked a sought c p m
 moved_fetch a (Finds sought piece) c p m h = found a sought piece c p m h
-moved_fetch a (Indexes sought index) c p m h = indexed a sought index c p m h
+moved_fetch a (Reads sought from) c p m h = placed a sought from c p m h
 
 -- notes
 
@@ -133,6 +138,7 @@ fetch_told paths notes more start site x sought ended pre f = record {
   stops = f.stops;
   taken = f.taken;
   below = f.below;
+  seen = f.seen;
   piece = λ piece has leads low. (let q = f.piece piece has leads low in
       record {
         before = q.before;
@@ -146,14 +152,15 @@ fetch_told paths notes more start site x sought ended pre f = record {
         of_log = q.of_log;
         of_copy = q.of_copy;
       });
-  index = λ piece index has read leads low. (let q = f.piece piece has leads low in
+  from = λ piece from has read leads low. (let q = f.piece piece has leads low in
       λ entry is done.
       (let y = prefix_goes q.before notes piece.id q.entry q.begins q.there in
       let high : sought.offset ≤ q.entry.end = (let holds = q.holds.1 in let within = q.within.1 in omega (arith, holds, within)) in
       let now = finished_stays notes notes q.before start sought.offset piece.id q.entry y.0 ended q.begins (prefix_self notes) q.there q.finished low high y.1 y.2 in
       let z = prefix_goes notes more piece.id y.0 pre y.1 in
       let same : z.0 ≡ entry = one_some (entry_of piece.id (fold more)) z.0 entry z.1 is in
-      subst (λ (e : Entry). IsIndexOf paths e index) same (index_follows paths y.0 z.0 index z.2 (f.index piece index has read leads low y.0 y.1 now))));
+      let i = f.from piece from has read leads low y.0 y.1 now in
+      (i.0, subst (λ (e : Entry). IsIndexOf paths e i.0) same (index_follows paths y.0 z.0 i.0 z.2 i.1), i.2)));
 }
 
 told_fetch : (paths : List Path) (notes : List Note) (start : ℕ) (sites : List Site) (brokers : List Broker) (telling : Telling) → FetchWork paths notes start sites brokers (after_telling telling)
@@ -172,18 +179,29 @@ stored_fetch paths notes start sites brokers (Puts copy n key) = tt
 stored_fetch paths notes start sites brokers (Undoes copy n key) = undone_fetch paths notes start sites brokers copy (n + 1) (slice_get (copy_keys copy) (n + 1))
 stored_fetch paths notes start sites brokers (Deletes doomed n key) = tt
 
--- a site whose local start doesn't fall
+-- an entry that the one site's view has the other's has too
+abbrev SeesOn : Site → Site → Type 0
+SeesOn old new = (id : SegmentId) (x : Entry) → entry_of id old.view.entries ≡ Some x → (y : Entry) × (entry_of id new.view.entries ≡ Some y)
+
+-- a view of more notes
+sees_more : (old new : Site) (before more : List Note) → old.view ≡ view_of before → new.view ≡ view_of more → IsPrefix before more → SeesOn old new
+sees_more old new before more was is pre id x there =
+    let y = prefix_goes before more id x pre (subst (λ (v : Seen). entry_of id v.entries ≡ Some x) was there) in
+    (y.0, subst (λ (v : Seen). entry_of id v.entries ≡ Some y.0) (sym is) y.1)
+
+-- a site whose local start doesn't fall, and whose view has the entries that it had
 fetches_site : (paths : List Path) (notes : List Note) (start : ℕ) (sites : List Site) (brokers : List Broker) (desk : List Work) (b : ℕ) (old new : Site) → slice_get sites b ≡ Some old
-    → old.start ≤ new.start → FetchesStand paths notes start sites brokers desk → FetchesStand paths notes start (slice_set sites b new) brokers desk
-fetches_site paths notes start sites brokers desk b old new at rises h = λ a sought site x seat is bx. elim (get-set sites b new sought.broker site is) [
+    → old.start ≤ new.start → SeesOn old new → FetchesStand paths notes start sites brokers desk → FetchesStand paths notes start (slice_set sites b new) brokers desk
+fetches_site paths notes start sites brokers desk b old new at rises on h = λ a sought site x seat is bx. elim (get-set sites b new sought.broker site is) [
   | inl here ↦
       let f = h a sought old x seat (ap (slice_get sites) here.0 ∙ at) bx in
       record {
         stops = f.stops;
         taken = f.taken;
         below = λ leads. (let low = f.below leads in subst (λ (s : Site). sought.offset < s.start) (sym here.1) (omega (arith, low, rises)));
+        seen = λ piece has. (let k = f.seen piece has in subst (λ (s : Site). (entry : Entry) × (entry_of piece.id s.view.entries ≡ Some entry)) (sym here.1) (on piece.id k.0 k.1));
         piece = f.piece;
-        index = f.index;
+        from = f.from;
       }
   | inr there ↦ h a sought site x seat there.1 bx
 ]
@@ -194,7 +212,7 @@ fetches_kept (Steps sites) c p m h = absurd m
 fetches_kept (Moves a move) c p m h = fetches_set p.paths c.notes p.registry.start c.sites p.brokers c.desk a (moved move) (moved_fetch a move c p m h) h.fetches
 fetches_kept (Chooses a b site copy) c p m h =
     fetches_set p.paths c.notes p.registry.start (slice_set c.sites b (record site { next = site.next + 1 })) p.brokers c.desk a (Copies copy copying.Start) tt
-    (fetches_site p.paths c.notes p.registry.start c.sites p.brokers c.desk b site (record site { next = site.next + 1 }) m.site_is (omega arith) h.fetches)
+    (fetches_site p.paths c.notes p.registry.start c.sites p.brokers c.desk b site (record site { next = site.next + 1 }) m.site_is (omega arith) (λ id x there. (x, there)) h.fetches)
 fetches_kept (Tells a telling teller) c p m h =
     let notes = c.notes ++ note_for telling teller ∷ [] in
     let first = prefix_more c.notes c.notes (note_for telling teller ∷ []) (prefix_self c.notes) in
@@ -203,11 +221,12 @@ fetches_kept (Tells a telling teller) c p m h =
 fetches_kept (Stores a storing objects) c p m h =
     fetches_set p.paths c.notes p.registry.start c.sites p.brokers c.desk a (after_storing storing) (stored_fetch p.paths c.notes p.registry.start c.sites p.brokers storing) h.fetches
 fetches_kept (Sees b site view) c p m h =
-    fetches_site p.paths c.notes p.registry.start c.sites p.brokers c.desk b site (record site { view = view }) m.site_is (omega arith) h.fetches
+    fetches_site p.paths c.notes p.registry.start c.sites p.brokers c.desk b site (record site { view = view }) m.site_is (omega arith)
+    (sees_more site (record site { view = view }) m.before m.more m.old m.new m.grows) h.fetches
 fetches_kept (Caches b site cache) c p m h =
-    fetches_site p.paths c.notes p.registry.start c.sites p.brokers c.desk b site (record site { cache = cache }) m.site_is (omega arith) h.fetches
+    fetches_site p.paths c.notes p.registry.start c.sites p.brokers c.desk b site (record site { cache = cache }) m.site_is (omega arith) (λ id x there. (x, there)) h.fetches
 fetches_kept (Drops b site start dropping) c p m h =
-    fetches_site p.paths c.notes p.registry.start c.sites p.brokers c.desk b site (record site { start = start }) m.site_is m.rises h.fetches
+    fetches_site p.paths c.notes p.registry.start c.sites p.brokers c.desk b site (record site { start = start }) m.site_is m.rises (λ id x there. (x, there)) h.fetches
 
 -- a step
 
@@ -249,6 +268,7 @@ fetches_stepped sites c p q m h = λ a sought site y seat is by.
           let low = f.below b.0 in
           let start = s.goes.leads sought.epoch b.2 b.3 leads.role in
           omega (arith, low, start));
+      seen = λ piece has. (let k = f.seen piece has in (k.0, subst (λ (v : Seen). entry_of piece.id v.entries ≡ Some k.0) (sym s.goes.view) k.1));
       piece = λ piece has leads low. (let b = led_before p.paths sought s.x s.y g f.stops f.taken leads in
           let q = f.piece piece has b.0 (omega (arith, low, m.grows.start)) in
           record {
@@ -263,6 +283,7 @@ fetches_stepped sites c p q m h = λ a sought site y seat is by.
             of_log = λ o from to. holding_more s.x.log s.y.log o q.epoch b.1 (q.of_log o from to);
             of_copy = q.of_copy;
           });
-      index = λ piece index has read leads low. (let b = led_before p.paths sought s.x s.y g f.stops f.taken leads in
-          λ entry there done. index_grows p.paths q.paths entry index m.grows.paths (f.index piece index has read b.0 (omega (arith, low, m.grows.start)) entry there done));
+      from = λ piece from has read leads low. (let b = led_before p.paths sought s.x s.y g f.stops f.taken leads in
+          λ entry there done. (let i = f.from piece from has read b.0 (omega (arith, low, m.grows.start)) entry there done in
+          (i.0, index_grows p.paths q.paths entry i.0 m.grows.paths i.1, i.2)));
     }))

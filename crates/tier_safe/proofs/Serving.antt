@@ -1,12 +1,12 @@
 -- What a fetch and a rebuild on the desk read is of the log that they are for.
-use Rattle.std.proofs.Common.{◌≡◌, ◌∙◌, sym, ap, subst, refl, ℕ, ◌+◌, ◌-◌, ◌<◌, ◌≤◌, List, Some, slice_get, arith}
+use Rattle.std.proofs.Common.{◌≡◌, ◌∙◌, sym, ap, subst, refl, ℕ, ◌+◌, ◌-◌, ◌<◌, ◌≤◌, List, ◌∷◌, ◌++◌, Some, slice_get, arith}
 use mathlib.Core.List.{IsPrefix}
 use Rattle.tier_base.specs.declared.plain.State.TheVariants.{CopyFinished}
 use Rattle.log_terms.specs.Line.{epoch_at}
 use Rattle.log_terms.specs.Log.{IsConsecutive, end_of, from_offset}
 use Rattle.log_terms.proofs.Lists.{prefix_self}
 use Rattle.log_terms.proofs.Logs.{one_end, prefix_end, consecutive_prefix}
-use Rattle.sparse_index.specs.Offsets.{OffsetTable}
+use Rattle.sparse_index.specs.Offsets.{OffsetTable, find}
 use Rattle.segment_file.specs.Index.{placed_from, index_of}
 use Rattle.segment_meta.specs.declared.note.Entry.{Entry}
 use Rattle.plain_log.specs.declared.state.Broker.{Broker}
@@ -23,12 +23,12 @@ use Rattle.tier_safe.specs.Reads.{FetchesAreServed, RebuildsAreServed}
 use Rattle.tier_safe.proofs.Entries.{prefix_goes}
 use Rattle.tier_safe.proofs.Covering.{holding_same, covers_is, finished_stays}
 use Rattle.tier_safe.proofs.Agreeing.{has_safe, map_at, entry_agrees, describes_one}
-use Rattle.tier_safe.proofs.Runs.{runs_same, from_back}
+use Rattle.tier_safe.proofs.Runs.{runs_same, next_same, from_back}
 
 -- a fetch
 
 -- the piece's copy is finished, its objects stand, and its batches are the log's up to the piece's end
-record FetchReads (c : Scene) (p : Plain) (x : Broker) (piece : Piece) : Type 0 where
+pub record FetchReads (c : Scene) (p : Plain) (x : Broker) (piece : Piece) : Type 0 where
   pub entry : Entry
   pub there : entry_of piece.id (fold c.notes) ≡ Some entry
   pub finished : entry.state ≡ CopyFinished
@@ -36,7 +36,7 @@ record FetchReads (c : Scene) (p : Plain) (x : Broker) (piece : Piece) : Type 0 
   pub within : (entry.start ≤ piece.from) × (piece.to ≤ entry.end + 1)
   pub shares : Shares (whole_of held) x.log (piece.to - 1)
 
-fetch_reads : (a : ℕ) (sought : Sought) (piece : Piece) (c : Scene) (p : Plain) (site : Site) (x : Broker) → PlainSafe p → TierSafe c p
+pub fetch_reads : (a : ℕ) (sought : Sought) (piece : Piece) (c : Scene) (p : Plain) (site : Site) (x : Broker) → PlainSafe p → TierSafe c p
     → slice_get c.desk a ≡ Some (Seeks sought) → slice_get c.sites sought.broker ≡ Some site → slice_get p.brokers sought.broker ≡ Some x
     → sought.piece ≡ Some piece → StillLeads sought x → p.registry.start ≤ sought.offset → FetchReads c p x piece
 fetch_reads a sought piece c p site x s h seat site_is x_is is leads past =
@@ -60,18 +60,20 @@ fetch_reads a sought piece c p site x s h seat site_is x_is is leads past =
           (omega (arith, within.0, y.2.start, low)) (omega (arith, within.1, y.2.end, holds.1)) map (k.of_log (piece.to - 1) low last);
     }
 
--- its index is that of the same batches
-fetch_index : (a : ℕ) (sought : Sought) (piece : Piece) (index : OffsetTable) (c : Scene) (p : Plain) (site : Site) (x : Broker) → PlainSafe p → TierSafe c p
+-- its position is the one that the index of the same batches gives
+pub fetch_from : (a : ℕ) (sought : Sought) (piece : Piece) (from : ℕ) (c : Scene) (p : Plain) (site : Site) (x : Broker) → PlainSafe p → TierSafe c p
     → slice_get c.desk a ≡ Some (Seeks sought) → slice_get c.sites sought.broker ≡ Some site → slice_get p.brokers sought.broker ≡ Some x
-    → sought.piece ≡ Some piece → sought.index ≡ Some index → StillLeads sought x → p.registry.start ≤ sought.offset
+    → sought.piece ≡ Some piece → sought.from ≡ Some from → StillLeads sought x → p.registry.start ≤ sought.offset
     → (r : FetchReads c p x piece)
-    → (interval : ℕ) × (index ≡ index_of r.entry.start interval (placed_from 0 r.held.batches))
-fetch_index a sought piece index c p site x s h seat site_is x_is is read leads past r =
-    let k = (h.fetches a sought site x seat site_is x_is).index piece index is read leads past r.entry r.there r.finished in
+    → (interval : ℕ) × (from ≡ (find (index_of r.entry.start interval (placed_from 0 r.held.batches)) sought.offset).1)
+fetch_from a sought piece from c p site x s h seat site_is x_is is read leads past r =
+    let i = (h.fetches a sought site x seat site_is x_is).from piece from is read leads past r.entry r.there r.finished in
+    let k = i.1 in
     let one = describes_one p r.entry k.batches r.held.batches k.line r.held.line s k.describes r.held.describes in
-    (k.interval, k.is ∙ ap (λ (b : List (List ℕ)). index_of r.entry.start k.interval (placed_from 0 b)) one)
+    let same = k.is ∙ ap (λ (b : List (List ℕ)). index_of r.entry.start k.interval (placed_from 0 b)) one in
+    (k.interval, i.2 ∙ ap (λ (t : OffsetTable). (find t sought.offset).1) same)
 
-fetch_runs : (c : Scene) (p : Plain) (x : Broker) (piece : Piece) (offset : ℕ) (run : List (List ℕ)) → PlainSafe p → (r : FetchReads c p x piece)
+pub fetch_runs : (c : Scene) (p : Plain) (x : Broker) (piece : Piece) (offset : ℕ) (run : List (List ℕ)) → PlainSafe p → (r : FetchReads c p x piece)
     → piece.from ≤ offset → offset < piece.to → IsPrefix run (from_offset offset r.held.batches) → end_of run ≤ piece.to → IsPrefix run (from_offset offset x.log)
 fetch_runs c p x piece offset run s r low high pre below =
     let part = r.held.describes.part in
@@ -80,6 +82,17 @@ fetch_runs c p x piece offset run s r low high pre below =
     let back = from_back 0 offset part.front r.held.batches front (omega (arith, part.ends, r.within.0, low)) in
     runs_same (whole_of r.held) x.log run offset (piece.to - 1) r.shares safe.consecutive (omega (arith, high))
     (subst (λ (l : List (List ℕ)). IsPrefix run l) (sym back) pre) (omega (arith, below, high))
+
+-- and the batch behind them, where they end before the piece does
+pub fetch_next : (c : Scene) (p : Plain) (x : Broker) (piece : Piece) (offset : ℕ) (first batch : List ℕ) (run rest : List (List ℕ)) → PlainSafe p → (r : FetchReads c p x piece)
+    → piece.from ≤ offset → offset < piece.to → from_offset offset r.held.batches ≡ (first ∷ run) ++ batch ∷ rest → end_of (first ∷ run) < piece.to
+    → (more : List (List ℕ)) × (from_offset offset x.log ≡ (first ∷ run) ++ batch ∷ more)
+fetch_next c p x piece offset first batch run rest s r low high is below =
+    let part = r.held.describes.part in
+    let safe = has_safe p part.epoch (whole_of r.held) s part.begins in
+    let front = consecutive_prefix 0 part.front (whole_of r.held) (r.held.batches, refl) safe.consecutive in
+    let back = from_back 0 offset part.front r.held.batches front (omega (arith, part.ends, r.within.0, low)) in
+    next_same (whole_of r.held) x.log run first batch rest offset (piece.to - 1) r.shares safe.consecutive (omega (arith, high)) (back ∙ is) (omega (arith, below, high))
 
 -- what a fetch reads is its log's
 pub fetches_served : FetchesAreServed
@@ -93,7 +106,7 @@ fetches_served c p a sought piece site x both seat site_is x_is is leads past =
       finished = r.finished;
       held = r.held;
       runs = λ run pre below. fetch_runs c p x piece sought.offset run both.plain r k.holds.0 k.holds.1 pre below;
-      index = λ index read. fetch_index a sought piece index c p site x both.plain both.tier seat site_is x_is is read leads past r;
+      from = λ from read. fetch_from a sought piece from c p site x both.plain both.tier seat site_is x_is is read leads past r;
     }
 
 -- a rebuild

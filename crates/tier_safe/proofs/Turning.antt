@@ -55,18 +55,18 @@ use Rattle.tier_safe.proofs.Basics.{key_cases}
 
 -- lists of works and sites
 
-set_set : {A : Type 0} (xs : List A) (i : ℕ) (x y : A) → slice_set (slice_set xs i x) i y ≡ slice_set xs i y
+pub set_set : {A : Type 0} (xs : List A) (i : ℕ) (x y : A) → slice_set (slice_set xs i x) i y ≡ slice_set xs i y
 set_set [] i x y = refl
 set_set (z ∷ xs) zero x y = refl
 set_set (z ∷ xs) (suc i) x y = ap (λ w. z ∷ w) (set_set xs i x y)
 
-set_get : {A : Type 0} (xs : List A) (i : ℕ) (x y : A) → slice_get xs i ≡ Some x → slice_get (slice_set xs i y) i ≡ Some y
+pub set_get : {A : Type 0} (xs : List A) (i : ℕ) (x y : A) → slice_get xs i ≡ Some x → slice_get (slice_set xs i y) i ≡ Some y
 set_get [] i x y at = absurd cc
 set_get (z ∷ xs) zero x y at = refl
 set_get (z ∷ xs) (suc i) x y at = set_get xs i x y at
 
 -- scenes with the same fields
-scene_same : (c d : Scene) → c.partition ≡ d.partition → c.objects ≡ d.objects → c.notes ≡ d.notes → c.sites ≡ d.sites → c.desk ≡ d.desk → c ≡ d
+pub scene_same : (c d : Scene) → c.partition ≡ d.partition → c.objects ≡ d.objects → c.notes ≡ d.notes → c.sites ≡ d.sites → c.desk ≡ d.desk → c ≡ d
 scene_same c d k o n s w =
     ap (λ (x : PartitionId). (let e : Scene = record { partition = x; objects = c.objects; notes = c.notes; sites = c.sites; desk = c.desk } in e)) k
     ∙ ap (λ (x : Objects). (let e : Scene = record { partition = d.partition; objects = x; notes = c.notes; sites = c.sites; desk = c.desk } in e)) o
@@ -90,28 +90,28 @@ effects_push : (ks : List Change) (c : Scene) (k : Change) → effects (ks ++ k 
 effects_push [] c k = refl
 effects_push (j ∷ ks) c k = effects_push ks (effect j c) k
 
-goes_on : (c d : Scene) (p : Plain) (k : Change) → IsChanged c p d → May k d p p → IsChanged c p (effect k d)
+pub goes_on : (c d : Scene) (p : Plain) (k : Change) → IsChanged c p d → May k d p p → IsChanged c p (effect k d)
 goes_on c d p k h m = record {
   changes = h.changes ++ k ∷ [];
   may = mays_push h.changes c k p p p h.may (subst (λ (e : Scene). May k e p p) (sym h.is) m);
   is = effects_push h.changes c k ∙ ap (effect k) h.is;
 }
 
-one_change : (c : Scene) (p : Plain) (k : Change) → May k c p p → IsChanged c p (effect k c)
+pub one_change : (c : Scene) (p : Plain) (k : Change) → May k c p p → IsChanged c p (effect k c)
 one_change c p k m = record { changes = k ∷ []; may = (p, m, refl); is = refl }
 
-as_scene : (c d e : Scene) (p : Plain) → d ≡ e → IsChanged c p d → IsChanged c p e
+pub as_scene : (c d e : Scene) (p : Plain) → d ≡ e → IsChanged c p d → IsChanged c p e
 as_scene c d e p same h = record { changes = h.changes; may = h.may; is = h.is ∙ same }
 
 -- the command leaves the desk
-leaves : (c : Scene) (p : Plain) (a b : ℕ) (site : Site) (work : Work) (o : Objects) (n : List Note) (v : Seen)
+pub leaves : (c : Scene) (p : Plain) (a b : ℕ) (site : Site) (work : Work) (o : Objects) (n : List Note) (v : Seen)
     → IsChanged c p (after_turn c a b site work o n v) → IsChanged c p (after_turn c a b site Free o n v)
 leaves c p a b site work o n v h =
     as_scene c (effect (Moves a Leaves) (after_turn c a b site work o n v)) (after_turn c a b site Free o n v) p
     (scene_same _ _ refl refl refl refl (set_set c.desk a work Free)) (goes_on c (after_turn c a b site work o n v) p (Moves a Leaves) h (refl, tt))
 
 -- nothing but that
-left : (c : Scene) (p : Plain) (a b : ℕ) (site : Site) → slice_get c.sites b ≡ Some site → IsChanged c p (after_turn c a b site Free c.objects c.notes site.view)
+pub left : (c : Scene) (p : Plain) (a b : ℕ) (site : Site) → slice_get c.sites b ≡ Some site → IsChanged c p (after_turn c a b site Free c.objects c.notes site.view)
 left c p a b site at =
     as_scene c (effect (Moves a Leaves) c) (after_turn c a b site Free c.objects c.notes site.view) p
     (scene_same _ _ refl refl refl (sym (set-same c.sites b site at)) refl) (one_change c p (Moves a Leaves) (refl, tt))
@@ -131,7 +131,7 @@ stores c p a b site storing objects at seat key made =
     (scene_same _ _ refl refl refl (sym (set-same c.sites b site at)) refl) (one_change c p (Stores a storing objects) (refl, record { seat = seat; key = key; made = made }))
 
 -- what a turn leaves is said of other names
-renamed : (c : Scene) (p : Plain) (a b : ℕ) (site : Site) (work other : Work) (o o2 : Objects) (n n2 : List Note) (v v2 : Seen) → work ≡ other → o ≡ o2 → n ≡ n2 → v ≡ v2
+pub renamed : (c : Scene) (p : Plain) (a b : ℕ) (site : Site) (work other : Work) (o o2 : Objects) (n n2 : List Note) (v v2 : Seen) → work ≡ other → o ≡ o2 → n ≡ n2 → v ≡ v2
     → IsChanged c p (after_turn c a b site work o n v) → IsChanged c p (after_turn c a b site other o2 n2 v2)
 renamed c p a b site work other o o2 n n2 v v2 ew eo en ev h =
     as_scene c (after_turn c a b site work o n v) (after_turn c a b site other o2 n2 v2) p

@@ -35,7 +35,7 @@ use Rattle.tier_safe.specs.Scene.{Site, Rebuild, Sought, Work, Free, Copies, Exp
 -- moves: changes of the desk alone
 
 -- a copy finds that it was overtaken; an expiry takes its segment; a rebuild its offset, that all notes were seen, and a line; a
--- fetch its offset, a piece, and an index
+-- fetch its offset, a piece, and the position from which it reads
 pub data Move : Type 0 where
   Leaves : Move
   Overtakes : (copy : Copied) → Move
@@ -45,7 +45,7 @@ pub data Move : Type 0 where
   Lines : (rebuild : Rebuild) → (line : List (ℕ × ℕ)) → Move
   Asks : (sought : Sought) → Move
   Finds : (sought : Sought) → (piece : Piece) → Move
-  Indexes : (sought : Sought) → (index : OffsetTable) → Move
+  Reads : (sought : Sought) → (from : ℕ) → Move
 
 -- what the seat keeps after a move
 abbrev pub moved : Move → Work
@@ -57,7 +57,7 @@ moved (Refreshes rebuild) = Rebuilds (record rebuild { refreshed = true })
 moved (Lines rebuild line) = Rebuilds (record rebuild { line = Some line })
 moved (Asks sought) = Seeks sought
 moved (Finds sought piece) = Seeks (record sought { piece = Some piece })
-moved (Indexes sought index) = Seeks (record sought { index = Some index })
+moved (Reads sought from) = Seeks (record sought { from = Some from })
 
 -- notes
 

@@ -13,7 +13,7 @@ use Rattle.tier_base.specs.declared.plain.State.TheVariants.{CopyFinished}
 use Rattle.tier_base.specs.declared.names.SegmentId.{SegmentId}
 use Rattle.tier_base.specs.Told.{In}
 use Rattle.log_terms.specs.Line.{epoch_at, epoch_holding}
-use Rattle.sparse_index.specs.Offsets.{OffsetTable}
+use Rattle.sparse_index.specs.Offsets.{OffsetTable, find}
 use Rattle.segment_file.specs.Index.{placed_from, index_of}
 use Rattle.segment_meta.specs.declared.note.Entry.{Entry}
 use Rattle.segment_meta.specs.declared.note.Note.{Note}
@@ -54,6 +54,11 @@ abbrev pub IndexStands : List Path → List Entry → SegmentId → OffsetTable 
 IndexStands paths entries id index =
     (entry : Entry) → entry_of id entries ≡ Some entry → entry.state ≡ CopyFinished → IsIndexOf paths entry index
 
+-- the position is the one that such an index gives for the offset, while the copy of this id is finished
+abbrev pub PositionStands : List Path → List Entry → SegmentId → ℕ → ℕ → Type 0
+PositionStands paths entries id offset from = (entry : Entry) → entry_of id entries ≡ Some entry → entry.state ≡ CopyFinished
+    → (index : OffsetTable) × IsIndexOf paths entry index × (from ≡ (find index offset).1)
+
 -- fetches
 
 -- the fetch's broker leads the epoch that it led, and hasn't stopped since
@@ -61,16 +66,19 @@ pub record StillLeads (sought : Sought) (x : Broker) : Type 0 where
   pub stops : x.stops ≡ sought.stops
   pub role : x.role ≡ Leads sought.epoch
 
--- a fetch on the desk: while its broker leads as it did, its offset is below the local start, and what it has found stands
+-- a fetch on the desk: its broker's view has the entry of its piece; while that broker leads as it did, its offset is below the
+-- local start, and what it has found stands
 pub record FetchStands (paths : List Path) (notes : List Note) (start : ℕ) (site : Site) (x : Broker) (sought : Sought)
     : Type 0 where
   pub stops : sought.stops ≤ x.stops
   pub taken : (log : List (List ℕ)) × (path_of paths sought.epoch ≡ Some log)
   pub below : StillLeads sought x → sought.offset < site.start
+  pub seen : (piece : Piece) → sought.piece ≡ Some piece
+      → (entry : Entry) × (entry_of piece.id site.view.entries ≡ Some entry)
   pub piece : (piece : Piece) → sought.piece ≡ Some piece → StillLeads sought x → start ≤ sought.offset
       → PieceStands notes x.log sought.offset piece
-  pub index : (piece : Piece) (index : OffsetTable) → sought.piece ≡ Some piece → sought.index ≡ Some index
-      → StillLeads sought x → start ≤ sought.offset → IndexStands paths (fold notes) piece.id index
+  pub from : (piece : Piece) (from : ℕ) → sought.piece ≡ Some piece → sought.from ≡ Some from
+      → StillLeads sought x → start ≤ sought.offset → PositionStands paths (fold notes) piece.id sought.offset from
 
 -- each fetch on the desk
 abbrev pub FetchesStand : List Path → List Note → ℕ → List Site → List Broker → List Work → Type 0

@@ -7,7 +7,6 @@ use mathlib.Core.List.{IsPrefix}
 use Rattle.tier_base.specs.declared.plain.State.{State}
 use Rattle.log_terms.specs.Line.{epoch_at, epoch_holding}
 use Rattle.log_terms.specs.Log.{end_of}
-use Rattle.sparse_index.specs.Offsets.{OffsetTable}
 use Rattle.segment_meta.specs.declared.note.Entry.{Entry}
 use Rattle.plain_log.specs.declared.state.State.{State as Plain}
 use Rattle.plain_log.specs.declared.state.Broker.{Broker}
@@ -20,9 +19,9 @@ use Rattle.copy_task.specs.Copying.{Copied}
 use Rattle.copy_task.specs.declared.turn.Next.TheVariants as copying
 use Rattle.expiry_task.specs.declared.turn.Doomed.{Doomed}
 use Rattle.tier_safe.specs.Scene.{Site, Rebuild, Sought, Free, Copies, Rebuilds, Seeks, Scene}
-use Rattle.tier_safe.specs.Changes.{Move, Leaves, Overtakes, Dooms, Wants, Refreshes, Lines, Asks, Finds, Indexes}
+use Rattle.tier_safe.specs.Changes.{Move, Leaves, Overtakes, Dooms, Wants, Refreshes, Lines, Asks, Finds, Reads}
 use Rattle.tier_safe.specs.Copies.{is_deleted}
-use Rattle.tier_safe.specs.Fetches.{StillLeads, PieceStands, IndexStands}
+use Rattle.tier_safe.specs.Fetches.{StillLeads, PieceStands, PositionStands}
 
 -- a broker's view shows the copy's entry deleted
 pub record MayOvertake (a : ℕ) (copy : Copied) (c : Scene) : Type 0 where
@@ -75,7 +74,7 @@ pub record MayLine (a : ℕ) (rebuild : Rebuild) (line : List (ℕ × ℕ)) (c :
 -- the fetch's broker leads, and the offset is below its local start
 pub record MayAsk (a : ℕ) (sought : Sought) (c : Scene) (p : Plain) : Type 0 where
   pub seat : slice_get c.desk a ≡ Some Free
-  pub unread : (sought.piece ≡ None) × (sought.index ≡ None)
+  pub unread : (sought.piece ≡ None) × (sought.from ≡ None)
   pub site : Site
   pub site_is : slice_get c.sites sought.broker ≡ Some site
   pub x : Broker
@@ -84,17 +83,20 @@ pub record MayAsk (a : ℕ) (sought : Sought) (c : Scene) (p : Plain) : Type 0 w
   pub path : path_of p.paths sought.epoch ≡ Some x.log
   pub below : sought.offset < site.start
 
--- the piece is of a finished copy, and one with the log
+-- the piece has an entry in the broker's view, is of a finished copy, and one with the log
 pub record MayFind (a : ℕ) (sought : Sought) (piece : Piece) (c : Scene) (p : Plain) : Type 0 where
   pub seat : slice_get c.desk a ≡ Some (Seeks sought)
-  pub unread : sought.index ≡ None
+  pub unread : sought.from ≡ None
+  pub seen : (site : Site) → slice_get c.sites sought.broker ≡ Some site
+      → (entry : Entry) × (entry_of piece.id site.view.entries ≡ Some entry)
   pub gives : (x : Broker) → slice_get p.brokers sought.broker ≡ Some x → StillLeads sought x
       → p.registry.start ≤ sought.offset → PieceStands c.notes x.log sought.offset piece
 
--- the index is that of the piece's segment
-pub record MayIndex (a : ℕ) (sought : Sought) (index : OffsetTable) (c : Scene) (p : Plain) : Type 0 where
+-- the position is the one that the index of the piece's segment gives for the offset
+pub record MayRead (a : ℕ) (sought : Sought) (from : ℕ) (c : Scene) (p : Plain) : Type 0 where
   pub seat : slice_get c.desk a ≡ Some (Seeks sought)
-  pub is : (piece : Piece) → sought.piece ≡ Some piece → IndexStands p.paths (fold c.notes) piece.id index
+  pub is : (piece : Piece) → sought.piece ≡ Some piece
+      → PositionStands p.paths (fold c.notes) piece.id sought.offset from
 
 -- the condition of a move; a command may always leave the desk
 abbrev pub MayMove : ℕ → Move → Scene → Plain → Type 0
@@ -106,4 +108,4 @@ MayMove a (Refreshes rebuild) c p = MayRefresh a rebuild c
 MayMove a (Lines rebuild line) c p = MayLine a rebuild line c p
 MayMove a (Asks sought) c p = MayAsk a sought c p
 MayMove a (Finds sought piece) c p = MayFind a sought piece c p
-MayMove a (Indexes sought index) c p = MayIndex a sought index c p
+MayMove a (Reads sought from) c p = MayRead a sought from c p

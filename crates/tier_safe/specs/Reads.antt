@@ -10,7 +10,7 @@ use Rattle.tier_base.specs.declared.plain.State.TheVariants.{CopyFinished}
 use Rattle.log_terms.specs.Line.{line_of, epoch_at, epoch_holding}
 use Rattle.log_terms.specs.Log.{end_of, from_offset}
 use Rattle.epoch_line.specs.Line.{IsLine}
-use Rattle.sparse_index.specs.Offsets.{OffsetTable}
+use Rattle.sparse_index.specs.Offsets.{find}
 use Rattle.segment_file.specs.Index.{placed_from, index_of}
 use Rattle.segment_meta.specs.declared.note.Entry.{Entry}
 use Rattle.segment_meta.specs.declared.note.Note.{Note}
@@ -69,7 +69,8 @@ WantedIsFound = (c : Scene) (p : Plain) (a : ℕ) (rebuild : Rebuild) (site : Si
 
 -- reads
 
--- the piece's segment is finished and stands, and what of its batches ends with the piece is what the log has from the offset on
+-- the piece's segment is finished and stands, and what of its batches ends with the piece is what the log has from the offset on;
+-- the position is the one that their index gives
 pub record IsServed (c : Scene) (p : Plain) (log : List (List ℕ)) (sought : Sought) (piece : Piece) : Type 0 where
   pub entry : Entry
   pub there : entry_of piece.id (fold c.notes) ≡ Some entry
@@ -78,8 +79,8 @@ pub record IsServed (c : Scene) (p : Plain) (log : List (List ℕ)) (sought : So
   pub held : IsHeld c.objects p.paths entry
   pub runs : (run : List (List ℕ)) → IsPrefix run (from_offset sought.offset held.batches) → end_of run ≤ piece.to
       → IsPrefix run (from_offset sought.offset log)
-  pub index : (index : OffsetTable) → sought.index ≡ Some index
-      → (interval : ℕ) × (index ≡ index_of entry.start interval (placed_from 0 held.batches))
+  pub from : (from : ℕ) → sought.from ≡ Some from
+      → (interval : ℕ) × (from ≡ (find (index_of entry.start interval (placed_from 0 held.batches)) sought.offset).1)
 
 -- what a fetch on the desk reads is its log's, while its broker leads on and the log start isn't above its offset
 abbrev pub FetchesAreServed : Type 0

@@ -51,9 +51,9 @@ pub record Sought : Type 0 where
   pub stops : ℕ
   pub epoch : ℕ
   pub offset : ℕ
-  -- what it reads from, once that is found, and the offset index of that remote segment
+  -- what it reads from, once that is found, and the position in that remote segment's log where it begins to read
   pub piece : Option Piece
-  pub index : Option OffsetTable
+  pub from : Option ℕ
 
 -- what a seat of the desk keeps between two turns
 pub data Work : Type 0 where
