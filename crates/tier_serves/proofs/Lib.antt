@@ -1,0 +1,11 @@
+pub mod Pairs
+pub mod Entries
+pub mod Asking
+pub mod Reading
+pub mod Turning
+pub mod Cutting
+pub mod Running
+pub mod Packing
+pub mod Damaging
+pub mod Places
+pub mod Spanning
