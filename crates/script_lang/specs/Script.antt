@@ -9,9 +9,7 @@
 --   5. TooMany, BatchTooLarge, FetchSum, CopySum, TurnSum     the limits (Limits)
 --   6. Unbuilt                            a form that isn't built yet
 --
--- Built are blank lines and comments, the options `brokers`, `partitions`, `segment_bytes` and `index_interval_bytes`,
--- later, turn, fault, and all commands but trim, expire, pack, copying and offset. Not built yet are these and the options
--- on retention.
+-- Built are blank lines and comments, all options, later, turn, fault, and all commands but expire, pack, copying and offset.
 --
 -- Behind the last line each partition's schedule steps its actors in rising order, each to the end of its list.
 use Rattle.std.specs.Prelude.{◌≡◌, ℕ, zero, suc, ◌+◌, ◌==◌, Bool, true, false, if◌then◌else◌, is_some, ℤ, pos, negsuc, List, [], ◌∷◌, ◌++◌, length, replicate, take, Option, Some, None, Result, Ok, Err}
@@ -22,7 +20,7 @@ use Rattle.tier_base.specs.declared.names.ActorId.{ActorId}
 use Rattle.tier_base.specs.declared.names.PartitionId.{PartitionId}
 use Rattle.tier_base.specs.declared.plain.Keep.{Keep}
 use Rattle.plain_log.specs.declared.command.Command.{Command}
-use Rattle.plain_log.specs.declared.command.Command.TheVariants.{Append, Raw, Flush, Roll, Elect, Unclean, Learn, Join, Follow, Ack, Shrink, Expand, Copy, Raise, Clock, Stop, Up, Fetch}
+use Rattle.plain_log.specs.declared.command.Command.TheVariants.{Append, Raw, Flush, Roll, Elect, Unclean, Learn, Join, Follow, Ack, Shrink, Expand, Copy, Trim, Raise, Clock, Stop, Up, Fetch}
 use Rattle.plain_log.specs.declared.command.Config.{Config}
 use Rattle.plain_log.specs.declared.command.Order.{Order}
 use Rattle.plain_log.specs.declared.command.Pace.{Pace}
@@ -155,6 +153,7 @@ is_built_command Ack = true
 is_built_command Shrink = true
 is_built_command Expand = true
 is_built_command Copy = true
+is_built_command Trim = true
 is_built_command (Raise start) = true
 is_built_command (Clock ms) = true
 is_built_command Stop = true
@@ -162,18 +161,10 @@ is_built_command Up = true
 is_built_command (Fetch offset limit) = true
 is_built_command other = false
 
--- the options that are built
-abbrev pub is_built_option : OptionLine → Bool
-is_built_option (Brokers n) = true
-is_built_option (Partitions n) = true
-is_built_option (SegmentBytes n) = true
-is_built_option (IndexIntervalBytes n) = true
-is_built_option other = false
-
 -- the forms that are built
 abbrev pub is_built : Form → Bool
 is_built Blank = true
-is_built (Given option) = is_built_option option
+is_built (Given option) = true
 is_built (Placed actor partition order at_once) = is_built_command order.command
 is_built (Turn actor turns) = true
 is_built (Faulty partition fault) = true

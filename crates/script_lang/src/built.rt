@@ -1,10 +1,9 @@
 //! Which forms a program runs so far.
 
 ghost use Rattle.std.specs.Prelude.{◌≡◌, OnOk, IsTrue};
-ghost use Rattle.script_lang.specs.Script.{is_built_command, is_built_option, is_built, built_form};
+ghost use Rattle.script_lang.specs.Script.{is_built_command, is_built, built_form};
 
 use crate::form::Form;
-use crate::options::OptionLine;
 use crate::refusal::Why;
 use plain_log::Command;
 
@@ -12,7 +11,6 @@ fn is_built_command(command: &Command) -> bool
     ensures { result ≡ is_built_command command.now }
 {
     match command {
-        Command::Trim => false,
         Command::Expire => false,
         Command::Pack(_) => false,
         Command::Copying(_) => false,
@@ -21,24 +19,12 @@ fn is_built_command(command: &Command) -> bool
     }
 }
 
-fn is_built_option(option: &OptionLine) -> bool
-    ensures { result ≡ is_built_option option.now }
-{
-    match option {
-        OptionLine::Brokers(_) => true,
-        OptionLine::Partitions(_) => true,
-        OptionLine::SegmentBytes(_) => true,
-        OptionLine::IndexIntervalBytes(_) => true,
-        _ => false,
-    }
-}
-
 fn is_built(form: &Form) -> bool
     ensures { result ≡ is_built form.now }
 {
     match form {
         Form::Blank => true,
-        Form::Given(option) => is_built_option(option),
+        Form::Given(_) => true,
         Form::Placed { order, .. } => is_built_command(&order.command),
         Form::Turn { .. } => true,
         Form::Faulty { .. } => true,

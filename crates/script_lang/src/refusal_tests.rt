@@ -5,7 +5,7 @@ use crate::tests::told_of;
 use std::test::Fail;
 
 /// Scripts with a reading.
-static GOOD: [(&str, &str); 26] = [
+static GOOD: [(&str, &str); 28] = [
     ("", "no line"),
     ("\n", "an empty line"),
     (
@@ -83,10 +83,18 @@ static GOOD: [(&str, &str); 26] = [
         "fault 0 meta append 4294967295 after\nfault 0 meta read 1 before\n",
         "faults of the metadata log",
     ),
+    (
+        "retention_ms -1\nretention_bytes 9223372036854775807\nlocal_retention_ms -2\nlocal_retention_bytes -1\n",
+        "retention with no bound, the greatest, and the whole log's",
+    ),
+    (
+        "local_retention_bytes -2\nlocal_retention_ms 9223372036854775807\nretention_bytes -1\nretention_ms 0\n0 0 0 trim\n",
+        "retention in any order, and a trim",
+    ),
 ];
 
 /// Scripts without one, and what is told of them.
-static BAD: [(&str, &str); 156] = [
+static BAD: [(&str, &str); 151] = [
     // bytes that no line has
     ("# \x7f\n", "line 1: NotText"),
     ("#\u{e9}\n", "line 1: NotText"),
@@ -128,6 +136,9 @@ static BAD: [(&str, &str); 156] = [
     ("brokers\n", "line 1: Word"),
     ("brokers 2 x\n", "line 1: Word"),
     ("retention_ms\n", "line 1: Word"),
+    ("local_retention_bytes -2 -2\n", "line 1: Word"),
+    ("0 0 0 trim 1\n", "line 1: Word"),
+    ("0 0 - trim\n", "line 1: Word"),
     ("later\n", "line 1: Word"),
     ("later 0 0 0\n", "line 1: Word"),
     ("turn\n", "line 1: Word"),
@@ -162,6 +173,7 @@ static BAD: [(&str, &str); 156] = [
     ("local_retention_ms -3\n", "line 1: Number"),
     ("local_retention_ms -\n", "line 1: Number"),
     ("local_retention_bytes +1\n", "line 1: Number"),
+    ("local_retention_bytes -02\n", "line 1: Number"),
     (
         "local_retention_bytes 9223372036854775808\n",
         "line 1: Number",
@@ -218,6 +230,7 @@ static BAD: [(&str, &str); 156] = [
     // options behind a command
     ("0 0 0 flush\npartitions 1\n", "line 2: TooLate"),
     ("0 0 0 flush\nbrokers 1\n", "line 2: TooLate"),
+    ("later 0 0 0 trim\nretention_ms -1\n", "line 2: TooLate"),
     (
         "partitions 1\n0 0 0 flush\npartitions 1\n",
         "line 3: TooLate",
@@ -225,6 +238,10 @@ static BAD: [(&str, &str); 156] = [
     // options given again
     ("partitions 1\n# c\npartitions 1\n", "line 3: Twice"),
     ("partitions 1\npartitions 64\n", "line 2: Twice"),
+    (
+        "local_retention_ms -2\nretention_ms 1\nlocal_retention_ms -2\n",
+        "line 3: Twice",
+    ),
     // turns of an actor without commands
     ("turn 0 1\n", "line 1: NoActor"),
     ("0 0 0 flush\nturn 1 1\n", "line 2: NoActor"),
@@ -251,31 +268,14 @@ static BAD: [(&str, &str); 156] = [
         "line 2: FetchSum",
     ),
     // forms that are not built
-    ("retention_ms -1\n", "line 1: Unbuilt"),
-    ("retention_ms 9223372036854775807\n", "line 1: Unbuilt"),
-    ("retention_bytes -1\n", "line 1: Unbuilt"),
-    ("retention_bytes 9223372036854775807\n", "line 1: Unbuilt"),
-    ("local_retention_ms -2\n", "line 1: Unbuilt"),
-    ("local_retention_ms -1\n", "line 1: Unbuilt"),
-    (
-        "local_retention_ms 9223372036854775807\n",
-        "line 1: Unbuilt",
-    ),
-    ("local_retention_bytes -2\n", "line 1: Unbuilt"),
-    ("local_retention_bytes 0\n", "line 1: Unbuilt"),
-    ("0 0 0 trim\n", "line 1: Unbuilt"),
     ("0 0 0 expire\n", "line 1: Unbuilt"),
     ("0 0 0 offset latest\n", "line 1: Unbuilt"),
     ("0 0 0 offset at 0\n", "line 1: Unbuilt"),
     ("0 0 - pack 0\n", "line 1: Unbuilt"),
     ("0 0 - copying 1\n", "line 1: Unbuilt"),
-    ("brokers 8\n0 0 7 roll\n0 0 7 trim\n", "line 3: Unbuilt"),
+    ("brokers 8\n0 0 7 trim\n0 0 7 expire\n", "line 3: Unbuilt"),
     (
-        "later 0 0 0 up\nturn 0 1\nlater 0 0 0 trim\n0 0 0 frob\n",
-        "line 3: Unbuilt",
-    ),
-    (
-        "brokers 1\npartitions 1\nretention_ms 0\n",
+        "later 0 0 0 up\nturn 0 1\nlater 0 0 0 expire\n0 0 0 frob\n",
         "line 3: Unbuilt",
     ),
     // actors of two partitions

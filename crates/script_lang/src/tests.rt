@@ -67,6 +67,45 @@ static LONG: [(&str, &str, u32, &str, &str); 13] = [
     ("0 0 0 fetch 0 ", "9", 1_000, "\n", "line 1: Number"),
 ];
 
+/// Options, and what is kept of the whole log and of the local one.
+static KEPT: [(&str, &str); 4] = [
+    (
+        "",
+        "Keep { ms: 604800000, bytes: -1 } Keep { ms: 604800000, bytes: -1 }",
+    ),
+    (
+        "local_retention_ms -2\nretention_bytes 7\nretention_ms 5\n",
+        "Keep { ms: 5, bytes: 7 } Keep { ms: 5, bytes: 7 }",
+    ),
+    (
+        "retention_bytes 7\nlocal_retention_ms -1\nlocal_retention_bytes 0\n",
+        "Keep { ms: 604800000, bytes: 7 } Keep { ms: -1, bytes: 0 }",
+    ),
+    (
+        "retention_ms -1\nlocal_retention_ms 9\nlocal_retention_bytes -2\n",
+        "Keep { ms: -1, bytes: -1 } Keep { ms: 9, bytes: -1 }",
+    ),
+];
+
+/// What is kept of the whole log and of the local one, as text.
+fn kept(alloc: Global, text: &str) -> Result<String, AllocError> {
+    match read(alloc, text.as_bytes()) {
+        Ok(script) => {
+            let config = script.config;
+            format!(in alloc; "{:?} {:?}", config.keep, config.local_keep)
+        }
+        Err(refusal) => format!(in alloc; "{refusal}"),
+    }
+}
+
+#[test]
+fn the_local_log_keeps_its_own_or_the_whole_bound(rt: HostRuntime) -> Result<(), Fail> {
+    for (text, wanted) in &KEPT {
+        assert_eq!(rt; kept(rt.alloc(), text)?.as_str(), *wanted, "{text}");
+    }
+    Ok(())
+}
+
 #[test]
 fn long_scripts_are_read_up_to_their_limits(rt: HostRuntime) -> Result<(), Fail> {
     let alloc = rt.alloc();
