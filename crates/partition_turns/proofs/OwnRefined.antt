@@ -50,7 +50,7 @@ module _ {D : Type 0} where
   opened_node x kept s s' back i up is = rw (up, is) refl
 
 module _ {D : Type 0} where
-  dropped_node : (x : Node D) (kept : Kept D) (s s' : log.Seen) (start : ℕ) → is_open kept ≡ is_up x → s' ≡ dropped s start
+  pub dropped_node : (x : Node D) (kept : Kept D) (s s' : log.Seen) (start : ℕ) → is_open kept ≡ is_up x → s' ≡ dropped s start
       → record (node_of x s) { local = start; saved = seen_held.kept_line (node_of x s) } ≡ node_of (record x { log = kept }) s'
   dropped_node x kept s s' start up is = rw (up, is) refl
 

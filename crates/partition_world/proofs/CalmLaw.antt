@@ -1,28 +1,24 @@
 -- While no call of the devices can fail, none does: each turn without a fault keeps that, and one with a fault is impossible.
-use Rattle.std.proofs.Common.{◌≡◌, inl, inr, sym, ap, subst, refl, ℕ, zero, suc, ◌+◌, List, [], ◌∷◌, ◌++◌, slice_get, slice_set, Some, None, Option, Ok, Bool, true, false, arith}
+use Rattle.std.proofs.Common.{◌≡◌, inl, inr, sym, ap, subst, ℕ, zero, suc, List, [], ◌∷◌, ◌++◌, slice_get, slice_set, Some, None, Bool, true, false, arith}
 use Rattle.std.specs.Prelude.{IsTrue}
-use Rattle.tier_base.specs.Device.{Control, Fate, Fault, Ran, Arms}
+use Rattle.tier_base.specs.Device.{Control, Arms}
 use Rattle.tier_base.specs.declared.names.PartitionId.{PartitionId}
-use Rattle.tier_base.specs.declared.object_key.ObjectKey.{ObjectKey}
-use Rattle.tier_base.specs.declared.plain.State.{State}
-use Rattle.tier_base.specs.declared.plain.State.TheVariants.{CopyStarted, CopyFinished, DeleteStarted, DeleteFinished}
+use Rattle.tier_base.specs.declared.plain.Keep.{Keep}
 use Rattle.disk_model.specs.declared.disk.Disk.{Ghosts as DiskGhosts}
 use Rattle.disk_model.specs.Call.{call_code}
 use Rattle.object_store.specs.declared.store.Store.{Ghosts as StoreGhosts}
 use Rattle.meta_log.specs.declared.log.MetaLog.{Ghosts as MetaGhosts}
-use Rattle.meta_log.specs.declared.teller.Teller.{Teller}
-use Rattle.remote_view.specs.Fold.{Seen as View, state_of}
-use Rattle.copy_task.specs.Copying.{Copied, keys}
-use Rattle.copy_task.specs.Turns.{Tiers, StartRow, FinishRow, CheckRow, PutRow, DeleteRow, CopyRow, checked, put_at, delete_at, overtaken}
-use Rattle.copy_task.specs.declared.turn.CopyTurn.{CopyTurn}
-use Rattle.copy_task.specs.declared.turn.CopyTurn.TheVariants.{Goes as GoesOn, Ends}
+use Rattle.copy_task.specs.Copying.{Copied}
 use Rattle.copy_task.specs.declared.turn.Next.{Next}
-use Rattle.copy_task.specs.declared.turn.Next.TheVariants.{Start, Put, Finish, Check, Delete}
-use Rattle.plain_log.specs.declared.answer.Answer.TheVariants.{Down, NotLeader, MetaFault, StoreFault, DiskFault, Damaged}
+use Rattle.tier_fetch.specs.declared.turn.FetchTurn.{FetchTurn}
+use Rattle.tier_fetch.specs.declared.turn.FetchTurn.TheVariants as fetch
+use Rattle.tier_fetch.specs.declared.turn.Next.{Next as Search}
+use Rattle.tier_fetch.specs.declared.turn.Next.TheVariants.{Refresh}
+use Rattle.plain_log.specs.declared.answer.Answer.TheVariants.{Down, NotLeader, MetaFault, DiskFault, Damaged, Stopped, OutOfRange, Empty}
 use Rattle.plain_log.specs.declared.answer.Place.TheVariants.{File}
 use Rattle.plain_log.specs.declared.command.ActorList.{ActorList}
 use Rattle.plain_log.specs.declared.command.Command.{Command}
-use Rattle.plain_log.specs.declared.command.Command.TheVariants.{Join, Copy, Trim}
+use Rattle.plain_log.specs.declared.command.Command.TheVariants.{Join, Copy, Trim, Fetch}
 use Rattle.plain_log.specs.declared.command.Config.{Config}
 use Rattle.plain_log.specs.declared.command.Pace.{Pace}
 use Rattle.plain_log.specs.declared.command.Pace.TheVariants.{Until, Times}
@@ -34,124 +30,35 @@ use Rattle.partition_seen.specs.declared.begun.Turned.TheVariants as turned
 use Rattle.partition_seen.specs.Turn.{event_of}
 use Rattle.partition_turns.specs.declared.held.Node.{Node}
 use Rattle.partition_turns.specs.declared.held.Held.{Held}
-use Rattle.partition_turns.specs.Held.{IsCalm as IsCalmDisk}
-use Rattle.partition_turns.specs.Calm.{AreCalm, AreUnplanned, IsFaultless, HasNoFault, AreFaultless}
+use Rattle.partition_turns.specs.Held.{line_of, IsCalm as IsCalmDisk}
+use Rattle.partition_turns.specs.Calm.{AreCalm, AreUnplanned, HasNoFault, AreFaultless}
 use Rattle.partition_turns.specs.Fresh.{IsArmed, AreFreshFrom}
 use Rattle.partition_turns.proofs.CalmRows.{lasting_calm, calm_fault, calm_get, calm_set, row_calm, HasNone}
 use Rattle.partition_world.specs.declared.tier.Side.{Side}
 use Rattle.partition_world.specs.declared.tier.Tier.{Tier}
 use Rattle.partition_world.specs.declared.seat.Outcome.{Outcome}
-use Rattle.partition_world.specs.declared.seat.Outcome.TheVariants.{Answers, Begins, Chose, Goes}
+use Rattle.partition_world.specs.declared.seat.Outcome.TheVariants.{Answers, Begins, Chose, Goes, Seeks as Sought}
 use Rattle.partition_world.specs.declared.seat.Work.{Work}
-use Rattle.partition_world.specs.declared.seat.Work.TheVariants.{Idle, Noted, Copies}
+use Rattle.partition_world.specs.declared.seat.Work.TheVariants.{Idle, Noted, Copies, Seeks}
 use Rattle.partition_world.specs.Calm.{IsCalm, IsUnplanned, IsUnfailing}
 use Rattle.partition_world.specs.Fresh.{IsFresh}
-use Rattle.partition_world.specs.Seats.{outcome_of, copy_outcome, told_of}
+use Rattle.partition_world.specs.Seats.{outcome_of, fetch_outcome, told_of}
 use Rattle.partition_world.specs.Turn.{IsTurn}
 use Rattle.partition_world.specs.TurnsOfCopy.{ReadsLog, ReadRow, CopyFirstRow, ChooseRow, tiers_of, teller_of}
-use Rattle.partition_world.specs.Turns.{BeginRow, NotedRow, CopyingRow, Row}
+use Rattle.partition_world.specs.TurnsOfFetch.{FetchOnRow, GoesOnFetch, fetch_tiers, wanted_of}
+use Rattle.partition_world.specs.TurnsOfTrim.{TrimFirstRow, TrimOnRow}
+use Rattle.partition_world.specs.Turns.{BeginRow, NotedRow, CopyingRow, SeekingRow, Row}
 use Rattle.partition_world.specs.Reaches.{Goes as GoesOnce, GoesTimes, GoesUntil, Paces, Reaches}
 use Rattle.partition_world.specs.Whole.{Whole}
 use Rattle.partition_world.proofs.Begins.{row_of}
-
--- an outcome that tells of no fault
-abbrev IsQuiet : Outcome → Type 0
-IsQuiet (Answers answer) = IsFaultless answer
-IsQuiet other = Unit {0}
+use Rattle.partition_world.proofs.Quiet.{IsQuiet, AreQuiet, call_calm, no_fault}
+use Rattle.partition_world.proofs.CopyCalm.{copy_calm}
+use Rattle.partition_world.proofs.FetchCalm.{fetch_calm}
 
 module _ {K : Type 0} {code : K → ℕ} where
-  -- a call of a calm device goes well, and the device stays calm
-  call_calm : (call : K) (fate : Fate) (old new : Control code) → Ran call fate old new → IsCalm old → IsCalm new
-  call_calm call fate old new r c = let same = (r.calm c.calm).1 in record { calm = r.stays_calm c.calm; few = omega (arith, c.few, same) }
-
-  no_fault : {A : Type 0} (call : K) (old new : Control code) → Ran call Fault old new → IsCalm old → A
-  no_fault call old new r c = absurd ((r.calm c.calm).0 refl)
-
   -- one whose empty plan comes in force stays so
   armed_calm : (given now : Control code) → Arms given now → IsUnplanned given → IsCalm now
   armed_calm given now a u = record { calm = a.still_calm u.ruled u.calm.calm u.plan; few = omega (arith, u.calm.few, a.faults) }
-
--- what a copy finds is no fault
-checked_quiet : (copy : Copied) (notes : ℕ) (state : Option State) → IsQuiet (copy_outcome (checked copy notes state))
-checked_quiet copy notes (Some CopyFinished) = tt
-checked_quiet copy notes (Some DeleteStarted) = tt
-checked_quiet copy notes (Some DeleteFinished) = tt
-checked_quiet copy notes (Some CopyStarted) = tt
-checked_quiet copy notes None = tt
-
-overtaken_quiet : (notes : ℕ) (state : Option State) → IsFaultless (overtaken notes state)
-overtaken_quiet notes None = tt
-overtaken_quiet notes (Some state) = tt
-
-deleted_quiet : (copy : Copied) (view : View) (n : ℕ) (key : Option ObjectKey) → IsQuiet (copy_outcome (delete_at copy view n key))
-deleted_quiet copy view n None = overtaken_quiet view.notes (state_of copy.id view.entries)
-deleted_quiet copy view n (Some key) = tt
-
-put_quiet : (n : ℕ) (key : Option ObjectKey) → IsQuiet (copy_outcome (GoesOn (put_at n key)))
-put_quiet n key = tt
-
-module _ {S M : Type 0} (store : StoreGhosts S) (meta : MetaGhosts M) where
-  -- no call of store and metadata log can fail
-  abbrev AreQuiet : S → M → Type 0
-  AreQuiet s m = IsCalm (store.control s) × IsCalm (meta.control m)
-
-  -- a turn of a copy
-
-  start_calm : (copy : Copied) (teller : Teller) (turn : CopyTurn) (old new : M) → StartRow meta.content meta.control copy teller (Ok turn) old new → IsCalm (meta.control old)
-      → IsCalm (meta.control new) × IsQuiet (copy_outcome turn)
-  start_calm copy teller (Ends MetaFault) old new w c = no_fault _ (meta.control old) (meta.control new) w.control.ran c
-  start_calm copy teller turn old new w c =
-      (call_calm _ _ (meta.control old) (meta.control new) w.1.control.ran c, subst (λ (t : CopyTurn). IsQuiet (copy_outcome t)) (sym w.0) tt)
-
-  finish_calm : (copy : Copied) (teller : Teller) (turn : CopyTurn) (old new : M) → FinishRow meta.content meta.control copy teller (Ok turn) old new → IsCalm (meta.control old)
-      → IsCalm (meta.control new) × IsQuiet (copy_outcome turn)
-  finish_calm copy teller (Ends MetaFault) old new w c = no_fault _ (meta.control old) (meta.control new) w.control.ran c
-  finish_calm copy teller turn old new w c =
-      (call_calm _ _ (meta.control old) (meta.control new) w.1.control.ran c, subst (λ (t : CopyTurn). IsQuiet (copy_outcome t)) (sym w.0) tt)
-
-  check_calm : (copy : Copied) (turn : CopyTurn) (before after : View) (old new : M) → CheckRow meta.content meta.control copy (Ok turn) before after old new → IsCalm (meta.control old)
-      → IsCalm (meta.control new) × IsQuiet (copy_outcome turn)
-  check_calm copy (Ends MetaFault) before after old new w c = no_fault _ (meta.control old) (meta.control new) w.control.ran c
-  check_calm copy turn before after old new w c = (
-    call_calm _ _ (meta.control old) (meta.control new) w.1.control.ran c,
-    subst (λ (t : CopyTurn). IsQuiet (copy_outcome t)) (sym w.0) (checked_quiet copy after.notes (state_of copy.id after.entries)),
-  )
-
-  put_calm : (copy : Copied) (n : ℕ) (key : Option ObjectKey) (turn : CopyTurn) (old new : S) → PutRow store.content store.control copy n key (Ok turn) old new → IsCalm (store.control old)
-      → IsCalm (store.control new) × IsQuiet (copy_outcome turn)
-  put_calm copy n None turn old new w c = let is : turn ≡ GoesOn Finish = cc (w.0) in (rw w.1 c, subst (λ (t : CopyTurn). IsQuiet (copy_outcome t)) (sym is) tt)
-  put_calm copy n (Some key) (Ends StoreFault) old new w c = no_fault _ (store.control old) (store.control new) w.puts.control.ran c
-  put_calm copy n (Some key) turn old new w c = (
-    call_calm _ _ (store.control old) (store.control new) w.1.puts.control.ran c,
-    subst (λ (t : CopyTurn). IsQuiet (copy_outcome t)) (sym w.0) (put_quiet (n + 1) (slice_get (keys copy) (n + 1))),
-  )
-
-  delete_calm : (copy : Copied) (view : View) (n : ℕ) (key : Option ObjectKey) (turn : CopyTurn) (old new : S) → DeleteRow store.content store.control copy view n key turn old new
-      → IsCalm (store.control old) → IsCalm (store.control new) × IsQuiet (copy_outcome turn)
-  delete_calm copy view n None turn old new w c = (rw w.1 c, subst (λ (t : CopyTurn). IsQuiet (copy_outcome t)) (sym w.0) (deleted_quiet copy view n None))
-  delete_calm copy view n (Some key) (Ends StoreFault) old new w c = no_fault _ (store.control old) (store.control new) w.control.ran c
-  delete_calm copy view n (Some key) turn old new w c = (
-    call_calm _ _ (store.control old) (store.control new) w.1.control.ran c,
-    subst (λ (t : CopyTurn). IsQuiet (copy_outcome t)) (sym w.0) (deleted_quiet copy view (n + 1) (slice_get (keys copy) (n + 1))),
-  )
-
-  copy_calm : (copy : Copied) (teller : Teller) (next : Next) (turn : CopyTurn) (old new : Tiers S M) → CopyRow store.content store.control meta.content meta.control copy teller next (Ok turn) old new
-      → AreQuiet old.store old.meta → AreQuiet new.store new.meta × IsQuiet (copy_outcome turn)
-  copy_calm copy teller Start turn old new w c =
-      let k = start_calm copy teller turn old.meta new.meta w.1 c.1 in
-      ((subst (λ (s : S). IsCalm (store.control s)) (sym (ap (λ (t : Tiers S M). t.store) w.0)) c.0, k.0), k.1)
-  copy_calm copy teller (Put n) turn old new w c =
-      let k = put_calm copy n (slice_get (keys copy) n) turn old.store new.store w.1 c.0 in
-      ((k.0, subst (λ (m : M). IsCalm (meta.control m)) (sym (ap (λ (t : Tiers S M). t.meta) w.0)) c.1), k.1)
-  copy_calm copy teller Finish turn old new w c =
-      let k = finish_calm copy teller turn old.meta new.meta w.1 c.1 in
-      ((subst (λ (s : S). IsCalm (store.control s)) (sym (ap (λ (t : Tiers S M). t.store) w.0)) c.0, k.0), k.1)
-  copy_calm copy teller Check turn old new w c =
-      let k = check_calm copy turn old.view new.view old.meta new.meta w.1 c.1 in
-      ((subst (λ (s : S). IsCalm (store.control s)) (sym w.0) c.0, k.0), k.1)
-  copy_calm copy teller (Delete n) turn old new w c =
-      let k = delete_calm copy old.view n (slice_get (keys copy) n) turn old.store new.store w.1 c.0 in
-      ((k.0, subst (λ (m : M). IsCalm (meta.control m)) (sym (ap (λ (t : Tiers S M). t.meta) w.0)) c.1), k.1)
 
 module _ {D S M : Type 0} (disk : DiskGhosts D) (store : StoreGhosts S) (meta : MetaGhosts M) where
   -- no call of the devices can fail
@@ -187,9 +94,26 @@ module _ {D S M : Type 0} (disk : DiskGhosts D) (store : StoreGhosts S) (meta : 
   own_quiet (turned.Answers answer) n = n
   own_quiet (turned.Begins g) n = tt
 
+  trim_calm : (h : Held D) (t : Tier S M) (b : ℕ) (x : Node D) (side : Side) (outcome : Outcome) (h' : Held D) (t' : Tier S M) → AreAllCalm h t → h' ≡ h
+      → TrimFirstRow meta h t b x side outcome t' → Calmly h' t' outcome
+  trim_calm h t b x side (Answers Down) h' t' c same w = (same_calm h t h' t' same w.1 c, tt)
+  trim_calm h t b x side (Answers MetaFault) h' t' c same w = no_fault _ (meta.control t.meta) (meta.control t'.meta) w.1.reads.control.ran c.stores.1
+  trim_calm h t b x side (Begins g) h' t' c same w = (
+    record {
+      held = rw same c.held;
+      stores = (
+        subst (λ (s : S). IsCalm (store.control s)) (sym (ap (λ (k : Tier S M). k.store) w.2.after)) c.stores.0,
+        call_calm _ _ (meta.control t.meta) (meta.control t'.meta) w.2.reads.control.ran c.stores.1,
+      );
+    },
+    tt,
+  )
+  trim_calm h t b x side other h' t' c same w = elim w [ ]
+
   begin_calm : (h : Held D) (t : Tier S M) (b : ℕ) (x : Node D) (side : Side) (command : Command) (outcome : Outcome) (h' : Held D) (t' : Tier S M) → slice_get h.nodes b ≡ Some x → AreAllCalm h t
       → BeginRow disk store meta h t b x side command outcome h' t' → Calmly h' t' outcome
   begin_calm h t b x side Copy outcome h' t' at c w = first_calm h t b x side outcome h' t' c w.1 w.0
+  begin_calm h t b x side Trim outcome h' t' at c w = trim_calm h t b x side outcome h' t' c w.1 w.0
   begin_calm h t b x side other outcome h' t' at c w =
       let k = row_calm disk.content disk.control h b x None other w.0.0 h' at c.held w.0.2 in
       (record { held = k.0; stores = rw w.1 c.stores }, rw w.0.1 (own_quiet w.0.0 k.1))
@@ -217,11 +141,37 @@ module _ {D S M : Type 0} (disk : DiskGhosts D) (store : StoreGhosts S) (meta : 
   choose_calm p h t b x side g outcome h' t' at c (inr (keeps, inl level)) = (same_calm h t h' t' level.2 level.3 c, rw level.1 tt)
   choose_calm p h t b x side g outcome h' t' at c (inr (keeps, inr r)) = next_calm p h t b x r.node side r.side_after _ outcome h' t' at c r.row r.held r.tier
 
-  noted_calm : (p : PartitionId) (h : Held D) (t : Tier S M) (b : ℕ) (x : Node D) (side : Side) (g : Begun) (command : Command) (outcome : Outcome) (h' : Held D) (t' : Tier S M) → slice_get h.nodes b ≡ Some x
-      → AreAllCalm h t → NotedRow disk p h t b x side g command outcome h' t' → Calmly h' t' outcome
-  noted_calm p h t b x side g Copy outcome h' t' at c w = choose_calm p h t b x side g outcome h' t' at c w
-  noted_calm p h t b x side g Trim outcome h' t' at c w = absurd w
-  noted_calm p h t b x side g other outcome h' t' at c w =
+  -- a later turn of a trim, and of a fetch
+
+  trims_calm : (h : Held D) (t : Tier S M) (b : ℕ) (x : Node D) (side : Side) (g : Begun) (keep : Keep) (outcome : Outcome) (h' : Held D) (t' : Tier S M) → slice_get h.nodes b ≡ Some x → AreAllCalm h t
+      → TrimOnRow disk h b x side g keep outcome h' → t' ≡ t → Calmly h' t' outcome
+  trims_calm h t b x side g keep (Answers answer) h' t' at c w same =
+      let k = row_calm disk.content disk.control h b x (Some g) Trim (turned.Answers answer) h' at c.held w.0 in
+      (record { held = k.0; stores = rw same c.stores }, k.1)
+  trims_calm h t b x side g keep other h' t' at c w same = elim w [ ]
+
+  goes_calm : (p : PartitionId) (h : Held D) (t : Tier S M) (b : ℕ) (x : Node D) (side : Side) (offset limit : ℕ) (next : Search) (turn : FetchTurn) (h' : Held D) (t' : Tier S M) → AreAllCalm h t → h' ≡ h
+      → GoesOnFetch store meta p t b x side offset limit next turn t' → Calmly h' t' (fetch_outcome turn)
+  goes_calm p h t b x side offset limit next turn h' t' c same w =
+      let k = fetch_calm store meta (wanted_of p x offset limit) (line_of x) next turn (fetch_tiers side.view side.cache t) (fetch_tiers w.view w.cache t') w.row c.stores in
+      (record { held = rw same c.held; stores = k.0 }, k.1)
+
+  seek_calm : (p : PartitionId) (h : Held D) (t : Tier S M) (b : ℕ) (x : Node D) (side : Side) (g : Begun) (offset limit : ℕ) (next : Search) (outcome : Outcome) (h' : Held D) (t' : Tier S M)
+      → AreAllCalm h t → h' ≡ h → FetchOnRow store meta p h t b x side g offset limit next outcome t' → Calmly h' t' outcome
+  seek_calm p h t b x side g offset limit next (Answers Stopped) h' t' c same w = (same_calm h t h' t' same w.1 c, tt)
+  seek_calm p h t b x side g offset limit next (Answers NotLeader) h' t' c same w = (same_calm h t h' t' same w.3 c, tt)
+  seek_calm p h t b x side g offset limit next (Answers (OutOfRange start end)) h' t' c same w = (same_calm h t h' t' same w.4 c, tt)
+  seek_calm p h t b x side g offset limit next (Answers Empty) h' t' c same w = (same_calm h t h' t' same w.3 c, tt)
+  seek_calm p h t b x side g offset limit next (Answers answer) h' t' c same w = goes_calm p h t b x side offset limit next (fetch.Ends answer) h' t' c same w.1
+  seek_calm p h t b x side g offset limit next (Sought later) h' t' c same w = goes_calm p h t b x side offset limit next (fetch.Goes later) h' t' c same w.1
+  seek_calm p h t b x side g offset limit next other h' t' c same w = elim w [ ]
+
+  noted_calm : (p : PartitionId) (keep : Keep) (h : Held D) (t : Tier S M) (b : ℕ) (x : Node D) (side : Side) (g : Begun) (command : Command) (outcome : Outcome) (h' : Held D) (t' : Tier S M) → slice_get h.nodes b ≡ Some x
+      → AreAllCalm h t → NotedRow disk store meta p keep h t b x side g command outcome h' t' → Calmly h' t' outcome
+  noted_calm p keep h t b x side g Copy outcome h' t' at c w = choose_calm p h t b x side g outcome h' t' at c w
+  noted_calm p keep h t b x side g Trim outcome h' t' at c w = trims_calm h t b x side g keep outcome h' t' at c w.0 w.1
+  noted_calm p keep h t b x side g (Fetch offset limit) outcome h' t' at c w = seek_calm p h t b x side g offset limit Refresh outcome h' t' c w.1 w.0
+  noted_calm p keep h t b x side g other outcome h' t' at c w =
       let k = row_calm disk.content disk.control h b x (Some g) other (turned.Answers w.0.0) h' at c.held w.0.2 in
       (record { held = k.0; stores = rw w.1 c.stores }, rw w.0.1 k.1)
 
@@ -233,11 +183,17 @@ module _ {D S M : Type 0} (disk : DiskGhosts D) (store : StoreGhosts S) (meta : 
       (record { held = rw same c.held; stores = k.0 }, rw is k.1)
   copying_calm h t b x side g copy next other outcome h' t' c w = elim w [ ]
 
-  work_calm : (p : PartitionId) (h : Held D) (t : Tier S M) (b : ℕ) (x : Node D) (side : Side) (work : Work) (command : Command) (outcome : Outcome) (h' : Held D) (t' : Tier S M)
-      → slice_get h.nodes b ≡ Some x → AreAllCalm h t → Row disk store meta p h t b x side work command outcome h' t' → Calmly h' t' outcome
-  work_calm p h t b x side Idle command outcome h' t' at c w = begin_calm h t b x side command outcome h' t' at c w
-  work_calm p h t b x side (Noted g) command outcome h' t' at c w = noted_calm p h t b x side g command outcome h' t' at c w
-  work_calm p h t b x side (Copies g copy next) command outcome h' t' at c w = copying_calm h t b x side g copy next command outcome h' t' c w
+  seeking_calm : (p : PartitionId) (h : Held D) (t : Tier S M) (b : ℕ) (x : Node D) (side : Side) (g : Begun) (next : Search) (command : Command) (outcome : Outcome) (h' : Held D) (t' : Tier S M)
+      → AreAllCalm h t → SeekingRow store meta p h t b x side g next command outcome h' t' → Calmly h' t' outcome
+  seeking_calm p h t b x side g next (Fetch offset limit) outcome h' t' c w = seek_calm p h t b x side g offset limit next outcome h' t' c w.1 w.0
+  seeking_calm p h t b x side g next other outcome h' t' c w = elim w [ ]
+
+  work_calm : (p : PartitionId) (keep : Keep) (h : Held D) (t : Tier S M) (b : ℕ) (x : Node D) (side : Side) (work : Work) (command : Command) (outcome : Outcome) (h' : Held D) (t' : Tier S M)
+      → slice_get h.nodes b ≡ Some x → AreAllCalm h t → Row disk store meta p keep h t b x side work command outcome h' t' → Calmly h' t' outcome
+  work_calm p keep h t b x side Idle command outcome h' t' at c w = begin_calm h t b x side command outcome h' t' at c w
+  work_calm p keep h t b x side (Noted g) command outcome h' t' at c w = noted_calm p keep h t b x side g command outcome h' t' at c w
+  work_calm p keep h t b x side (Copies g copy next) command outcome h' t' at c w = copying_calm h t b x side g copy next command outcome h' t' c w
+  work_calm p keep h t b x side (Seeks g next) command outcome h' t' at c w = seeking_calm p h t b x side g next command outcome h' t' c w
 
   -- the journal
 
@@ -255,8 +211,8 @@ module _ {D S M : Type 0} (disk : DiskGhosts D) (store : StoreGhosts S) (meta : 
 
   turn_unfailing : (w : Whole D S M) (a : ℕ) (outcome : Outcome) (w' : Whole D S M) → IsTurn disk store meta w a outcome w' → IsUnfailing disk store meta w → IsUnfailing disk store meta w'
   turn_unfailing w a outcome w' t u =
-      let r = row_of disk store meta w.partition w.held w.tier t.order.broker.0 t.seat.work t.order.command outcome w'.held w'.tier t.row in
-      let k = work_calm w.partition w.held w.tier t.order.broker.0 r.x r.side t.seat.work t.order.command outcome w'.held w'.tier r.at (record { held = u.calm; stores = (u.store_calm, u.meta_calm) }) r.row in
+      let r = row_of disk store meta w.partition w.config.local_keep w.held w.tier t.order.broker.0 t.seat.work t.order.command outcome w'.held w'.tier t.row in
+      let k = work_calm w.partition w.config.local_keep w.held w.tier t.order.broker.0 r.x r.side t.seat.work t.order.command outcome w'.held w'.tier r.at (record { held = u.calm; stores = (u.store_calm, u.meta_calm) }) r.row in
       record { calm = k.0.held; store_calm = k.0.stores.0; meta_calm = k.0.stores.1; journal = subst AreFaultless (sym t.entered) (told outcome k.1) }
     where
       told : (o : Outcome) → IsQuiet o → AreFaultless (w.journal.items ++ told_of t.list.actor t.seat.number t.order.command o)
@@ -264,6 +220,7 @@ module _ {D S M : Type 0} (disk : DiskGhosts D) (store : StoreGhosts S) (meta : 
       told (Begins g) q = faultless_more w.journal.items _ u.journal (event_quiet g t.order.command)
       told (Chose copy) q = faultless_same w.journal.items u.journal
       told (Goes next) q = faultless_same w.journal.items u.journal
+      told (Sought next) q = faultless_same w.journal.items u.journal
 
   same_unfailing : (w w' : Whole D S M) → w' ≡ w → IsUnfailing disk store meta w → IsUnfailing disk store meta w'
   same_unfailing w w' is u = subst (IsUnfailing disk store meta) (sym is) u

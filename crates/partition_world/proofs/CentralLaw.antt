@@ -1,5 +1,5 @@
 -- Each turn keeps the central fact, and at the end it says that the run is complete.
-use Rattle.std.proofs.Common.{◌≡◌, ◌∙◌, ◌^◌, ◌<◌, ◌≤◌, ◌+◌, inl, inr, sym, ap, subst, refl, ℕ, zero, suc, Some, None, Option, slice_get, slice_set, length, List, [], ◌∷◌, true, arith}
+use Rattle.std.proofs.Common.{◌≡◌, ◌⊎◌, ◌∙◌, ◌^◌, ◌<◌, ◌≤◌, ◌+◌, inl, inr, sym, ap, subst, refl, ℕ, zero, suc, Some, None, Option, slice_get, slice_set, length, List, [], ◌∷◌, true, arith}
 use Rattle.std.proofs.lemmas.List.{length-map}
 use Rattle.disk_model.specs.declared.disk.Disk.{Ghosts as DiskGhosts}
 use Rattle.object_store.specs.declared.store.Store.{Ghosts as StoreGhosts}
@@ -8,10 +8,10 @@ use Rattle.segment_meta.specs.declared.note.Note.{Note}
 use Rattle.registry.specs.declared.registry.Registry.{Registry}
 use Rattle.registry.specs.declared.registry.Replica.{Replica}
 use Rattle.log_terms.proofs.Lists.{look, within}
-use Rattle.plain_log.specs.declared.answer.Answer.TheVariants.{Down, MetaFault}
+use Rattle.plain_log.specs.declared.answer.Answer.{Answer}
 use Rattle.plain_log.specs.declared.command.ActorList.{ActorList}
 use Rattle.plain_log.specs.declared.command.Command.{Command}
-use Rattle.plain_log.specs.declared.command.Command.TheVariants.{Follow, Join, Trim, Copy}
+use Rattle.plain_log.specs.declared.command.Command.TheVariants.{Follow, Join, Trim, Copy, Fetch}
 use Rattle.plain_log.specs.declared.command.Order.{Order}
 use Rattle.plain_log.specs.declared.state.Actor.{Actor}
 use Rattle.plain_log.specs.declared.state.Broker.{Broker}
@@ -28,7 +28,6 @@ use Rattle.partition_seen.specs.declared.seat.Seat as seen_seat
 use Rattle.partition_seen.specs.Seen as seen
 use Rattle.partition_seen.specs.Held as seen_held
 use Rattle.partition_seen.specs.Rows as seen_rows
-use Rattle.partition_seen.specs.RowsOfLog.{TrimRow}
 use Rattle.partition_seen.specs.Central as seen_central
 use Rattle.partition_seen.proofs.BoolTests.{some_of}
 use Rattle.partition_seen.proofs.Standing.{Standing, broker_at, map_get}
@@ -56,7 +55,7 @@ use Rattle.partition_world.specs.declared.seat.Outcome.{Outcome}
 use Rattle.partition_world.specs.declared.seat.Outcome.TheVariants.{Answers}
 use Rattle.partition_world.specs.declared.seat.Seat.{Seat}
 use Rattle.partition_world.specs.declared.seat.Work.{Work}
-use Rattle.partition_world.specs.declared.seat.Work.TheVariants.{Idle, Noted, Copies}
+use Rattle.partition_world.specs.declared.seat.Work.TheVariants.{Idle, Noted, Copies, Seeks}
 use Rattle.partition_world.specs.declared.tier.Side.{Side}
 use Rattle.partition_world.specs.declared.tier.Tier.{Tier}
 use Rattle.partition_world.specs.Seats.{noted_in, outcome_of, seat_after, seat_seen, desk_seen}
@@ -73,6 +72,22 @@ use Rattle.partition_world.proofs.Entered.{both_of, sided, enters, entry_for, se
 use Rattle.partition_world.proofs.NotesLeft.{notes_stay}
 use Rattle.partition_world.proofs.SceneParts.{seat_set, idle_free, keeps_noted}
 use Rattle.partition_world.proofs.Scenes.{Place, place_of, site, seated, scene_after, shows_at, shows_kept, work_after, few_now, few_after}
+use Rattle.index_cache.specs.Cache.{Cache}
+use Rattle.remote_view.specs.Fold.{Seen as View}
+use Rattle.view_refresh.specs.Refreshing.{Halted}
+use Rattle.tier_fetch.specs.declared.turn.Next.TheVariants.{Refresh}
+use Rattle.partition_turns.specs.declared.held.Node.{Node}
+use Rattle.partition_turns.specs.Shown.{StaysUp, Refines}
+use Rattle.partition_turns.specs.Held.{line_of}
+use Rattle.partition_world.specs.Central.{begun_of, seeks_of}
+use Rattle.partition_world.specs.Tier.{AtSide}
+use Rattle.partition_world.specs.TurnsOfFetch.{wanted_of, fetch_tiers}
+use Rattle.partition_world.specs.TurnsOfTrim.{TrimOnRow}
+use Rattle.partition_world.proofs.FetchCentral.{fetch_asks, fetch_on}
+use Rattle.partition_world.proofs.FetchEnds.{Dries, fetch_dry}
+use Rattle.partition_world.proofs.LineTells.{line_tells, right_view}
+use Rattle.partition_world.proofs.Scenes.{site_is, stayed}
+use Rattle.partition_world.proofs.TrimCentral.{trim_first, trim_shown, trim_owes_on}
 
 -- the leader is a node
 leader_in : (p : seen.Held) (q : State) (b : ℕ) (y : seen.Node) (s : Replica) → Standing p q b y s → p.registry.leader.0 < length p.nodes
@@ -98,17 +113,17 @@ seen_low n [] place seat at low = absurd cc
 seen_low n (s ∷ desk) zero seat at low = let is : seat_seen s ≡ seat = cc (at) in subst (λ (k : seen_seat.Seat). n ≤ k.number) is (low s refl)
 seen_low n (s ∷ desk) (suc place) seat at low = seen_low n desk place seat at low
 
--- a trim owes nothing at its first turn
-trim_owes : (h : seen.Held) (b : ℕ) (x : seen.Node) (turn : Turned) (sides : List SideSeen) (h' : seen.Held) → slice_get h.nodes b ≡ Some x → TrimRow h x turn h' → OwesTier h b x Trim sides h'
-trim_owes h b x turn sides h' at row = λ y side there beside.
-    let same : x ≡ y = cc (at, there, ap (λ (k : seen.Held). slice_get k.nodes b) (stays turn row)) in
-    rw same (record { rises = omega arith; covered = λ o from low high. absurd (omega (arith, low, high)) })
-  where
-    stays : (turn : Turned) → TrimRow h x turn h' → h' ≡ h
-    stays (turned.Answers Down) row = row.1
-    stays (turned.Answers MetaFault) row = row.1
-    stays (turned.Begins g) row = row.2
-    stays other row = elim row [ ]
+-- the tier sees nothing of a command but of copies, fetches and joins
+abbrev IsOwn : Command → Type 0
+IsOwn (Fetch offset limit) = ⊥
+IsOwn command = Unit {0}
+
+begun_own : (b : ℕ) (g : Begun) (command : Command) → IsOwn command → begun_of b g command ≡ work_seen b command (Some g)
+begun_own b g (Fetch offset limit) own = elim own [ ]
+begun_own b g command own = refl
+
+begun_keeps : (b : ℕ) (command : Command) (g : Begun) → IsOwn command → KeepsWork b command (Some g) (begun_of b g command)
+begun_keeps b command g own = subst (KeepsWork b command (Some g)) (sym (begun_own b g command own)) (keeps_noted b command g)
 
 module _ {D S M : Type 0} (disk : DiskGhosts D) (store : StoreGhosts S) (meta : MetaGhosts M) where
   -- what a turn starts from
@@ -155,14 +170,25 @@ module _ {D S M : Type 0} (disk : DiskGhosts D) (store : StoreGhosts S) (meta : 
       by c order Trim k up s st = up
       by c order command k up s st = tt
 
-  -- a turn of a command on brokers' logs and the registry
+  -- a turn of a command that works on no remote device
   module _ (opening : State) (w : Whole D S M) (a : ℕ) (outcome : Outcome) (w' : Whole D S M) (t : IsTurn disk store meta w a outcome w') (c : IsCentral disk store meta opening w)
       (z : Place disk store meta opening w c t.place t.list t.seat t.order) where
     abbrev y : seen.Node
     y = node_of z.x z.s
 
-    own_shows : (turn : Turned) (after : seen.Held) → outcome ≡ outcome_of turn → w'.tier ≡ w.tier → ShowsTier store meta w' after (after_own c.scene t.place t.order turn (sides_seen w.tier.sides) after)
-    own_shows turn after is same = record {
+    -- what its seat shows then
+    abbrev IsSeatOf : Turned → Type 0
+    IsSeatOf turn = work_after disk store meta opening w c t.place t.list t.seat t.order z (outcome_of turn) ≡ work_seen t.order.broker.0 t.order.command (begun_after turn)
+
+    seat_own : IsOwn t.order.command → (turn : Turned) → IsSeatOf turn
+    seat_own own (turned.Answers answer) = idle_free (slice_get t.list.orders (t.seat.number + 1)) ∙ sym (none_free t.order.broker.0 t.order.command)
+    seat_own own (turned.Begins g) = ap (λ (o : Option Order). work_of o (Noted g)) z.next ∙ begun_own t.order.broker.0 g t.order.command own
+
+    seat_answered : (answer : Answer) → IsSeatOf (turned.Answers answer)
+    seat_answered answer = idle_free (slice_get t.list.orders (t.seat.number + 1)) ∙ sym (none_free t.order.broker.0 t.order.command)
+
+    own_shows : (turn : Turned) (after : seen.Held) → outcome ≡ outcome_of turn → IsSeatOf turn → w'.tier ≡ w.tier → ShowsTier store meta w' after (after_own c.scene t.place t.order turn (sides_seen w.tier.sides) after)
+    own_shows turn after is seat same = record {
       partition = c.shows_tier.partition ∙ sym t.partition;
       store_tells = ap (λ (k : Tier S M). (store.content k.store).tells) same ∙ c.shows_tier.store_tells;
       objects = c.shows_tier.objects ∙ sym (ap (λ (k : Tier S M). (store.content k.store).objects) same);
@@ -170,22 +196,19 @@ module _ {D S M : Type 0} (disk : DiskGhosts D) (store : StoreGhosts S) (meta : 
       notes = c.shows_tier.notes ∙ sym (ap (λ (k : Tier S M). (meta.content k.meta).notes) same);
       sites = ap (λ (k : Tier S M). sites_of after.nodes (sides_seen k.sides)) (sym same);
       desk = ap (λ (k : List WorkSeen). slice_set k t.place (work_seen t.order.broker.0 t.order.command (begun_after turn))) c.shows_tier.desk
-          ∙ (ap (λ (k : WorkSeen). slice_set (desk_of w.lists w.desk) t.place k) (sym (ap (λ (o : Outcome). work_after disk store meta opening w c t.place t.list t.seat t.order z o) is ∙ seat_is turn))
+          ∙ (ap (λ (k : WorkSeen). slice_set (desk_of w.lists w.desk) t.place k) (sym (ap (λ (o : Outcome). work_after disk store meta opening w c t.place t.list t.seat t.order z o) is ∙ seat))
           ∙ (sym (seat_set w.lists w.desk t.place t.list (seat_after t.seat outcome) t.at.list)
           ∙ (ap (λ (k : List ActorList). desk_of k (slice_set w.desk t.place (seat_after t.seat outcome))) (sym t.lists) ∙ ap (λ (k : List Seat). desk_of w'.lists k) (sym t.desk))));
     }
-      where
-        seat_is : (turn : Turned) → work_after disk store meta opening w c t.place t.list t.seat t.order z (outcome_of turn) ≡ work_seen t.order.broker.0 t.order.command (begun_after turn)
-        seat_is (turned.Answers answer) = idle_free (slice_get t.list.orders (t.seat.number + 1)) ∙ sym (none_free t.order.broker.0 t.order.command)
-        seat_is (turned.Begins g) = ap (λ (o : Option Order). work_of o (Noted g)) z.next
 
-    own_central : (turn : Turned) → outcome ≡ outcome_of turn → turns.Row disk.content disk.control w.held t.order.broker.0 z.x (noted_in t.seat.work) t.order.command turn w'.held → w'.tier ≡ w.tier
+    -- its row, as it is seen
+    abbrev SeenRow : Turned → seen.Held → Type 0
+    SeenRow turn h' = seen_rows.Row c.partition t.order.broker.0 y (noted_in t.seat.work) t.order.command turn h'
+
+    own_refined : (turn : Turned) → outcome ≡ outcome_of turn → IsSeatOf turn → (r : Refines disk.content w'.held (SeenRow turn)) → w'.tier ≡ w.tier
         → KeepsWork t.order.broker.0 t.order.command (noted_in t.seat.work) (work_of (Some t.order) t.seat.work)
-        → ((h' : seen.Held) → seen_rows.Row c.partition t.order.broker.0 y (noted_in t.seat.work) t.order.command turn h' → OwesTier c.partition t.order.broker.0 y t.order.command (sides_seen w.tier.sides) h')
-        → IsCentral disk store meta opening w'
-    own_central turn is row same works owes =
-        let r = row_refined disk.content disk.control w.held c.partition t.order.broker.0 z.x z.s (noted_in t.seat.work) t.order.command turn w'.held z.sees
-        (knows opening w c.partition t.order.broker.0 y c.central z.sees.there) (kept_at opening w a outcome w' c.partition y t c.central z.sees.there) row in
+        → OwesTier c.partition t.order.broker.0 y t.order.command (sides_seen w.tier.sides) r.after → IsCentral disk store meta opening w'
+    own_refined turn is seat r same works owes =
         let e = enters disk store meta w outcome w' c.partition t.list t.seat t.order turn r.after y is r.held z.sees.there r.row in
         let k = seen_law.turn_went opening (seen_as w c.partition) a turn (seen_as w' r.after) (seen_turn_of disk store meta w a outcome w' c.partition t e) c.central in
         let stands = stands_of disk store meta opening w a outcome w' c.partition t e c.central k in
@@ -193,10 +216,18 @@ module _ {D S M : Type 0} (disk : DiskGhosts D) (store : StoreGhosts S) (meta : 
         let changed = own_turns (length c.partition.nodes) c.partition r.after c.central.plain k.central.plain y (noted_in t.seat.work) turn t.order
         (entry_for disk store meta w outcome w' c.partition t.list t.seat t.order e) (sides_seen w.tier.sides) c.scene t.place stands both
         (record { count = sided c.scene c.central.plain c.partition (sides_seen w.tier.sides) both c.central.stands.held c.shows_tier.sites; are = c.shows_tier.sites })
-        (record { work = work_of (Some t.order) t.seat.work; seat = seated disk store meta opening w c t.place t.list t.seat t.order z; is = works }) (owes r.after r.row) in
-        let shows = own_shows turn r.after is same in
+        (record { work = work_of (Some t.order) t.seat.work; seat = seated disk store meta opening w c t.place t.list t.seat t.order z; is = works }) owes in
+        let shows = own_shows turn r.after is seat same in
         turned_central disk store meta opening w a outcome w' t c e k (after_own c.scene t.place t.order turn (sides_seen w.tier.sides) r.after) changed shows
         (few_after disk store meta opening w a outcome w' t c r.after (after_own c.scene t.place t.order turn (sides_seen w.tier.sides) r.after) shows)
+
+    own_central : (turn : Turned) → outcome ≡ outcome_of turn → IsSeatOf turn → turns.Row disk.content disk.control w.held t.order.broker.0 z.x (noted_in t.seat.work) t.order.command turn w'.held → w'.tier ≡ w.tier
+        → KeepsWork t.order.broker.0 t.order.command (noted_in t.seat.work) (work_of (Some t.order) t.seat.work)
+        → ((h' : seen.Held) → OwesTier c.partition t.order.broker.0 y t.order.command (sides_seen w.tier.sides) h') → IsCentral disk store meta opening w'
+    own_central turn is seat row same works owes =
+        let r = row_refined disk.content disk.control w.held c.partition t.order.broker.0 z.x z.s (noted_in t.seat.work) t.order.command turn w'.held z.sees
+        (knows opening w c.partition t.order.broker.0 y c.central z.sees.there) (kept_at opening w a outcome w' c.partition y t c.central z.sees.there) row in
+        own_refined turn is seat r same works (owes r.after)
 
     -- at a seat that keeps no segment
     works_at : (work : Work) → t.seat.work ≡ work → KeepsWork t.order.broker.0 t.order.command (noted_in work) (work_of (Some t.order) work)
@@ -214,32 +245,61 @@ module _ {D S M : Type 0} (disk : DiskGhosts D) (store : StoreGhosts S) (meta : 
         → OwesTier c.partition t.order.broker.0 y t.order.command (sides_seen w.tier.sides) h'
     owes_at command is h' o = subst (λ (k : Command). OwesTier c.partition t.order.broker.0 y k (sides_seen w.tier.sides) h') (sym is) o
 
-    trim_row : t.order.command ≡ Trim → t.seat.work ≡ Idle → (turn : Turned) (h' : seen.Held)
-        → seen_rows.Row c.partition t.order.broker.0 y (noted_in t.seat.work) t.order.command turn h' → TrimRow c.partition y turn h'
-    trim_row is keeps turn h' row =
-        subst (λ (k : Command). seen_rows.Row c.partition t.order.broker.0 y None k turn h') is
-        (subst (λ (k : Work). seen_rows.Row c.partition t.order.broker.0 y (noted_in k) t.order.command turn h') keeps row)
+    -- the second turn of a trim
+    trims_on : t.order.command ≡ Trim → (g : Begun) → t.seat.work ≡ Noted g → (o : Outcome) → outcome ≡ o → TrimOnRow disk w.held t.order.broker.0 z.x z.side g w.config.local_keep o w'.held → w'.tier ≡ w.tier
+        → IsCentral disk store meta opening w'
+    trims_on is g noted (Answers answer) said row same =
+        let sound = (c.central.stands.lines.each t.order.broker.0 y z.sees.there).sound in
+        let up : StaysUp y g = subst (λ (k : Command). KnowsBegun c.partition y k g) is (kept_at opening w a outcome w' c.partition y t c.central z.sees.there g (ap noted_in noted)) in
+        let r = trim_shown disk w.held c.partition t.order.broker.0 z.x z.s g answer w'.held z.sees up sound row.0 in
+        let view = right_view c.scene.notes c.scene.desk z.side.view c.tier.notes (c.tier.views t.order.broker.0 (site disk store meta opening w c t.place t.list t.seat t.order z) (site_is disk store meta opening w c t.place t.list t.seat t.order z)) in
+        let owes = trim_owes_on disk w.held c.partition t.order.broker.0 z.x z.s g z.side w.config.local_keep w.tier.sides answer w'.held r.after z.sees z.side_at sound (line_tells y sound) view row.0 row.1 r.row.0 r.row.1 in
+        own_refined (turned.Answers answer) said (seat_answered answer)
+        (record {
+          after = r.after;
+          held = r.held;
+          row = subst (λ (k : Command). seen_rows.Row c.partition t.order.broker.0 y (noted_in t.seat.work) k (turned.Answers answer) r.after) (sym is)
+              (subst (λ (k : Work). seen_rows.Row c.partition t.order.broker.0 y (noted_in k) Trim (turned.Answers answer) r.after) (sym noted) r.row.0);
+        })
+        same (works_at (Noted g) noted (subst (λ (k : Command). KeepsWork t.order.broker.0 k (Some g) (begun_of t.order.broker.0 g k)) (sym is) refl)) (owes_at Trim is r.after owes)
+    trims_on is g noted other said row same = elim row [ ]
+
+    -- the first turn of a fetch
+    fetch_first : (offset limit : ℕ) → t.order.command ≡ Fetch offset limit → t.seat.work ≡ Idle → (turn : Turned) → outcome ≡ outcome_of turn
+        → turns.FirstRow disk.content disk.control w.held t.order.broker.0 z.x (Fetch offset limit) turn w'.held → w'.tier ≡ w.tier → IsCentral disk store meta opening w'
+    fetch_first offset limit is idle (turned.Answers answer) said row same =
+        own_central (turned.Answers answer) said (seat_answered answer) (row_at (Fetch offset limit) is Idle idle (turned.Answers answer) row) same (works_at Idle idle (keeps_none t.order.broker.0 t.order.command))
+        (λ h'. owes_at (Fetch offset limit) is h' tt)
+    fetch_first offset limit is idle (turned.Begins g) said row same = fetch_asks disk store meta opening w a outcome w' t c z offset limit is idle g said row same
 
     -- a turn of any command
     by_command : (command : Command) → t.order.command ≡ command → (work : Work) → t.seat.work ≡ work
-        → Row disk store meta w.partition w.held w.tier t.order.broker.0 z.x z.side work command outcome w'.held w'.tier → IsCentral disk store meta opening w'
+        → Row disk store meta w.partition w.config.local_keep w.held w.tier t.order.broker.0 z.x z.side work command outcome w'.held w'.tier → IsCentral disk store meta opening w'
     by_command Copy is work keeps row = copy_central disk store meta opening w a outcome w' t c z is work keeps row
-    by_command Trim is Idle keeps row =
-        own_central row.0.0 row.0.1 (row_at Trim is Idle keeps row.0.0 row.0.2) row.1 (works_at Idle keeps (keeps_none t.order.broker.0 t.order.command))
-        (λ h' seen_row. owes_at Trim is h' (trim_owes c.partition t.order.broker.0 y row.0.0 (sides_seen w.tier.sides) h' z.sees.there (trim_row is keeps row.0.0 h' seen_row)))
-    by_command Trim is (Noted g) keeps row = absurd row
+    by_command Trim is Idle keeps row = trim_first disk store meta opening w a outcome w' t c z is keeps outcome refl row.0 row.1
+    by_command Trim is (Noted g) keeps row = trims_on is g keeps outcome refl row.0 row.1
     by_command Trim is (Copies g copy next) keeps row = absurd row
+    by_command Trim is (Seeks g next) keeps row = absurd row
+    by_command (Fetch offset limit) is Idle keeps row = fetch_first offset limit is keeps row.0.0 row.0.1 row.0.2 row.1
+    by_command (Fetch offset limit) is (Noted g) keeps row =
+        fetch_on disk store meta opening w a outcome w' t c z offset limit is (Noted g) keeps g refl Refresh
+        (ap (begun_of t.order.broker.0 g) is ∙ sym (ap (seeks_of t.order.broker.0 g Refresh) is)) (λ later. refl) outcome refl row.0 row.1
+    by_command (Fetch offset limit) is (Copies g copy next) keeps row = absurd row
+    by_command (Fetch offset limit) is (Seeks g next) keeps row =
+        fetch_on disk store meta opening w a outcome w' t c z offset limit is (Seeks g next) keeps g refl next refl (λ later. refl) outcome refl row.0 row.1
     by_command command is Idle keeps row =
-        own_central row.0.0 row.0.1 (row_at command is Idle keeps row.0.0 row.0.2) row.1 (works_at Idle keeps (keeps_none t.order.broker.0 t.order.command)) (λ h' seen_row. owes_at command is h' tt)
+        own_central row.0.0 row.0.1 (seat_own (subst IsOwn (sym is) tt) row.0.0) (row_at command is Idle keeps row.0.0 row.0.2) row.1 (works_at Idle keeps (keeps_none t.order.broker.0 t.order.command))
+        (λ h'. owes_at command is h' tt)
     by_command command is (Noted g) keeps row =
-        own_central (turned.Answers row.0.0) row.0.1 (row_at command is (Noted g) keeps (turned.Answers row.0.0) row.0.2) row.1
-        (works_at (Noted g) keeps (keeps_noted t.order.broker.0 t.order.command g)) (λ h' seen_row. owes_at command is h' tt)
+        own_central (turned.Answers row.0.0) row.0.1 (seat_answered row.0.0) (row_at command is (Noted g) keeps (turned.Answers row.0.0) row.0.2) row.1
+        (works_at (Noted g) keeps (begun_keeps t.order.broker.0 t.order.command g (subst IsOwn (sym is) tt))) (λ h'. owes_at command is h' tt)
     by_command command is (Copies g copy next) keeps row = elim row [ ]
+    by_command command is (Seeks g next) keeps row = elim row [ ]
 
   -- a turn keeps the central fact
   pub turn_central : (opening : State) (w : Whole D S M) (a : ℕ) (outcome : Outcome) (w' : Whole D S M) → IsTurn disk store meta w a outcome w' → IsCentral disk store meta opening w → IsCentral disk store meta opening w'
   turn_central opening w a outcome w' t c =
-      let r = row_of disk store meta w.partition w.held w.tier t.order.broker.0 t.seat.work t.order.command outcome w'.held w'.tier t.row in
+      let r = row_of disk store meta w.partition w.config.local_keep w.held w.tier t.order.broker.0 t.seat.work t.order.command outcome w'.held w'.tier t.row in
       by_command opening w a outcome w' t c
       (place_of disk store meta opening w c t.place t.list t.seat t.order t.at.list t.at.seat_is t.next r.x r.at r.side r.side_at) t.order.command refl t.seat.work refl r.row
 
@@ -281,8 +341,34 @@ module _ {D S M : Type 0} (disk : DiskGhosts D) (store : StoreGhosts S) (meta : 
       desk = c.shows_tier.desk ∙ (ap (λ (k : List ActorList). desk_of k w.desk) (sym same_lists) ∙ ap (λ (k : List Seat). desk_of w'.lists k) (sym same_desk));
     })
 
+    -- a fetch has read in vain
+    dried : (z : Place disk store meta opening w c s.place s.list s.seat s.order) → w'.held ≡ w.held → {view : View} {cache : Cache} → w'.tier.sides ≡ slice_set w.tier.sides s.order.broker.0 (record z.side { view = view; cache = cache })
+        → Dries store meta (fetch_tiers z.side.view z.side.cache w.tier) (fetch_tiers view cache w'.tier) → IsCentral disk store meta opening w'
+    dried z same {view} {cache} sides d = by d.why
+      where
+        held : ShowsHeld disk.content w'.held c.partition
+        held = subst (λ (h : Held D). ShowsHeld disk.content h c.partition) (sym same) c.shows
+
+        seen_sides : w'.tier.sides ≡ slice_set w.tier.sides s.order.broker.0 (record z.side { view = view })
+        seen_sides = sides ∙ ap (λ (k : Cache). slice_set w.tier.sides s.order.broker.0 (record z.side { view = view; cache = k })) d.cache
+
+        by : Halted meta.content meta.control z.side.view view w.tier.meta w'.tier.meta ⊎ ((view ≡ z.side.view) × (w'.tier.meta ≡ w.tier.meta)) → IsCentral disk store meta opening w'
+        by (inl k) =
+            let changed = halts store.content store.control meta.content meta.control w.tier.meta view c.scene c.central.plain s.place s.order.broker.0
+            (site disk store meta opening w c s.place s.list s.seat s.order z) (work_of (Some s.order) s.seat.work) (store.content w.tier.store)
+            (shows_at disk store meta opening w c s.place s.list s.seat s.order z) (few_now disk store meta opening w c) c.tier k.view in
+            waits held (scene_after disk store meta opening w c s.place s.list s.seat s.order z (work_of (Some s.order) s.seat.work) c.scene.objects c.scene.notes view) changed
+            (shows_kept disk store meta opening w c s.place s.list s.seat s.order z w' c.scene.objects c.scene.notes view same_part same_lists same_desk seen_sides
+            (d.store_stays.tells, k.content.tells) (c.shows_tier.objects ∙ sym d.store_stays.objects) (c.shows_tier.notes ∙ sym k.content.notes))
+        by (inr k) =
+            waits held (scene_after disk store meta opening w c s.place s.list s.seat s.order z (work_of (Some s.order) s.seat.work) c.scene.objects c.scene.notes z.side.view)
+            (stayed disk store meta opening w c s.place s.list s.seat s.order z)
+            (shows_kept disk store meta opening w c s.place s.list s.seat s.order z w' c.scene.objects c.scene.notes z.side.view same_part same_lists same_desk
+            (seen_sides ∙ ap (λ (v : View). slice_set w.tier.sides s.order.broker.0 (record z.side { view = v })) k.0)
+            (d.store_stays.tells, ap (λ (m : M). (meta.content m).tells) k.1) (c.shows_tier.objects ∙ sym d.store_stays.objects) (c.shows_tier.notes ∙ sym (ap (λ (m : M). (meta.content m).notes) k.1)))
+
     -- a view has taken in some notes
-    halted : (z : Place disk store meta opening w c s.place s.list s.seat s.order) → w'.held ≡ w.held → HaltsTier disk store meta w.held w.tier s.order.broker.0 z.side w'.tier
+    halted : (z : Place disk store meta opening w c s.place s.list s.seat s.order) → w'.held ≡ w.held → HaltsTier disk store meta w.held w.tier s.order.broker.0 z.x z.side w'.tier
         → IsCentral disk store meta opening w'
     halted z same (inl k) =
         let changed = halts store.content store.control meta.content meta.control w.tier.meta k.view c.scene c.central.plain s.place s.order.broker.0
@@ -293,7 +379,7 @@ module _ {D S M : Type 0} (disk : DiskGhosts D) (store : StoreGhosts S) (meta : 
         (shows_kept disk store meta opening w c s.place s.list s.seat s.order z w' c.scene.objects c.scene.notes k.view same_part same_lists same_desk (ap (λ (u : Tier S M). u.sides) k.after)
         (ap (λ (u : Tier S M). (store.content u.store).tells) k.after, k.reads.content.tells)
         (c.shows_tier.objects ∙ sym (ap (λ (u : Tier S M). (store.content u.store).objects) k.after)) (c.shows_tier.notes ∙ sym k.reads.content.notes))
-    halted z same (inr (copy, next, k)) =
+    halted z same (inr (inl (copy, next, k))) =
         let changed = copy_dry store.content store.control meta.content meta.control copy (teller_of w.held s.order.broker.0) next k.error (tiers_of z.side.view w.tier) (tiers_of k.view w'.tier)
         c.scene c.central.plain s.place s.order.broker.0 (site disk store meta opening w c s.place s.list s.seat s.order z) (work_of (Some s.order) s.seat.work) k.row
         (shows_at disk store meta opening w c s.place s.list s.seat s.order z) (few_now disk store meta opening w c) c.tier in
@@ -302,12 +388,15 @@ module _ {D S M : Type 0} (disk : DiskGhosts D) (store : StoreGhosts S) (meta : 
         (shows_kept disk store meta opening w c s.place s.list s.seat s.order z w' (store.content w'.tier.store).objects (meta.content w'.tier.meta).notes k.view same_part same_lists same_desk
         (ap (λ (u : Tier S M). u.sides) k.after)
         (dry_tells store meta copy (teller_of w.held s.order.broker.0) next k.error (tiers_of z.side.view w.tier) (tiers_of k.view w'.tier) k.row) refl refl)
+    halted z same (inr (inr (p, offset, limit, next, k))) =
+        let d = fetch_dry store meta (wanted_of p z.x offset limit) (line_of z.x) next k.error (fetch_tiers z.side.view z.side.cache w.tier) (fetch_tiers k.view k.cache w'.tier) k.row in
+        dried z same (ap (λ (u : Tier S M). u.sides) k.after) d
 
     by_tier : StaysTier disk store meta w.held w.tier s.order.broker.0 w'.held w'.tier → IsCentral disk store meta opening w'
     by_tier (inl k) = rests (held_stays disk.content disk.control w.held c.partition w'.held c.shows k.0) k.1
     by_tier (inr k) =
-        let side = some_of (λ (side : Side). HaltsTier disk store meta w.held w.tier s.order.broker.0 side w'.tier) (slice_get w.tier.sides s.order.broker.0) k.1 in
-        let x = look w.held.nodes s.order.broker.0 s.node in
+        let x = some_of (λ (x : Node D). AtSide w.tier s.order.broker.0 (λ side. HaltsTier disk store meta w.held w.tier s.order.broker.0 x side w'.tier)) (slice_get w.held.nodes s.order.broker.0) k.1 in
+        let side = some_of (λ (side : Side). HaltsTier disk store meta w.held w.tier s.order.broker.0 x.0 side w'.tier) (slice_get w.tier.sides s.order.broker.0) x.2 in
         halted (place_of disk store meta opening w c s.place s.list s.seat s.order s.next.at.list s.next.at.seat_is s.next.next x.0 x.1 side.0 side.1) k.0 side.2
 
   whole_central : (opening : State) (w : Whole D S M) (a : ℕ) (w' : Whole D S M) → StaysWhole disk store meta w a w' → IsCentral disk store meta opening w → IsCentral disk store meta opening w'

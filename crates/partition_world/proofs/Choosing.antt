@@ -54,7 +54,7 @@ use Rattle.partition_world.specs.declared.tier.Side.{Side}
 use Rattle.partition_world.specs.declared.tier.Tier.{Tier}
 use Rattle.partition_world.specs.Tier.{counted, put_side}
 use Rattle.partition_world.specs.Seats.{noted_in, chosen, seat_seen, seat_after}
-use Rattle.partition_world.specs.Central.{side_seen, sides_seen, work_of, desk_of, ShowsTier, IsCentral}
+use Rattle.partition_world.specs.Central.{side_seen, sides_seen, begun_of, work_of, desk_of, ShowsTier, IsCentral}
 use Rattle.partition_world.specs.TurnsOfCopy.{KeepsLead, IsNextCopy, ReadsSegment}
 use Rattle.partition_world.specs.Whole.{Whole}
 use Rattle.partition_world.proofs.SceneParts.{site_set, seat_set}
@@ -106,7 +106,7 @@ next_site y side = ap (λ (n : ℕ). record (site_of y (side_seen side)) { next 
 
 -- a seat that has noted something, and chooses a copy
 noted_free : (order : Order) (work : Work) (g : Begun) → work ≡ Noted g → order.command ≡ Copy → work_of (Some order) work ≡ Free
-noted_free order work g noted is = ap (λ (k : Work). work_of (Some order) k) noted ∙ ap (λ (k : Command). work_seen order.broker.0 k (Some g)) is
+noted_free order work g noted is = ap (λ (k : Work). work_of (Some order) k) noted ∙ ap (λ (k : Command). begun_of order.broker.0 g k) is
 
 chosen_copies : (o : Option Order) (order : Order) (work : Work) (g : Begun) (copy : Copied) → o ≡ Some order → work ≡ Noted g → work_of o (chosen work copy) ≡ CopiesSeen copy Start
 chosen_copies o order work g copy next noted =

@@ -87,24 +87,40 @@ module _ {D S M : Type 0} (disk : DiskGhosts D) (store : StoreGhosts S) (meta : 
     abbrev pub work_after : Outcome → WorkSeen
     work_after outcome = work_of (slice_get l.orders (seat_after seat outcome).number) (seat_after seat outcome).work
 
-    pub shows_after : (w' : Whole D S M) (outcome : Outcome) (work : WorkSeen) (objects : Objects) (notes : List Note) (view : View) → w'.partition ≡ w.partition → w'.lists ≡ w.lists
-        → w'.desk ≡ slice_set w.desk place (seat_after seat outcome) → w'.tier.sides ≡ slice_set w.tier.sides order.broker.0 (record z.side { view = view })
+    -- the scene after a turn that left this side
+    abbrev pub scene_with : WorkSeen → Objects → List Note → Side → Scene
+    scene_with work objects notes side = record {
+      partition = c.scene.partition;
+      objects = objects;
+      notes = notes;
+      sites = slice_set c.scene.sites order.broker.0 (site_of (node_of z.x z.s) (side_seen side));
+      desk = slice_set c.scene.desk place work;
+    }
+
+    pub shows_with : (w' : Whole D S M) (outcome : Outcome) (work : WorkSeen) (objects : Objects) (notes : List Note) (side : Side) → w'.partition ≡ w.partition → w'.lists ≡ w.lists
+        → w'.desk ≡ slice_set w.desk place (seat_after seat outcome) → w'.tier.sides ≡ slice_set w.tier.sides order.broker.0 side
         → TellsOn store meta w.tier.store w.tier.meta w'.tier.store w'.tier.meta → objects ≡ (store.content w'.tier.store).objects → notes ≡ (meta.content w'.tier.meta).notes
-        → work_after outcome ≡ work → ShowsTier store meta w' c.partition (scene_after work objects notes view)
-    shows_after w' outcome work objects notes view part lists desk sides tells objects_are notes_are is = record {
+        → work_after outcome ≡ work → ShowsTier store meta w' c.partition (scene_with work objects notes side)
+    shows_with w' outcome work objects notes side part lists desk sides tells objects_are notes_are is = record {
       partition = c.shows_tier.partition ∙ sym part;
       store_tells = tells.0 ∙ c.shows_tier.store_tells;
       objects = objects_are;
       meta_tells = tells.1 ∙ c.shows_tier.meta_tells;
       notes = notes_are;
-      sites = ap (λ (k : List Site). slice_set k order.broker.0 (record site { view = view })) c.shows_tier.sites
-          ∙ (sym (site_set c.partition.nodes w.tier.sides order.broker.0 (node_of z.x z.s) (record z.side { view = view }) z.sees.there)
+      sites = ap (λ (k : List Site). slice_set k order.broker.0 (site_of (node_of z.x z.s) (side_seen side))) c.shows_tier.sites
+          ∙ (sym (site_set c.partition.nodes w.tier.sides order.broker.0 (node_of z.x z.s) side z.sees.there)
           ∙ ap (λ (k : List Side). sites_of c.partition.nodes (sides_seen k)) (sym sides));
       desk = ap (λ (k : List WorkSeen). slice_set k place work) c.shows_tier.desk
           ∙ (ap (λ (k : WorkSeen). slice_set (desk_of w.lists w.desk) place k) (sym is)
           ∙ (sym (seat_set w.lists w.desk place l (seat_after seat outcome) z.list)
           ∙ (ap (λ (k : List ActorList). desk_of k (slice_set w.desk place (seat_after seat outcome))) (sym lists) ∙ ap (λ (k : List Seat). desk_of w'.lists k) (sym desk))));
     }
+
+    pub shows_after : (w' : Whole D S M) (outcome : Outcome) (work : WorkSeen) (objects : Objects) (notes : List Note) (view : View) → w'.partition ≡ w.partition → w'.lists ≡ w.lists
+        → w'.desk ≡ slice_set w.desk place (seat_after seat outcome) → w'.tier.sides ≡ slice_set w.tier.sides order.broker.0 (record z.side { view = view })
+        → TellsOn store meta w.tier.store w.tier.meta w'.tier.store w'.tier.meta → objects ≡ (store.content w'.tier.store).objects → notes ≡ (meta.content w'.tier.meta).notes
+        → work_after outcome ≡ work → ShowsTier store meta w' c.partition (scene_after work objects notes view)
+    shows_after w' outcome work objects notes view = shows_with w' outcome work objects notes (record z.side { view = view })
 
     -- after one that left the desk as it was
     pub shows_kept : (w' : Whole D S M) (objects : Objects) (notes : List Note) (view : View) → w'.partition ≡ w.partition → w'.lists ≡ w.lists → w'.desk ≡ w.desk
@@ -134,6 +150,15 @@ module _ {D S M : Type 0} (disk : DiskGhosts D) (store : StoreGhosts S) (meta : 
       changes = Moves place Leaves ∷ [];
       may = (c.central.plain, (refl, tt), refl);
       is = ap (λ (k : List Site). record c.scene { sites = k; desk = slice_set c.scene.desk place Free }) (sym (set_same c.scene.sites order.broker.0 site site_is));
+    }
+
+    -- a command that stays at its turn, and changes nothing of the tier
+    pub stayed : IsChanged c.scene c.central.plain (scene_after (work_of (Some order) seat.work) c.scene.objects c.scene.notes z.side.view)
+    stayed = record {
+      changes = [];
+      may = refl;
+      is = ap (λ (k : List Site). record c.scene { sites = k }) (sym (set_same c.scene.sites order.broker.0 site site_is))
+          ∙ ap (λ (k : List WorkSeen). record c.scene { sites = slice_set c.scene.sites order.broker.0 site; desk = k }) (sym (set_same c.scene.desk place (work_of (Some order) seat.work) seated));
     }
 
     -- an answer frees its seat

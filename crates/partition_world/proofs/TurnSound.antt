@@ -5,14 +5,18 @@ use Rattle.disk_model.specs.declared.disk.Disk.{Ghosts as DiskGhosts}
 use Rattle.object_store.specs.declared.store.Store.{Ghosts as StoreGhosts}
 use Rattle.meta_log.specs.declared.log.MetaLog.{Ghosts as MetaGhosts}
 use Rattle.tier_base.specs.declared.names.PartitionId.{PartitionId}
+use Rattle.tier_base.specs.declared.plain.Keep.{Keep}
 use Rattle.log_terms.proofs.Lists.{length-slice_set}
 use Rattle.epoch_line.specs.Line.{last_epoch}
 use Rattle.copy_task.specs.Copying.{Copied}
 use Rattle.copy_task.specs.declared.turn.Next.{Next}
-use Rattle.plain_log.specs.declared.answer.Answer.TheVariants.{Down, NotLeader, MetaFault, DiskFault, Damaged}
+use Rattle.tier_fetch.specs.declared.turn.Next.{Next as Search}
+use Rattle.tier_fetch.specs.declared.turn.Next.TheVariants.{Refresh}
+use Rattle.tier_fetch.specs.declared.turn.FetchTurn.{FetchTurn}
+use Rattle.plain_log.specs.declared.answer.Answer.TheVariants.{Down, NotLeader, MetaFault, DiskFault, Damaged, Stopped, OutOfRange, Empty}
 use Rattle.plain_log.specs.declared.answer.Place.TheVariants.{File}
 use Rattle.plain_log.specs.declared.command.Command.{Command}
-use Rattle.plain_log.specs.declared.command.Command.TheVariants.{Copy, Trim}
+use Rattle.plain_log.specs.declared.command.Command.TheVariants.{Copy, Trim, Fetch}
 use Rattle.partition_seen.specs.declared.begun.Begun.{Begun}
 use Rattle.partition_seen.specs.declared.begun.Turned.TheVariants as turned
 use Rattle.partition_seen.proofs.BoolTests.{some_of}
@@ -24,11 +28,14 @@ use Rattle.partition_turns.proofs.SoundLaw.{same, put_is, first_sound, later_sou
 use Rattle.partition_world.specs.declared.tier.Side.{Side}
 use Rattle.partition_world.specs.declared.tier.Tier.{Tier}
 use Rattle.partition_world.specs.declared.seat.Outcome.{Outcome}
-use Rattle.partition_world.specs.declared.seat.Outcome.TheVariants.{Answers, Begins, Chose}
+use Rattle.partition_world.specs.declared.seat.Outcome.TheVariants.{Answers, Begins, Chose, Seeks as Sought}
 use Rattle.partition_world.specs.declared.seat.Work.{Work}
-use Rattle.partition_world.specs.declared.seat.Work.TheVariants.{Idle, Noted, Copies}
+use Rattle.partition_world.specs.declared.seat.Work.TheVariants.{Idle, Noted, Copies, Seeks}
+use Rattle.partition_world.specs.Tier.{AtSide}
 use Rattle.partition_world.specs.TurnsOfCopy.{ReadsLog, ReadRow, ChooseRow, CopyFirstRow}
-use Rattle.partition_world.specs.Turns.{NotedRow, CopyingRow, BeginRow, Row, TurnRow, HaltsTier, StaysTier}
+use Rattle.partition_world.specs.TurnsOfFetch.{FetchOnRow, GoesOnFetch}
+use Rattle.partition_world.specs.TurnsOfTrim.{TrimFirstRow, TrimOnRow}
+use Rattle.partition_world.specs.Turns.{NotedRow, CopyingRow, SeekingRow, BeginRow, Row, TurnRow, HaltsTier, StaysTier}
 use Rattle.partition_world.proofs.Begins.{row_of}
 
 module _ {D : Type 0} where
@@ -71,15 +78,22 @@ module _ {D S M : Type 0} (disk : DiskGhosts D) (store : StoreGhosts S) (meta : 
   choose_sound n p h t b x side g outcome h' t' at s (inr (keeps, inr reads)) =
       put_is n h b reads.node h' reads.held s (alike_sound x reads.node (s.nodes b x at) (next_alike disk p b x side _ outcome reads.node reads.side_after reads.row))
 
-  noted_sound : (n : ℕ) (p : PartitionId) (h : Held D) (t : Tier S M) (b : ℕ) (x : Node D) (side : Side) (g : Begun) (command : Command) (outcome : Outcome) (h' : Held D) (t' : Tier S M)
-      → slice_get h.nodes b ≡ Some x → HeldSound n h → NotedRow disk p h t b x side g command outcome h' t' → HeldSound n h'
-  noted_sound n p h t b x side g Copy outcome h' t' at s w = choose_sound n p h t b x side g outcome h' t' at s w
-  noted_sound n p h t b x side g Trim outcome h' t' at s w = absurd w
-  noted_sound n p h t b x side g other outcome h' t' at s w = later_sound disk.content disk.control n h b x other g (turned.Answers w.0.0) h' at s w.0.2
+  trim_sound : (n : ℕ) (h : Held D) (b : ℕ) (x : Node D) (side : Side) (g : Begun) (keep : Keep) (outcome : Outcome) (h' : Held D)
+      → slice_get h.nodes b ≡ Some x → HeldSound n h → TrimOnRow disk h b x side g keep outcome h' → HeldSound n h'
+  trim_sound n h b x side g keep (Answers answer) h' at s w = later_sound disk.content disk.control n h b x Trim g (turned.Answers answer) h' at s w.0
+  trim_sound n h b x side g keep other h' at s w = elim w [ ]
+
+  noted_sound : (n : ℕ) (p : PartitionId) (keep : Keep) (h : Held D) (t : Tier S M) (b : ℕ) (x : Node D) (side : Side) (g : Begun) (command : Command) (outcome : Outcome) (h' : Held D) (t' : Tier S M)
+      → slice_get h.nodes b ≡ Some x → HeldSound n h → NotedRow disk store meta p keep h t b x side g command outcome h' t' → HeldSound n h'
+  noted_sound n p keep h t b x side g Copy outcome h' t' at s w = choose_sound n p h t b x side g outcome h' t' at s w
+  noted_sound n p keep h t b x side g Trim outcome h' t' at s w = trim_sound n h b x side g keep outcome h' at s w.0
+  noted_sound n p keep h t b x side g (Fetch offset limit) outcome h' t' at s w = same n h h' w.1 s
+  noted_sound n p keep h t b x side g other outcome h' t' at s w = later_sound disk.content disk.control n h b x other g (turned.Answers w.0.0) h' at s w.0.2
 
   begins_sound : (n : ℕ) (h : Held D) (t : Tier S M) (b : ℕ) (x : Node D) (side : Side) (command : Command) (outcome : Outcome) (h' : Held D) (t' : Tier S M)
       → slice_get h.nodes b ≡ Some x → HeldSound n h → BeginRow disk store meta h t b x side command outcome h' t' → HeldSound n h'
   begins_sound n h t b x side Copy outcome h' t' at s w = same n h h' w.1 s
+  begins_sound n h t b x side Trim outcome h' t' at s w = same n h h' w.1 s
   begins_sound n h t b x side other outcome h' t' at s w = first_sound disk.content disk.control n h b x other w.0.0 h' at s w.0.2
 
   copying_sound : (n : ℕ) (h : Held D) (t : Tier S M) (b : ℕ) (x : Node D) (side : Side) (g : Begun) (copy : Copied) (next : Next) (command : Command) (outcome : Outcome) (h' : Held D) (t' : Tier S M)
@@ -87,17 +101,23 @@ module _ {D S M : Type 0} (disk : DiskGhosts D) (store : StoreGhosts S) (meta : 
   copying_sound n h t b x side g copy next Copy outcome h' t' s w = same n h h' w.1 s
   copying_sound n h t b x side g copy next other outcome h' t' s w = elim w [ ]
 
-  row_sound : (n : ℕ) (p : PartitionId) (h : Held D) (t : Tier S M) (b : ℕ) (x : Node D) (side : Side) (work : Work) (command : Command) (outcome : Outcome) (h' : Held D) (t' : Tier S M)
-      → slice_get h.nodes b ≡ Some x → HeldSound n h → Row disk store meta p h t b x side work command outcome h' t' → HeldSound n h'
-  row_sound n p h t b x side Idle command outcome h' t' at s w = begins_sound n h t b x side command outcome h' t' at s w
-  row_sound n p h t b x side (Noted g) command outcome h' t' at s w = noted_sound n p h t b x side g command outcome h' t' at s w
-  row_sound n p h t b x side (Copies g copy next) command outcome h' t' at s w = copying_sound n h t b x side g copy next command outcome h' t' s w
+  seeking_sound : (n : ℕ) (p : PartitionId) (h : Held D) (t : Tier S M) (b : ℕ) (x : Node D) (side : Side) (g : Begun) (next : Search) (command : Command) (outcome : Outcome) (h' : Held D) (t' : Tier S M)
+      → HeldSound n h → SeekingRow store meta p h t b x side g next command outcome h' t' → HeldSound n h'
+  seeking_sound n p h t b x side g next (Fetch offset limit) outcome h' t' s w = same n h h' w.1 s
+  seeking_sound n p h t b x side g next other outcome h' t' s w = elim w [ ]
+
+  row_sound : (n : ℕ) (p : PartitionId) (keep : Keep) (h : Held D) (t : Tier S M) (b : ℕ) (x : Node D) (side : Side) (work : Work) (command : Command) (outcome : Outcome) (h' : Held D) (t' : Tier S M)
+      → slice_get h.nodes b ≡ Some x → HeldSound n h → Row disk store meta p keep h t b x side work command outcome h' t' → HeldSound n h'
+  row_sound n p keep h t b x side Idle command outcome h' t' at s w = begins_sound n h t b x side command outcome h' t' at s w
+  row_sound n p keep h t b x side (Noted g) command outcome h' t' at s w = noted_sound n p keep h t b x side g command outcome h' t' at s w
+  row_sound n p keep h t b x side (Copies g copy next) command outcome h' t' at s w = copying_sound n h t b x side g copy next command outcome h' t' s w
+  row_sound n p keep h t b x side (Seeks g next) command outcome h' t' at s w = seeking_sound n p h t b x side g next command outcome h' t' s w
 
   -- each turn does
-  pub turn_sound : (n : ℕ) (p : PartitionId) (h : Held D) (t : Tier S M) (b : ℕ) (work : Work) (command : Command) (outcome : Outcome) (h' : Held D) (t' : Tier S M) → HeldSound n h
-      → TurnRow disk store meta p h t b work command outcome h' t' → HeldSound n h'
-  turn_sound n p h t b work command outcome h' t' s w =
-      let r = row_of disk store meta p h t b work command outcome h' t' w in row_sound n p h t b r.x r.side work command outcome h' t' r.at s r.row
+  pub turn_sound : (n : ℕ) (p : PartitionId) (keep : Keep) (h : Held D) (t : Tier S M) (b : ℕ) (work : Work) (command : Command) (outcome : Outcome) (h' : Held D) (t' : Tier S M) → HeldSound n h
+      → TurnRow disk store meta p keep h t b work command outcome h' t' → HeldSound n h'
+  turn_sound n p keep h t b work command outcome h' t' s w =
+      let r = row_of disk store meta p keep h t b work command outcome h' t' w in row_sound n p keep h t b r.x r.side work command outcome h' t' r.at s r.row
 
   -- and want of memory
   pub stays_sound : (n : ℕ) (h : Held D) (t : Tier S M) (b : ℕ) (h' : Held D) (t' : Tier S M) → HeldSound n h → StaysTier disk store meta h t b h' t' → HeldSound n h'
@@ -114,11 +134,26 @@ module _ {D S M : Type 0} (disk : DiskGhosts D) (store : StoreGhosts S) (meta : 
   choose_sides p h t b x side g outcome h' t' (inr (keeps, inl level)) = ap (λ (k : Tier S M). length k.sides) level.3
   choose_sides p h t b x side g outcome h' t' (inr (keeps, inr reads)) = sides_put t b reads.side_after t' (ap (λ (k : Tier S M). k.sides) reads.tier)
 
-  noted_sides : (p : PartitionId) (h : Held D) (t : Tier S M) (b : ℕ) (x : Node D) (side : Side) (g : Begun) (command : Command) (outcome : Outcome) (h' : Held D) (t' : Tier S M)
-      → NotedRow disk p h t b x side g command outcome h' t' → length t'.sides ≡ length t.sides
-  noted_sides p h t b x side g Copy outcome h' t' w = choose_sides p h t b x side g outcome h' t' w
-  noted_sides p h t b x side g Trim outcome h' t' w = absurd w
-  noted_sides p h t b x side g other outcome h' t' w = ap (λ (k : Tier S M). length k.sides) w.1
+  goes_sides : (p : PartitionId) (t : Tier S M) (b : ℕ) (x : Node D) (side : Side) (offset limit : ℕ) (next : Search) (turn : FetchTurn) (t' : Tier S M)
+      → GoesOnFetch store meta p t b x side offset limit next turn t' → length t'.sides ≡ length t.sides
+  goes_sides p t b x side offset limit next turn t' k = sides_put t b (record side { view = k.view; cache = k.cache }) t' (ap (λ (k : Tier S M). k.sides) k.after)
+
+  fetch_sides : (p : PartitionId) (h : Held D) (t : Tier S M) (b : ℕ) (x : Node D) (side : Side) (g : Begun) (offset limit : ℕ) (next : Search) (outcome : Outcome) (t' : Tier S M)
+      → FetchOnRow store meta p h t b x side g offset limit next outcome t' → length t'.sides ≡ length t.sides
+  fetch_sides p h t b x side g offset limit next (Answers Stopped) t' w = ap (λ (k : Tier S M). length k.sides) w.1
+  fetch_sides p h t b x side g offset limit next (Answers NotLeader) t' w = ap (λ (k : Tier S M). length k.sides) w.3
+  fetch_sides p h t b x side g offset limit next (Answers (OutOfRange start end)) t' w = ap (λ (k : Tier S M). length k.sides) w.4
+  fetch_sides p h t b x side g offset limit next (Answers Empty) t' w = ap (λ (k : Tier S M). length k.sides) w.3
+  fetch_sides p h t b x side g offset limit next (Answers answer) t' w = goes_sides p t b x side offset limit next _ t' w.1
+  fetch_sides p h t b x side g offset limit next (Sought later) t' w = goes_sides p t b x side offset limit next _ t' w.1
+  fetch_sides p h t b x side g offset limit next other t' w = elim w [ ]
+
+  noted_sides : (p : PartitionId) (keep : Keep) (h : Held D) (t : Tier S M) (b : ℕ) (x : Node D) (side : Side) (g : Begun) (command : Command) (outcome : Outcome) (h' : Held D) (t' : Tier S M)
+      → NotedRow disk store meta p keep h t b x side g command outcome h' t' → length t'.sides ≡ length t.sides
+  noted_sides p keep h t b x side g Copy outcome h' t' w = choose_sides p h t b x side g outcome h' t' w
+  noted_sides p keep h t b x side g Trim outcome h' t' w = ap (λ (k : Tier S M). length k.sides) w.1
+  noted_sides p keep h t b x side g (Fetch offset limit) outcome h' t' w = fetch_sides p h t b x side g offset limit Refresh outcome t' w.0
+  noted_sides p keep h t b x side g other outcome h' t' w = ap (λ (k : Tier S M). length k.sides) w.1
 
   first_sides : (h : Held D) (t : Tier S M) (b : ℕ) (x : Node D) (side : Side) (outcome : Outcome) (t' : Tier S M) → CopyFirstRow meta h t b x side outcome t' → length t'.sides ≡ length t.sides
   first_sides h t b x side (Answers Down) t' w = ap (λ (k : Tier S M). length k.sides) w.1
@@ -127,9 +162,16 @@ module _ {D S M : Type 0} (disk : DiskGhosts D) (store : StoreGhosts S) (meta : 
   first_sides h t b x side (Begins g) t' w = sides_put t b (record side { view = w.3.view }) t' (ap (λ (k : Tier S M). k.sides) w.3.after)
   first_sides h t b x side other t' w = elim w [ ]
 
+  trim_sides : (h : Held D) (t : Tier S M) (b : ℕ) (x : Node D) (side : Side) (outcome : Outcome) (t' : Tier S M) → TrimFirstRow meta h t b x side outcome t' → length t'.sides ≡ length t.sides
+  trim_sides h t b x side (Answers Down) t' w = ap (λ (k : Tier S M). length k.sides) w.1
+  trim_sides h t b x side (Answers MetaFault) t' w = ap (λ (k : Tier S M). length k.sides) w.1.after
+  trim_sides h t b x side (Begins g) t' w = sides_put t b (record side { view = w.2.view }) t' (ap (λ (k : Tier S M). k.sides) w.2.after)
+  trim_sides h t b x side other t' w = elim w [ ]
+
   begins_sides : (h : Held D) (t : Tier S M) (b : ℕ) (x : Node D) (side : Side) (command : Command) (outcome : Outcome) (h' : Held D) (t' : Tier S M)
       → BeginRow disk store meta h t b x side command outcome h' t' → length t'.sides ≡ length t.sides
   begins_sides h t b x side Copy outcome h' t' w = first_sides h t b x side outcome t' w.0
+  begins_sides h t b x side Trim outcome h' t' w = trim_sides h t b x side outcome t' w.0
   begins_sides h t b x side other outcome h' t' w = ap (λ (k : Tier S M). length k.sides) w.1
 
   copying_sides : (h : Held D) (t : Tier S M) (b : ℕ) (x : Node D) (side : Side) (g : Begun) (copy : Copied) (next : Next) (command : Command) (outcome : Outcome) (h' : Held D) (t' : Tier S M)
@@ -138,22 +180,32 @@ module _ {D S M : Type 0} (disk : DiskGhosts D) (store : StoreGhosts S) (meta : 
   copying_sides h t b x side g copy next Copy outcome h' t' (inr (keeps, (turn, is, goes)), same) = sides_put t b (record side { view = goes.view }) t' (ap (λ (k : Tier S M). k.sides) goes.after)
   copying_sides h t b x side g copy next other outcome h' t' w = elim w [ ]
 
-  row_sides : (p : PartitionId) (h : Held D) (t : Tier S M) (b : ℕ) (x : Node D) (side : Side) (work : Work) (command : Command) (outcome : Outcome) (h' : Held D) (t' : Tier S M)
-      → Row disk store meta p h t b x side work command outcome h' t' → length t'.sides ≡ length t.sides
-  row_sides p h t b x side Idle command outcome h' t' w = begins_sides h t b x side command outcome h' t' w
-  row_sides p h t b x side (Noted g) command outcome h' t' w = noted_sides p h t b x side g command outcome h' t' w
-  row_sides p h t b x side (Copies g copy next) command outcome h' t' w = copying_sides h t b x side g copy next command outcome h' t' w
+  seeking_sides : (p : PartitionId) (h : Held D) (t : Tier S M) (b : ℕ) (x : Node D) (side : Side) (g : Begun) (next : Search) (command : Command) (outcome : Outcome) (h' : Held D) (t' : Tier S M)
+      → SeekingRow store meta p h t b x side g next command outcome h' t' → length t'.sides ≡ length t.sides
+  seeking_sides p h t b x side g next (Fetch offset limit) outcome h' t' w = fetch_sides p h t b x side g offset limit next outcome t' w.0
+  seeking_sides p h t b x side g next other outcome h' t' w = elim w [ ]
 
-  pub turn_sides : (p : PartitionId) (h : Held D) (t : Tier S M) (b : ℕ) (work : Work) (command : Command) (outcome : Outcome) (h' : Held D) (t' : Tier S M)
-      → TurnRow disk store meta p h t b work command outcome h' t' → length t'.sides ≡ length t.sides
-  turn_sides p h t b work command outcome h' t' w =
-      let r = row_of disk store meta p h t b work command outcome h' t' w in row_sides p h t b r.x r.side work command outcome h' t' r.row
+  row_sides : (p : PartitionId) (keep : Keep) (h : Held D) (t : Tier S M) (b : ℕ) (x : Node D) (side : Side) (work : Work) (command : Command) (outcome : Outcome) (h' : Held D) (t' : Tier S M)
+      → Row disk store meta p keep h t b x side work command outcome h' t' → length t'.sides ≡ length t.sides
+  row_sides p keep h t b x side Idle command outcome h' t' w = begins_sides h t b x side command outcome h' t' w
+  row_sides p keep h t b x side (Noted g) command outcome h' t' w = noted_sides p keep h t b x side g command outcome h' t' w
+  row_sides p keep h t b x side (Copies g copy next) command outcome h' t' w = copying_sides h t b x side g copy next command outcome h' t' w
+  row_sides p keep h t b x side (Seeks g next) command outcome h' t' w = seeking_sides p h t b x side g next command outcome h' t' w
 
-  halts_sides : (h : Held D) (t : Tier S M) (b : ℕ) (side : Side) (t' : Tier S M) → HaltsTier disk store meta h t b side t' → length t'.sides ≡ length t.sides
-  halts_sides h t b side t' (inl halts) = sides_put t b (record side { view = halts.view }) t' (ap (λ (k : Tier S M). k.sides) halts.after)
-  halts_sides h t b side t' (inr (copy, next, wants)) = sides_put t b (record side { view = wants.view }) t' (ap (λ (k : Tier S M). k.sides) wants.after)
+  pub turn_sides : (p : PartitionId) (keep : Keep) (h : Held D) (t : Tier S M) (b : ℕ) (work : Work) (command : Command) (outcome : Outcome) (h' : Held D) (t' : Tier S M)
+      → TurnRow disk store meta p keep h t b work command outcome h' t' → length t'.sides ≡ length t.sides
+  turn_sides p keep h t b work command outcome h' t' w =
+      let r = row_of disk store meta p keep h t b work command outcome h' t' w in row_sides p keep h t b r.x r.side work command outcome h' t' r.row
+
+  halts_sides : (h : Held D) (t : Tier S M) (b : ℕ) (x : Node D) (side : Side) (t' : Tier S M) → HaltsTier disk store meta h t b x side t' → length t'.sides ≡ length t.sides
+  halts_sides h t b x side t' (inl halts) = sides_put t b (record side { view = halts.view }) t' (ap (λ (k : Tier S M). k.sides) halts.after)
+  halts_sides h t b x side t' (inr (inl (copy, next, wants))) = sides_put t b (record side { view = wants.view }) t' (ap (λ (k : Tier S M). k.sides) wants.after)
+  halts_sides h t b x side t' (inr (inr (p, offset, limit, next, wants))) =
+      sides_put t b (record side { view = wants.view; cache = wants.cache }) t' (ap (λ (k : Tier S M). k.sides) wants.after)
 
   pub stays_sides : (h : Held D) (t : Tier S M) (b : ℕ) (h' : Held D) (t' : Tier S M) → StaysTier disk store meta h t b h' t' → length t'.sides ≡ length t.sides
   stays_sides h t b h' t' (inl k) = ap (λ (k : Tier S M). length k.sides) k.1
   stays_sides h t b h' t' (inr k) =
-      let side = some_of (λ side. HaltsTier disk store meta h t b side t') (slice_get t.sides b) k.1 in halts_sides h t b side.0 t' side.2
+      let x = some_of (λ x. AtSide t b (λ side. HaltsTier disk store meta h t b x side t')) (slice_get h.nodes b) k.1 in
+      let side = some_of (λ side. HaltsTier disk store meta h t b x.0 side t') (slice_get t.sides b) x.2 in
+      halts_sides h t b x.0 side.0 t' side.2

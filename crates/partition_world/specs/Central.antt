@@ -2,41 +2,64 @@
 --
 -- The world, as its partition is seen, is the plain log after the world's own journal; and the remote tier, as it is seen
 -- beside that state of the plain log, keeps its safety rules.
-use Rattle.std.specs.Prelude.{◌≡◌, ℕ, ◌+◌, ◌-◌, ◌*◌, ◌^◌, ◌<◌, length, List, [], ◌∷◌, Option, Some, None, slice_get, IsTrue}
+use Rattle.std.specs.Prelude.{◌≡◌, ℕ, ◌+◌, ◌-◌, ◌*◌, ◌^◌, ◌<◌, length, List, [], ◌∷◌, Option, Some, None, unwrap_or, slice_get, IsTrue}
 use Rattle.disk_model.specs.declared.disk.Disk.{Ghosts as DiskGhosts}
 use Rattle.object_store.specs.declared.store.Store.{Ghosts as StoreGhosts}
 use Rattle.meta_log.specs.declared.log.MetaLog.{Ghosts as MetaGhosts}
 use Rattle.copy_task.specs.declared.turn.Next.TheVariants.{Start, Put, Finish}
+use Rattle.tier_fetch.specs.declared.turn.Next.{Next as Search}
+use Rattle.tier_fetch.specs.declared.turn.Next.TheVariants.{Refresh}
 use Rattle.plain_log.specs.declared.command.ActorList.{ActorList}
+use Rattle.plain_log.specs.declared.command.Command.{Command}
+use Rattle.plain_log.specs.declared.command.Command.TheVariants.{Fetch}
 use Rattle.plain_log.specs.declared.command.Order.{Order}
 use Rattle.plain_log.specs.declared.state.State.{State}
+use Rattle.plain_log.specs.State.{leading}
+use Rattle.partition_seen.specs.declared.begun.Begun.{Begun}
 use Rattle.partition_seen.specs.Seen as seen
 use Rattle.partition_seen.specs.Central as seen_central
 use Rattle.partition_tier.specs.Sites.{sites_of, Side as SideSeen}
 use Rattle.partition_tier.specs.Works.{work_of as work_seen}
 use Rattle.partition_turns.specs.Held.{ShowsHeld}
-use Rattle.tier_safe.specs.Scene.{Scene, Work as WorkSeen, Free, Copies as CopiesSeen}
+use Rattle.tier_safe.specs.Scene.{Scene, Work as WorkSeen, Free, Copies as CopiesSeen, Seeks as SeeksSeen}
 use Rattle.tier_safe.specs.Safe.{TierSafe}
+use Rattle.tier_serves.specs.Seeking.{sought_of, indexes_in}
 use Rattle.partition_world.specs.declared.seat.Seat.{Seat}
 use Rattle.partition_world.specs.declared.seat.Work.{Work}
-use Rattle.partition_world.specs.declared.seat.Work.TheVariants.{Idle, Noted, Copies}
+use Rattle.partition_world.specs.declared.seat.Work.TheVariants.{Idle, Noted, Copies, Seeks}
 use Rattle.partition_world.specs.declared.tier.Side.{Side}
 use Rattle.partition_world.specs.Whole.{Whole, seen_as}
 
 -- a broker's side as it is seen
 abbrev pub side_seen : Side → SideSeen
-side_seen side = record { view = side.view; incarnation = side.incarnation; attempt = side.attempt; cache = [] }
+side_seen side = record {
+  view = side.view;
+  incarnation = side.incarnation;
+  attempt = side.attempt;
+  cache = indexes_in side.cache;
+}
 
 abbrev pub sides_seen : List Side → List SideSeen
 sides_seen [] = []
 sides_seen (side ∷ sides) = side_seen side ∷ sides_seen sides
 
+-- what the tier sees of a fetch of broker b that has begun with this, and goes on so
+abbrev pub seeks_of : ℕ → Begun → Search → Command → WorkSeen
+seeks_of b g next (Fetch offset limit) = SeeksSeen (sought_of b g.stops (unwrap_or (leading g.role) 0) offset next)
+seeks_of b g next command = Free
+
+-- what it sees of a command that has begun: a fetch looks below its broker's local log
+abbrev pub begun_of : ℕ → Begun → Command → WorkSeen
+begun_of b g (Fetch offset limit) = seeks_of b g Refresh (Fetch offset limit)
+begun_of b g command = work_seen b command (Some g)
+
 -- what the tier sees of a seat's work, of a command that the order asks for
 abbrev pub work_of : Option Order → Work → WorkSeen
 work_of None work = Free
 work_of (Some order) Idle = Free
-work_of (Some order) (Noted g) = work_seen order.broker.0 order.command (Some g)
+work_of (Some order) (Noted g) = begun_of order.broker.0 g order.command
 work_of (Some order) (Copies g copy next) = CopiesSeen copy next
+work_of (Some order) (Seeks g next) = seeks_of order.broker.0 g next order.command
 
 -- of the whole desk
 abbrev pub desk_of : List ActorList → List Seat → List WorkSeen

@@ -31,7 +31,12 @@ pub record AreFreshBooks (lists : List ActorList) (journal : Rolled JournalEntry
 
 -- a broker that has seen no notes, and has chosen nothing to copy
 abbrev pub fresh_side : Side
-fresh_side = record { view = record { entries = []; notes = 0 }; incarnation = 0; attempt = 0 }
+fresh_side = record {
+  view = record { entries = []; notes = 0 };
+  incarnation = 0;
+  attempt = 0;
+  cache = record { size = 64; pairs = [] };
+}
 
 -- no object stands in the store
 abbrev pub IsEmptyStore : store.Content → Type 0

@@ -1,6 +1,8 @@
 pub mod Tier
 pub mod Seats
 pub mod TurnsOfCopy
+pub mod TurnsOfFetch
+pub mod TurnsOfTrim
 pub mod Turns
 pub mod Sound
 pub mod Whole

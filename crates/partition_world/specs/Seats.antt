@@ -6,6 +6,9 @@ use Rattle.copy_task.specs.declared.turn.CopyTurn.{CopyTurn}
 use Rattle.copy_task.specs.declared.turn.CopyTurn.TheVariants.{Goes as GoesOn, Ends}
 use Rattle.copy_task.specs.declared.turn.Next.{Next}
 use Rattle.copy_task.specs.declared.turn.Next.TheVariants.{Start}
+use Rattle.tier_fetch.specs.declared.turn.FetchTurn.{FetchTurn}
+use Rattle.tier_fetch.specs.declared.turn.FetchTurn.TheVariants as fetch
+use Rattle.tier_fetch.specs.declared.turn.Next.{Next as Search}
 use Rattle.plain_log.specs.declared.command.Command.{Command}
 use Rattle.plain_log.specs.declared.journal.Event.TheVariants as event
 use Rattle.plain_log.specs.declared.journal.JournalEntry.{JournalEntry}
@@ -17,9 +20,10 @@ use Rattle.partition_seen.specs.declared.seat.Stepped.{Stepped}
 use Rattle.partition_seen.specs.declared.seat.Stepped.TheVariants.{Ran, Done}
 use Rattle.partition_seen.specs.Turn.{event_of}
 use Rattle.partition_world.specs.declared.seat.Outcome.{Outcome}
-use Rattle.partition_world.specs.declared.seat.Outcome.TheVariants.{Answers, Begins, Chose, Goes}
+use Rattle.partition_world.specs.declared.seat.Outcome.TheVariants.{Answers, Begins, Chose, Goes, Seeks}
 use Rattle.partition_world.specs.declared.seat.Seat.{Seat}
 use Rattle.partition_world.specs.declared.seat.Work.{Work}
+use Rattle.partition_world.specs.declared.seat.Work.TheVariants as work
 use Rattle.partition_world.specs.declared.seat.Work.TheVariants.{Idle, Noted, Copies}
 
 -- what was noted where the command began
@@ -27,6 +31,7 @@ abbrev pub noted_in : Work → Option Begun
 noted_in Idle = None
 noted_in (Noted g) = Some g
 noted_in (Copies g copy next) = Some g
+noted_in (work.Seeks g next) = Some g
 
 -- a copy that has chosen its segment starts with it next
 abbrev pub chosen : Work → Copied → Work
@@ -38,7 +43,13 @@ abbrev pub moved : Work → Next → Work
 moved (Copies g copy before) next = Copies g copy next
 moved other next = other
 
--- the seat as it is seen: of a copy what was noted is seen, and not its segment
+-- a fetch goes on in the remote tier with this
+abbrev pub sought : Work → Search → Work
+sought (Noted g) next = work.Seeks g next
+sought (work.Seeks g before) next = work.Seeks g next
+sought other next = other
+
+-- the seat as it is seen: what was noted is seen, and not a copy's segment, nor what a fetch has found
 abbrev pub seat_seen : Seat → seen_seat.Seat
 seat_seen seat = record { number = seat.number; begun = noted_in seat.work }
 
@@ -56,12 +67,18 @@ abbrev pub copy_outcome : CopyTurn → Outcome
 copy_outcome (GoesOn next) = Goes next
 copy_outcome (Ends answer) = Answers answer
 
+-- what a turn of a fetch from the remote tier came to
+abbrev pub fetch_outcome : FetchTurn → Outcome
+fetch_outcome (fetch.Goes next) = Seeks next
+fetch_outcome (fetch.Ends answer) = Answers answer
+
 -- the seat after a turn: at the next order after an answer, else with what the order goes on with
 abbrev pub seat_after : Seat → Outcome → Seat
 seat_after seat (Answers answer) = record { number = seat.number + 1; work = Idle }
 seat_after seat (Begins g) = record seat { work = Noted g }
 seat_after seat (Chose copy) = record seat { work = chosen seat.work copy }
 seat_after seat (Goes next) = record seat { work = moved seat.work next }
+seat_after seat (Seeks next) = record seat { work = sought seat.work next }
 
 -- what the journal says of a turn: nothing of one that neither begins its command nor answers it
 abbrev pub told_of : ActorId → ℕ → Command → Outcome → List JournalEntry

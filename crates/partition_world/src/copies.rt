@@ -55,7 +55,7 @@ fn has_next<D: Disk>(node: &Node<D>, copied: u64) -> bool
     ensures some { result ≡ true → IsSomeAnd (candidate (closed_in node.now.log) copied node.now.known) (λ segment. Unit {0}) }
     ensures none { result ≡ false → candidate (closed_in node.now.log) copied node.now.known ≡ None }
 {
-    candidate(node.log.closed(), copied, node.known).is_some()
+    candidate(node.log.first_past(copied), node.known).is_some()
 }
 
 /// The segment of a broker's log under an id.

@@ -7,7 +7,7 @@ ghost use Rattle.partition_seen.specs.Sound.{turns_left};
 ghost use Rattle.partition_seen.specs.Turn.{event_of};
 ghost use Rattle.partition_seen.specs.declared.begun.Turned.TheVariants as turned;
 ghost use Rattle.plain_log.specs.declared.journal.Event.TheVariants as event;
-ghost use Rattle.partition_world.specs.declared.seat.Outcome.TheVariants.{Chose, Goes};
+ghost use Rattle.partition_world.specs.declared.seat.Outcome.TheVariants.{Chose, Goes, Seeks};
 ghost use Rattle.partition_world.specs.Seats.{seat_after, told_of, told_count, stepped_of};
 
 use crate::seat::{Outcome, Seat, Work};
@@ -16,6 +16,7 @@ use partition_seen::{Begun, Stepped};
 use plain_log::{ActorList, Command, Event, Journal, JournalEntry};
 use std::alloc::{AllocError, Global};
 use tier_base::{ActorId, Row};
+use tier_fetch::Next as Search;
 
 /// Finds the place of an actor's list.
 pub(crate) fn place_of(lists: &[ActorList], actor: ActorId) -> Option<usize>
@@ -101,6 +102,18 @@ fn move_at(desk: &mut Row<Seat>, place: usize, next: Next)
     set_seat(desk, place, number, work);
 }
 
+/// Lets a fetch go on in the remote tier.
+#[tactic(auto, using(crate::proofs::Sides::set_twice))]
+fn seek_at(desk: &mut Row<Seat>, place: usize, next: Search)
+    requires { place < length desk.old }
+    ensures { IsSomeAnd (slice_get desk.old place) (λ seat. desk.new ≡ slice_set desk.old place (seat_after seat (Seeks next))) }
+{
+    let seat = take_seat(desk, place);
+    let number = seat.number;
+    let work = seat.work.sought(next);
+    set_seat(desk, place, number, work);
+}
+
 /// Where the log was cut, of a join that begins.
 fn cut_of(command: &Command, begun: &Begun) -> Option<u64>
     ensures { event_of (turned.Begins begun.now) command.now ≡ event.Begins result }
@@ -156,6 +169,10 @@ pub(crate) fn enter(
         }
         Outcome::Goes(next) => {
             move_at(desk, place, next);
+            Stepped::Ran
+        }
+        Outcome::Seeks(next) => {
+            seek_at(desk, place, next);
             Stepped::Ran
         }
     }

@@ -15,11 +15,14 @@
 #![tactic(auto)]
 
 mod copies;
+mod covering;
 mod desk;
+mod fetches;
 mod laws;
 mod runs;
 mod seat;
 mod tier;
+mod trims;
 mod turning;
 mod world;
 

@@ -1,11 +1,12 @@
 //! How far an actor has come, what is kept of its command between two turns, and what a turn came to.
 
 ghost use Rattle.std.specs.Prelude.{◌≡◌};
-ghost use Rattle.partition_world.specs.Seats.{chosen, moved, outcome_of, copy_outcome};
+ghost use Rattle.partition_world.specs.Seats.{chosen, moved, sought, outcome_of, copy_outcome, fetch_outcome};
 
 use copy_task::{CopyTurn, Copying, Next};
 use partition_seen::{Begun, Turned};
 use plain_log::Answer;
+use tier_fetch::{FetchTurn, Next as Search};
 
 /// What is kept of a command between its turns.
 #[derive(Drop)]
@@ -16,6 +17,8 @@ pub enum Work {
     Noted(Begun),
     /// A copy of a segment, and what it does next.
     Copies(Begun, Copying, Next),
+    /// A fetch from the remote tier, and what it does next.
+    Seeks(Begun, Search),
 }
 
 /// An actor's place at the desk.
@@ -38,6 +41,8 @@ pub enum Outcome {
     Chose(Copying),
     /// A copy goes on with this turn.
     Goes(Next),
+    /// A fetch from the remote tier goes on with this turn.
+    Seeks(Search),
 }
 
 impl Work {
@@ -60,6 +65,16 @@ impl Work {
             other => other,
         }
     }
+
+    /// The work of a fetch that goes on in the remote tier.
+    pub(crate) fn sought(self, next: Search) -> Work
+        ensures { result ≡ sought self next }
+    {
+        match self {
+            Work::Noted(begun) | Work::Seeks(begun, _) => Work::Seeks(begun, next),
+            other => other,
+        }
+    }
 }
 
 /// What a turn came to of a command that the remote tier has no part in.
@@ -79,5 +94,15 @@ pub(crate) fn copy_outcome(turn: CopyTurn) -> Outcome
     match turn {
         CopyTurn::Goes(next) => Outcome::Goes(next),
         CopyTurn::Ends(answer) => Outcome::Answers(answer),
+    }
+}
+
+/// What a turn of a fetch from the remote tier came to.
+pub(crate) fn fetch_outcome(turn: FetchTurn) -> Outcome
+    ensures { result ≡ fetch_outcome turn }
+{
+    match turn {
+        FetchTurn::Goes(next) => Outcome::Seeks(next),
+        FetchTurn::Ends(answer) => Outcome::Answers(answer),
     }
 }

@@ -5,6 +5,7 @@ ghost use Rattle.tier_base.specs.declared.fault.Trouble.TheVariants.{Failed, NoM
 ghost use Rattle.partition_world.specs.Tier.{next_of, counted, AtSide, Refreshes, FailsToRead, Halts, IsArmedTier};
 
 use disk_model::Disk;
+use index_cache::IndexCache;
 use meta_log::MetaLog;
 use object_store::Store;
 use remote_view::View;
@@ -20,6 +21,8 @@ pub struct Side {
     /// copy since.
     pub incarnation: u32,
     pub attempt: u64,
+    /// The offset indexes of remote segments that it read last.
+    pub cache: IndexCache,
 }
 
 /// A partition's remote store and remote log metadata, and a side for each broker, in their order.

@@ -5,7 +5,10 @@ ghost use Rattle.plain_log.specs.Orders.{IsInRange};
 ghost use Rattle.partition_turns.specs.Held.{AtNode, CanStop};
 ghost use Rattle.partition_turns.specs.Sound.{HeldSound};
 ghost use Rattle.partition_world.specs.Tier.{AtSide};
-ghost use Rattle.partition_world.specs.Turns.{OwnRow, OwnOnRow, BeginRow, NotedRow, CopyingRow, TurnRow, StaysTier};
+ghost use Rattle.partition_world.specs.declared.seat.Work.TheVariants.{Seeks};
+ghost use Rattle.tier_fetch.specs.Turns.{IsFor};
+ghost use Rattle.partition_world.specs.Sound.{IsWorkFor};
+ghost use Rattle.partition_world.specs.Turns.{OwnRow, OwnOnRow, BeginRow, NotedRow, CopyingRow, SeekingRow, TurnRow, StaysTier};
 
 use crate::seat::{Outcome, Work, outcome_of};
 use crate::tier::Tier;
@@ -17,7 +20,8 @@ use partition_seen::Begun;
 use partition_turns::Held;
 use plain_log::{Command, Order};
 use std::alloc::{AllocError, Global};
-use tier_base::PartitionId;
+use tier_base::{Keep, PartitionId};
+use tier_fetch::Next as Search;
 
 impl<S: Store, M: MetaLog> Tier<S, M> {
     /// Carries out a turn of a command, of which so much is kept.
@@ -25,6 +29,7 @@ impl<S: Store, M: MetaLog> Tier<S, M> {
         &mut self,
         alloc: Global,
         partition: PartitionId,
+        keep: Keep,
         order: &Order,
         work: &Work,
         held: &mut Held<D>,
@@ -33,7 +38,8 @@ impl<S: Store, M: MetaLog> Tier<S, M> {
         requires side { order.now.broker.0 < length self.old.sides }
         requires sound { HeldSound (length held.old.nodes) held.old }
         requires fit { IsInRange order.now.command }
-        ensures row { IfOk result (λ outcome. TurnRow D.Disk S.Store M.MetaLog partition held.old self.old
+        requires work { IsWorkFor order.now.command work.now }
+        ensures row { IfOk result (λ outcome. TurnRow D.Disk S.Store M.MetaLog partition keep held.old self.old
             order.now.broker.0 work.now order.now.command outcome held.new self.new) }
         ensures err { OnErr result (StaysTier D.Disk S.Store M.MetaLog held.old self.old order.now.broker.0 held.new self.new) }
     {
@@ -42,9 +48,12 @@ impl<S: Store, M: MetaLog> Tier<S, M> {
         }
         match work {
             Work::Idle => self.begin(alloc, order, held),
-            Work::Noted(noted) => self.go_on(alloc, partition, order, noted, held),
+            Work::Noted(noted) => self.go_on(alloc, partition, keep, order, noted, held),
             Work::Copies(noted, copying, next) => {
                 self.go_copying(alloc, order, noted, copying, *next, held)
+            }
+            Work::Seeks(noted, next) => {
+                self.go_seeking(alloc, partition, order, noted, *next, held)
             }
         }
     }
@@ -66,6 +75,7 @@ impl<S: Store, M: MetaLog> Tier<S, M> {
     {
         match &order.command {
             Command::Copy => self.copy(alloc, order.broker.0 as usize, held),
+            Command::Trim => self.trim(alloc, order.broker.0 as usize, held),
             _ => self.begin_own(alloc, order, held),
         }
     }
@@ -95,6 +105,7 @@ impl<S: Store, M: MetaLog> Tier<S, M> {
         &mut self,
         alloc: Global,
         partition: PartitionId,
+        keep: Keep,
         order: &Order,
         noted: &Begun,
         held: &mut Held<D>,
@@ -103,13 +114,22 @@ impl<S: Store, M: MetaLog> Tier<S, M> {
         requires side { order.now.broker.0 < length self.old.sides }
         requires sound { HeldSound (length held.old.nodes) held.old }
         ensures row { IfOk result (λ outcome. AtNode held.old order.now.broker.0 (λ x. AtSide self.old order.now.broker.0 (λ side.
-            NotedRow D.Disk partition held.old self.old order.now.broker.0 x side noted.now order.now.command outcome held.new self.new))) }
+            NotedRow D.Disk S.Store M.MetaLog partition keep held.old self.old order.now.broker.0 x side noted.now order.now.command outcome held.new self.new))) }
         ensures err { OnErr result (StaysTier D.Disk S.Store M.MetaLog held.old self.old order.now.broker.0 held.new self.new) }
     {
         match &order.command {
             Command::Copy => self.choose(alloc, partition, order.broker, noted, held),
-            // No script has it yet.
-            Command::Trim => Err(AllocError),
+            Command::Trim => self.trim_on(alloc, order.broker.0 as usize, noted, keep, held),
+            Command::Fetch { offset, limit } => self.fetch_on(
+                alloc,
+                partition,
+                order.broker,
+                noted,
+                Search::Refresh,
+                *offset,
+                *limit,
+                held,
+            ),
             _ => self.end_own(alloc, order, noted, held),
         }
     }
@@ -152,6 +172,40 @@ impl<S: Store, M: MetaLog> Tier<S, M> {
     {
         match &order.command {
             Command::Copy => self.copy_on(alloc, order.broker, noted, copying, next, held),
+            // No other command has such a turn.
+            _ => Err(AllocError),
+        }
+    }
+
+    /// Carries out a turn of a fetch that goes on in the remote tier.
+    fn go_seeking<D: Disk>(
+        &mut self,
+        alloc: Global,
+        partition: PartitionId,
+        order: &Order,
+        noted: &Begun,
+        next: Search,
+        held: &Held<D>,
+    ) -> Result<Outcome, AllocError>
+        requires node { order.now.broker.0 < length held.now.nodes }
+        requires side { order.now.broker.0 < length self.old.sides }
+        requires work { IsWorkFor order.now.command (Seeks noted.now next) }
+        ensures row { IfOk result (λ outcome. AtNode held.now order.now.broker.0 (λ x. AtSide self.old order.now.broker.0 (λ side.
+            SeekingRow S.Store M.MetaLog partition held.now self.old order.now.broker.0 x side noted.now next order.now.command
+            outcome held.now self.new))) }
+        ensures err { OnErr result (StaysTier D.Disk S.Store M.MetaLog held.now self.old order.now.broker.0 held.now self.new) }
+    {
+        match &order.command {
+            Command::Fetch { offset, limit } => self.fetch_on(
+                alloc,
+                partition,
+                order.broker,
+                noted,
+                next,
+                *offset,
+                *limit,
+                held,
+            ),
             // No other command has such a turn.
             _ => Err(AllocError),
         }

@@ -18,6 +18,7 @@ use crate::laws::{fresh_is_central, steps_keep_central};
 use crate::seat::Seat;
 use crate::tier::{Devices, Side, Tier};
 use disk_model::Disk;
+use index_cache::IndexCache;
 use meta_log::MetaLog;
 use object_store::Store;
 use partition_seen::Stepped;
@@ -27,6 +28,9 @@ use remote_view::View;
 use std::alloc::{AllocError, Global};
 use std::marker::Model;
 use tier_base::{ActorId, PartitionId, Row};
+
+/// How many remote segments' indexes a broker keeps.
+const INDEXES: usize = 64;
 
 /// A partition with its lists of commands and its journal.
 #[derive(Drop)]
@@ -188,10 +192,14 @@ impl<D: Disk, S: Store, M: MetaLog> World<D, S, M> {
         }
         let order = list.orders.get(number as usize);
         let actor = list.actor;
-        match self
-            .tier
-            .turn(alloc, self.partition, order, &seat.work, &mut self.held)
-        {
+        match self.tier.turn(
+            alloc,
+            self.partition,
+            self.config.local_keep,
+            order,
+            &seat.work,
+            &mut self.held,
+        ) {
             Ok(outcome) => enter(
                 &mut self.journal,
                 &mut self.desk,
@@ -228,6 +236,7 @@ fn fresh_sides(alloc: Global, count: u16) -> Result<Row<Side>, AllocError>
             view: View::new(alloc),
             incarnation: 0,
             attempt: 0,
+            cache: IndexCache::new(alloc, INDEXES)?,
         })?;
     }
     Ok(sides)

@@ -5,6 +5,6 @@ use Rattle.partition_world.proofs.tier.Tier.begin.Goals as goal
 pub returns-in_default : goal.returns-in_default
 returns-in_default g c = record {
   row = IfOk-weaker c.begin_own.result _ _ (λ outcome row. begin_at g.D.Disk g.S.Store g.M.MetaLog c.args.held.now c.args.self.now c.args.order.now.broker.0 c.args.order.now.command outcome c.begin_own.new.held c.begin_own.new.self
-      c.requires.side row) c.begin_own.ensures.row;
+      c.requires.side c.in_default.not-Trim row) c.begin_own.ensures.row;
   err = c.begin_own.ensures.err;
 }

@@ -6,7 +6,7 @@ use Rattle.partition_turns.proofs.FreshDisks.{refuses_same}
 use Rattle.partition_turns.proofs.FreshSound.{fresh_sound}
 use Rattle.partition_world.specs.declared.tier.Side.{Side}
 use Rattle.partition_world.specs.Fresh.{fresh_side}
-use Rattle.partition_world.proofs.WorldFresh.{fresh_seats, fresh_left}
+use Rattle.partition_world.proofs.WorldFresh.{fresh_seats, fresh_works, fresh_left}
 use Rattle.partition_world.proofs.world.World.made.Goals as goal
 
 pub returns-in_default-clause-err : goal.returns-in_default-clause-err
@@ -26,5 +26,6 @@ invariant_of-result g c =
       held = fresh_sound g.D.Disk.control c.args.config.brokers c.args.devices.disks.items c.in-Ok-fresh.held c.requires.count c.in-Ok-fresh.ensures.held;
       sided = ap (λ (k : List Side). length k) (c.arm.ensures.sides ∙ c.in-Ok-fresh_sides.ensures) ∙ length_replicate c.args.config.brokers fresh_side;
       seats = fresh_seats c.args.lists count c.in-Ok.desk (ap (λ (k : List ActorList). length k) same) books.desk_is;
+      works = fresh_works c.args.lists count c.in-Ok.desk books.desk_is;
       room = omega (arith, fresh_left c.args.lists count c.in-Ok.desk books.desk_is, books.room, ap (λ (k : List ActorList). turns_left k []) same);
     }

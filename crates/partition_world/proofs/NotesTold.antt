@@ -1,0 +1,187 @@
+-- How many notes a turn of a copy and one of a fetch append.
+use Rattle.std.proofs.Common.{◌≡◌, ◌∙◌, inl, inr, refl, ap, ℕ, ◌+◌, ◌≤◌, List, length, slice_get, Some, None, Option, Ok, Err, Bool, true, false, IsTrue, arith}
+use Rattle.std.specs.declared.alloc.AllocError.{AllocError}
+use Rattle.object_store.specs.declared.store.Store.{Ghosts as StoreGhosts}
+use Rattle.meta_log.specs.declared.log.MetaLog.{Ghosts as MetaGhosts}
+use Rattle.tier_base.specs.Device.{Fate, Dry}
+use Rattle.tier_base.specs.declared.object_key.ObjectKey.{ObjectKey}
+use Rattle.tier_base.specs.declared.plain.State.{State}
+use Rattle.tier_base.specs.declared.plain.State.TheVariants.{CopyStarted, CopyFinished, DeleteStarted, DeleteFinished}
+use Rattle.segment_meta.specs.declared.note.Note.{Note}
+use Rattle.meta_log.specs.Content.{Keeps, appended_if}
+use Rattle.meta_log.specs.Calls.{Appends}
+use Rattle.meta_log.specs.declared.teller.Teller.{Teller}
+use Rattle.remote_view.specs.Fold.{Seen, state_of}
+use Rattle.copy_task.specs.Copying.{Copied, keys}
+use Rattle.copy_task.specs.Turns.{Tiers, StartRow, FinishRow, CheckRow, PutRow, DeleteRow, CopyRow, checked, put_at, delete_at}
+use Rattle.copy_task.specs.declared.turn.CopyTurn.{CopyTurn}
+use Rattle.copy_task.specs.declared.turn.CopyTurn.TheVariants.{Goes as GoesOn, Ends}
+use Rattle.copy_task.specs.declared.turn.Next.{Next}
+use Rattle.copy_task.specs.declared.turn.Next.TheVariants.{Start, Put, Finish, Check, Delete}
+use Rattle.tier_fetch.specs.Turns.{Tiers as Fetched, FetchRow, RefreshRow}
+use Rattle.tier_fetch.specs.declared.turn.FetchTurn.{FetchTurn}
+use Rattle.tier_fetch.specs.declared.turn.FetchTurn.TheVariants as fetch
+use Rattle.tier_fetch.specs.declared.turn.Next.{Next as Search}
+use Rattle.tier_fetch.specs.declared.turn.Next.TheVariants.{Refresh, Index, Log}
+use Rattle.tier_fetch.specs.declared.turn.Wanted.{Wanted}
+use Rattle.plain_log.specs.declared.answer.Answer.TheVariants.{MetaFault, StoreFault}
+use Rattle.partition_seen.specs.declared.begun.Begun.{Begun}
+use Rattle.partition_turns.proofs.FreshNodes.{length_more}
+use Rattle.partition_world.specs.declared.seat.Outcome.{Outcome}
+use Rattle.partition_world.specs.declared.seat.Outcome.TheVariants.{Answers, Begins, Chose, Goes, Seeks as Sought}
+use Rattle.partition_world.specs.declared.seat.Work.{Work}
+use Rattle.partition_world.specs.declared.seat.Work.TheVariants.{Idle, Noted, Copies, Seeks}
+use Rattle.partition_world.specs.Central.{told_by}
+use Rattle.partition_world.specs.Seats.{chosen, moved, sought, copy_outcome}
+
+-- how many notes a command has appended at most after a turn; once it is answered it appends none
+abbrev pub told_after : Work → Outcome → ℕ
+told_after work (Answers answer) = 2
+told_after work (Begins g) = told_by (Noted g)
+told_after work (Chose copy) = told_by (chosen work copy)
+told_after work (Goes next) = told_by (moved work next)
+told_after work (Sought next) = told_by (sought work next)
+
+pub few_told : (work : Work) → told_by work ≤ 2
+few_told Idle = omega arith
+few_told (Noted g) = omega arith
+few_told (Copies g copy Start) = omega arith
+few_told (Copies g copy (Put n)) = omega arith
+few_told (Copies g copy Finish) = omega arith
+few_told (Copies g copy Check) = omega arith
+few_told (Copies g copy (Delete n)) = omega arith
+few_told (Seeks g next) = omega arith
+
+-- how many notes a copy has appended at most after a turn
+abbrev told_turn : Begun → Copied → CopyTurn → ℕ
+told_turn g copy (GoesOn next) = told_by (Copies g copy next)
+told_turn g copy (Ends answer) = 2
+
+appended_most : (done : Bool) (note : Note) (notes : List Note) → length (appended_if done note notes) ≤ length notes + 1
+appended_most true note notes = let more = length_more notes note in omega (arith, more)
+appended_most false note notes = omega arith
+
+checked_told : (g : Begun) (copy : Copied) (notes : ℕ) (state : Option State) → told_turn g copy (checked copy notes state) ≡ 2
+checked_told g copy notes (Some CopyFinished) = refl
+checked_told g copy notes (Some DeleteStarted) = refl
+checked_told g copy notes (Some DeleteFinished) = refl
+checked_told g copy notes (Some CopyStarted) = refl
+checked_told g copy notes None = refl
+
+deleted_told : (g : Begun) (copy : Copied) (view : Seen) (n : ℕ) (key : Option ObjectKey) → told_turn g copy (delete_at copy view n key) ≡ 2
+deleted_told g copy view n None = refl
+deleted_told g copy view n (Some key) = refl
+
+put_told : (g : Begun) (copy : Copied) (n : ℕ) (key : Option ObjectKey) → told_turn g copy (GoesOn (put_at n key)) ≡ 1
+put_told g copy n None = refl
+put_told g copy n (Some key) = refl
+
+module _ {M : Type 0} (meta : MetaGhosts M) where
+  -- how many notes there are
+  abbrev pub count : M → ℕ
+  count m = length (meta.content m).notes
+
+  appends_most : (note : Note) (fate : Fate) (old new : M) → Appends meta.content meta.control note fate old new → IsTrue (meta.content old).tells → count new ≤ count old + 1
+  appends_most note fate old new a tells =
+      let g = a.content.notes tells in
+      let most = appended_most g.0 note (meta.content old).notes in
+      omega (arith, most, ap (λ (l : List Note). length l) g.2)
+
+  appends_none : (note : Note) (old new : M) → Appends meta.content meta.control note Dry old new → IsTrue (meta.content old).tells → count new ≤ count old
+  appends_none note old new a tells =
+      let g = a.content.notes tells in
+      let none = g.1.dry refl in
+      let same : (meta.content new).notes ≡ (meta.content old).notes = g.2 ∙ ap (λ (done : Bool). appended_if done note (meta.content old).notes) none in
+      omega (arith, ap (λ (l : List Note). length l) same)
+
+  pub keeps_count : (old new : M) → Keeps (meta.content old) (meta.content new) → count new ≤ count old
+  keeps_count old new k = omega (arith, ap (λ (l : List Note). length l) k.notes)
+
+  pub same_count : (old new : M) → new ≡ old → count new ≤ count old
+  same_count old new is = omega (arith, ap count is)
+
+  start_told : (g : Begun) (copy : Copied) (teller : Teller) (turn : CopyTurn) (old new : M) → StartRow meta.content meta.control copy teller (Ok turn) old new → IsTrue (meta.content old).tells
+      → count new + told_by (Copies g copy Start) ≤ count old + told_turn g copy turn
+  start_told g copy teller (Ends MetaFault) old new w tells = let most = appends_most _ _ old new w tells in omega (arith, most)
+  start_told g copy teller turn old new w tells =
+      let most = appends_most _ _ old new w.1 tells in
+      let told : told_turn g copy turn ≡ 1 = ap (told_turn g copy) w.0 in
+      omega (arith, most, told)
+
+  finish_told : (g : Begun) (copy : Copied) (teller : Teller) (turn : CopyTurn) (old new : M) → FinishRow meta.content meta.control copy teller (Ok turn) old new → IsTrue (meta.content old).tells
+      → count new + told_by (Copies g copy Finish) ≤ count old + told_turn g copy turn
+  finish_told g copy teller (Ends MetaFault) old new w tells = let most = appends_most _ _ old new w tells in omega (arith, most)
+  finish_told g copy teller turn old new w tells =
+      let most = appends_most _ _ old new w.1 tells in
+      let told : told_turn g copy turn ≡ 2 = ap (told_turn g copy) w.0 in
+      omega (arith, most, told)
+
+  check_told : (g : Begun) (copy : Copied) (turn : CopyTurn) (before after : Seen) (old new : M) → CheckRow meta.content meta.control copy (Ok turn) before after old new
+      → count new + told_by (Copies g copy Check) ≤ count old + told_turn g copy turn
+  check_told g copy (Ends MetaFault) before after old new w = let most = keeps_count old new w.content in omega (arith, most)
+  check_told g copy turn before after old new w =
+      let most = keeps_count old new w.1.content in
+      let told = ap (told_turn g copy) w.0 ∙ checked_told g copy after.notes (state_of copy.id after.entries) in
+      omega (arith, most, told)
+
+module _ {S M : Type 0} (store : StoreGhosts S) (meta : MetaGhosts M) where
+  put_most : (g : Begun) (copy : Copied) (n : ℕ) (key : Option ObjectKey) (turn : CopyTurn) (old new : S) → PutRow store.content store.control copy n key (Ok turn) old new → 1 ≤ told_turn g copy turn
+  put_most g copy n None turn old new w = let is : turn ≡ GoesOn Finish = cc (w.0) in omega (arith, ap (told_turn g copy) is)
+  put_most g copy n (Some key) (Ends StoreFault) old new w = omega arith
+  put_most g copy n (Some key) turn old new w = let told = ap (told_turn g copy) w.0 ∙ put_told g copy (n + 1) (slice_get (keys copy) (n + 1)) in omega (arith, told)
+
+  delete_most : (g : Begun) (copy : Copied) (view : Seen) (n : ℕ) (key : Option ObjectKey) (turn : CopyTurn) (old new : S) → DeleteRow store.content store.control copy view n key turn old new
+      → 2 ≤ told_turn g copy turn
+  delete_most g copy view n None turn old new w = let told = ap (told_turn g copy) w.0 ∙ deleted_told g copy view n None in omega (arith, told)
+  delete_most g copy view n (Some key) (Ends StoreFault) old new w = omega arith
+  delete_most g copy view n (Some key) turn old new w =
+      let told = ap (told_turn g copy) w.0 ∙ deleted_told g copy view (n + 1) (slice_get (keys copy) (n + 1)) in omega (arith, told)
+
+  -- a turn of a copy
+  pub copy_told : (g : Begun) (copy : Copied) (teller : Teller) (next : Next) (turn : CopyTurn) (old new : Tiers S M)
+      → CopyRow store.content store.control meta.content meta.control copy teller next (Ok turn) old new → IsTrue (meta.content old.meta).tells
+      → count meta new.meta + told_by (Copies g copy next) ≤ count meta old.meta + told_turn g copy turn
+  copy_told g copy teller Start turn old new w tells = start_told meta g copy teller turn old.meta new.meta w.1 tells
+  copy_told g copy teller (Put n) turn old new w tells =
+      let one = put_most g copy n (slice_get (keys copy) n) turn old.store new.store w.1 in
+      let same = same_count meta old.meta new.meta (ap (λ (t : Tiers S M). t.meta) w.0) in
+      omega (arith, one, same)
+  copy_told g copy teller Finish turn old new w tells = finish_told meta g copy teller turn old.meta new.meta w.1 tells
+  copy_told g copy teller Check turn old new w tells = check_told meta g copy turn old.view new.view old.meta new.meta w.1
+  copy_told g copy teller (Delete n) turn old new w tells =
+      let two = delete_most g copy old.view n (slice_get (keys copy) n) turn old.store new.store w.1 in
+      let same = same_count meta old.meta new.meta (ap (λ (t : Tiers S M). t.meta) w.0) in
+      omega (arith, two, same)
+
+  -- a turn of a fetch appends none
+
+  refresh_count : (wanted : Wanted) (line : List (ℕ × ℕ)) (turn : FetchTurn) (before after : Seen) (old new : M) → RefreshRow meta.content meta.control wanted line (Ok turn) before after old new
+      → count meta new ≤ count meta old
+  refresh_count wanted line (fetch.Ends MetaFault) before after old new w = keeps_count meta old new w.content
+  refresh_count wanted line turn before after old new w = keeps_count meta old new w.1.content
+
+  pub fetch_count : (wanted : Wanted) (line : List (ℕ × ℕ)) (next : Search) (turn : FetchTurn) (old new : Fetched S M)
+      → FetchRow store.content store.control meta.content meta.control wanted line next (Ok turn) old new → count meta new.meta ≤ count meta old.meta
+  fetch_count wanted line Refresh turn old new w = refresh_count wanted line turn old.view new.view old.meta new.meta w.1
+  fetch_count wanted line (Index piece) turn old new w = same_count meta old.meta new.meta (ap (λ (t : Fetched S M). t.meta) w.0)
+  fetch_count wanted line (Log piece span) turn old new w = same_count meta old.meta new.meta (ap (λ (t : Fetched S M). t.meta) w.0)
+
+  pub fetch_wants : (wanted : Wanted) (line : List (ℕ × ℕ)) (next : Search) (e : AllocError) (old new : Fetched S M)
+      → FetchRow store.content store.control meta.content meta.control wanted line next (Err e) old new → count meta new.meta ≤ count meta old.meta
+  fetch_wants wanted line Refresh e old new w = keeps_count meta old.meta new.meta w.1.content
+  fetch_wants wanted line (Index piece) e old new w = same_count meta old.meta new.meta (ap (λ (t : Fetched S M). t.meta) w.0)
+  fetch_wants wanted line (Log piece span) e old new w = same_count meta old.meta new.meta (ap (λ (t : Fetched S M). t.meta) w.0)
+
+  -- one that wanted memory
+  pub copy_wants : (copy : Copied) (teller : Teller) (next : Next) (e : AllocError) (old new : Tiers S M)
+      → CopyRow store.content store.control meta.content meta.control copy teller next (Err e) old new → IsTrue (meta.content old.meta).tells → count meta new.meta ≤ count meta old.meta
+  copy_wants copy teller Start e old new (same, inl is) tells = same_count meta old.meta new.meta is
+  copy_wants copy teller Start e old new (same, inr a) tells = appends_none meta _ old.meta new.meta a tells
+  copy_wants copy teller (Put n) e old new w tells = same_count meta old.meta new.meta (ap (λ (t : Tiers S M). t.meta) w.0)
+  copy_wants copy teller Finish e old new w tells = appends_none meta _ old.meta new.meta w.1 tells
+  copy_wants copy teller Check e old new w tells = keeps_count meta old.meta new.meta w.1.content
+  copy_wants copy teller (Delete n) e old new w tells = absurd w
+
+  pub turn_told : (g : Begun) (copy : Copied) (next : Next) (turn : CopyTurn) (outcome : Outcome) → outcome ≡ copy_outcome turn → told_after (Copies g copy next) outcome ≡ told_turn g copy turn
+  turn_told g copy next (GoesOn then) outcome is = ap (told_after (Copies g copy next)) is
+  turn_told g copy next (Ends answer) outcome is = ap (told_after (Copies g copy next)) is
