@@ -1,0 +1,8 @@
+pub mod Progress
+pub mod Notes
+pub mod Seen
+pub mod Known
+pub mod Causes
+pub mod Runs
+pub mod Copied
+pub mod Schedules

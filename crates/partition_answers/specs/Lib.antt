@@ -1,0 +1,4 @@
+pub mod Known
+pub mod Causes
+pub mod Progress
+pub mod Laws
