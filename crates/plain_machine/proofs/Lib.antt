@@ -1,0 +1,13 @@
+pub mod Fields
+pub mod Splits
+pub mod Joined
+pub mod Commons
+pub mod Least
+pub mod Longer
+pub mod Brings
+pub mod Outcomes
+pub mod Actors
+pub mod Safety
+pub mod Taken
+pub mod Verdicts
+pub mod Rows

@@ -1,0 +1,17 @@
+-- Which commands a machine takes.
+use Rattle.std.specs.Prelude.{◌≡◌, ℕ, List, Some, slice_get}
+use Rattle.record_batch.specs.Build.{IsBuildable}
+use Rattle.plain_log.specs.declared.command.ActorList.{ActorList}
+use Rattle.plain_log.specs.declared.command.Order.{Order}
+use Rattle.plain_log.specs.Runs.{orders_of}
+use Rattle.plain_log.specs.declared.command.Command.{Command}
+use Rattle.plain_log.specs.declared.command.Command.TheVariants.{Append}
+
+-- the records of an append make a batch
+abbrev pub IsFor : Command → Type 0
+IsFor (Append recs) = IsBuildable recs
+IsFor other = Unit {0}
+
+-- so is each order of the lists
+abbrev pub AreFor : List ActorList → Type 0
+AreFor lists = (a n : ℕ) (order : Order) → slice_get (orders_of lists a) n ≡ Some order → IsFor order.command

@@ -1,0 +1,4 @@
+pub mod Change
+pub mod Fits
+pub mod Stepped
+pub mod Traces

@@ -1,0 +1,61 @@
+//! Ends of logs, and what is stale.
+//!
+//! An end is a number of 128 bits here: that of a log whose last batch has the greatest offsets has no 64.
+
+ghost use Rattle.std.specs.Prelude.{◌≡◌, ◌≤◌, ◌<◌, ◌^◌, ◌+◌, ◌==◌, take, drop, length};
+ghost use Rattle.log_terms.specs.Batch.{base_of, last_of, last_offset_delta_of};
+ghost use Rattle.log_terms.specs.Log.{IsConsecutive, end_of, up_to, from_offset};
+ghost use Rattle.plain_log.specs.State.{is_stale};
+
+use crate::bytes_of::{base_offset, last_delta};
+use bytes::Bytes;
+use plain_log::State;
+
+/// The offset of a batch's last record.
+pub(crate) fn last_offset(batch: &[u8]) -> u128
+    ensures is { result ≡ last_of batch.now }
+    ensures small { result < 2 ^ 65 }
+{
+    u128::from(base_offset(batch)) + u128::from(last_delta(batch))
+}
+
+/// The end of a log.
+pub(crate) fn end(log: &[Bytes]) -> u128
+    ensures is { result ≡ end_of log.now }
+    ensures small { result ≤ 2 ^ 65 }
+{
+    if log.is_empty() {
+        return 0;
+    }
+    last_offset(log[log.len() - 1].as_slice()) + 1
+}
+
+/// How many batches of a log end at or below an offset: those from there on are the ones from the offset on.
+pub(crate) fn count_up_to(n: u64, log: &[Bytes]) -> usize
+    requires { IsConsecutive 0 log.now }
+    ensures within { result ≤ length log.now }
+    ensures before { up_to n log.now ≡ take result log.now }
+    ensures after { from_offset n log.now ≡ drop result log.now }
+{
+    let mut low = 0;
+    let mut high = log.len();
+    while low < high {
+        let middle = low + (high - low) / 2;
+        if last_offset(log[middle].as_slice()) < u128::from(n) {
+            low = middle + 1;
+        } else {
+            high = middle;
+        }
+    }
+    low
+}
+
+/// Whether the registry's epoch is above this one.
+pub(crate) fn is_stale_in(p: &State, epoch: Option<u32>) -> bool
+    ensures { result ≡ is_stale p.now epoch }
+{
+    match epoch {
+        Some(e) => e < p.registry.epoch,
+        None => false,
+    }
+}

@@ -1,0 +1,148 @@
+//! What a change does.
+//!
+//! What takes memory comes first, so that a change for which there is none leaves the state as it was. A count of stops
+//! has 64 bits: a broker whose count is at its end isn't changed.
+
+ghost use Rattle.std.specs.Prelude.{◌≡◌, ◌<◌, ◌^◌, ◌-◌, ◌++◌, ◌∷◌, true, false, take, length, Some, slice_get, slice_set, OnOk, OnErr, IfOk};
+ghost use mathlib.Core.List.{IsPrefix};
+ghost use Rattle.registry.specs.Registry.{elected, elected_alone, shrunk, expanded, started};
+ghost use Rattle.record_batch.specs.Stamp.{stamped};
+ghost use Rattle.plain_log.specs.RowsOfLog.{gained};
+ghost use Rattle.plain_log.specs.RowsOfElections.{led};
+ghost use Rattle.plain_log.specs.Safe.{PlainSafe};
+ghost use Rattle.plain_log.specs.State.{longer, stopped, set_registry, breaks};
+ghost use Rattle.plain_machine.specs.Change.{AtBroker, IsPathAt, acked, batch_in, changed, cut};
+
+use crate::change::Change;
+use crate::ends::end;
+use crate::lists::{bring, prepend, shared, truncate};
+use crate::paths::path;
+use crate::replicas::mark_with;
+use bytes::Bytes;
+use plain_log::{Broker, Command, Path, Role, State};
+use record_batch::{build, stamp};
+use std::alloc::{AllocError, Global};
+use tier_base::{BrokerId, Row};
+
+/// Stops a broker.
+pub(crate) fn stop(x: &mut Broker)
+    requires { x.old.stops < 2 ^ 64 - 1 }
+    ensures { x.new ≡ stopped x.old }
+{
+    x.stops += 1;
+    x.up = false;
+    x.role = Role::Idle;
+    x.known = 0;
+}
+
+/// Stops a broker in the middle of a write.
+pub(crate) fn break_off(x: &mut Broker, stable: u64)
+    requires { x.old.stops < 2 ^ 64 - 1 }
+    ensures { x.new ≡ record (stopped (record x.old { stable = stable })) { loose = true } }
+{
+    stop(x);
+    x.stable = stable;
+    x.loose = true;
+}
+
+/// Lets a broker come up with its first batches, so many, which end here.
+pub(crate) fn open(alloc: Global, x: &mut Broker, count: usize, end: u64)
+    ensures { x.new ≡ record x.old { up = true; log = take count x.old.log; stable = end; loose = false } }
+{
+    truncate(alloc, &mut x.log, count);
+    x.up = true;
+    x.stable = end;
+    x.loose = false;
+}
+
+/// Cuts a follower's log to its first batches, so many, which end here.
+pub(crate) fn cut_off(alloc: Global, x: &mut Broker, epoch: u32, count: usize, end: u64)
+    ensures { x.new ≡ cut x.old epoch count end }
+{
+    truncate(alloc, &mut x.log, count);
+    x.role = Role::Joined(epoch);
+    x.stable = end;
+    x.known = x.known.min(end);
+}
+
+/// The place of the first path of this epoch.
+fn find(paths: &[Path], epoch: u32) -> Option<usize>
+    ensures { IsPathAt paths.now epoch result }
+{
+    for (i, path) in paths.iter().enumerate() {
+        if path.epoch == epoch {
+            return Some(i);
+        }
+    }
+    None
+}
+
+/// Puts a batch at the end of the first path of this epoch, where there is one.
+fn lengthen(paths: &mut Row<Path>, epoch: u32, batch: Bytes) -> Result<(), AllocError>
+    ensures ok { OnOk result (paths.new ≡ longer paths.old epoch batch) }
+    ensures err { OnErr result (paths.new ≡ paths.old) }
+{
+    if let Some(at) = find(paths.as_slice(), epoch) {
+        paths.at_mut(at).log.push(batch)?;
+    }
+    Ok(())
+}
+
+/// The batch that a command brings, at its place.
+pub(crate) fn batch_at(
+    alloc: Global,
+    base: u64,
+    epoch: u32,
+    command: &Command,
+) -> Result<Bytes, AllocError>
+    ensures { IfOk result (λ batch. batch ≡ stamped (batch_in command.now) base epoch) }
+{
+    match command {
+        Command::Append(recs) => match build(alloc, base, epoch, recs.as_slice()) {
+            Ok(batch) => Ok(Bytes::from_vec(batch)?),
+            Err(_) => Err(AllocError),
+        },
+        Command::Raw(bytes) if bytes.len() >= 16 => {
+            let mut batch = Vec::from_slice(alloc, bytes.as_slice())?;
+            stamp(batch.as_mut_slice(), base, epoch);
+            Ok(Bytes::from_vec(batch)?)
+        }
+        _ => Err(AllocError),
+    }
+}
+
+/// Appends a batch to the leader's log, and to the path of its epoch.
+pub(crate) fn gain(
+    p: &mut State,
+    alloc: Global,
+    b: usize,
+    epoch: u32,
+    batch: Bytes,
+) -> Result<(), AllocError>
+    requires { b < length p.old.brokers }
+    ensures ok { OnOk result (AtBroker p.old b (λ x s. p.new ≡ gained p.old b x epoch batch)) }
+    ensures err { OnErr result (p.new ≡ p.old) }
+{
+    let again = batch.clone()?;
+    let count = p.brokers.get(b).log.len();
+    p.brokers.at_mut(b).log.push(batch)?;
+    match lengthen(&mut p.paths, epoch, again) {
+        Ok(()) => Ok(()),
+        Err(_) => {
+            truncate(alloc, &mut p.brokers.at_mut(b).log, count);
+            Err(AllocError)
+        }
+    }
+}
+
+/// Elects a broker from the replicas in sync.
+pub(crate) fn elect(p: &mut State, broker: BrokerId) -> Result<(), AllocError>
+    requires { broker.0 < length p.old.registry.replicas }
+    ensures ok { OnOk result (p.new ≡ set_registry p.old (elected p.old.registry broker.0)) }
+    ensures err { OnErr result (p.new ≡ p.old) }
+{
+    match p.registry.elect(broker, true) {
+        Ok(_) => Ok(()),
+        Err(_) => Err(AllocError),
+    }
+}

@@ -1,0 +1,95 @@
+//! The plain log's state as a value, and its steps.
+
+ghost use Rattle.std.specs.Prelude.{◌≡◌, ◌≤◌, ◌<◌, IfOk, OnErr, Some, length, slice_get};
+ghost use Rattle.log_terms.specs.Log.{end_of};
+ghost use Rattle.plain_log.specs.Fresh.{fresh};
+ghost use Rattle.plain_log.specs.declared.state.Broker.{Broker as BrokerIs};
+ghost use Rattle.plain_log.specs.Step.{step};
+ghost use Rattle.plain_machine.specs.Fits.{IsFor};
+ghost use Rattle.plain_machine.specs.Stepped.{Stepped};
+
+use crate::ends::end;
+use crate::fresh::state;
+use crate::stepping;
+use plain_log::{Config, JournalEntry, Order, State, fresh_is_safe, steps_keep_safe};
+use std::alloc::{AllocError, Global};
+use std::marker::Model;
+use tier_base::BrokerId;
+
+/// The plain log's state. Its safety rules hold.
+#[derive(Debug, Drop)]
+pub struct Plain {
+    state: State,
+}
+
+impl Model for Plain {
+    ghost use Rattle.plain_log.specs.declared.state.State.{State};
+
+    ghost Value = { State };
+
+    ghost view = { λ plain. plain.state };
+
+    ghost use Rattle.plain_log.specs.Safe.{PlainSafe};
+
+    ghost invariant = { λ plain. PlainSafe plain.state };
+}
+
+impl Plain {
+    /// Makes the state of a configuration where nothing has happened yet.
+    pub fn fresh(alloc: Global, config: &Config) -> Result<Plain, AllocError>
+        requires some { 1 ≤ config.now.brokers }
+        requires few { config.now.brokers ≤ 8 }
+        ensures { IfOk result (λ plain. plain ≡ fresh config.now) }
+    {
+        fresh_is_safe();
+        let state = state(alloc, config)?;
+        Ok(Plain { state })
+    }
+
+    /// The log end offset of a broker, which may have more than 64 bits in a state that no run reaches.
+    pub fn end(&self, broker: BrokerId) -> u128
+        requires { broker.0 < length self.now.brokers }
+        ensures { (x : BrokerIs) → slice_get self.now.brokers broker.0 ≡ Some x → result ≡ end_of x.log }
+    {
+        end(self.state.brokers.get(broker.0 as usize).log.as_slice())
+    }
+
+    /// The high watermark that a broker knows.
+    pub fn mark(&self, broker: BrokerId) -> u64
+        requires { broker.0 < length self.now.brokers }
+        ensures { (x : BrokerIs) → slice_get self.now.brokers broker.0 ≡ Some x → result ≡ x.known }
+    {
+        self.state.brokers.get(broker.0 as usize).known
+    }
+
+    /// The log start offset.
+    pub fn start(&self) -> u64
+        ensures { result ≡ self.now.registry.start }
+    {
+        self.state.registry.start
+    }
+
+    /// Counts the brokers.
+    pub fn count(&self) -> usize
+        ensures { result ≡ length self.now.brokers }
+    {
+        self.state.brokers.len()
+    }
+
+    /// Carries out an entry of a journal about an order, and answers whether it is a step of the plain log. Where it
+    /// isn't one, nothing changes.
+    pub fn step(
+        &mut self,
+        alloc: Global,
+        order: &Order,
+        entry: &JournalEntry,
+    ) -> Result<bool, AllocError>
+        requires { IsFor order.now.command }
+        ensures ok { IfOk result (λ taken. Stepped self.old self.new (step self.old order.now entry.now) taken) }
+        ensures err { OnErr result (self.new ≡ self.old) }
+    {
+        steps_keep_safe();
+        let taken = stepping::step(&mut self.state, alloc, order, entry)?;
+        Ok(taken)
+    }
+}
