@@ -1,7 +1,7 @@
 #!/usr/bin/env python3
 """Writes a script of so many bytes, for bench/sim.sh.
 
-usage: sim_script.py mixed|flush|text|raw|fetch|brokers|segments|faults|copies|closed BYTES
+usage: sim_script.py mixed|flush|text|raw|fetch|brokers|segments|faults|copies|closed|trims|remote BYTES
 
 mixed: groups of 64 lines and 16,384 bytes, so 256 bytes a line: 61 appends with values of 236 or 237 letters, a flush,
 an ack, and a fetch of at most 128 KiB from some offset of the log so far. BYTES is a multiple of 16,384.
@@ -20,6 +20,9 @@ copies: 125 copies of segments of 1 MiB for each MiB of BYTES, so 2,000 for 16 M
 segment is copied 250 times: the last note of each copy but the last fails, so the next copy begins anew. The script has half
 of BYTES, since it appends one segment for each 2 MiB.
 closed: segments of one batch of 69 bytes, one for each 4 KiB of BYTES and 4,095 at most, and a copy of each.
+trims: the same, and each copy is followed by a trim, so the local log has few segments.
+remote: 64 segments of some 4,900 bytes are copied and trimmed, and then fetched from the remote tier, one batch at a time and all
+over the log: 3,125 times for each MiB of BYTES, so 50,000 times for 16 MiB.
 """
 import struct
 import sys
@@ -184,6 +187,28 @@ def closed(size):
         yield f"0 0 0 {command}\n"
 
 
+def trims(size):
+    """Segments of a batch each, and a copy and a trim of each."""
+    count = min(size // 4096, 4095)
+    yield "segment_bytes 100\nlocal_retention_bytes 0\n"
+    for _ in range(count):
+        yield "0 0 0 append 1700000000000,-,:x\n"
+    for command in ["roll", "flush", "ack"] + ["copy", "trim"] * count:
+        yield f"0 0 0 {command}\n"
+
+
+def remote(size):
+    """A log that is in the remote tier alone, but for its open segment, and fetches of one batch each."""
+    segments, each = 64, 71
+    yield "segment_bytes 4900\nindex_interval_bytes 500\nlocal_retention_bytes 0\n"
+    for _ in range(segments * each):
+        yield "0 0 0 append 1700000000000,-,:x\n"
+    for command in ["roll", "flush", "ack"] + ["copy", "trim"] * segments:
+        yield f"0 0 0 {command}\n"
+    for number in range(size * 3125 // 1048576):
+        yield f"0 0 0 fetch {number * 7919 % (segments * each)} 1\n"
+
+
 def main(kind, size):
     if kind == "mixed":
         for number in range(size // GROUP):
@@ -208,6 +233,10 @@ def main(kind, size):
         sys.stdout.writelines(copies(size))
     elif kind == "closed":
         sys.stdout.writelines(closed(size))
+    elif kind == "trims":
+        sys.stdout.writelines(trims(size))
+    elif kind == "remote":
+        sys.stdout.writelines(remote(size))
     else:
         sys.exit(__doc__)
 
