@@ -1,7 +1,7 @@
 #!/usr/bin/env python3
 """Writes a script of so many bytes, for bench/sim.sh.
 
-usage: sim_script.py mixed|flush|text|raw|fetch|brokers|segments|faults|copies|closed|trims|remote BYTES
+usage: sim_script.py mixed|flush|text|raw|fetch|brokers|segments|faults|copies|closed|trims|expiries|remote BYTES
 
 mixed: groups of 64 lines and 16,384 bytes, so 256 bytes a line: 61 appends with values of 236 or 237 letters, a flush,
 an ack, and a fetch of at most 128 KiB from some offset of the log so far. BYTES is a multiple of 16,384.
@@ -21,6 +21,8 @@ segment is copied 250 times: the last note of each copy but the last fails, so t
 of BYTES, since it appends one segment for each 2 MiB.
 closed: segments of one batch of 69 bytes, one for each 4 KiB of BYTES and 4,095 at most, and a copy of each.
 trims: the same, and each copy is followed by a trim, so the local log has few segments.
+expiries: segments of one batch of 69 bytes, one for each 4 KiB of BYTES and 4,095 at most, are copied; an expiry raises the log
+start past all of them, and then an expiry deletes each.
 remote: 64 segments of some 4,900 bytes are copied and trimmed, and then fetched from the remote tier, one batch at a time and all
 over the log: 3,125 times for each MiB of BYTES, so 50,000 times for 16 MiB.
 """
@@ -197,6 +199,16 @@ def trims(size):
         yield f"0 0 0 {command}\n"
 
 
+def expiries(size):
+    """Segments of a batch each, a copy of each, and an expiry of each once the log start has passed them all."""
+    count = min(size // 4096, 4095)
+    yield "segment_bytes 100\nretention_bytes 0\n"
+    for _ in range(count):
+        yield "0 0 0 append 1700000000000,-,:x\n"
+    for command in ["roll", "flush", "ack"] + ["copy"] * count + ["expire"] * (count + 1):
+        yield f"0 0 0 {command}\n"
+
+
 def remote(size):
     """A log that is in the remote tier alone, but for its open segment, and fetches of one batch each."""
     segments, each = 64, 71
@@ -235,6 +247,8 @@ def main(kind, size):
         sys.stdout.writelines(closed(size))
     elif kind == "trims":
         sys.stdout.writelines(trims(size))
+    elif kind == "expiries":
+        sys.stdout.writelines(expiries(size))
     elif kind == "remote":
         sys.stdout.writelines(remote(size))
     else:

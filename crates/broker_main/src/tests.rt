@@ -182,7 +182,7 @@ fn statuses_tell_their_causes(rt: HostRuntime) -> Result<(), Fail> {
     let rows: [(&[&str], &[u8], &[u32], Status, &str, u8); 7] = [
         (
             &["sim"],
-            b"0 0 0 expire\n",
+            b"0 0 - pack 1\n",
             &[],
             Status::BadScript {
                 line: 1,

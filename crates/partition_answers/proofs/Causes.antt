@@ -37,7 +37,7 @@ use Rattle.tier_safe.specs.Turns.{Shows}
 use Rattle.tier_safe.proofs.Turning.{refreshes}
 use Rattle.partition_world.specs.declared.seat.Outcome.TheVariants.{Answers}
 use Rattle.partition_world.specs.declared.seat.Work.{Work}
-use Rattle.partition_world.specs.declared.seat.Work.TheVariants.{Idle, Noted, Copies, Seeks}
+use Rattle.partition_world.specs.declared.seat.Work.TheVariants.{Idle, Noted, Copies, Seeks, Expires}
 use Rattle.partition_world.specs.declared.tier.Side.{Side}
 use Rattle.partition_world.specs.Seats.{copy_outcome}
 use Rattle.partition_world.specs.Tier.{AtSide}
@@ -176,21 +176,22 @@ module _ {D S M : Type 0} (disk : DiskGhosts D) (store : StoreGhosts S) (meta : 
         by (GoesOn further) is goes = absurd (cc (is))
         by (Ends k) is goes = let same : k ≡ answer = cc (is) in subst (Later g copy) same (ended g copy next works k goes.view goes.row)
 
-    by_work : (work : Work) → t.seat.work ≡ work → Row disk store meta w.partition w.config.local_keep w.held w.tier b z.x z.side work Copy (Answers answer) w'.held w'.tier
+    by_work : (work : Work) → t.seat.work ≡ work → Row disk store meta w.partition w.config w.held w.tier b z.x z.side work Copy (Answers answer) w'.held w'.tier
         → HasCause disk store meta w b z.x z.side work answer w'
     by_work Idle is row = first answer row.0
     by_work (Noted g) is row = second g row
     by_work (Copies g copy next) is row = later g copy next is row.0
     by_work (Seeks g next) is row = elim row [ ]
+    by_work (Expires g doomed next) is row = elim row [ ]
 
   pub have_causes : (opening : State) (w : Whole D S M) (a : ℕ) (answer : Answer) (w' : Whole D S M) → IsCentral disk store meta opening w → DeletionsKnown meta w
       → (t : IsTurn disk store meta w a (Answers answer) w') → t.order.command ≡ Copy
       → AtNode w.held t.order.broker.0 (λ x. AtSide w.tier t.order.broker.0 (λ side. HasCause disk store meta w t.order.broker.0 x side t.seat.work answer w'))
   have_causes opening w a answer w' c known t copies =
       let b = t.order.broker.0 in
-      let r = row_of disk store meta w.partition w.config.local_keep w.held w.tier b t.seat.work t.order.command (Answers answer) w'.held w'.tier t.row in
+      let r = row_of disk store meta w.partition w.config w.held w.tier b t.seat.work t.order.command (Answers answer) w'.held w'.tier t.row in
       let z = place_of disk store meta opening w c t.place t.list t.seat t.order t.at.list t.at.seat_is t.next r.x r.at r.side r.side_at in
-      let row = subst (λ (k : Command). Row disk store meta w.partition w.config.local_keep w.held w.tier b r.x r.side t.seat.work k (Answers answer) w'.held w'.tier) copies r.row in
+      let row = subst (λ (k : Command). Row disk store meta w.partition w.config w.held w.tier b r.x r.side t.seat.work k (Answers answer) w'.held w'.tier) copies r.row in
       some_at (λ (x : Node D). AtSide w.tier b (λ side. HasCause disk store meta w b x side t.seat.work answer w')) (slice_get w.held.nodes b) r.x r.at
       (some_at (λ (side : Side). HasCause disk store meta w b r.x side t.seat.work answer w') (slice_get w.tier.sides b) r.side r.side_at
       (by_work opening w a answer w' t c known z t.seat.work refl row))

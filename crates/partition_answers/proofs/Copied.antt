@@ -22,13 +22,13 @@ use Rattle.partition_turns.specs.Calm.{HasNoFault, AreFaultless}
 use Rattle.tier_safe.proofs.Basics.{one_some}
 use Rattle.partition_world.specs.declared.tier.Side.{Side}
 use Rattle.partition_world.specs.declared.seat.Outcome.{Outcome}
-use Rattle.partition_world.specs.declared.seat.Outcome.TheVariants.{Answers, Begins, Chose, Goes, Seeks as Sought}
+use Rattle.partition_world.specs.declared.seat.Outcome.TheVariants.{Answers, Begins, Chose, Goes, Seeks as Sought, Dooms, Deletes}
 use Rattle.partition_world.specs.declared.seat.Seat.{Seat}
 use Rattle.partition_world.specs.declared.seat.Work.{Work}
-use Rattle.partition_world.specs.declared.seat.Work.TheVariants.{Idle, Noted, Copies, Seeks}
+use Rattle.partition_world.specs.declared.seat.Work.TheVariants.{Idle, Noted, Copies, Seeks, Expires}
 use Rattle.partition_world.specs.Calm.{IsUnfailing}
 use Rattle.partition_world.specs.Central.{IsCentral}
-use Rattle.partition_world.specs.Seats.{chosen, moved, sought, seat_after, IsUnanswered}
+use Rattle.partition_world.specs.Seats.{chosen, moved, sought, doomed, deleting, seat_after, IsUnanswered}
 use Rattle.partition_world.specs.Tier.{AtSide}
 use Rattle.partition_world.specs.Turn.{IsNext, IsTurn}
 use Rattle.partition_world.specs.Whole.{Whole}
@@ -57,6 +57,7 @@ module _ {D S M : Type 0} (disk : DiskGhosts D) (store : StoreGhosts S) (meta : 
   copied_so (Noted g) answer is = is
   copied_so (Copies g copy next) answer is = (copy.id, copy.segment.base, copy.segment.last, is)
   copied_so (Seeks g next) answer is = is
+  copied_so (Expires g segment next) answer is = is
 
   -- where the turn tells of a fault none was met
   record Clear (b : ℕ) (answer : Answer) (w w' : Whole D S M) : Type 0 where
@@ -93,6 +94,7 @@ module _ {D S M : Type 0} (disk : DiskGhosts D) (store : StoreGhosts S) (meta : 
   any_copied w b x side (Noted g) answer w' cause may clear = second_copied w b x side g answer w' cause may clear
   any_copied w b x side (Copies g copy next) answer w' cause may clear = later_copied w b x side g copy next answer w' cause may clear
   any_copied w b x side (Seeks g next) answer w' cause may clear = absurd cause
+  any_copied w b x side (Expires g segment next) answer w' cause may clear = absurd cause
 
   -- what is known all along
   abbrev AllKnown : State → Whole D S M → Type 0
@@ -155,12 +157,14 @@ module _ {D S M : Type 0} (disk : DiskGhosts D) (store : StoreGhosts S) (meta : 
       → IsOf g copy (seat_after t.seat outcome).work
   still_of g copy v b (Answers answer) u t un of = absurd un
   still_of g copy v b (Begins f) u t un of =
-      let idle = begins_idle disk store meta v.partition v.config.local_keep v.held v.tier t.order.broker.0 t.seat.work t.order.command f u.held u.tier t.row in
+      let idle = begins_idle disk store meta v.partition v.config v.held v.tier t.order.broker.0 t.seat.work t.order.command f u.held u.tier t.row in
       let works = of.1 in
       absurd (cc (idle, works))
   still_of g copy v b (Chose k) u t un of = (of.0, ap (λ (work : Work). chosen work k) of.1)
   still_of g copy v b (Goes next) u t un of = (next, ap (λ (work : Work). moved work next) of.1)
   still_of g copy v b (Sought next) u t un of = (of.0, ap (λ (work : Work). sought work next) of.1)
+  still_of g copy v b (Dooms segment) u t un of = (of.0, ap (λ (work : Work). doomed work segment) of.1)
+  still_of g copy v b (Deletes next) u t un of = (of.0, ap (λ (work : Work). deleting work next) of.1)
 
   pub chosen_copied : (opening : State) (w : Whole D S M) (a place : ℕ) (l : ActorList) (seat : Seat) (order : Order) (g : Begun) (copy : Copied) (next : Next) (actors : List ℕ) (w' : Whole D S M)
       → IsCentral disk store meta opening w → DeletionsKnown meta w → IsNext w a place l seat order → order.command ≡ Copy → seat.work ≡ Copies g copy next

@@ -1,5 +1,5 @@
 -- Each turn keeps what is known of deletions, and it is known of a fresh world.
-use Rattle.std.proofs.Common.{◌≡◌, ◌∙◌, inl, inr, sym, ap, subst, refl, ℕ, zero, suc, ◌+◌, ◌≤◌, true, List, [], ◌∷◌, ◌++◌, length, Some, None, Option, Ok, slice_get, slice_set, arith}
+use Rattle.std.proofs.Common.{◌≡◌, ◌∙◌, inl, inr, sym, ap, subst, refl, ℕ, zero, suc, ◌+◌, ◌<◌, ◌≤◌, true, List, [], ◌∷◌, ◌++◌, length, Some, None, Option, Ok, slice_get, slice_set, arith}
 use Rattle.std.specs.Prelude.{IsSomeAnd, replicate}
 use Rattle.tier_base.specs.declared.names.PartitionId.{PartitionId}
 use Rattle.tier_base.specs.declared.names.SegmentId.{SegmentId}
@@ -11,6 +11,7 @@ use Rattle.object_store.specs.declared.store.Store.{Ghosts as StoreGhosts}
 use Rattle.meta_log.specs.declared.log.MetaLog.{Ghosts as MetaGhosts}
 use Rattle.meta_log.specs.declared.teller.Teller.{Teller}
 use Rattle.log_terms.proofs.Lists.{and_then_some, get-set}
+use Rattle.segment_meta.specs.declared.note.Entry.{Entry}
 use Rattle.segment_meta.specs.declared.note.Note.{Note}
 use Rattle.registry.specs.declared.registry.Registry.{Registry}
 use Rattle.remote_view.specs.Fold.{Seen as View, entry_of, state_of, fold}
@@ -21,6 +22,8 @@ use Rattle.copy_task.specs.declared.turn.CopyTurn.{CopyTurn}
 use Rattle.copy_task.specs.declared.turn.CopyTurn.TheVariants.{Goes as GoesOn, Ends}
 use Rattle.copy_task.specs.declared.turn.Next.{Next}
 use Rattle.copy_task.specs.declared.turn.Next.TheVariants.{Start, Put, Finish, Check, Delete}
+use Rattle.expiry_task.specs.declared.turn.Doomed.{Doomed}
+use Rattle.expiry_task.specs.declared.turn.Next.{Next as Deletion}
 use Rattle.tier_fetch.specs.declared.turn.Next.{Next as Search}
 use Rattle.plain_log.specs.declared.command.ActorList.{ActorList}
 use Rattle.plain_log.specs.declared.command.Command.{Command}
@@ -42,23 +45,24 @@ use Rattle.tier_safe.proofs.Basics.{nat_cases, one_some}
 use Rattle.partition_world.specs.declared.tier.Side.{Side}
 use Rattle.partition_world.specs.declared.tier.Tier.{Tier}
 use Rattle.partition_world.specs.declared.seat.Outcome.{Outcome}
-use Rattle.partition_world.specs.declared.seat.Outcome.TheVariants.{Answers, Begins, Chose, Goes, Seeks as Sought}
+use Rattle.partition_world.specs.declared.seat.Outcome.TheVariants.{Answers, Begins, Chose, Goes, Seeks as Sought, Dooms, Deletes}
 use Rattle.partition_world.specs.declared.seat.Seat.{Seat}
 use Rattle.partition_world.specs.declared.seat.Work.{Work}
-use Rattle.partition_world.specs.declared.seat.Work.TheVariants.{Idle, Noted, Copies, Seeks}
-use Rattle.partition_world.specs.Central.{IsCentral}
+use Rattle.partition_world.specs.declared.seat.Work.TheVariants.{Idle, Noted, Copies, Seeks, Expires}
+use Rattle.partition_world.specs.Central.{IsCentral, work_of}
 use Rattle.partition_world.specs.Fresh.{IsFresh, IsSeenEmpty, fresh_seat}
-use Rattle.partition_world.specs.Seats.{chosen, moved, sought, copy_outcome, seat_after, told_of}
+use Rattle.partition_world.specs.Seats.{chosen, moved, sought, doomed, deleting, copy_outcome, seat_after, told_of}
 use Rattle.partition_world.specs.Turn.{IsNext, IsTurn}
 use Rattle.partition_world.specs.TurnsOfCopy.{GoesOnCopy, tiers_of, teller_of}
 use Rattle.partition_world.specs.Turns.{CopyingRow, Row}
 use Rattle.partition_world.specs.Whole.{Whole}
 use Rattle.partition_world.proofs.Begins.{row_of}
 use Rattle.partition_world.proofs.CentralLaw.{turn_central}
+use Rattle.partition_world.proofs.Scenes.{place_of, shows_at}
 use Rattle.partition_answers.specs.Known.{DeletedBelow, ShowsDeleted, DeletionsKnown}
-use Rattle.partition_answers.proofs.Notes.{more_below, fed_shows}
+use Rattle.partition_answers.proofs.Notes.{told_below, fed_shows}
 use Rattle.partition_answers.proofs.Progress.{others_stay}
-use Rattle.partition_answers.proofs.Seen.{TierGoes, row_goes}
+use Rattle.partition_answers.proofs.Seen.{TierGoes, DoomsBelow, row_goes}
 
 rep_get : {A : Type 0} (n i : ℕ) (x y : A) → slice_get (replicate n x) i ≡ Some y → y ≡ x
 rep_get zero i x y at = absurd cc
@@ -89,6 +93,8 @@ work_after work (Begins g) = Noted g
 work_after work (Chose copy) = chosen work copy
 work_after work (Goes next) = moved work next
 work_after work (Sought next) = sought work next
+work_after work (Dooms segment) = doomed work segment
+work_after work (Deletes next) = deleting work next
 
 work_same : (seat : Seat) (outcome : Outcome) → (seat_after seat outcome).work ≡ work_after seat.work outcome
 work_same seat (Answers answer) = refl
@@ -105,6 +111,10 @@ noted_never f other g copy n is = absurd (cc (is))
 seeks_never : {A : Type 0} (f : Begun) (next : Search) (o : Outcome) (g : Begun) (copy : Copied) (n : ℕ) → work_after (Seeks f next) o ≡ Copies g copy (Delete n) → A
 seeks_never f next (Answers answer) g copy n is = absurd (cc (is))
 seeks_never f next other g copy n is = absurd (cc (is))
+
+expires_never : {A : Type 0} (f : Begun) (segment : Doomed) (next : Deletion) (o : Outcome) (g : Begun) (copy : Copied) (n : ℕ) → work_after (Expires f segment next) o ≡ Copies g copy (Delete n) → A
+expires_never f segment next (Answers answer) g copy n is = absurd (cc (is))
+expires_never f segment next other g copy n is = absurd (cc (is))
 
 -- a seat that keeps a copy is at the order that it was at
 number_kept : (seat : Seat) (o : Outcome) (g : Begun) (copy : Copied) (next : Next) → (seat_after seat o).work ≡ Copies g copy next → (seat_after seat o).number ≡ seat.number
@@ -160,7 +170,7 @@ module _ {D S M : Type 0} (disk : DiskGhosts D) (store : StoreGhosts S) (meta : 
 
   -- the side of a broker after a turn
   module _ (w : Whole D S M) (a : ℕ) (outcome : Outcome) (w' : Whole D S M) (t : IsTurn disk store meta w a outcome w') (side : Side) (side_at : slice_get w.tier.sides t.order.broker.0 ≡ Some side)
-      (goes : TierGoes meta t.order.broker.0 side w.tier w'.tier) where
+      (start : ℕ) (goes : TierGoes meta start t.order.broker.0 side w.tier w'.tier) where
     -- what a side has shown it shows
     still_shown : (b : ℕ) (new : Side) (id : SegmentId) → slice_get w'.tier.sides b ≡ Some new → ((old : Side) → slice_get w.tier.sides b ≡ Some old → ShowsDeleted old.view.entries id)
         → ShowsDeleted new.view.entries id
@@ -173,18 +183,33 @@ module _ {D S M : Type 0} (disk : DiskGhosts D) (store : StoreGhosts S) (meta : 
     ]
 
   module _ (opening : State) (w : Whole D S M) (a : ℕ) (outcome : Outcome) (w' : Whole D S M) (t : IsTurn disk store meta w a outcome w') (c : IsCentral disk store meta opening w) (known : DeletionsKnown meta w)
-      (x : Node D) (side : Side) (side_at : slice_get w.tier.sides t.order.broker.0 ≡ Some side)
-      (row : Row disk store meta w.partition w.config.local_keep w.held w.tier t.order.broker.0 x side t.seat.work t.order.command outcome w'.held w'.tier) where
+      (x : Node D) (at_node : slice_get w.held.nodes t.order.broker.0 ≡ Some x) (side : Side) (side_at : slice_get w.tier.sides t.order.broker.0 ≡ Some side)
+      (row : Row disk store meta w.partition w.config w.held w.tier t.order.broker.0 x side t.seat.work t.order.command outcome w'.held w'.tier) where
     abbrev b : ℕ
     b = t.order.broker.0
 
-    goes : TierGoes meta b side w.tier w'.tier
-    goes = row_goes disk store meta w.partition w.config.local_keep w.held w.tier b x side t.seat.work t.order.command outcome w'.held w'.tier side_at c.shows_tier.meta_tells row
+    -- an expiry that has taken up its segment
+    dooms : (work : Work) → t.seat.work ≡ work → DoomsBelow (fold (meta.content w.tier.meta).notes) w.held.registry.start work
+    dooms Idle works = tt
+    dooms (Noted g) works = tt
+    dooms (Copies g copy next) works = tt
+    dooms (Seeks g next) works = tt
+    dooms (Expires g segment next) works =
+        let z = place_of disk store meta opening w c t.place t.list t.seat t.order t.at.list t.at.seat_is t.next x at_node side side_at in
+        let shows = shows_at disk store meta opening w c t.place t.list t.seat t.order z in
+        let seat = shows.seat ∙ ap (λ (k : Work). Some (work_of (Some t.order) k)) works in
+        let has = c.tier.deletions.each t.place segment next seat in
+        let same : entry_of segment.id (fold (meta.content w.tier.meta).notes) ≡ Some has.entry = ap (λ (ns : List Note). entry_of segment.id (fold ns)) (sym c.shows_tier.notes) ∙ has.there in
+        let low : has.entry.end < w.held.registry.start = subst (λ (n : ℕ). has.entry.end < n) (start_of opening w c) has.below in
+        subst (λ (o : Option Entry). IsSomeAnd o (λ entry. entry.end < w.held.registry.start)) (sym same) low
+
+    goes : TierGoes meta w.held.registry.start b side w.tier w'.tier
+    goes = row_goes disk store meta w.held.registry.start w.partition w.config w.held w.tier b x side t.seat.work t.order.command outcome w'.held w'.tier side_at c.shows_tier.meta_tells (dooms t.seat.work refl) row
 
     -- a copy that took its objects away before
     before_shown : (g : Begun) (copy : Copied) (n : ℕ) → t.seat.work ≡ Copies g copy (Delete n) → (new : Side) → slice_get w'.tier.sides b ≡ Some new → ShowsDeleted new.view.entries copy.id
     before_shown g copy n works new at =
-        still_shown w a outcome w' t side side_at goes b new copy.id at
+        still_shown w a outcome w' t side side_at w.held.registry.start goes b new copy.id at
         (λ old there. known.seen t.list.actor.0 t.place t.list t.seat t.order g copy n old (record { at = record { list = t.at.list; actor = refl; seat_is = t.at.seat_is }; next = t.next }) works there)
 
     moved_shown : (g : Begun) (copy : Copied) (before : Next) → t.seat.work ≡ Copies g copy before → (further : Next) (n : ℕ) → further ≡ Delete n
@@ -209,7 +234,7 @@ module _ {D S M : Type 0} (disk : DiskGhosts D) (store : StoreGhosts S) (meta : 
     copying_shown g copy before works Copy next n is (inr (keeps, (turn, one, on)), same) new at = turn_shown g copy before works next n is turn one on new at
     copying_shown g copy before works other next n is row new at = elim row [ ]
 
-    own_shown : (work : Work) → t.seat.work ≡ work → (o : Outcome) → Row disk store meta w.partition w.config.local_keep w.held w.tier b x side work t.order.command o w'.held w'.tier → (g : Begun) (copy : Copied) (n : ℕ)
+    own_shown : (work : Work) → t.seat.work ≡ work → (o : Outcome) → Row disk store meta w.partition w.config w.held w.tier b x side work t.order.command o w'.held w'.tier → (g : Begun) (copy : Copied) (n : ℕ)
         → work_after work o ≡ Copies g copy (Delete n) → (new : Side) → slice_get w'.tier.sides b ≡ Some new → ShowsDeleted new.view.entries copy.id
     own_shown Idle works o r g copy n is new at = idle_never o g copy n is
     own_shown (Noted f) works o r g copy n is new at = noted_never f o g copy n is
@@ -221,13 +246,20 @@ module _ {D S M : Type 0} (disk : DiskGhosts D) (store : StoreGhosts S) (meta : 
         let deletes : next ≡ Delete n = cc (is) in
         subst (λ (j : Copied). ShowsDeleted new.view.entries j.id) same (copying_shown f k before works t.order.command next n deletes r new at)
     own_shown (Copies f k before) works (Sought next) r g copy n is new at = before_shown g copy n (works ∙ is) new at
+    own_shown (Copies f k before) works (Dooms segment) r g copy n is new at = before_shown g copy n (works ∙ is) new at
+    own_shown (Copies f k before) works (Deletes next) r g copy n is new at = before_shown g copy n (works ∙ is) new at
     own_shown (Seeks f before) works o r g copy n is new at = seeks_never f before o g copy n is
+    own_shown (Expires f segment before) works o r g copy n is new at = expires_never f segment before o g copy n is
+
+    told : DeletedBelow (fold (meta.content w'.tier.meta).notes) w.held.registry.start
+    told = elim goes.notes [
+      | inl same ↦ subst (λ (ns : List Note). DeletedBelow (fold ns) w.held.registry.start) (sym same) known.below
+      | inr (note, is, be) ↦ subst (λ (ns : List Note). DeletedBelow (fold ns) w.held.registry.start) (sym is) (told_below (meta.content w.tier.meta).notes note w.held.registry.start be known.below)
+    ]
 
     still_below : DeletedBelow (fold (meta.content w'.tier.meta).notes) w'.held.registry.start
     still_below id entry there gone =
-        let more = goes.notes in
-        let all = more_below (meta.content w.tier.meta).notes more.0 w.held.registry.start more.2 known.below in
-        let low = all id entry (ap (λ (ns : List Note). entry_of id (fold ns)) (sym more.1) ∙ there) gone in
+        let low = told id entry there gone in
         let grows = start_later opening w a outcome w' t c in
         omega (arith, low, grows)
 
@@ -261,14 +293,14 @@ module _ {D S M : Type 0} (disk : DiskGhosts D) (store : StoreGhosts S) (meta : 
             };
             next = next.next;
           } in
-          still_shown w a outcome w' t side side_at goes order.broker.0 new copy.id at (λ old there. known.seen d place l seat order g copy n old before works there)
+          still_shown w a outcome w' t side side_at w.held.registry.start goes order.broker.0 new copy.id at (λ old there. known.seen d place l seat order g copy n old before works there)
     ]
 
   pub keep_known : (opening : State) (w : Whole D S M) (a : ℕ) (outcome : Outcome) (w' : Whole D S M) → IsCentral disk store meta opening w → DeletionsKnown meta w → IsTurn disk store meta w a outcome w'
       → DeletionsKnown meta w'
   keep_known opening w a outcome w' c known t =
-      let r = row_of disk store meta w.partition w.config.local_keep w.held w.tier t.order.broker.0 t.seat.work t.order.command outcome w'.held w'.tier t.row in
-      record { below = still_below opening w a outcome w' t c known r.x r.side r.side_at r.row; seen = still_seen opening w a outcome w' t c known r.x r.side r.side_at r.row }
+      let r = row_of disk store meta w.partition w.config w.held w.tier t.order.broker.0 t.seat.work t.order.command outcome w'.held w'.tier t.row in
+      record { below = still_below opening w a outcome w' t c known r.x r.at r.side r.side_at r.row; seen = still_seen opening w a outcome w' t c known r.x r.at r.side r.side_at r.row }
 
   pub fresh_known : (partition : PartitionId) (config : Config) (lists : List ActorList) (disks : List D) (s : S) (m : M) (w : Whole D S M) → IsFresh disk store meta partition config lists disks s m w
       → IsSeenEmpty disk store meta w → DeletionsKnown meta w

@@ -1,7 +1,7 @@
--- A copy's notes delete nothing, and a view that takes in more notes shows what it has shown.
-use Rattle.std.proofs.Common.{◌≡◌, ◌∙◌, inl, inr, sym, ap, subst, refl, ℕ, ◌<◌, Bool, true, false, cond, List, [], ◌∷◌, ◌++◌, Some, None, Option}
+-- A note of a copy deletes nothing, and one of an expiry what ends below the log start. A view that takes in more notes shows
+-- what it has shown.
+use Rattle.std.proofs.Common.{◌≡◌, ◌∙◌, ◌⊎◌, inl, inr, sym, ap, subst, refl, ℕ, ◌<◌, Bool, true, false, cond, List, [], ◌∷◌, ◌++◌, Some, None, Option}
 use Rattle.std.specs.Prelude.{IsSomeAnd, is_some, ℤ}
-use Rattle.std.specs.List.{AllByRecursion}
 use Rattle.std.specs.Option.{option_map}
 use Rattle.tier_base.specs.declared.names.BrokerId.{BrokerId}
 use Rattle.tier_base.specs.declared.names.SegmentId.{SegmentId}
@@ -11,17 +11,22 @@ use Rattle.segment_meta.specs.declared.note.Entry.{Entry}
 use Rattle.segment_meta.specs.declared.note.Note.{Note}
 use Rattle.segment_meta.specs.declared.note.Note.TheVariants.{Add, Update}
 use Rattle.segment_meta.specs.Steps.{next_state}
-use Rattle.remote_view.specs.Fold.{Seen as View, entry_of, state_of, noted, updated, folded_from, fold, fed}
+use Rattle.remote_view.specs.Fold.{Seen as View, entry_of, state_of, noted, updated, fold, fed}
 use Rattle.view_refresh.specs.Refreshing.{fed_all}
+use Rattle.partition_seen.proofs.BoolTests.{some_of}
 use Rattle.tier_safe.specs.Copies.{is_deleted}
 use Rattle.tier_safe.proofs.Basics.{id_cases, one_some, some_or_none, deleted_rises}
-use Rattle.tier_safe.proofs.Entries.{told, told_entry, told_follows, add_entry, other_entry, entry_goes, id_in}
+use Rattle.tier_safe.proofs.Entries.{told, told_entry, told_follows, add_entry, other_entry, fold_push, entry_goes, id_in}
 use Rattle.partition_answers.specs.Known.{DeletedBelow, ShowsDeleted}
 
--- a note that a copy tells
-abbrev pub LeavesBe : Note → Type 0
-LeavesBe (Add entry) = entry.state ≡ CopyStarted
-LeavesBe (Update id broker event_ts state custom) = state ≡ CopyFinished
+-- the entries have the id, and it ends below the log start
+abbrev pub EndsBelow : List Entry → ℕ → SegmentId → Type 0
+EndsBelow es start id = IsSomeAnd (entry_of id es) (λ entry. entry.end < start)
+
+-- a note that deletes none of these entries but one that ends below the log start
+abbrev pub LeavesBe : List Entry → ℕ → Note → Type 0
+LeavesBe es start (Add entry) = entry.state ≡ CopyStarted
+LeavesBe es start (Update id broker event_ts state custom) = (state ≡ CopyFinished) ⊎ EndsBelow es start id
 
 -- a known id isn't added again
 none_again : (s : CopyState) → is_some (next_state (Some s) CopyStarted) ≡ false
@@ -53,7 +58,7 @@ finish_told broker event_ts x gone = by x.state gone
     by DeleteFinished gone = refl
 
 -- the entry of the note's own id
-own_below : (es : List Entry) (note : Note) (start : ℕ) (x : Entry) → LeavesBe note → DeletedBelow es start → entry_of (id_in note) (noted es note) ≡ Some x → is_deleted x.state ≡ true → x.end < start
+own_below : (es : List Entry) (note : Note) (start : ℕ) (x : Entry) → LeavesBe es start note → DeletedBelow es start → entry_of (id_in note) (noted es note) ≡ Some x → is_deleted x.state ≡ true → x.end < start
 own_below es (Add e) start x be h at gone = elim (some_or_none (entry_of e.id es)) [
   | inl none ↦
       let same : e ≡ x = one_some (entry_of e.id (noted es (Add e))) e x (add_entry es e be none) at in
@@ -61,7 +66,7 @@ own_below es (Add e) start x be h at gone = elim (some_or_none (entry_of e.id es
       absurd (cc (gone, ap is_deleted state))
   | inr (y, there) ↦ h e.id x (ap (entry_of e.id) (sym (add_known es e y be there)) ∙ at) gone
 ]
-own_below es (Update id broker event_ts state custom) start x be h at gone = elim (some_or_none (entry_of id es)) [
+own_below es (Update id broker event_ts state custom) start x (inl be) h at gone = elim (some_or_none (entry_of id es)) [
   | inl none ↦ let is = ap (entry_of id) (sym (update_unknown es id broker event_ts state custom be none)) ∙ at in absurd (cc (none, is))
   | inr (y, there) ↦
       let same : told broker event_ts state y ≡ x = one_some (entry_of id (noted es (Update id broker event_ts state custom))) (told broker event_ts state y) x (told_entry es id broker event_ts state custom y there) at in
@@ -70,23 +75,20 @@ own_below es (Update id broker event_ts state custom) start x be h at gone = eli
       let end : x.end ≡ y.end = ap (λ (e : Entry). e.end) (sym same) ∙ (told_follows broker event_ts state y).end in
       rw end (h id y there was)
 ]
+own_below es (Update id broker event_ts state custom) start x (inr low) h at gone =
+    let y = some_of (λ (e : Entry). e.end < start) (entry_of id es) low in
+    let same : told broker event_ts state y.0 ≡ x = one_some (entry_of id (noted es (Update id broker event_ts state custom))) (told broker event_ts state y.0) x (told_entry es id broker event_ts state custom y.0 y.1) at in
+    let end : x.end ≡ y.0.end = ap (λ (e : Entry). e.end) (sym same) ∙ (told_follows broker event_ts state y.0).end in
+    rw end y.2
 
-one_below : (es : List Entry) (note : Note) (start : ℕ) → LeavesBe note → DeletedBelow es start → DeletedBelow (noted es note) start
+one_below : (es : List Entry) (note : Note) (start : ℕ) → LeavesBe es start note → DeletedBelow es start → DeletedBelow (noted es note) start
 one_below es note start be h = λ id x at gone. elim (id_cases (id_in note) id) [
   | inl own ↦ own_below es note start x be h (ap (λ (i : SegmentId). entry_of i (noted es note)) own ∙ at) gone
   | inr other ↦ h id x (sym (other_entry es note id other) ∙ at) gone
 ]
 
-folded_below : (es : List Entry) (more : List Note) (start : ℕ) → AllByRecursion LeavesBe more → DeletedBelow es start → DeletedBelow (folded_from es more) start
-folded_below es [] start are h = h
-folded_below es (note ∷ more) start are h = folded_below (noted es note) more start are.1 (one_below es note start are.0 h)
-
-folded_append : (es : List Entry) (notes more : List Note) → folded_from es (notes ++ more) ≡ folded_from (folded_from es notes) more
-folded_append es [] more = refl
-folded_append es (note ∷ notes) more = folded_append (noted es note) notes more
-
-pub more_below : (notes more : List Note) (start : ℕ) → AllByRecursion LeavesBe more → DeletedBelow (fold notes) start → DeletedBelow (fold (notes ++ more)) start
-more_below notes more start are h = subst (λ (es : List Entry). DeletedBelow es start) (sym (folded_append [] notes more)) (folded_below (fold notes) more start are h)
+pub told_below : (notes : List Note) (note : Note) (start : ℕ) → LeavesBe (fold notes) start note → DeletedBelow (fold notes) start → DeletedBelow (fold (notes ++ note ∷ [])) start
+told_below notes note start be h = subst (λ (es : List Entry). DeletedBelow es start) (sym (fold_push notes note)) (one_below (fold notes) note start be h)
 
 -- a view that has taken in more shows what it has shown
 abbrev Shown : Option Entry → Type 0

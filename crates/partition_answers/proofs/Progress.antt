@@ -1,7 +1,6 @@
 -- A turn of a copy that isn't answered leaves fewer to come, and leaves the other seats as they were.
 use Rattle.std.proofs.Common.{◌≡◌, ◌≢◌, ◌∙◌, inl, inr, sym, ap, subst, refl, ℕ, zero, suc, ◌+◌, ◌<◌, List, [], ◌∷◌, Some, None, Option, Ok, slice_get, slice_set, arith}
 use Rattle.tier_base.specs.declared.names.PartitionId.{PartitionId}
-use Rattle.tier_base.specs.declared.plain.Keep.{Keep}
 use Rattle.tier_base.specs.declared.plain.State.{State as CopyState}
 use Rattle.tier_base.specs.declared.plain.State.TheVariants.{CopyStarted, CopyFinished, DeleteStarted, DeleteFinished}
 use Rattle.tier_base.specs.declared.object_key.ObjectKey.{ObjectKey}
@@ -18,17 +17,18 @@ use Rattle.copy_task.specs.declared.turn.Next.{Next}
 use Rattle.copy_task.specs.declared.turn.Next.TheVariants.{Start, Put, Finish, Check, Delete}
 use Rattle.plain_log.specs.declared.command.Command.{Command}
 use Rattle.plain_log.specs.declared.command.Command.TheVariants.{Copy}
+use Rattle.plain_log.specs.declared.command.Config.{Config}
 use Rattle.partition_seen.specs.declared.begun.Begun.{Begun}
 use Rattle.partition_turns.specs.declared.held.Node.{Node}
 use Rattle.partition_turns.specs.declared.held.Held.{Held}
 use Rattle.partition_world.specs.declared.tier.Side.{Side}
 use Rattle.partition_world.specs.declared.tier.Tier.{Tier}
 use Rattle.partition_world.specs.declared.seat.Outcome.{Outcome}
-use Rattle.partition_world.specs.declared.seat.Outcome.TheVariants.{Answers, Begins, Chose, Goes, Seeks as Sought}
+use Rattle.partition_world.specs.declared.seat.Outcome.TheVariants.{Answers, Begins, Chose, Goes, Seeks as Sought, Dooms, Deletes}
 use Rattle.partition_world.specs.declared.seat.Seat.{Seat}
 use Rattle.partition_world.specs.declared.seat.Work.{Work}
-use Rattle.partition_world.specs.declared.seat.Work.TheVariants.{Idle, Noted, Copies, Seeks}
-use Rattle.partition_world.specs.Seats.{chosen, moved, sought, copy_outcome, seat_after, IsUnanswered}
+use Rattle.partition_world.specs.declared.seat.Work.TheVariants.{Idle, Noted, Copies, Seeks, Expires}
+use Rattle.partition_world.specs.Seats.{chosen, moved, sought, doomed, deleting, copy_outcome, seat_after, IsUnanswered}
 use Rattle.partition_world.specs.Turn.{IsTurn}
 use Rattle.partition_world.specs.TurnsOfCopy.{CopyFirstRow, ReadRow, ChooseRow, CopyOnRow, GoesOnCopy, copied_to, tiers_of, teller_of}
 use Rattle.partition_world.specs.Turns.{Row}
@@ -51,6 +51,8 @@ Less work (Begins g) = most_turns (Noted g) < most_turns work
 Less work (Chose copy) = most_turns (chosen work copy) < most_turns work
 Less work (Goes next) = most_turns (moved work next) < most_turns work
 Less work (Sought next) = most_turns (sought work next) < most_turns work
+Less work (Dooms segment) = most_turns (doomed work segment) < most_turns work
+Less work (Deletes next) = most_turns (deleting work next) < most_turns work
 
 -- a copy goes on with this turn
 to : (before next after : Next) → GoesOn next ≡ GoesOn after → most_before after < most_before before → most_before next < most_before before
@@ -125,12 +127,13 @@ module _ {D S M : Type 0} (disk : DiskGhosts D) (store : StoreGhosts S) (meta : 
   later_less h t b x side g copy next outcome t' (inl lost) = subst (Less (Copies g copy next)) (sym lost.1) tt
   later_less h t b x side g copy next outcome t' (inr (keeps, (turn, is, goes))) = subst (Less (Copies g copy next)) (sym is) (turn_less h t b side g copy next turn t' goes)
 
-  row_less : (p : PartitionId) (keep : Keep) (h : Held D) (t : Tier S M) (b : ℕ) (x : Node D) (side : Side) (work : Work) (outcome : Outcome) (h' : Held D) (t' : Tier S M)
-      → Row disk store meta p keep h t b x side work Copy outcome h' t' → Less work outcome
-  row_less p keep h t b x side Idle outcome h' t' row = first_less h t b x side outcome t' row.0
-  row_less p keep h t b x side (Noted g) outcome h' t' row = choose_less p h t b x side g outcome h' t' row
-  row_less p keep h t b x side (Copies g copy next) outcome h' t' row = later_less h t b x side g copy next outcome t' row.0
-  row_less p keep h t b x side (Seeks g next) outcome h' t' row = elim row [ ]
+  row_less : (p : PartitionId) (config : Config) (h : Held D) (t : Tier S M) (b : ℕ) (x : Node D) (side : Side) (work : Work) (outcome : Outcome) (h' : Held D) (t' : Tier S M)
+      → Row disk store meta p config h t b x side work Copy outcome h' t' → Less work outcome
+  row_less p config h t b x side Idle outcome h' t' row = first_less h t b x side outcome t' row.0
+  row_less p config h t b x side (Noted g) outcome h' t' row = choose_less p h t b x side g outcome h' t' row
+  row_less p config h t b x side (Copies g copy next) outcome h' t' row = later_less h t b x side g copy next outcome t' row.0
+  row_less p config h t b x side (Seeks g next) outcome h' t' row = elim row [ ]
+  row_less p config h t b x side (Expires g segment next) outcome h' t' row = elim row [ ]
 
   seat_less : (seat : Seat) (outcome : Outcome) → Less seat.work outcome → IsUnanswered outcome → most_turns (seat_after seat outcome).work < most_turns seat.work
   seat_less seat (Answers answer) less un = absurd un
@@ -140,9 +143,9 @@ module _ {D S M : Type 0} (disk : DiskGhosts D) (store : StoreGhosts S) (meta : 
       → most_turns (seat_after t.seat outcome).work < most_turns t.seat.work
   go_on w a outcome w' t copies un =
       let b = t.order.broker.0 in
-      let r = row_of disk store meta w.partition w.config.local_keep w.held w.tier b t.seat.work t.order.command outcome w'.held w'.tier t.row in
-      let row = subst (λ (k : Command). Row disk store meta w.partition w.config.local_keep w.held w.tier b r.x r.side t.seat.work k outcome w'.held w'.tier) copies r.row in
-      seat_less t.seat outcome (row_less w.partition w.config.local_keep w.held w.tier b r.x r.side t.seat.work outcome w'.held w'.tier row) un
+      let r = row_of disk store meta w.partition w.config w.held w.tier b t.seat.work t.order.command outcome w'.held w'.tier t.row in
+      let row = subst (λ (k : Command). Row disk store meta w.partition w.config w.held w.tier b r.x r.side t.seat.work k outcome w'.held w'.tier) copies r.row in
+      seat_less t.seat outcome (row_less w.partition w.config w.held w.tier b r.x r.side t.seat.work outcome w'.held w'.tier row) un
 
   pub others_stay : (w : Whole D S M) (a : ℕ) (outcome : Outcome) (w' : Whole D S M) (t : IsTurn disk store meta w a outcome w') (place : ℕ) → place ≢ t.place
       → slice_get w'.desk place ≡ slice_get w.desk place

@@ -5,7 +5,6 @@ use Rattle.disk_model.specs.declared.disk.Disk.{Ghosts as DiskGhosts}
 use Rattle.object_store.specs.declared.store.Store.{Ghosts as StoreGhosts}
 use Rattle.meta_log.specs.declared.log.MetaLog.{Ghosts as MetaGhosts}
 use Rattle.tier_base.specs.declared.names.PartitionId.{PartitionId}
-use Rattle.tier_base.specs.declared.plain.Keep.{Keep}
 use Rattle.tier_base.specs.declared.plain.State.{State}
 use Rattle.tier_base.specs.declared.plain.State.TheVariants.{CopyStarted, CopyFinished, DeleteStarted, DeleteFinished}
 use Rattle.tier_base.specs.declared.object_key.ObjectKey.{ObjectKey}
@@ -17,11 +16,16 @@ use Rattle.copy_task.specs.declared.turn.CopyTurn.{CopyTurn}
 use Rattle.copy_task.specs.declared.turn.CopyTurn.TheVariants.{Goes as GoesOn, Ends}
 use Rattle.copy_task.specs.declared.turn.Next.{Next}
 use Rattle.copy_task.specs.declared.turn.Next.TheVariants.{Start, Put, Finish, Check, Delete}
+use Rattle.expiry_task.specs.declared.turn.Doomed.{Doomed}
+use Rattle.expiry_task.specs.declared.turn.ExpiryTurn.{ExpiryTurn}
+use Rattle.expiry_task.specs.declared.turn.ExpiryTurn.TheVariants as expiry
+use Rattle.expiry_task.specs.declared.turn.Next.{Next as Deletion}
 use Rattle.tier_fetch.specs.declared.turn.Next.{Next as Search}
 use Rattle.tier_fetch.specs.declared.turn.Next.TheVariants.{Refresh}
 use Rattle.plain_log.specs.declared.command.ActorList.{ActorList}
 use Rattle.plain_log.specs.declared.command.Command.{Command}
-use Rattle.plain_log.specs.declared.command.Command.TheVariants.{Copy, Trim, Fetch}
+use Rattle.plain_log.specs.declared.command.Command.TheVariants.{Copy, Trim, Expire, Fetch}
+use Rattle.plain_log.specs.declared.command.Config.{Config}
 use Rattle.plain_log.specs.declared.command.Order.{Order}
 use Rattle.partition_seen.specs.declared.begun.Begun.{Begun}
 use Rattle.partition_seen.specs.declared.begun.Turned.{Turned}
@@ -32,14 +36,15 @@ use Rattle.partition_turns.specs.Held.{line_of}
 use Rattle.partition_world.specs.declared.tier.Side.{Side}
 use Rattle.partition_world.specs.declared.tier.Tier.{Tier}
 use Rattle.partition_world.specs.declared.seat.Outcome.{Outcome}
-use Rattle.partition_world.specs.declared.seat.Outcome.TheVariants.{Answers, Begins, Chose, Goes, Seeks as Sought}
+use Rattle.partition_world.specs.declared.seat.Outcome.TheVariants.{Answers, Begins, Chose, Goes, Seeks as Sought, Dooms, Deletes}
 use Rattle.partition_world.specs.declared.seat.Seat.{Seat}
 use Rattle.partition_world.specs.declared.seat.Work.{Work}
-use Rattle.partition_world.specs.declared.seat.Work.TheVariants.{Idle, Noted, Copies, Seeks}
-use Rattle.partition_world.specs.Seats.{chosen, moved, sought, outcome_of, copy_outcome, seat_after}
+use Rattle.partition_world.specs.declared.seat.Work.TheVariants.{Idle, Noted, Copies, Seeks, Expires}
+use Rattle.partition_world.specs.Seats.{chosen, moved, sought, doomed, deleting, copy_outcome, expiry_outcome, seat_after}
 use Rattle.partition_world.specs.TurnsOfFetch.{FetchOnRow, fetch_tiers, wanted_of}
-use Rattle.partition_world.specs.Turns.{BeginRow, NotedRow, CopyingRow, SeekingRow, Row, TurnRow}
-use Rattle.partition_world.proofs.Begins.{begins_idle, row_of}
+use Rattle.partition_world.specs.Turns.{NotedRow, CopyingRow, SeekingRow, DeletingRow, Row, TurnRow}
+use Rattle.partition_world.proofs.Begins.{MayComeTo, row_of, row_may}
+use Rattle.partition_world.proofs.ExpiryAdvances.{deleting_before, few_deleting, expiry_advances}
 use Rattle.partition_world.proofs.FetchAdvances.{sought_before, few_sought, fetch_advances}
 
 -- how many turns a copy has taken at most that does this next
@@ -56,6 +61,7 @@ taken_of Idle = 0
 taken_of (Noted g) = 1
 taken_of (Copies g copy next) = taken_before next
 taken_of (Seeks g next) = sought_before next
+taken_of (Expires g segment next) = deleting_before next
 
 -- the turns that are left of a list
 abbrev pub turns_of : List Order → Seat → ℕ
@@ -74,6 +80,8 @@ Advances work (Begins g) = taken_of work < taken_of (Noted g)
 Advances work (Chose copy) = taken_of work < taken_of (chosen work copy)
 Advances work (Goes next) = taken_of work < taken_of (moved work next)
 Advances work (Sought next) = taken_of work < taken_of (sought work next)
+Advances work (Dooms segment) = taken_of work < taken_of (doomed work segment)
+Advances work (Deletes next) = taken_of work < taken_of (deleting work next)
 
 few_before : (next : Next) → taken_before next ≤ 13
 few_before Start = omega arith
@@ -87,6 +95,7 @@ few_taken Idle = omega arith
 few_taken (Noted g) = omega arith
 few_taken (Copies g copy next) = few_before next
 few_taken (Seeks g next) = few_sought next
+few_taken (Expires g segment next) = few_deleting next
 
 -- a copy goes on with a later turn
 to : (before next after : Next) → GoesOn next ≡ GoesOn after → taken_before before < taken_before after → taken_before before < taken_before next
@@ -134,99 +143,35 @@ module _ {S M : Type 0} (store : StoreGhosts S) (meta : MetaGhosts M) where
   copy_advances copy teller Check next old new w = checked_advances copy new.view.notes (state_of copy.id new.view.entries) next w.1.0
   copy_advances copy teller (Delete n) next old new w = delete_row copy old.view n (slice_get (keys copy) n) next old.store new.store w.1
 
--- what isn't a copy's
-own_chose : {A : Type 0} (turn : Turned) (copy : Copied) → Chose copy ≡ outcome_of turn → A
-own_chose (turned.Answers answer) copy is = absurd cc
-own_chose (turned.Begins g) copy is = absurd cc
-
-own_goes : {A : Type 0} (turn : Turned) (next : Next) → Goes next ≡ outcome_of turn → A
-own_goes (turned.Answers answer) next is = absurd cc
-own_goes (turned.Begins g) next is = absurd cc
-
-own_sought : {A : Type 0} (turn : Turned) (next : Search) → Sought next ≡ outcome_of turn → A
-own_sought (turned.Answers answer) next is = absurd cc
-own_sought (turned.Begins g) next is = absurd cc
-
-copy_sought : {A : Type 0} (turn : CopyTurn) (next : Search) → Sought next ≡ copy_outcome turn → A
-copy_sought (GoesOn n) next is = absurd cc
-copy_sought (Ends answer) next is = absurd cc
-
-copy_chose : {A : Type 0} (turn : CopyTurn) (copy : Copied) → Chose copy ≡ copy_outcome turn → A
-copy_chose (GoesOn next) copy is = absurd cc
-copy_chose (Ends answer) copy is = absurd cc
-
 copy_goes : (turn : CopyTurn) (next : Next) → Goes next ≡ copy_outcome turn → turn ≡ GoesOn next
 copy_goes (GoesOn n) next is = cc
 copy_goes (Ends answer) next is = absurd cc
 
+expiry_goes : (turn : ExpiryTurn) (next : Deletion) → Deletes next ≡ expiry_outcome turn → turn ≡ expiry.Goes next
+expiry_goes (expiry.Goes n) next is = cc
+expiry_goes (expiry.Ends answer) next is = absurd cc
+
 module _ {D S M : Type 0} (disk : DiskGhosts D) (store : StoreGhosts S) (meta : MetaGhosts M) where
-  begin_chose : {A : Type 0} (h : Held D) (t : Tier S M) (b : ℕ) (x : Node D) (side : Side) (command : Command) (copy : Copied) (h' : Held D) (t' : Tier S M)
-      → BeginRow disk store meta h t b x side command (Chose copy) h' t' → A
-  begin_chose h t b x side Copy copy h' t' w = elim w.0 [ ]
-  begin_chose h t b x side Trim copy h' t' w = elim w.0 [ ]
-  begin_chose h t b x side other copy h' t' w = own_chose w.0.0 copy w.0.1
-
-  begin_goes : {A : Type 0} (h : Held D) (t : Tier S M) (b : ℕ) (x : Node D) (side : Side) (command : Command) (next : Next) (h' : Held D) (t' : Tier S M)
-      → BeginRow disk store meta h t b x side command (Goes next) h' t' → A
-  begin_goes h t b x side Copy next h' t' w = elim w.0 [ ]
-  begin_goes h t b x side Trim next h' t' w = elim w.0 [ ]
-  begin_goes h t b x side other next h' t' w = own_goes w.0.0 next w.0.1
-
-  begin_sought : {A : Type 0} (h : Held D) (t : Tier S M) (b : ℕ) (x : Node D) (side : Side) (command : Command) (next : Search) (h' : Held D) (t' : Tier S M)
-      → BeginRow disk store meta h t b x side command (Sought next) h' t' → A
-  begin_sought h t b x side Copy next h' t' w = elim w.0 [ ]
-  begin_sought h t b x side Trim next h' t' w = elim w.0 [ ]
-  begin_sought h t b x side other next h' t' w = own_sought w.0.0 next w.0.1
-
-  noted_goes : {A : Type 0} (p : PartitionId) (keep : Keep) (h : Held D) (t : Tier S M) (b : ℕ) (x : Node D) (side : Side) (g : Begun) (command : Command) (next : Next) (h' : Held D) (t' : Tier S M)
-      → NotedRow disk store meta p keep h t b x side g command (Goes next) h' t' → A
-  noted_goes p keep h t b x side g Copy next h' t' (inl lost) = let e = lost.1 in absurd (cc (e))
-  noted_goes p keep h t b x side g Copy next h' t' (inr (keeps, inl level)) = let e = level.1 in absurd (cc (e))
-  noted_goes p keep h t b x side g Copy next h' t' (inr (keeps, inr reads)) = elim reads.row [ ]
-  noted_goes p keep h t b x side g Trim next h' t' w = elim w.0 [ ]
-  noted_goes p keep h t b x side g (Fetch offset limit) next h' t' w = elim w.0 [ ]
-  noted_goes p keep h t b x side g other next h' t' w = let e = w.0.1 in absurd (cc (e))
-
   seek_advances : (p : PartitionId) (h : Held D) (t : Tier S M) (b : ℕ) (x : Node D) (side : Side) (g : Begun) (offset limit : ℕ) (before next : Search) (t' : Tier S M)
       → FetchOnRow store meta p h t b x side g offset limit before (Sought next) t' → sought_before before < sought_before next
   seek_advances p h t b x side g offset limit before next t' w =
       fetch_advances store meta (wanted_of p x offset limit) (line_of x) before next (fetch_tiers side.view side.cache t) (fetch_tiers w.1.view w.1.cache t') w.1.row
 
-  noted_sought : (p : PartitionId) (keep : Keep) (h : Held D) (t : Tier S M) (b : ℕ) (x : Node D) (side : Side) (g : Begun) (command : Command) (next : Search) (h' : Held D) (t' : Tier S M)
-      → NotedRow disk store meta p keep h t b x side g command (Sought next) h' t' → sought_before Refresh < sought_before next
-  noted_sought p keep h t b x side g Copy next h' t' (inl lost) = let e = lost.1 in absurd (cc (e))
-  noted_sought p keep h t b x side g Copy next h' t' (inr (keeps, inl level)) = let e = level.1 in absurd (cc (e))
-  noted_sought p keep h t b x side g Copy next h' t' (inr (keeps, inr reads)) = elim reads.row [ ]
-  noted_sought p keep h t b x side g Trim next h' t' w = elim w.0 [ ]
-  noted_sought p keep h t b x side g (Fetch offset limit) next h' t' w = seek_advances p h t b x side g offset limit Refresh next t' w.0
-  noted_sought p keep h t b x side g other next h' t' w = let e = w.0.1 in absurd (cc (e))
+  noted_sought : (p : PartitionId) (config : Config) (h : Held D) (t : Tier S M) (b : ℕ) (x : Node D) (side : Side) (g : Begun) (command : Command) (next : Search) (h' : Held D) (t' : Tier S M)
+      → NotedRow disk store meta p config h t b x side g command (Sought next) h' t' → sought_before Refresh < sought_before next
+  noted_sought p config h t b x side g Copy next h' t' (inl lost) = let e = lost.1 in absurd (cc (e))
+  noted_sought p config h t b x side g Copy next h' t' (inr (keeps, inl level)) = let e = level.1 in absurd (cc (e))
+  noted_sought p config h t b x side g Copy next h' t' (inr (keeps, inr reads)) = elim reads.row [ ]
+  noted_sought p config h t b x side g Trim next h' t' w = elim w.0 [ ]
+  noted_sought p config h t b x side g Expire next h' t' (inl lost, same) = let e = lost.1 in absurd (cc (e))
+  noted_sought p config h t b x side g Expire next h' t' (inr (keeps, by), same) = elim by [ ]
+  noted_sought p config h t b x side g (Fetch offset limit) next h' t' w = seek_advances p h t b x side g offset limit Refresh next t' w.0
+  noted_sought p config h t b x side g other next h' t' w = let e = w.0.1 in absurd (cc (e))
 
   seeking_sought : (p : PartitionId) (h : Held D) (t : Tier S M) (b : ℕ) (x : Node D) (side : Side) (g : Begun) (before : Search) (command : Command) (next : Search) (h' : Held D) (t' : Tier S M)
       → SeekingRow store meta p h t b x side g before command (Sought next) h' t' → sought_before before < sought_before next
   seeking_sought p h t b x side g before (Fetch offset limit) next h' t' w = seek_advances p h t b x side g offset limit before next t' w.0
   seeking_sought p h t b x side g before other next h' t' w = elim w [ ]
-
-  seeking_chose : {A : Type 0} (p : PartitionId) (h : Held D) (t : Tier S M) (b : ℕ) (x : Node D) (side : Side) (g : Begun) (before : Search) (command : Command) (copy : Copied) (h' : Held D) (t' : Tier S M)
-      → SeekingRow store meta p h t b x side g before command (Chose copy) h' t' → A
-  seeking_chose p h t b x side g before (Fetch offset limit) copy h' t' w = elim w.0 [ ]
-  seeking_chose p h t b x side g before other copy h' t' w = elim w [ ]
-
-  seeking_goes : {A : Type 0} (p : PartitionId) (h : Held D) (t : Tier S M) (b : ℕ) (x : Node D) (side : Side) (g : Begun) (before : Search) (command : Command) (next : Next) (h' : Held D) (t' : Tier S M)
-      → SeekingRow store meta p h t b x side g before command (Goes next) h' t' → A
-  seeking_goes p h t b x side g before (Fetch offset limit) next h' t' w = elim w.0 [ ]
-  seeking_goes p h t b x side g before other next h' t' w = elim w [ ]
-
-  copying_sought : {A : Type 0} (h : Held D) (t : Tier S M) (b : ℕ) (x : Node D) (side : Side) (g : Begun) (copy : Copied) (before : Next) (command : Command) (next : Search) (h' : Held D) (t' : Tier S M)
-      → CopyingRow store meta h t b x side g copy before command (Sought next) h' t' → A
-  copying_sought h t b x side g copy before Copy next h' t' (inl lost, same) = let e = lost.1 in absurd (cc (e))
-  copying_sought h t b x side g copy before Copy next h' t' (inr (keeps, (turn, is, goes)), same) = copy_sought turn next is
-  copying_sought h t b x side g copy before command next h' t' w = elim w [ ]
-
-  copying_chose : {A : Type 0} (h : Held D) (t : Tier S M) (b : ℕ) (x : Node D) (side : Side) (g : Begun) (copy : Copied) (next : Next) (command : Command) (other : Copied) (h' : Held D) (t' : Tier S M)
-      → CopyingRow store meta h t b x side g copy next command (Chose other) h' t' → A
-  copying_chose h t b x side g copy next Copy other h' t' (inl lost, same) = let e = lost.1 in absurd (cc (e))
-  copying_chose h t b x side g copy next Copy other h' t' (inr (keeps, (turn, is, goes)), same) = copy_chose turn other is
-  copying_chose h t b x side g copy next command other h' t' w = elim w [ ]
 
   copying_goes : (h : Held D) (t : Tier S M) (b : ℕ) (x : Node D) (side : Side) (g : Begun) (copy : Copied) (before : Next) (command : Command) (next : Next) (h' : Held D) (t' : Tier S M)
       → CopyingRow store meta h t b x side g copy before command (Goes next) h' t' → taken_before before < taken_before next
@@ -236,29 +181,31 @@ module _ {D S M : Type 0} (disk : DiskGhosts D) (store : StoreGhosts S) (meta : 
       copy_advances store meta copy _ before next _ _ (rw one at goes.row)
   copying_goes h t b x side g copy before command next h' t' w = elim w [ ]
 
-  advances : (p : PartitionId) (keep : Keep) (h : Held D) (t : Tier S M) (b : ℕ) (x : Node D) (side : Side) (work : Work) (command : Command) (outcome : Outcome) (h' : Held D) (t' : Tier S M)
-      → ((f : Begun) → outcome ≡ Begins f → work ≡ Idle) → Row disk store meta p keep h t b x side work command outcome h' t' → Advances work outcome
-  advances p keep h t b x side work command (Answers answer) h' t' f w = tt
-  advances p keep h t b x side work command (Begins g) h' t' f w = let idle = f g refl in rw idle (omega arith)
-  advances p keep h t b x side Idle command (Chose copy) h' t' f w = begin_chose h t b x side command copy h' t' w
-  advances p keep h t b x side (Noted g) command (Chose copy) h' t' f w = omega arith
-  advances p keep h t b x side (Copies g c before) command (Chose copy) h' t' f w = copying_chose h t b x side g c before command copy h' t' w
-  advances p keep h t b x side (Seeks g before) command (Chose copy) h' t' f w = seeking_chose p h t b x side g before command copy h' t' w
-  advances p keep h t b x side Idle command (Goes next) h' t' f w = begin_goes h t b x side command next h' t' w
-  advances p keep h t b x side (Noted g) command (Goes next) h' t' f w = noted_goes p keep h t b x side g command next h' t' w
-  advances p keep h t b x side (Copies g c before) command (Goes next) h' t' f w = copying_goes h t b x side g c before command next h' t' w
-  advances p keep h t b x side (Seeks g before) command (Goes next) h' t' f w = seeking_goes p h t b x side g before command next h' t' w
-  advances p keep h t b x side Idle command (Sought next) h' t' f w = begin_sought h t b x side command next h' t' w
-  advances p keep h t b x side (Noted g) command (Sought next) h' t' f w = noted_sought p keep h t b x side g command next h' t' w
-  advances p keep h t b x side (Copies g c before) command (Sought next) h' t' f w = copying_sought h t b x side g c before command next h' t' w
-  advances p keep h t b x side (Seeks g before) command (Sought next) h' t' f w = seeking_sought p h t b x side g before command next h' t' w
+  deleting_deletes : (h : Held D) (t : Tier S M) (b : ℕ) (x : Node D) (g : Begun) (segment : Doomed) (before : Deletion) (command : Command) (next : Deletion) (h' : Held D) (t' : Tier S M)
+      → DeletingRow store meta h t b x g segment before command (Deletes next) h' t' → deleting_before before < deleting_before next
+  deleting_deletes h t b x g segment before Expire next h' t' (inl lost, same) = let e = lost.1 in absurd (cc (e))
+  deleting_deletes h t b x g segment before Expire next h' t' (inr (keeps, (turn, is, goes)), same) =
+      let one = expiry_goes turn next is in
+      expiry_advances store meta segment _ before next _ _ (rw one at goes.row)
+  deleting_deletes h t b x g segment before command next h' t' w = elim w [ ]
 
-  pub advances_at : (p : PartitionId) (keep : Keep) (h : Held D) (t : Tier S M) (b : ℕ) (work : Work) (command : Command) (outcome : Outcome) (h' : Held D) (t' : Tier S M)
-      → TurnRow disk store meta p keep h t b work command outcome h' t' → Advances work outcome
-  advances_at p keep h t b work command outcome h' t' w =
-      let r = row_of disk store meta p keep h t b work command outcome h' t' w in
-      advances p keep h t b r.x r.side work command outcome h' t'
-      (λ f is. begins_idle disk store meta p keep h t b work command f h' t' (subst (λ (o : Outcome). TurnRow disk store meta p keep h t b work command o h' t') is w)) r.row
+  advances : (p : PartitionId) (config : Config) (h : Held D) (t : Tier S M) (b : ℕ) (x : Node D) (side : Side) (work : Work) (command : Command) (outcome : Outcome) (h' : Held D) (t' : Tier S M)
+      → MayComeTo work outcome → Row disk store meta p config h t b x side work command outcome h' t' → Advances work outcome
+  advances p config h t b x side work command (Answers answer) h' t' may w = tt
+  advances p config h t b x side Idle command (Begins g) h' t' may w = omega arith
+  advances p config h t b x side (Noted g) command (Chose copy) h' t' may w = omega arith
+  advances p config h t b x side (Noted g) command (Sought next) h' t' may w = noted_sought p config h t b x side g command next h' t' w
+  advances p config h t b x side (Noted g) command (Dooms segment) h' t' may w = omega arith
+  advances p config h t b x side (Copies g c before) command (Goes next) h' t' may w = copying_goes h t b x side g c before command next h' t' w
+  advances p config h t b x side (Seeks g before) command (Sought next) h' t' may w = seeking_sought p h t b x side g before command next h' t' w
+  advances p config h t b x side (Expires g segment before) command (Deletes next) h' t' may w = deleting_deletes h t b x g segment before command next h' t' w
+  advances p config h t b x side work command outcome h' t' may w = elim may [ ]
+
+  pub advances_at : (p : PartitionId) (config : Config) (h : Held D) (t : Tier S M) (b : ℕ) (work : Work) (command : Command) (outcome : Outcome) (h' : Held D) (t' : Tier S M)
+      → TurnRow disk store meta p config h t b work command outcome h' t' → Advances work outcome
+  advances_at p config h t b work command outcome h' t' w =
+      let r = row_of disk store meta p config h t b work command outcome h' t' w in
+      advances p config h t b r.x r.side work command outcome h' t' (row_may disk store meta p config h t b r.x r.side work command outcome h' t' r.row) r.row
 
 -- a seat after a turn leaves a turn less
 of_less : (orders : List Order) (seat : Seat) (outcome : Outcome) → seat.number < length orders → Advances seat.work outcome → turns_of orders (seat_after seat outcome) + 1 ≤ turns_of orders seat
@@ -267,6 +214,8 @@ of_less orders seat (Begins g) lt on = omega (arith, lt, on)
 of_less orders seat (Chose copy) lt on = let few = few_taken (chosen seat.work copy) in omega (arith, lt, few, on)
 of_less orders seat (Goes next) lt on = let few = few_taken (moved seat.work next) in omega (arith, lt, few, on)
 of_less orders seat (Sought next) lt on = let few = few_taken (sought seat.work next) in omega (arith, lt, few, on)
+of_less orders seat (Dooms segment) lt on = let few = few_taken (doomed seat.work segment) in omega (arith, lt, few, on)
+of_less orders seat (Deletes next) lt on = let few = few_taken (deleting seat.work next) in omega (arith, lt, few, on)
 
 pub turns_less : (lists : List ActorList) (desk : List Seat) (i : ℕ) (l : ActorList) (seat : Seat) (outcome : Outcome) → slice_get lists i ≡ Some l → slice_get desk i ≡ Some seat
     → seat.number < length l.orders → Advances seat.work outcome → turns_left lists (slice_set desk i (seat_after seat outcome)) + 1 ≤ turns_left lists desk

@@ -12,13 +12,16 @@ use Rattle.copy_task.specs.Copying.{Copied}
 use Rattle.copy_task.specs.declared.turn.Next.{Next}
 use Rattle.tier_fetch.specs.declared.turn.FetchTurn.{FetchTurn}
 use Rattle.tier_fetch.specs.declared.turn.FetchTurn.TheVariants as fetch
+use Rattle.expiry_task.specs.declared.turn.Doomed.{Doomed}
+use Rattle.expiry_task.specs.declared.turn.Next.{Next as Deletion}
 use Rattle.tier_fetch.specs.declared.turn.Next.{Next as Search}
 use Rattle.tier_fetch.specs.declared.turn.Next.TheVariants.{Refresh}
-use Rattle.plain_log.specs.declared.answer.Answer.TheVariants.{Down, NotLeader, MetaFault, DiskFault, Damaged, Stopped, OutOfRange, Empty}
+use Rattle.plain_log.specs.declared.answer.Answer.{Answer}
+use Rattle.plain_log.specs.declared.answer.Answer.TheVariants.{Down, NotLeader, MetaFault, DiskFault, Damaged, Stopped, OutOfRange, Empty, Kept as Remains, StaleEpoch, Raised, OkAt}
 use Rattle.plain_log.specs.declared.answer.Place.TheVariants.{File}
 use Rattle.plain_log.specs.declared.command.ActorList.{ActorList}
 use Rattle.plain_log.specs.declared.command.Command.{Command}
-use Rattle.plain_log.specs.declared.command.Command.TheVariants.{Join, Copy, Trim, Fetch}
+use Rattle.plain_log.specs.declared.command.Command.TheVariants.{Join, Copy, Trim, Expire, Fetch, Raise}
 use Rattle.plain_log.specs.declared.command.Config.{Config}
 use Rattle.plain_log.specs.declared.command.Pace.{Pace}
 use Rattle.plain_log.specs.declared.command.Pace.TheVariants.{Until, Times}
@@ -30,30 +33,32 @@ use Rattle.partition_seen.specs.declared.begun.Turned.TheVariants as turned
 use Rattle.partition_seen.specs.Turn.{event_of}
 use Rattle.partition_turns.specs.declared.held.Node.{Node}
 use Rattle.partition_turns.specs.declared.held.Held.{Held}
-use Rattle.partition_turns.specs.Held.{line_of, IsCalm as IsCalmDisk}
+use Rattle.partition_turns.specs.Held.{is_up, line_of, IsCalm as IsCalmDisk}
 use Rattle.partition_turns.specs.Calm.{AreCalm, AreUnplanned, HasNoFault, AreFaultless}
 use Rattle.partition_turns.specs.Fresh.{IsArmed, AreFreshFrom}
 use Rattle.partition_turns.proofs.CalmRows.{lasting_calm, calm_fault, calm_get, calm_set, row_calm, HasNone}
 use Rattle.partition_world.specs.declared.tier.Side.{Side}
 use Rattle.partition_world.specs.declared.tier.Tier.{Tier}
 use Rattle.partition_world.specs.declared.seat.Outcome.{Outcome}
-use Rattle.partition_world.specs.declared.seat.Outcome.TheVariants.{Answers, Begins, Chose, Goes, Seeks as Sought}
+use Rattle.partition_world.specs.declared.seat.Outcome.TheVariants.{Answers, Begins, Chose, Goes, Seeks as Sought, Dooms, Deletes}
 use Rattle.partition_world.specs.declared.seat.Work.{Work}
-use Rattle.partition_world.specs.declared.seat.Work.TheVariants.{Idle, Noted, Copies, Seeks}
+use Rattle.partition_world.specs.declared.seat.Work.TheVariants.{Idle, Noted, Copies, Seeks, Expires}
 use Rattle.partition_world.specs.Calm.{IsCalm, IsUnplanned, IsUnfailing}
 use Rattle.partition_world.specs.Fresh.{IsFresh}
 use Rattle.partition_world.specs.Seats.{outcome_of, fetch_outcome, told_of}
 use Rattle.partition_world.specs.Turn.{IsTurn}
 use Rattle.partition_world.specs.TurnsOfCopy.{ReadsLog, ReadRow, CopyFirstRow, ChooseRow, tiers_of, teller_of}
 use Rattle.partition_world.specs.TurnsOfFetch.{FetchOnRow, GoesOnFetch, fetch_tiers, wanted_of}
+use Rattle.partition_world.specs.TurnsOfExpiry.{RaiseRow, ExpireOnRow, ExpiresBy, expiry_tiers}
 use Rattle.partition_world.specs.TurnsOfTrim.{TrimFirstRow, TrimOnRow}
-use Rattle.partition_world.specs.Turns.{BeginRow, NotedRow, CopyingRow, SeekingRow, Row}
+use Rattle.partition_world.specs.Turns.{BeginRow, NotedRow, CopyingRow, SeekingRow, DeletingRow, Row}
 use Rattle.partition_world.specs.Reaches.{Goes as GoesOnce, GoesTimes, GoesUntil, Paces, Reaches}
 use Rattle.partition_world.specs.Whole.{Whole}
 use Rattle.partition_world.proofs.Begins.{row_of}
 use Rattle.partition_world.proofs.Quiet.{IsQuiet, AreQuiet, call_calm, no_fault}
 use Rattle.partition_world.proofs.CopyCalm.{copy_calm}
 use Rattle.partition_world.proofs.FetchCalm.{fetch_calm}
+use Rattle.partition_world.proofs.ExpiryCalm.{expiry_calm}
 
 module _ {K : Type 0} {code : K → ℕ} where
   -- one whose empty plan comes in force stays so
@@ -114,6 +119,7 @@ module _ {D S M : Type 0} (disk : DiskGhosts D) (store : StoreGhosts S) (meta : 
       → BeginRow disk store meta h t b x side command outcome h' t' → Calmly h' t' outcome
   begin_calm h t b x side Copy outcome h' t' at c w = first_calm h t b x side outcome h' t' c w.1 w.0
   begin_calm h t b x side Trim outcome h' t' at c w = trim_calm h t b x side outcome h' t' c w.1 w.0
+  begin_calm h t b x side Expire outcome h' t' at c w = first_calm h t b x side outcome h' t' c w.1 w.0
   begin_calm h t b x side other outcome h' t' at c w =
       let k = row_calm disk.content disk.control h b x None other w.0.0 h' at c.held w.0.2 in
       (record { held = k.0; stores = rw w.1 c.stores }, rw w.0.1 (own_quiet w.0.0 k.1))
@@ -166,12 +172,37 @@ module _ {D S M : Type 0} (disk : DiskGhosts D) (store : StoreGhosts S) (meta : 
   seek_calm p h t b x side g offset limit next (Sought later) h' t' c same w = goes_calm p h t b x side offset limit next (fetch.Goes later) h' t' c same w.1
   seek_calm p h t b x side g offset limit next other h' t' c same w = elim w [ ]
 
-  noted_calm : (p : PartitionId) (keep : Keep) (h : Held D) (t : Tier S M) (b : ℕ) (x : Node D) (side : Side) (g : Begun) (command : Command) (outcome : Outcome) (h' : Held D) (t' : Tier S M) → slice_get h.nodes b ≡ Some x
-      → AreAllCalm h t → NotedRow disk store meta p keep h t b x side g command outcome h' t' → Calmly h' t' outcome
-  noted_calm p keep h t b x side g Copy outcome h' t' at c w = choose_calm p h t b x side g outcome h' t' at c w
-  noted_calm p keep h t b x side g Trim outcome h' t' at c w = trims_calm h t b x side g keep outcome h' t' at c w.0 w.1
-  noted_calm p keep h t b x side g (Fetch offset limit) outcome h' t' at c w = seek_calm p h t b x side g offset limit Refresh outcome h' t' c w.1 w.0
-  noted_calm p keep h t b x side g other outcome h' t' at c w =
+  -- and of an expiry, which raises the log start as the command does
+
+  raise_calm : (h : Held D) (t : Tier S M) (b : ℕ) (x : Node D) (start : ℕ) (answer : Answer) (h' : Held D) (t' : Tier S M) → slice_get h.nodes b ≡ Some x → is_up x ≡ true → AreAllCalm h t → t' ≡ t
+      → RaiseRow h x.role start answer h' → Calmly h' t' (Answers answer)
+  raise_calm h t b x start (StaleEpoch e) h' t' at up c same w =
+      let k = row_calm disk.content disk.control h b x None (Raise start) (turned.Answers (StaleEpoch e)) h' at c.held (up, w) in
+      (record { held = k.0; stores = rw same c.stores }, tt)
+  raise_calm h t b x start (Raised to) h' t' at up c same w =
+      let k = row_calm disk.content disk.control h b x None (Raise start) (turned.Answers (OkAt to)) h' at c.held (up, w) in
+      (record { held = k.0; stores = rw same c.stores }, tt)
+  raise_calm h t b x start other h' t' at up c same w = elim w [ ]
+
+  expires_calm : (p : PartitionId) (h : Held D) (t : Tier S M) (b : ℕ) (x : Node D) (side : Side) (keep : Keep) (outcome : Outcome) (h' : Held D) (t' : Tier S M) → slice_get h.nodes b ≡ Some x → is_up x ≡ true
+      → AreAllCalm h t → t' ≡ t → ExpiresBy p h x side keep outcome h' → Calmly h' t' outcome
+  expires_calm p h t b x side keep (Dooms segment) h' t' at up c same w = (same_calm h t h' t' w.stays same c, tt)
+  expires_calm p h t b x side keep (Answers Remains) h' t' at up c same w = (same_calm h t h' t' w.2 same c, tt)
+  expires_calm p h t b x side keep (Answers answer) h' t' at up c same w = raise_calm h t b x w.0 answer h' t' at up c same w.2
+  expires_calm p h t b x side keep other h' t' at up c same w = elim w [ ]
+
+  expire_calm : (p : PartitionId) (h : Held D) (t : Tier S M) (b : ℕ) (x : Node D) (side : Side) (g : Begun) (keep : Keep) (outcome : Outcome) (h' : Held D) (t' : Tier S M) → slice_get h.nodes b ≡ Some x
+      → AreAllCalm h t → t' ≡ t → ExpireOnRow p h x side g keep outcome h' → Calmly h' t' outcome
+  expire_calm p h t b x side g keep outcome h' t' at c same (inl lost) = (same_calm h t h' t' lost.2 same c, rw lost.1 tt)
+  expire_calm p h t b x side g keep outcome h' t' at c same (inr k) = expires_calm p h t b x side keep outcome h' t' at k.0.up c same k.1
+
+  noted_calm : (p : PartitionId) (config : Config) (h : Held D) (t : Tier S M) (b : ℕ) (x : Node D) (side : Side) (g : Begun) (command : Command) (outcome : Outcome) (h' : Held D) (t' : Tier S M) → slice_get h.nodes b ≡ Some x
+      → AreAllCalm h t → NotedRow disk store meta p config h t b x side g command outcome h' t' → Calmly h' t' outcome
+  noted_calm p config h t b x side g Copy outcome h' t' at c w = choose_calm p h t b x side g outcome h' t' at c w
+  noted_calm p config h t b x side g Trim outcome h' t' at c w = trims_calm h t b x side g config.local_keep outcome h' t' at c w.0 w.1
+  noted_calm p config h t b x side g Expire outcome h' t' at c w = expire_calm p h t b x side g config.keep outcome h' t' at c w.1 w.0
+  noted_calm p config h t b x side g (Fetch offset limit) outcome h' t' at c w = seek_calm p h t b x side g offset limit Refresh outcome h' t' c w.1 w.0
+  noted_calm p config h t b x side g other outcome h' t' at c w =
       let k = row_calm disk.content disk.control h b x (Some g) other (turned.Answers w.0.0) h' at c.held w.0.2 in
       (record { held = k.0; stores = rw w.1 c.stores }, rw w.0.1 k.1)
 
@@ -188,12 +219,21 @@ module _ {D S M : Type 0} (disk : DiskGhosts D) (store : StoreGhosts S) (meta : 
   seeking_calm p h t b x side g next (Fetch offset limit) outcome h' t' c w = seek_calm p h t b x side g offset limit next outcome h' t' c w.1 w.0
   seeking_calm p h t b x side g next other outcome h' t' c w = elim w [ ]
 
-  work_calm : (p : PartitionId) (keep : Keep) (h : Held D) (t : Tier S M) (b : ℕ) (x : Node D) (side : Side) (work : Work) (command : Command) (outcome : Outcome) (h' : Held D) (t' : Tier S M)
-      → slice_get h.nodes b ≡ Some x → AreAllCalm h t → Row disk store meta p keep h t b x side work command outcome h' t' → Calmly h' t' outcome
-  work_calm p keep h t b x side Idle command outcome h' t' at c w = begin_calm h t b x side command outcome h' t' at c w
-  work_calm p keep h t b x side (Noted g) command outcome h' t' at c w = noted_calm p keep h t b x side g command outcome h' t' at c w
-  work_calm p keep h t b x side (Copies g copy next) command outcome h' t' at c w = copying_calm h t b x side g copy next command outcome h' t' c w
-  work_calm p keep h t b x side (Seeks g next) command outcome h' t' at c w = seeking_calm p h t b x side g next command outcome h' t' c w
+  deleting_calm : (h : Held D) (t : Tier S M) (b : ℕ) (x : Node D) (g : Begun) (segment : Doomed) (next : Deletion) (command : Command) (outcome : Outcome) (h' : Held D) (t' : Tier S M)
+      → AreAllCalm h t → DeletingRow store meta h t b x g segment next command outcome h' t' → Calmly h' t' outcome
+  deleting_calm h t b x g segment next Expire outcome h' t' c (inl lost, same) = (same_calm h t h' t' same lost.2 c, rw lost.1 tt)
+  deleting_calm h t b x g segment next Expire outcome h' t' c (inr (keeps, (turn, is, goes)), same) =
+      let k = expiry_calm store meta segment (teller_of h b) next turn (expiry_tiers t) (expiry_tiers t') goes.row c.stores in
+      (record { held = rw same c.held; stores = k.0 }, rw is k.1)
+  deleting_calm h t b x g segment next other outcome h' t' c w = elim w [ ]
+
+  work_calm : (p : PartitionId) (config : Config) (h : Held D) (t : Tier S M) (b : ℕ) (x : Node D) (side : Side) (work : Work) (command : Command) (outcome : Outcome) (h' : Held D) (t' : Tier S M)
+      → slice_get h.nodes b ≡ Some x → AreAllCalm h t → Row disk store meta p config h t b x side work command outcome h' t' → Calmly h' t' outcome
+  work_calm p config h t b x side Idle command outcome h' t' at c w = begin_calm h t b x side command outcome h' t' at c w
+  work_calm p config h t b x side (Noted g) command outcome h' t' at c w = noted_calm p config h t b x side g command outcome h' t' at c w
+  work_calm p config h t b x side (Copies g copy next) command outcome h' t' at c w = copying_calm h t b x side g copy next command outcome h' t' c w
+  work_calm p config h t b x side (Seeks g next) command outcome h' t' at c w = seeking_calm p h t b x side g next command outcome h' t' c w
+  work_calm p config h t b x side (Expires g segment next) command outcome h' t' at c w = deleting_calm h t b x g segment next command outcome h' t' c w
 
   -- the journal
 
@@ -211,8 +251,8 @@ module _ {D S M : Type 0} (disk : DiskGhosts D) (store : StoreGhosts S) (meta : 
 
   turn_unfailing : (w : Whole D S M) (a : ℕ) (outcome : Outcome) (w' : Whole D S M) → IsTurn disk store meta w a outcome w' → IsUnfailing disk store meta w → IsUnfailing disk store meta w'
   turn_unfailing w a outcome w' t u =
-      let r = row_of disk store meta w.partition w.config.local_keep w.held w.tier t.order.broker.0 t.seat.work t.order.command outcome w'.held w'.tier t.row in
-      let k = work_calm w.partition w.config.local_keep w.held w.tier t.order.broker.0 r.x r.side t.seat.work t.order.command outcome w'.held w'.tier r.at (record { held = u.calm; stores = (u.store_calm, u.meta_calm) }) r.row in
+      let r = row_of disk store meta w.partition w.config w.held w.tier t.order.broker.0 t.seat.work t.order.command outcome w'.held w'.tier t.row in
+      let k = work_calm w.partition w.config w.held w.tier t.order.broker.0 r.x r.side t.seat.work t.order.command outcome w'.held w'.tier r.at (record { held = u.calm; stores = (u.store_calm, u.meta_calm) }) r.row in
       record { calm = k.0.held; store_calm = k.0.stores.0; meta_calm = k.0.stores.1; journal = subst AreFaultless (sym t.entered) (told outcome k.1) }
     where
       told : (o : Outcome) → IsQuiet o → AreFaultless (w.journal.items ++ told_of t.list.actor t.seat.number t.order.command o)
@@ -221,6 +261,8 @@ module _ {D S M : Type 0} (disk : DiskGhosts D) (store : StoreGhosts S) (meta : 
       told (Chose copy) q = faultless_same w.journal.items u.journal
       told (Goes next) q = faultless_same w.journal.items u.journal
       told (Sought next) q = faultless_same w.journal.items u.journal
+      told (Dooms segment) q = faultless_same w.journal.items u.journal
+      told (Deletes next) q = faultless_same w.journal.items u.journal
 
   same_unfailing : (w w' : Whole D S M) → w' ≡ w → IsUnfailing disk store meta w → IsUnfailing disk store meta w'
   same_unfailing w w' is u = subst (IsUnfailing disk store meta) (sym is) u

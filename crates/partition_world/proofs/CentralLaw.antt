@@ -9,9 +9,10 @@ use Rattle.registry.specs.declared.registry.Registry.{Registry}
 use Rattle.registry.specs.declared.registry.Replica.{Replica}
 use Rattle.log_terms.proofs.Lists.{look, within}
 use Rattle.plain_log.specs.declared.answer.Answer.{Answer}
+use Rattle.plain_log.specs.declared.answer.Answer.TheVariants.{Kept, StaleEpoch, Raised}
 use Rattle.plain_log.specs.declared.command.ActorList.{ActorList}
 use Rattle.plain_log.specs.declared.command.Command.{Command}
-use Rattle.plain_log.specs.declared.command.Command.TheVariants.{Follow, Join, Trim, Copy, Fetch}
+use Rattle.plain_log.specs.declared.command.Command.TheVariants.{Follow, Join, Trim, Copy, Expire, Fetch}
 use Rattle.plain_log.specs.declared.command.Order.{Order}
 use Rattle.plain_log.specs.declared.state.Actor.{Actor}
 use Rattle.plain_log.specs.declared.state.Broker.{Broker}
@@ -52,10 +53,10 @@ use Rattle.tier_safe.specs.Scene.{Scene, Work as WorkSeen, Free}
 use Rattle.tier_safe.specs.May.{IsChanged}
 use Rattle.tier_safe.proofs.Turning.{halts, copy_dry}
 use Rattle.partition_world.specs.declared.seat.Outcome.{Outcome}
-use Rattle.partition_world.specs.declared.seat.Outcome.TheVariants.{Answers}
+use Rattle.partition_world.specs.declared.seat.Outcome.TheVariants.{Answers, Dooms}
 use Rattle.partition_world.specs.declared.seat.Seat.{Seat}
 use Rattle.partition_world.specs.declared.seat.Work.{Work}
-use Rattle.partition_world.specs.declared.seat.Work.TheVariants.{Idle, Noted, Copies, Seeks}
+use Rattle.partition_world.specs.declared.seat.Work.TheVariants.{Idle, Noted, Copies, Seeks, Expires}
 use Rattle.partition_world.specs.declared.tier.Side.{Side}
 use Rattle.partition_world.specs.declared.tier.Tier.{Tier}
 use Rattle.partition_world.specs.Seats.{noted_in, outcome_of, seat_after, seat_seen, desk_seen}
@@ -83,10 +84,14 @@ use Rattle.partition_world.specs.Central.{begun_of, seeks_of}
 use Rattle.partition_world.specs.Tier.{AtSide}
 use Rattle.partition_world.specs.TurnsOfFetch.{wanted_of, fetch_tiers}
 use Rattle.partition_world.specs.TurnsOfTrim.{TrimOnRow}
+use Rattle.partition_world.specs.TurnsOfCopy.{KeepsLead}
+use Rattle.partition_world.specs.TurnsOfExpiry.{ExpiresBy, ExpireOnRow, expiry_tiers}
+use Rattle.partition_world.proofs.ExpiryCentral.{expire_first, expire_lost, expire_kept, expire_stale, raise_seen, dooms, deletes}
+use Rattle.partition_world.proofs.ExpiryEnds.{expiry_dry}
 use Rattle.partition_world.proofs.FetchCentral.{fetch_asks, fetch_on}
 use Rattle.partition_world.proofs.FetchEnds.{Dries, fetch_dry}
 use Rattle.partition_world.proofs.LineTells.{line_tells, right_view}
-use Rattle.partition_world.proofs.Scenes.{site_is, stayed}
+use Rattle.partition_world.proofs.Scenes.{site_is, same_sides, stayed}
 use Rattle.partition_world.proofs.TrimCentral.{trim_first, trim_shown, trim_owes_on}
 
 -- the leader is a node
@@ -264,6 +269,29 @@ module _ {D S M : Type 0} (disk : DiskGhosts D) (store : StoreGhosts S) (meta : 
         same (works_at (Noted g) noted (subst (λ (k : Command). KeepsWork t.order.broker.0 k (Some g) (begun_of t.order.broker.0 g k)) (sym is) refl)) (owes_at Trim is r.after owes)
     trims_on is g noted other said row same = elim row [ ]
 
+    -- the second turn of an expiry
+    expires_by : t.order.command ≡ Expire → (g : Begun) → t.seat.work ≡ Noted g → KeepsLead z.x g → (o : Outcome) → outcome ≡ o → ExpiresBy w.partition w.held z.x z.side w.config.keep o w'.held → w'.tier ≡ w.tier
+        → IsCentral disk store meta opening w'
+    expires_by is g noted keeps (Dooms segment) said row same = dooms disk store meta opening w a outcome w' t c z is g segment noted said row same
+    expires_by is g noted keeps (Answers Kept) said row same = expire_kept disk store meta opening w a outcome w' t c z is g noted said keeps same row.2
+    expires_by is g noted keeps (Answers (StaleEpoch n)) said row same = expire_stale disk store meta opening w a outcome w' t c z is g noted n said keeps same row.0 row.2
+    expires_by is g noted keeps (Answers (Raised start)) said row same =
+        let r = raise_seen disk store meta opening w a outcome w' t c z is g start row.0 keeps row.2 in
+        own_refined (turned.Answers (Raised start)) said (seat_answered (Raised start))
+        (record {
+          after = r.after;
+          held = r.held;
+          row = subst (λ (k : Command). seen_rows.Row c.partition t.order.broker.0 y (noted_in t.seat.work) k (turned.Answers (Raised start)) r.after) (sym is)
+              (subst (λ (k : Work). seen_rows.Row c.partition t.order.broker.0 y (noted_in k) Expire (turned.Answers (Raised start)) r.after) (sym noted) r.row);
+        })
+        same (works_at (Noted g) noted (subst (λ (k : Command). KeepsWork t.order.broker.0 k (Some g) (begun_of t.order.broker.0 g k)) (sym is) refl)) (owes_at Expire is r.after tt)
+    expires_by is g noted keeps (Answers answer) said row same = elim row.2 [ ]
+    expires_by is g noted keeps other said row same = elim row [ ]
+
+    expires_on : t.order.command ≡ Expire → (g : Begun) → t.seat.work ≡ Noted g → ExpireOnRow w.partition w.held z.x z.side g w.config.keep outcome w'.held → w'.tier ≡ w.tier → IsCentral disk store meta opening w'
+    expires_on is g noted (inl lost) same = expire_lost disk store meta opening w a outcome w' t c z is g noted lost.1 lost.0 same lost.2
+    expires_on is g noted (inr k) same = expires_by is g noted k.0 outcome refl k.1 same
+
     -- the first turn of a fetch
     fetch_first : (offset limit : ℕ) → t.order.command ≡ Fetch offset limit → t.seat.work ≡ Idle → (turn : Turned) → outcome ≡ outcome_of turn
         → turns.FirstRow disk.content disk.control w.held t.order.broker.0 z.x (Fetch offset limit) turn w'.held → w'.tier ≡ w.tier → IsCentral disk store meta opening w'
@@ -274,12 +302,18 @@ module _ {D S M : Type 0} (disk : DiskGhosts D) (store : StoreGhosts S) (meta : 
 
     -- a turn of any command
     by_command : (command : Command) → t.order.command ≡ command → (work : Work) → t.seat.work ≡ work
-        → Row disk store meta w.partition w.config.local_keep w.held w.tier t.order.broker.0 z.x z.side work command outcome w'.held w'.tier → IsCentral disk store meta opening w'
+        → Row disk store meta w.partition w.config w.held w.tier t.order.broker.0 z.x z.side work command outcome w'.held w'.tier → IsCentral disk store meta opening w'
     by_command Copy is work keeps row = copy_central disk store meta opening w a outcome w' t c z is work keeps row
     by_command Trim is Idle keeps row = trim_first disk store meta opening w a outcome w' t c z is keeps outcome refl row.0 row.1
     by_command Trim is (Noted g) keeps row = trims_on is g keeps outcome refl row.0 row.1
     by_command Trim is (Copies g copy next) keeps row = absurd row
     by_command Trim is (Seeks g next) keeps row = absurd row
+    by_command Trim is (Expires g segment next) keeps row = absurd row
+    by_command Expire is Idle keeps row = expire_first disk store meta opening w a outcome w' t c z is keeps outcome refl row.0 row.1
+    by_command Expire is (Noted g) keeps row = expires_on is g keeps row.0 row.1
+    by_command Expire is (Copies g copy next) keeps row = absurd row
+    by_command Expire is (Seeks g next) keeps row = absurd row
+    by_command Expire is (Expires g segment next) keeps row = deletes disk store meta opening w a outcome w' t c z is g segment next keeps row.0 row.1
     by_command (Fetch offset limit) is Idle keeps row = fetch_first offset limit is keeps row.0.0 row.0.1 row.0.2 row.1
     by_command (Fetch offset limit) is (Noted g) keeps row =
         fetch_on disk store meta opening w a outcome w' t c z offset limit is (Noted g) keeps g refl Refresh
@@ -287,6 +321,7 @@ module _ {D S M : Type 0} (disk : DiskGhosts D) (store : StoreGhosts S) (meta : 
     by_command (Fetch offset limit) is (Copies g copy next) keeps row = absurd row
     by_command (Fetch offset limit) is (Seeks g next) keeps row =
         fetch_on disk store meta opening w a outcome w' t c z offset limit is (Seeks g next) keeps g refl next refl (λ later. refl) outcome refl row.0 row.1
+    by_command (Fetch offset limit) is (Expires g segment next) keeps row = absurd row
     by_command command is Idle keeps row =
         own_central row.0.0 row.0.1 (seat_own (subst IsOwn (sym is) tt) row.0.0) (row_at command is Idle keeps row.0.0 row.0.2) row.1 (works_at Idle keeps (keeps_none t.order.broker.0 t.order.command))
         (λ h'. owes_at command is h' tt)
@@ -295,11 +330,12 @@ module _ {D S M : Type 0} (disk : DiskGhosts D) (store : StoreGhosts S) (meta : 
         (works_at (Noted g) keeps (begun_keeps t.order.broker.0 t.order.command g (subst IsOwn (sym is) tt))) (λ h'. owes_at command is h' tt)
     by_command command is (Copies g copy next) keeps row = elim row [ ]
     by_command command is (Seeks g next) keeps row = elim row [ ]
+    by_command command is (Expires g segment next) keeps row = elim row [ ]
 
   -- a turn keeps the central fact
   pub turn_central : (opening : State) (w : Whole D S M) (a : ℕ) (outcome : Outcome) (w' : Whole D S M) → IsTurn disk store meta w a outcome w' → IsCentral disk store meta opening w → IsCentral disk store meta opening w'
   turn_central opening w a outcome w' t c =
-      let r = row_of disk store meta w.partition w.config.local_keep w.held w.tier t.order.broker.0 t.seat.work t.order.command outcome w'.held w'.tier t.row in
+      let r = row_of disk store meta w.partition w.config w.held w.tier t.order.broker.0 t.seat.work t.order.command outcome w'.held w'.tier t.row in
       by_command opening w a outcome w' t c
       (place_of disk store meta opening w c t.place t.list t.seat t.order t.at.list t.at.seat_is t.next r.x r.at r.side r.side_at) t.order.command refl t.seat.work refl r.row
 
@@ -388,7 +424,15 @@ module _ {D S M : Type 0} (disk : DiskGhosts D) (store : StoreGhosts S) (meta : 
         (shows_kept disk store meta opening w c s.place s.list s.seat s.order z w' (store.content w'.tier.store).objects (meta.content w'.tier.meta).notes k.view same_part same_lists same_desk
         (ap (λ (u : Tier S M). u.sides) k.after)
         (dry_tells store meta copy (teller_of w.held s.order.broker.0) next k.error (tiers_of z.side.view w.tier) (tiers_of k.view w'.tier) k.row) refl refl)
-    halted z same (inr (inr (p, offset, limit, next, k))) =
+    halted z same (inr (inr (inr (segment, next, k)))) =
+        let d = expiry_dry store meta segment (teller_of w.held s.order.broker.0) next k.error (expiry_tiers w.tier) (expiry_tiers w'.tier) k.row in
+        waits (subst (λ (h : Held D). ShowsHeld disk.content h c.partition) (sym same) c.shows)
+        (scene_after disk store meta opening w c s.place s.list s.seat s.order z (work_of (Some s.order) s.seat.work) c.scene.objects c.scene.notes z.side.view)
+        (stayed disk store meta opening w c s.place s.list s.seat s.order z)
+        (shows_kept disk store meta opening w c s.place s.list s.seat s.order z w' c.scene.objects c.scene.notes z.side.view same_part same_lists same_desk
+        (ap (λ (u : Tier S M). u.sides) k.after ∙ same_sides disk store meta opening w c s.place s.list s.seat s.order z)
+        (ap (λ (u : S). (store.content u).tells) d.store_is, d.tells) (c.shows_tier.objects ∙ sym (ap (λ (u : S). (store.content u).objects) d.store_is)) (c.shows_tier.notes ∙ sym (d.notes c.shows_tier.meta_tells)))
+    halted z same (inr (inr (inl (p, offset, limit, next, k)))) =
         let d = fetch_dry store meta (wanted_of p z.x offset limit) (line_of z.x) next k.error (fetch_tiers z.side.view z.side.cache w.tier) (fetch_tiers k.view k.cache w'.tier) k.row in
         dried z same (ap (λ (u : Tier S M). u.sides) k.after) d
 

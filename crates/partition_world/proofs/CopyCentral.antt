@@ -39,7 +39,7 @@ use Rattle.tier_safe.proofs.Turning.{refreshes, copy_turns}
 use Rattle.partition_world.specs.declared.seat.Outcome.{Outcome}
 use Rattle.partition_world.specs.declared.seat.Outcome.TheVariants.{Answers, Begins, Chose}
 use Rattle.partition_world.specs.declared.seat.Work.{Work}
-use Rattle.partition_world.specs.declared.seat.Work.TheVariants.{Idle, Noted, Copies, Seeks}
+use Rattle.partition_world.specs.declared.seat.Work.TheVariants.{Idle, Noted, Copies, Seeks, Expires}
 use Rattle.partition_world.specs.declared.tier.Side.{Side}
 use Rattle.partition_world.specs.declared.tier.Tier.{Tier}
 use Rattle.partition_world.specs.Seats.{noted_in, moved, outcome_of, copy_outcome, seat_after, seat_seen, desk_seen, told_of}
@@ -157,8 +157,9 @@ module _ {D S M : Type 0} (disk : DiskGhosts D) (store : StoreGhosts S) (meta : 
     later g copy next works (inr (keeps, (turn, is, goes))) same = copies_on g copy next works keeps turn is goes same
 
     -- any turn of a copy
-    pub copy_central : (work : Work) → t.seat.work ≡ work → Row disk store meta w.partition w.config.local_keep w.held w.tier t.order.broker.0 z.x z.side work Copy outcome w'.held w'.tier → IsCentral disk store meta opening w'
+    pub copy_central : (work : Work) → t.seat.work ≡ work → Row disk store meta w.partition w.config w.held w.tier t.order.broker.0 z.x z.side work Copy outcome w'.held w'.tier → IsCentral disk store meta opening w'
     copy_central Idle is row = first is outcome refl row.0 row.1
     copy_central (Noted g) is row = second g is row
     copy_central (Copies g copy next) is row = later g copy next is row.0 row.1
     copy_central (Seeks g next) is row = absurd row
+    copy_central (Expires g segment next) is row = absurd row

@@ -30,13 +30,13 @@ use Rattle.partition_world.specs.Reaches.{Goes as GoesOnce, GoesTimes, GoesUntil
 use Rattle.partition_world.specs.Turn.{IsTurn}
 use Rattle.partition_world.specs.Whole.{Whole}
 use Rattle.partition_world.specs.declared.seat.Outcome.{Outcome}
-use Rattle.partition_world.specs.declared.seat.Outcome.TheVariants.{Answers, Begins, Chose, Goes, Seeks}
+use Rattle.partition_world.specs.declared.seat.Outcome.TheVariants.{Answers, Begins, Chose, Goes, Seeks, Dooms, Deletes}
 use Rattle.partition_world.specs.declared.seat.Seat.{Seat}
 use Rattle.partition_world.specs.declared.seat.Work.TheVariants.{Idle}
 use Rattle.partition_world.specs.Seats.{seat_after, told_of, noted_in}
 use Rattle.partition_world.specs.Turns.{TurnRow}
 use Rattle.partition_world.proofs.Begins.{begins_idle}
-use Rattle.partition_world.proofs.WorldSound.{chosen_seen, moved_seen, sought_seen}
+use Rattle.partition_world.proofs.WorldSound.{chosen_seen, moved_seen, sought_seen, doomed_seen, deleting_seen}
 use Rattle.partition_turns.proofs.Shown.{some_at}
 
 -- the entries lead from the n-th command, which has begun or not, to the m-th one, which has or not
@@ -104,6 +104,8 @@ enters actor seat command (Begins g) idle =
 enters actor seat command (Chose copy) idle = inr (record { told = refl; number = refl; going = ap (λ (o : Option Begun). is_some o) (chosen_seen seat.work copy) })
 enters actor seat command (Goes next) idle = inr (record { told = refl; number = refl; going = ap (λ (o : Option Begun). is_some o) (moved_seen seat.work next) })
 enters actor seat command (Seeks next) idle = inr (record { told = refl; number = refl; going = ap (λ (o : Option Begun). is_some o) (sought_seen seat.work next) })
+enters actor seat command (Dooms segment) idle = inr (record { told = refl; number = refl; going = ap (λ (o : Option Begun). is_some o) (doomed_seen seat.work segment) })
+enters actor seat command (Deletes next) idle = inr (record { told = refl; number = refl; going = ap (λ (o : Option Begun). is_some o) (deleting_seen seat.work next) })
 
 -- each actor's entries lead to its seat; one without orders has none
 record IsOrderly {D S M : Type 0} (w : Whole D S M) : Type 0 where
@@ -128,8 +130,8 @@ module _ {D S M : Type 0} (disk : DiskGhosts D) (store : StoreGhosts S) (meta : 
     where
       idle : (g : Begun) → outcome ≡ Begins g → t.seat.work ≡ Idle
       idle g is =
-          begins_idle disk store meta w.partition w.config.local_keep w.held w.tier t.order.broker.0 t.seat.work t.order.command g w'.held w'.tier
-          (subst (λ (k : Outcome). TurnRow disk store meta w.partition w.config.local_keep w.held w.tier t.order.broker.0 t.seat.work t.order.command k w'.held w'.tier) is t.row)
+          begins_idle disk store meta w.partition w.config w.held w.tier t.order.broker.0 t.seat.work t.order.command g w'.held w'.tier
+          (subst (λ (k : Outcome). TurnRow disk store meta w.partition w.config w.held w.tier t.order.broker.0 t.seat.work t.order.command k w'.held w'.tier) is t.row)
 
       was : LeadTo (length t.list.orders) 0 false (entries_of t.list.actor.0 w.journal.items) t.seat.number (is_going t.seat)
       was = o.each t.place t.list t.seat t.at.list t.at.seat_is

@@ -10,7 +10,7 @@ use Rattle.object_store.specs.declared.store.Store.{Ghosts as StoreGhosts}
 use Rattle.meta_log.specs.declared.log.MetaLog.{Ghosts as MetaGhosts}
 use Rattle.partition_world.specs.Whole.{Whole}
 use Rattle.partition_world.specs.declared.seat.Outcome.{Outcome}
-use Rattle.partition_world.specs.declared.seat.Outcome.TheVariants.{Answers, Begins, Chose, Goes, Seeks}
+use Rattle.partition_world.specs.declared.seat.Outcome.TheVariants.{Answers, Begins, Chose, Goes, Seeks, Dooms, Deletes}
 use Rattle.partition_world.specs.declared.seat.Seat.{Seat}
 use Rattle.partition_world.specs.Seats.{seat_after}
 use Rattle.partition_world.specs.Turn.{IsTurn, IsAtEnd, StaysWhole, Steps}
@@ -38,6 +38,8 @@ module _ {D S M : Type 0} (disk : DiskGhosts D) (store : StoreGhosts S) (meta : 
   number_after seat (Chose copy) = omega arith
   number_after seat (Goes next) = omega arith
   number_after seat (Seeks next) = omega arith
+  number_after seat (Dooms segment) = omega arith
+  number_after seat (Deletes next) = omega arith
 
   turn_ends : (w : Whole D S M) (a : ℕ) (outcome : Outcome) (w' : Whole D S M) → IsTurn disk store meta w a outcome w' → (b : ℕ) → IsAtEnd w b → IsAtEnd w' b
   turn_ends w a outcome w' t b e = λ place l seat s.
@@ -82,7 +84,7 @@ module _ {D S M : Type 0} (disk : DiskGhosts D) (store : StoreGhosts S) (meta : 
   -- a turn leaves a turn less
   pub turn_left : (w : Whole D S M) (a : ℕ) (outcome : Outcome) (w' : Whole D S M) → IsTurn disk store meta w a outcome w' → turns_left w'.lists w'.desk < turns_left w.lists w.desk
   turn_left w a outcome w' t =
-      let on = advances_at disk store meta w.partition w.config.local_keep w.held w.tier t.order.broker.0 t.seat.work t.order.command outcome w'.held w'.tier t.row in
+      let on = advances_at disk store meta w.partition w.config w.held w.tier t.order.broker.0 t.seat.work t.order.command outcome w'.held w'.tier t.row in
       let less = turns_less w.lists w.desk t.place t.list t.seat outcome t.at.list t.at.seat_is (within t.list.orders t.seat.number t.order t.next) on in
       rw (t.lists, t.desk) (omega (arith, less))
 

@@ -4,6 +4,7 @@ pub mod Dispatch
 pub mod Begins
 pub mod Works
 pub mod FetchAdvances
+pub mod ExpiryAdvances
 pub mod Advancing
 pub mod TurnSound
 pub mod WorldSound
@@ -15,12 +16,14 @@ pub mod InTurnLaw
 pub mod Quiet
 pub mod CopyCalm
 pub mod FetchCalm
+pub mod ExpiryCalm
 pub mod CalmLaw
 pub mod Chains
 pub mod FreshLaw
 pub mod SceneParts
 pub mod Entered
 pub mod CopyEnds
+pub mod ExpiryEnds
 pub mod NotesTold
 pub mod NotesLeft
 pub mod Scenes
@@ -32,3 +35,4 @@ pub mod TrimCentral
 pub mod FetchEnds
 pub mod FetchTurns
 pub mod FetchCentral
+pub mod ExpiryCentral

@@ -4,16 +4,18 @@ use Rattle.disk_model.specs.declared.disk.Disk.{Ghosts as DiskGhosts}
 use Rattle.object_store.specs.declared.store.Store.{Ghosts as StoreGhosts}
 use Rattle.meta_log.specs.declared.log.MetaLog.{Ghosts as MetaGhosts}
 use Rattle.tier_base.specs.declared.names.PartitionId.{PartitionId}
-use Rattle.tier_base.specs.declared.plain.Keep.{Keep}
 use Rattle.copy_task.specs.Copying.{Copied}
 use Rattle.copy_task.specs.declared.turn.Next.{Next}
+use Rattle.expiry_task.specs.declared.turn.Doomed.{Doomed}
+use Rattle.expiry_task.specs.declared.turn.Next.{Next as Deletion}
 use Rattle.tier_fetch.specs.declared.turn.FetchTurn.{FetchTurn}
 use Rattle.tier_fetch.specs.declared.turn.Next.{Next as Search}
 use Rattle.tier_fetch.specs.declared.turn.Next.TheVariants.{Refresh}
 use Rattle.plain_log.specs.declared.answer.Answer.TheVariants.{Down, NotLeader, MetaFault, Stopped, OutOfRange, Empty}
 use Rattle.plain_log.specs.declared.command.ActorList.{ActorList}
 use Rattle.plain_log.specs.declared.command.Command.{Command}
-use Rattle.plain_log.specs.declared.command.Command.TheVariants.{Copy, Trim, Fetch}
+use Rattle.plain_log.specs.declared.command.Command.TheVariants.{Copy, Trim, Expire, Fetch}
+use Rattle.plain_log.specs.declared.command.Config.{Config}
 use Rattle.partition_seen.specs.declared.begun.Begun.{Begun}
 use Rattle.partition_seen.proofs.BoolTests.{some_of}
 use Rattle.partition_turns.specs.declared.held.Node.{Node}
@@ -22,21 +24,22 @@ use Rattle.partition_turns.specs.Held.{line_of}
 use Rattle.partition_world.specs.declared.tier.Side.{Side}
 use Rattle.partition_world.specs.declared.tier.Tier.{Tier}
 use Rattle.partition_world.specs.declared.seat.Outcome.{Outcome}
-use Rattle.partition_world.specs.declared.seat.Outcome.TheVariants.{Answers, Begins, Chose, Goes, Seeks as Sought}
+use Rattle.partition_world.specs.declared.seat.Outcome.TheVariants.{Answers, Begins, Chose, Goes, Seeks as Sought, Dooms, Deletes}
 use Rattle.partition_world.specs.declared.seat.Seat.{Seat}
 use Rattle.partition_world.specs.declared.seat.Work.{Work}
-use Rattle.partition_world.specs.declared.seat.Work.TheVariants.{Idle, Noted, Copies, Seeks}
+use Rattle.partition_world.specs.declared.seat.Work.TheVariants.{Idle, Noted, Copies, Seeks, Expires}
 use Rattle.partition_world.specs.Central.{told_by, notes_left}
-use Rattle.partition_world.specs.Seats.{chosen, moved, sought, seat_after}
+use Rattle.partition_world.specs.Seats.{chosen, moved, sought, doomed, deleting, seat_after}
 use Rattle.partition_world.specs.Turn.{IsTurn, StaysWhole}
 use Rattle.partition_world.specs.Tier.{AtSide}
 use Rattle.partition_world.specs.TurnsOfCopy.{CopyFirstRow, ChooseRow, tiers_of, teller_of}
 use Rattle.partition_world.specs.TurnsOfFetch.{FetchOnRow, GoesOnFetch, fetch_tiers, wanted_of}
 use Rattle.partition_world.specs.TurnsOfTrim.{TrimFirstRow}
-use Rattle.partition_world.specs.Turns.{BeginRow, NotedRow, CopyingRow, SeekingRow, Row, HaltsTier, StaysTier}
+use Rattle.partition_world.specs.TurnsOfExpiry.{expiry_tiers}
+use Rattle.partition_world.specs.Turns.{BeginRow, NotedRow, CopyingRow, SeekingRow, DeletingRow, Row, HaltsTier, StaysTier}
 use Rattle.partition_world.specs.Whole.{Whole}
 use Rattle.partition_world.proofs.Begins.{row_of}
-use Rattle.partition_world.proofs.NotesTold.{told_after, few_told, count, keeps_count, same_count, copy_told, copy_wants, fetch_count, fetch_wants, turn_told}
+use Rattle.partition_world.proofs.NotesTold.{told_after, few_told, count, keeps_count, same_count, copy_told, copy_wants, fetch_count, fetch_wants, expiry_told, expiry_wants, turn_told, deletes_told}
 
 module _ {D S M : Type 0} (disk : DiskGhosts D) (store : StoreGhosts S) (meta : MetaGhosts M) where
   first_count : (h : Held D) (t : Tier S M) (b : ℕ) (x : Node D) (side : Side) (outcome : Outcome) (t' : Tier S M) → CopyFirstRow meta h t b x side outcome t' → count meta t'.meta ≤ count meta t.meta
@@ -56,6 +59,7 @@ module _ {D S M : Type 0} (disk : DiskGhosts D) (store : StoreGhosts S) (meta : 
       → BeginRow disk store meta h t b x side command outcome h' t' → count meta t'.meta ≤ count meta t.meta
   begin_count h t b x side Copy outcome h' t' w = first_count h t b x side outcome t' w.0
   begin_count h t b x side Trim outcome h' t' w = trim_count h t b x side outcome t' w.0
+  begin_count h t b x side Expire outcome h' t' w = first_count h t b x side outcome t' w.0
   begin_count h t b x side other outcome h' t' w = same_count meta t.meta t'.meta (ap (λ (k : Tier S M). k.meta) w.1)
 
   choose_count : (p : PartitionId) (h : Held D) (t : Tier S M) (b : ℕ) (x : Node D) (side : Side) (g : Begun) (outcome : Outcome) (h' : Held D) (t' : Tier S M)
@@ -79,12 +83,13 @@ module _ {D S M : Type 0} (disk : DiskGhosts D) (store : StoreGhosts S) (meta : 
   seek_count p h t b x side g offset limit next (Sought later) t' w = goes_count p t b x side offset limit next _ t' w.1
   seek_count p h t b x side g offset limit next other t' w = elim w [ ]
 
-  noted_count : (p : PartitionId) (keep : Keep) (h : Held D) (t : Tier S M) (b : ℕ) (x : Node D) (side : Side) (g : Begun) (command : Command) (outcome : Outcome) (h' : Held D) (t' : Tier S M)
-      → NotedRow disk store meta p keep h t b x side g command outcome h' t' → count meta t'.meta ≤ count meta t.meta
-  noted_count p keep h t b x side g Copy outcome h' t' w = choose_count p h t b x side g outcome h' t' w
-  noted_count p keep h t b x side g Trim outcome h' t' w = same_count meta t.meta t'.meta (ap (λ (k : Tier S M). k.meta) w.1)
-  noted_count p keep h t b x side g (Fetch offset limit) outcome h' t' w = seek_count p h t b x side g offset limit Refresh outcome t' w.0
-  noted_count p keep h t b x side g other outcome h' t' w = same_count meta t.meta t'.meta (ap (λ (k : Tier S M). k.meta) w.1)
+  noted_count : (p : PartitionId) (config : Config) (h : Held D) (t : Tier S M) (b : ℕ) (x : Node D) (side : Side) (g : Begun) (command : Command) (outcome : Outcome) (h' : Held D) (t' : Tier S M)
+      → NotedRow disk store meta p config h t b x side g command outcome h' t' → count meta t'.meta ≤ count meta t.meta
+  noted_count p config h t b x side g Copy outcome h' t' w = choose_count p h t b x side g outcome h' t' w
+  noted_count p config h t b x side g Trim outcome h' t' w = same_count meta t.meta t'.meta (ap (λ (k : Tier S M). k.meta) w.1)
+  noted_count p config h t b x side g Expire outcome h' t' w = same_count meta t.meta t'.meta (ap (λ (k : Tier S M). k.meta) w.1)
+  noted_count p config h t b x side g (Fetch offset limit) outcome h' t' w = seek_count p h t b x side g offset limit Refresh outcome t' w.0
+  noted_count p config h t b x side g other outcome h' t' w = same_count meta t.meta t'.meta (ap (λ (k : Tier S M). k.meta) w.1)
 
   copying_told : (h : Held D) (t : Tier S M) (b : ℕ) (x : Node D) (side : Side) (g : Begun) (copy : Copied) (next : Next) (command : Command) (outcome : Outcome) (h' : Held D) (t' : Tier S M)
       → CopyingRow store meta h t b x side g copy next command outcome h' t' → IsTrue (meta.content t.meta).tells
@@ -105,21 +110,38 @@ module _ {D S M : Type 0} (disk : DiskGhosts D) (store : StoreGhosts S) (meta : 
   seeking_count p h t b x side g next (Fetch offset limit) outcome h' t' w = seek_count p h t b x side g offset limit next outcome t' w.0
   seeking_count p h t b x side g next other outcome h' t' w = elim w [ ]
 
-  row_told : (p : PartitionId) (keep : Keep) (h : Held D) (t : Tier S M) (b : ℕ) (x : Node D) (side : Side) (work : Work) (command : Command) (outcome : Outcome) (h' : Held D) (t' : Tier S M)
-      → Row disk store meta p keep h t b x side work command outcome h' t' → IsTrue (meta.content t.meta).tells
+  deleting_told : (h : Held D) (t : Tier S M) (b : ℕ) (x : Node D) (g : Begun) (segment : Doomed) (next : Deletion) (command : Command) (outcome : Outcome) (h' : Held D) (t' : Tier S M)
+      → DeletingRow store meta h t b x g segment next command outcome h' t' → IsTrue (meta.content t.meta).tells
+      → count meta t'.meta + told_by (Expires g segment next) ≤ count meta t.meta + told_after (Expires g segment next) outcome
+  deleting_told h t b x g segment next Expire outcome h' t' (inl lost, same) tells =
+      let is = same_count meta t.meta t'.meta (ap (λ (k : Tier S M). k.meta) lost.2) in
+      let few = few_told (Expires g segment next) in
+      let told : told_after (Expires g segment next) outcome ≡ 2 = ap (told_after (Expires g segment next)) lost.1 in
+      omega (arith, is, few, told)
+  deleting_told h t b x g segment next Expire outcome h' t' (inr (keeps, (turn, is, goes)), same) tells =
+      let most = expiry_told store meta g segment (teller_of h b) next turn (expiry_tiers t) (expiry_tiers t') goes.row tells in
+      let told = deletes_told store meta g segment next turn outcome is in
+      omega (arith, most, told)
+  deleting_told h t b x g segment next command outcome h' t' w tells = elim w [ ]
+
+  row_told : (p : PartitionId) (config : Config) (h : Held D) (t : Tier S M) (b : ℕ) (x : Node D) (side : Side) (work : Work) (command : Command) (outcome : Outcome) (h' : Held D) (t' : Tier S M)
+      → Row disk store meta p config h t b x side work command outcome h' t' → IsTrue (meta.content t.meta).tells
       → count meta t'.meta + told_by work ≤ count meta t.meta + told_after work outcome
-  row_told p keep h t b x side Idle command outcome h' t' w tells = let most = begin_count h t b x side command outcome h' t' w in omega (arith, most)
-  row_told p keep h t b x side (Noted g) command outcome h' t' w tells = let most = noted_count p keep h t b x side g command outcome h' t' w in omega (arith, most)
-  row_told p keep h t b x side (Copies g copy next) command outcome h' t' w tells = copying_told h t b x side g copy next command outcome h' t' w tells
-  row_told p keep h t b x side (Seeks g next) command outcome h' t' w tells = let most = seeking_count p h t b x side g next command outcome h' t' w in omega (arith, most)
+  row_told p config h t b x side Idle command outcome h' t' w tells = let most = begin_count h t b x side command outcome h' t' w in omega (arith, most)
+  row_told p config h t b x side (Noted g) command outcome h' t' w tells = let most = noted_count p config h t b x side g command outcome h' t' w in omega (arith, most)
+  row_told p config h t b x side (Copies g copy next) command outcome h' t' w tells = copying_told h t b x side g copy next command outcome h' t' w tells
+  row_told p config h t b x side (Seeks g next) command outcome h' t' w tells = let most = seeking_count p h t b x side g next command outcome h' t' w in omega (arith, most)
+  row_told p config h t b x side (Expires g segment next) command outcome h' t' w tells = deleting_told h t b x g segment next command outcome h' t' w tells
 
   -- memory was wanting
   halts_count : (h : Held D) (t : Tier S M) (b : ℕ) (x : Node D) (side : Side) (t' : Tier S M) → HaltsTier disk store meta h t b x side t' → IsTrue (meta.content t.meta).tells → count meta t'.meta ≤ count meta t.meta
   halts_count h t b x side t' (inl halts) tells = keeps_count meta t.meta t'.meta halts.reads.content
   halts_count h t b x side t' (inr (inl (copy, next, wants))) tells =
       copy_wants store meta copy (teller_of h b) next wants.error (tiers_of side.view t) (tiers_of wants.view t') wants.row tells
-  halts_count h t b x side t' (inr (inr (p, offset, limit, next, wants))) tells =
+  halts_count h t b x side t' (inr (inr (inl (p, offset, limit, next, wants)))) tells =
       fetch_wants store meta (wanted_of p x offset limit) (line_of x) next wants.error (fetch_tiers side.view side.cache t) (fetch_tiers wants.view wants.cache t') wants.row
+  halts_count h t b x side t' (inr (inr (inr (segment, next, wants)))) tells =
+      expiry_wants store meta segment (teller_of h b) next wants.error (expiry_tiers t) (expiry_tiers t') wants.row tells
 
   stays_count : (h : Held D) (t : Tier S M) (b : ℕ) (h' : Held D) (t' : Tier S M) → StaysTier disk store meta h t b h' t' → IsTrue (meta.content t.meta).tells → count meta t'.meta ≤ count meta t.meta
   stays_count h t b h' t' (inl same) tells = same_count meta t.meta t'.meta (ap (λ (k : Tier S M). k.meta) same.1)
@@ -139,6 +161,8 @@ seat_told l seat (Begins g) old new lt told = let few = few_told seat.work in om
 seat_told l seat (Chose copy) old new lt told = let few = few_told seat.work in let after = few_told (chosen seat.work copy) in omega (arith, lt, few, after, told)
 seat_told l seat (Goes next) old new lt told = let few = few_told seat.work in let after = few_told (moved seat.work next) in omega (arith, lt, few, after, told)
 seat_told l seat (Sought next) old new lt told = let few = few_told seat.work in let after = few_told (sought seat.work next) in omega (arith, lt, few, after, told)
+seat_told l seat (Dooms segment) old new lt told = let few = few_told seat.work in let after = few_told (doomed seat.work segment) in omega (arith, lt, few, after, told)
+seat_told l seat (Deletes next) old new lt told = let few = few_told seat.work in let after = few_told (deleting seat.work next) in omega (arith, lt, few, after, told)
 
 desk_told : (lists : List ActorList) (desk : List Seat) (i : ℕ) (l : ActorList) (seat after : Seat) (old new : ℕ) → slice_get lists i ≡ Some l → slice_get desk i ≡ Some seat
     → new + left_of l after ≤ old + left_of l seat → new + notes_left lists (slice_set desk i after) ≤ old + notes_left lists desk
@@ -160,8 +184,8 @@ module _ {D S M : Type 0} (disk : DiskGhosts D) (store : StoreGhosts S) (meta : 
   pub notes_few : (w : Whole D S M) (a : ℕ) (outcome : Outcome) (w' : Whole D S M) → IsTurn disk store meta w a outcome w' → IsTrue (meta.content w.tier.meta).tells
       → length (meta.content w'.tier.meta).notes + notes_left w'.lists w'.desk ≤ length (meta.content w.tier.meta).notes + notes_left w.lists w.desk
   notes_few w a outcome w' t tells =
-      let r = row_of disk store meta w.partition w.config.local_keep w.held w.tier t.order.broker.0 t.seat.work t.order.command outcome w'.held w'.tier t.row in
-      let told = row_told disk store meta w.partition w.config.local_keep w.held w.tier t.order.broker.0 r.x r.side t.seat.work t.order.command outcome w'.held w'.tier r.row tells in
+      let r = row_of disk store meta w.partition w.config w.held w.tier t.order.broker.0 t.seat.work t.order.command outcome w'.held w'.tier t.row in
+      let told = row_told disk store meta w.partition w.config w.held w.tier t.order.broker.0 r.x r.side t.seat.work t.order.command outcome w'.held w'.tier r.row tells in
       let low = got_low t.list.orders t.seat.number t.order t.next in
       let after = seat_after t.seat outcome in
       let seat = seat_told t.list t.seat outcome (count meta w.tier.meta) (count meta w'.tier.meta) low told in

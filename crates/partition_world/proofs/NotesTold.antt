@@ -1,4 +1,4 @@
--- How many notes a turn of a copy and one of a fetch append.
+-- How many notes a turn of a copy, of a fetch and of an expiry append.
 use Rattle.std.proofs.Common.{◌≡◌, ◌∙◌, inl, inr, refl, ap, ℕ, ◌+◌, ◌≤◌, List, length, slice_get, Some, None, Option, Ok, Err, Bool, true, false, IsTrue, arith}
 use Rattle.std.specs.declared.alloc.AllocError.{AllocError}
 use Rattle.object_store.specs.declared.store.Store.{Ghosts as StoreGhosts}
@@ -18,6 +18,12 @@ use Rattle.copy_task.specs.declared.turn.CopyTurn.{CopyTurn}
 use Rattle.copy_task.specs.declared.turn.CopyTurn.TheVariants.{Goes as GoesOn, Ends}
 use Rattle.copy_task.specs.declared.turn.Next.{Next}
 use Rattle.copy_task.specs.declared.turn.Next.TheVariants.{Start, Put, Finish, Check, Delete}
+use Rattle.expiry_task.specs.Turns as expiring
+use Rattle.expiry_task.specs.declared.turn.Doomed.{Doomed}
+use Rattle.expiry_task.specs.declared.turn.ExpiryTurn.{ExpiryTurn}
+use Rattle.expiry_task.specs.declared.turn.ExpiryTurn.TheVariants as expiry
+use Rattle.expiry_task.specs.declared.turn.Next.{Next as Deletion}
+use Rattle.expiry_task.specs.declared.turn.Next.TheVariants as deletion
 use Rattle.tier_fetch.specs.Turns.{Tiers as Fetched, FetchRow, RefreshRow}
 use Rattle.tier_fetch.specs.declared.turn.FetchTurn.{FetchTurn}
 use Rattle.tier_fetch.specs.declared.turn.FetchTurn.TheVariants as fetch
@@ -28,11 +34,11 @@ use Rattle.plain_log.specs.declared.answer.Answer.TheVariants.{MetaFault, StoreF
 use Rattle.partition_seen.specs.declared.begun.Begun.{Begun}
 use Rattle.partition_turns.proofs.FreshNodes.{length_more}
 use Rattle.partition_world.specs.declared.seat.Outcome.{Outcome}
-use Rattle.partition_world.specs.declared.seat.Outcome.TheVariants.{Answers, Begins, Chose, Goes, Seeks as Sought}
+use Rattle.partition_world.specs.declared.seat.Outcome.TheVariants.{Answers, Begins, Chose, Goes, Seeks as Sought, Dooms, Deletes}
 use Rattle.partition_world.specs.declared.seat.Work.{Work}
-use Rattle.partition_world.specs.declared.seat.Work.TheVariants.{Idle, Noted, Copies, Seeks}
+use Rattle.partition_world.specs.declared.seat.Work.TheVariants.{Idle, Noted, Copies, Seeks, Expires}
 use Rattle.partition_world.specs.Central.{told_by}
-use Rattle.partition_world.specs.Seats.{chosen, moved, sought, copy_outcome}
+use Rattle.partition_world.specs.Seats.{chosen, moved, sought, doomed, deleting, copy_outcome, expiry_outcome}
 
 -- how many notes a command has appended at most after a turn; once it is answered it appends none
 abbrev pub told_after : Work → Outcome → ℕ
@@ -41,6 +47,8 @@ told_after work (Begins g) = told_by (Noted g)
 told_after work (Chose copy) = told_by (chosen work copy)
 told_after work (Goes next) = told_by (moved work next)
 told_after work (Sought next) = told_by (sought work next)
+told_after work (Dooms segment) = told_by (doomed work segment)
+told_after work (Deletes next) = told_by (deleting work next)
 
 pub few_told : (work : Work) → told_by work ≤ 2
 few_told Idle = omega arith
@@ -51,11 +59,23 @@ few_told (Copies g copy Finish) = omega arith
 few_told (Copies g copy Check) = omega arith
 few_told (Copies g copy (Delete n)) = omega arith
 few_told (Seeks g next) = omega arith
+few_told (Expires g segment deletion.Start) = omega arith
+few_told (Expires g segment (deletion.Delete n)) = omega arith
+few_told (Expires g segment deletion.Finish) = omega arith
 
 -- how many notes a copy has appended at most after a turn
 abbrev told_turn : Begun → Copied → CopyTurn → ℕ
 told_turn g copy (GoesOn next) = told_by (Copies g copy next)
 told_turn g copy (Ends answer) = 2
+
+-- how many an expiry has
+abbrev deleted_turn : Begun → Doomed → ExpiryTurn → ℕ
+deleted_turn g segment (expiry.Goes next) = told_by (Expires g segment next)
+deleted_turn g segment (expiry.Ends answer) = 2
+
+next_told : (g : Begun) (segment : Doomed) (n : ℕ) (key : Option ObjectKey) → deleted_turn g segment (expiry.Goes (expiring.delete_at n key)) ≡ 1
+next_told g segment n None = refl
+next_told g segment n (Some key) = refl
 
 appended_most : (done : Bool) (note : Note) (notes : List Note) → length (appended_if done note notes) ≤ length notes + 1
 appended_most true note notes = let more = length_more notes note in omega (arith, more)
@@ -171,6 +191,52 @@ module _ {S M : Type 0} (store : StoreGhosts S) (meta : MetaGhosts M) where
   fetch_wants wanted line Refresh e old new w = keeps_count meta old.meta new.meta w.1.content
   fetch_wants wanted line (Index piece) e old new w = same_count meta old.meta new.meta (ap (λ (t : Fetched S M). t.meta) w.0)
   fetch_wants wanted line (Log piece span) e old new w = same_count meta old.meta new.meta (ap (λ (t : Fetched S M). t.meta) w.0)
+
+  -- a turn of an expiry
+
+  begin_told : (g : Begun) (segment : Doomed) (teller : Teller) (turn : ExpiryTurn) (old new : M) → expiring.StartRow meta.content meta.control segment teller (Ok turn) old new → IsTrue (meta.content old).tells
+      → count meta new + told_by (Expires g segment deletion.Start) ≤ count meta old + deleted_turn g segment turn
+  begin_told g segment teller (expiry.Ends MetaFault) old new w tells = let most = appends_most meta _ _ old new w tells in omega (arith, most)
+  begin_told g segment teller turn old new w tells =
+      let most = appends_most meta _ _ old new w.1 tells in
+      let told : deleted_turn g segment turn ≡ 1 = ap (deleted_turn g segment) w.0 in
+      omega (arith, most, told)
+
+  end_told : (g : Begun) (segment : Doomed) (teller : Teller) (turn : ExpiryTurn) (old new : M) → expiring.FinishRow meta.content meta.control segment teller (Ok turn) old new → IsTrue (meta.content old).tells
+      → count meta new + told_by (Expires g segment deletion.Finish) ≤ count meta old + deleted_turn g segment turn
+  end_told g segment teller (expiry.Ends MetaFault) old new w tells = let most = appends_most meta _ _ old new w tells in omega (arith, most)
+  end_told g segment teller turn old new w tells =
+      let most = appends_most meta _ _ old new w.1 tells in
+      let told : deleted_turn g segment turn ≡ 2 = ap (deleted_turn g segment) w.0 in
+      omega (arith, most, told)
+
+  object_most : (g : Begun) (segment : Doomed) (n : ℕ) (key : Option ObjectKey) (turn : ExpiryTurn) (old new : S) → expiring.DeleteRow store.content store.control segment n key turn old new
+      → 1 ≤ deleted_turn g segment turn
+  object_most g segment n None turn old new w = let told : deleted_turn g segment turn ≡ 1 = ap (deleted_turn g segment) w.0 in omega (arith, told)
+  object_most g segment n (Some key) (expiry.Ends StoreFault) old new w = omega arith
+  object_most g segment n (Some key) turn old new w =
+      let told = ap (deleted_turn g segment) w.0 ∙ next_told g segment (n + 1) (slice_get (expiring.keys segment) (n + 1)) in omega (arith, told)
+
+  pub expiry_told : (g : Begun) (segment : Doomed) (teller : Teller) (next : Deletion) (turn : ExpiryTurn) (old new : expiring.Tiers S M)
+      → expiring.ExpiryRow store.content store.control meta.content meta.control segment teller next (Ok turn) old new → IsTrue (meta.content old.meta).tells
+      → count meta new.meta + told_by (Expires g segment next) ≤ count meta old.meta + deleted_turn g segment turn
+  expiry_told g segment teller deletion.Start turn old new w tells = begin_told g segment teller turn old.meta new.meta w.1 tells
+  expiry_told g segment teller (deletion.Delete n) turn old new w tells =
+      let one = object_most g segment n (slice_get (expiring.keys segment) n) turn old.store new.store w.1 in
+      let same = same_count meta old.meta new.meta (ap (λ (t : expiring.Tiers S M). t.meta) w.0) in
+      omega (arith, one, same)
+  expiry_told g segment teller deletion.Finish turn old new w tells = end_told g segment teller turn old.meta new.meta w.1 tells
+
+  pub expiry_wants : (segment : Doomed) (teller : Teller) (next : Deletion) (e : AllocError) (old new : expiring.Tiers S M)
+      → expiring.ExpiryRow store.content store.control meta.content meta.control segment teller next (Err e) old new → IsTrue (meta.content old.meta).tells → count meta new.meta ≤ count meta old.meta
+  expiry_wants segment teller deletion.Start e old new w tells = appends_none meta _ old.meta new.meta w.1 tells
+  expiry_wants segment teller (deletion.Delete n) e old new w tells = absurd w
+  expiry_wants segment teller deletion.Finish e old new w tells = appends_none meta _ old.meta new.meta w.1 tells
+
+  pub deletes_told : (g : Begun) (segment : Doomed) (next : Deletion) (turn : ExpiryTurn) (outcome : Outcome) → outcome ≡ expiry_outcome turn
+      → told_after (Expires g segment next) outcome ≡ deleted_turn g segment turn
+  deletes_told g segment next (expiry.Goes then) outcome is = ap (told_after (Expires g segment next)) is
+  deletes_told g segment next (expiry.Ends answer) outcome is = ap (told_after (Expires g segment next)) is
 
   -- one that wanted memory
   pub copy_wants : (copy : Copied) (teller : Teller) (next : Next) (e : AllocError) (old new : Tiers S M)

@@ -1,5 +1,5 @@
 -- Each turn keeps what the turns need, over any devices.
-use Rattle.std.proofs.Common.{◌≡◌, ◌∙◌, inl, inr, sym, ap, refl, ℕ, List, [], length, slice_get, slice_set, Some, Option}
+use Rattle.std.proofs.Common.{◌≡◌, ◌∙◌, inl, inr, sym, ap, refl, ℕ, List, [], length, slice_get, slice_set, Some, Option, true}
 use Rattle.std.specs.Prelude.{unwrap_or}
 use Rattle.disk_model.specs.declared.disk.Disk.{Ghosts as DiskGhosts}
 use Rattle.object_store.specs.declared.store.Store.{Ghosts as StoreGhosts}
@@ -10,13 +10,17 @@ use Rattle.log_terms.proofs.Lists.{length-slice_set}
 use Rattle.epoch_line.specs.Line.{last_epoch}
 use Rattle.copy_task.specs.Copying.{Copied}
 use Rattle.copy_task.specs.declared.turn.Next.{Next}
+use Rattle.expiry_task.specs.declared.turn.Doomed.{Doomed}
+use Rattle.expiry_task.specs.declared.turn.Next.{Next as Deletion}
 use Rattle.tier_fetch.specs.declared.turn.Next.{Next as Search}
 use Rattle.tier_fetch.specs.declared.turn.Next.TheVariants.{Refresh}
 use Rattle.tier_fetch.specs.declared.turn.FetchTurn.{FetchTurn}
-use Rattle.plain_log.specs.declared.answer.Answer.TheVariants.{Down, NotLeader, MetaFault, DiskFault, Damaged, Stopped, OutOfRange, Empty}
+use Rattle.plain_log.specs.declared.answer.Answer.{Answer}
+use Rattle.plain_log.specs.declared.answer.Answer.TheVariants.{Down, NotLeader, MetaFault, DiskFault, Damaged, Stopped, OutOfRange, Empty, Kept, StaleEpoch, Raised, OkAt}
 use Rattle.plain_log.specs.declared.answer.Place.TheVariants.{File}
 use Rattle.plain_log.specs.declared.command.Command.{Command}
-use Rattle.plain_log.specs.declared.command.Command.TheVariants.{Copy, Trim, Fetch}
+use Rattle.plain_log.specs.declared.command.Command.TheVariants.{Copy, Trim, Expire, Fetch, Raise}
+use Rattle.plain_log.specs.declared.command.Config.{Config}
 use Rattle.partition_seen.specs.declared.begun.Begun.{Begun}
 use Rattle.partition_seen.specs.declared.begun.Turned.TheVariants as turned
 use Rattle.partition_seen.proofs.BoolTests.{some_of}
@@ -28,14 +32,15 @@ use Rattle.partition_turns.proofs.SoundLaw.{same, put_is, first_sound, later_sou
 use Rattle.partition_world.specs.declared.tier.Side.{Side}
 use Rattle.partition_world.specs.declared.tier.Tier.{Tier}
 use Rattle.partition_world.specs.declared.seat.Outcome.{Outcome}
-use Rattle.partition_world.specs.declared.seat.Outcome.TheVariants.{Answers, Begins, Chose, Seeks as Sought}
+use Rattle.partition_world.specs.declared.seat.Outcome.TheVariants.{Answers, Begins, Chose, Seeks as Sought, Dooms}
 use Rattle.partition_world.specs.declared.seat.Work.{Work}
-use Rattle.partition_world.specs.declared.seat.Work.TheVariants.{Idle, Noted, Copies, Seeks}
+use Rattle.partition_world.specs.declared.seat.Work.TheVariants.{Idle, Noted, Copies, Seeks, Expires}
 use Rattle.partition_world.specs.Tier.{AtSide}
 use Rattle.partition_world.specs.TurnsOfCopy.{ReadsLog, ReadRow, ChooseRow, CopyFirstRow}
 use Rattle.partition_world.specs.TurnsOfFetch.{FetchOnRow, GoesOnFetch}
+use Rattle.partition_world.specs.TurnsOfExpiry.{RaiseRow, ExpireOnRow, ExpiresBy, DeleteOnRow}
 use Rattle.partition_world.specs.TurnsOfTrim.{TrimFirstRow, TrimOnRow}
-use Rattle.partition_world.specs.Turns.{NotedRow, CopyingRow, SeekingRow, BeginRow, Row, TurnRow, HaltsTier, StaysTier}
+use Rattle.partition_world.specs.Turns.{NotedRow, CopyingRow, SeekingRow, DeletingRow, BeginRow, Row, TurnRow, HaltsTier, StaysTier}
 use Rattle.partition_world.proofs.Begins.{row_of}
 
 module _ {D : Type 0} where
@@ -83,17 +88,38 @@ module _ {D S M : Type 0} (disk : DiskGhosts D) (store : StoreGhosts S) (meta : 
   trim_sound n h b x side g keep (Answers answer) h' at s w = later_sound disk.content disk.control n h b x Trim g (turned.Answers answer) h' at s w.0
   trim_sound n h b x side g keep other h' at s w = elim w [ ]
 
-  noted_sound : (n : ℕ) (p : PartitionId) (keep : Keep) (h : Held D) (t : Tier S M) (b : ℕ) (x : Node D) (side : Side) (g : Begun) (command : Command) (outcome : Outcome) (h' : Held D) (t' : Tier S M)
-      → slice_get h.nodes b ≡ Some x → HeldSound n h → NotedRow disk store meta p keep h t b x side g command outcome h' t' → HeldSound n h'
-  noted_sound n p keep h t b x side g Copy outcome h' t' at s w = choose_sound n p h t b x side g outcome h' t' at s w
-  noted_sound n p keep h t b x side g Trim outcome h' t' at s w = trim_sound n h b x side g keep outcome h' at s w.0
-  noted_sound n p keep h t b x side g (Fetch offset limit) outcome h' t' at s w = same n h h' w.1 s
-  noted_sound n p keep h t b x side g other outcome h' t' at s w = later_sound disk.content disk.control n h b x other g (turned.Answers w.0.0) h' at s w.0.2
+  -- an expiry raises the log start as the command does
+  raise_sound : (n : ℕ) (h : Held D) (b : ℕ) (x : Node D) (start : ℕ) (answer : Answer) (h' : Held D) → slice_get h.nodes b ≡ Some x → is_up x ≡ true → HeldSound n h → RaiseRow h x.role start answer h'
+      → HeldSound n h'
+  raise_sound n h b x start (StaleEpoch e) h' at up s w = first_sound disk.content disk.control n h b x (Raise start) (turned.Answers (StaleEpoch e)) h' at s (up, w)
+  raise_sound n h b x start (Raised to) h' at up s w = first_sound disk.content disk.control n h b x (Raise start) (turned.Answers (OkAt to)) h' at s (up, w)
+  raise_sound n h b x start other h' at up s w = elim w [ ]
+
+  expires_sound : (n : ℕ) (p : PartitionId) (h : Held D) (b : ℕ) (x : Node D) (side : Side) (keep : Keep) (outcome : Outcome) (h' : Held D) → slice_get h.nodes b ≡ Some x → is_up x ≡ true → HeldSound n h
+      → ExpiresBy p h x side keep outcome h' → HeldSound n h'
+  expires_sound n p h b x side keep (Dooms segment) h' at up s w = same n h h' w.stays s
+  expires_sound n p h b x side keep (Answers Kept) h' at up s w = same n h h' w.2 s
+  expires_sound n p h b x side keep (Answers answer) h' at up s w = raise_sound n h b x w.0 answer h' at up s w.2
+  expires_sound n p h b x side keep other h' at up s w = elim w [ ]
+
+  expire_sound : (n : ℕ) (p : PartitionId) (h : Held D) (b : ℕ) (x : Node D) (side : Side) (g : Begun) (keep : Keep) (outcome : Outcome) (h' : Held D) → slice_get h.nodes b ≡ Some x → HeldSound n h
+      → ExpireOnRow p h x side g keep outcome h' → HeldSound n h'
+  expire_sound n p h b x side g keep outcome h' at s (inl lost) = same n h h' lost.2 s
+  expire_sound n p h b x side g keep outcome h' at s (inr k) = expires_sound n p h b x side keep outcome h' at k.0.up s k.1
+
+  noted_sound : (n : ℕ) (p : PartitionId) (config : Config) (h : Held D) (t : Tier S M) (b : ℕ) (x : Node D) (side : Side) (g : Begun) (command : Command) (outcome : Outcome) (h' : Held D) (t' : Tier S M)
+      → slice_get h.nodes b ≡ Some x → HeldSound n h → NotedRow disk store meta p config h t b x side g command outcome h' t' → HeldSound n h'
+  noted_sound n p config h t b x side g Copy outcome h' t' at s w = choose_sound n p h t b x side g outcome h' t' at s w
+  noted_sound n p config h t b x side g Expire outcome h' t' at s w = expire_sound n p h b x side g config.keep outcome h' at s w.0
+  noted_sound n p config h t b x side g Trim outcome h' t' at s w = trim_sound n h b x side g config.local_keep outcome h' at s w.0
+  noted_sound n p config h t b x side g (Fetch offset limit) outcome h' t' at s w = same n h h' w.1 s
+  noted_sound n p config h t b x side g other outcome h' t' at s w = later_sound disk.content disk.control n h b x other g (turned.Answers w.0.0) h' at s w.0.2
 
   begins_sound : (n : ℕ) (h : Held D) (t : Tier S M) (b : ℕ) (x : Node D) (side : Side) (command : Command) (outcome : Outcome) (h' : Held D) (t' : Tier S M)
       → slice_get h.nodes b ≡ Some x → HeldSound n h → BeginRow disk store meta h t b x side command outcome h' t' → HeldSound n h'
   begins_sound n h t b x side Copy outcome h' t' at s w = same n h h' w.1 s
   begins_sound n h t b x side Trim outcome h' t' at s w = same n h h' w.1 s
+  begins_sound n h t b x side Expire outcome h' t' at s w = same n h h' w.1 s
   begins_sound n h t b x side other outcome h' t' at s w = first_sound disk.content disk.control n h b x other w.0.0 h' at s w.0.2
 
   copying_sound : (n : ℕ) (h : Held D) (t : Tier S M) (b : ℕ) (x : Node D) (side : Side) (g : Begun) (copy : Copied) (next : Next) (command : Command) (outcome : Outcome) (h' : Held D) (t' : Tier S M)
@@ -106,18 +132,24 @@ module _ {D S M : Type 0} (disk : DiskGhosts D) (store : StoreGhosts S) (meta : 
   seeking_sound n p h t b x side g next (Fetch offset limit) outcome h' t' s w = same n h h' w.1 s
   seeking_sound n p h t b x side g next other outcome h' t' s w = elim w [ ]
 
-  row_sound : (n : ℕ) (p : PartitionId) (keep : Keep) (h : Held D) (t : Tier S M) (b : ℕ) (x : Node D) (side : Side) (work : Work) (command : Command) (outcome : Outcome) (h' : Held D) (t' : Tier S M)
-      → slice_get h.nodes b ≡ Some x → HeldSound n h → Row disk store meta p keep h t b x side work command outcome h' t' → HeldSound n h'
-  row_sound n p keep h t b x side Idle command outcome h' t' at s w = begins_sound n h t b x side command outcome h' t' at s w
-  row_sound n p keep h t b x side (Noted g) command outcome h' t' at s w = noted_sound n p keep h t b x side g command outcome h' t' at s w
-  row_sound n p keep h t b x side (Copies g copy next) command outcome h' t' at s w = copying_sound n h t b x side g copy next command outcome h' t' s w
-  row_sound n p keep h t b x side (Seeks g next) command outcome h' t' at s w = seeking_sound n p h t b x side g next command outcome h' t' s w
+  deleting_sound : (n : ℕ) (h : Held D) (t : Tier S M) (b : ℕ) (x : Node D) (g : Begun) (segment : Doomed) (next : Deletion) (command : Command) (outcome : Outcome) (h' : Held D) (t' : Tier S M)
+      → HeldSound n h → DeletingRow store meta h t b x g segment next command outcome h' t' → HeldSound n h'
+  deleting_sound n h t b x g segment next Expire outcome h' t' s w = same n h h' w.1 s
+  deleting_sound n h t b x g segment next other outcome h' t' s w = elim w [ ]
+
+  row_sound : (n : ℕ) (p : PartitionId) (config : Config) (h : Held D) (t : Tier S M) (b : ℕ) (x : Node D) (side : Side) (work : Work) (command : Command) (outcome : Outcome) (h' : Held D) (t' : Tier S M)
+      → slice_get h.nodes b ≡ Some x → HeldSound n h → Row disk store meta p config h t b x side work command outcome h' t' → HeldSound n h'
+  row_sound n p config h t b x side Idle command outcome h' t' at s w = begins_sound n h t b x side command outcome h' t' at s w
+  row_sound n p config h t b x side (Noted g) command outcome h' t' at s w = noted_sound n p config h t b x side g command outcome h' t' at s w
+  row_sound n p config h t b x side (Copies g copy next) command outcome h' t' at s w = copying_sound n h t b x side g copy next command outcome h' t' s w
+  row_sound n p config h t b x side (Seeks g next) command outcome h' t' at s w = seeking_sound n p h t b x side g next command outcome h' t' s w
+  row_sound n p config h t b x side (Expires g segment next) command outcome h' t' at s w = deleting_sound n h t b x g segment next command outcome h' t' s w
 
   -- each turn does
-  pub turn_sound : (n : ℕ) (p : PartitionId) (keep : Keep) (h : Held D) (t : Tier S M) (b : ℕ) (work : Work) (command : Command) (outcome : Outcome) (h' : Held D) (t' : Tier S M) → HeldSound n h
-      → TurnRow disk store meta p keep h t b work command outcome h' t' → HeldSound n h'
-  turn_sound n p keep h t b work command outcome h' t' s w =
-      let r = row_of disk store meta p keep h t b work command outcome h' t' w in row_sound n p keep h t b r.x r.side work command outcome h' t' r.at s r.row
+  pub turn_sound : (n : ℕ) (p : PartitionId) (config : Config) (h : Held D) (t : Tier S M) (b : ℕ) (work : Work) (command : Command) (outcome : Outcome) (h' : Held D) (t' : Tier S M) → HeldSound n h
+      → TurnRow disk store meta p config h t b work command outcome h' t' → HeldSound n h'
+  turn_sound n p config h t b work command outcome h' t' s w =
+      let r = row_of disk store meta p config h t b work command outcome h' t' w in row_sound n p config h t b r.x r.side work command outcome h' t' r.at s r.row
 
   -- and want of memory
   pub stays_sound : (n : ℕ) (h : Held D) (t : Tier S M) (b : ℕ) (h' : Held D) (t' : Tier S M) → HeldSound n h → StaysTier disk store meta h t b h' t' → HeldSound n h'
@@ -148,12 +180,13 @@ module _ {D S M : Type 0} (disk : DiskGhosts D) (store : StoreGhosts S) (meta : 
   fetch_sides p h t b x side g offset limit next (Sought later) t' w = goes_sides p t b x side offset limit next _ t' w.1
   fetch_sides p h t b x side g offset limit next other t' w = elim w [ ]
 
-  noted_sides : (p : PartitionId) (keep : Keep) (h : Held D) (t : Tier S M) (b : ℕ) (x : Node D) (side : Side) (g : Begun) (command : Command) (outcome : Outcome) (h' : Held D) (t' : Tier S M)
-      → NotedRow disk store meta p keep h t b x side g command outcome h' t' → length t'.sides ≡ length t.sides
-  noted_sides p keep h t b x side g Copy outcome h' t' w = choose_sides p h t b x side g outcome h' t' w
-  noted_sides p keep h t b x side g Trim outcome h' t' w = ap (λ (k : Tier S M). length k.sides) w.1
-  noted_sides p keep h t b x side g (Fetch offset limit) outcome h' t' w = fetch_sides p h t b x side g offset limit Refresh outcome t' w.0
-  noted_sides p keep h t b x side g other outcome h' t' w = ap (λ (k : Tier S M). length k.sides) w.1
+  noted_sides : (p : PartitionId) (config : Config) (h : Held D) (t : Tier S M) (b : ℕ) (x : Node D) (side : Side) (g : Begun) (command : Command) (outcome : Outcome) (h' : Held D) (t' : Tier S M)
+      → NotedRow disk store meta p config h t b x side g command outcome h' t' → length t'.sides ≡ length t.sides
+  noted_sides p config h t b x side g Copy outcome h' t' w = choose_sides p h t b x side g outcome h' t' w
+  noted_sides p config h t b x side g Trim outcome h' t' w = ap (λ (k : Tier S M). length k.sides) w.1
+  noted_sides p config h t b x side g Expire outcome h' t' w = ap (λ (k : Tier S M). length k.sides) w.1
+  noted_sides p config h t b x side g (Fetch offset limit) outcome h' t' w = fetch_sides p h t b x side g offset limit Refresh outcome t' w.0
+  noted_sides p config h t b x side g other outcome h' t' w = ap (λ (k : Tier S M). length k.sides) w.1
 
   first_sides : (h : Held D) (t : Tier S M) (b : ℕ) (x : Node D) (side : Side) (outcome : Outcome) (t' : Tier S M) → CopyFirstRow meta h t b x side outcome t' → length t'.sides ≡ length t.sides
   first_sides h t b x side (Answers Down) t' w = ap (λ (k : Tier S M). length k.sides) w.1
@@ -172,6 +205,7 @@ module _ {D S M : Type 0} (disk : DiskGhosts D) (store : StoreGhosts S) (meta : 
       → BeginRow disk store meta h t b x side command outcome h' t' → length t'.sides ≡ length t.sides
   begins_sides h t b x side Copy outcome h' t' w = first_sides h t b x side outcome t' w.0
   begins_sides h t b x side Trim outcome h' t' w = trim_sides h t b x side outcome t' w.0
+  begins_sides h t b x side Expire outcome h' t' w = first_sides h t b x side outcome t' w.0
   begins_sides h t b x side other outcome h' t' w = ap (λ (k : Tier S M). length k.sides) w.1
 
   copying_sides : (h : Held D) (t : Tier S M) (b : ℕ) (x : Node D) (side : Side) (g : Begun) (copy : Copied) (next : Next) (command : Command) (outcome : Outcome) (h' : Held D) (t' : Tier S M)
@@ -185,23 +219,31 @@ module _ {D S M : Type 0} (disk : DiskGhosts D) (store : StoreGhosts S) (meta : 
   seeking_sides p h t b x side g next (Fetch offset limit) outcome h' t' w = fetch_sides p h t b x side g offset limit next outcome t' w.0
   seeking_sides p h t b x side g next other outcome h' t' w = elim w [ ]
 
-  row_sides : (p : PartitionId) (keep : Keep) (h : Held D) (t : Tier S M) (b : ℕ) (x : Node D) (side : Side) (work : Work) (command : Command) (outcome : Outcome) (h' : Held D) (t' : Tier S M)
-      → Row disk store meta p keep h t b x side work command outcome h' t' → length t'.sides ≡ length t.sides
-  row_sides p keep h t b x side Idle command outcome h' t' w = begins_sides h t b x side command outcome h' t' w
-  row_sides p keep h t b x side (Noted g) command outcome h' t' w = noted_sides p keep h t b x side g command outcome h' t' w
-  row_sides p keep h t b x side (Copies g copy next) command outcome h' t' w = copying_sides h t b x side g copy next command outcome h' t' w
-  row_sides p keep h t b x side (Seeks g next) command outcome h' t' w = seeking_sides p h t b x side g next command outcome h' t' w
+  deleting_sides : (h : Held D) (t : Tier S M) (b : ℕ) (x : Node D) (g : Begun) (segment : Doomed) (next : Deletion) (command : Command) (outcome : Outcome) (h' : Held D) (t' : Tier S M)
+      → DeletingRow store meta h t b x g segment next command outcome h' t' → length t'.sides ≡ length t.sides
+  deleting_sides h t b x g segment next Expire outcome h' t' (inl lost, same) = ap (λ (k : Tier S M). length k.sides) lost.2
+  deleting_sides h t b x g segment next Expire outcome h' t' (inr (keeps, (turn, is, goes)), same) = ap (λ (k : Tier S M). length k.sides) goes.after
+  deleting_sides h t b x g segment next other outcome h' t' w = elim w [ ]
 
-  pub turn_sides : (p : PartitionId) (keep : Keep) (h : Held D) (t : Tier S M) (b : ℕ) (work : Work) (command : Command) (outcome : Outcome) (h' : Held D) (t' : Tier S M)
-      → TurnRow disk store meta p keep h t b work command outcome h' t' → length t'.sides ≡ length t.sides
-  turn_sides p keep h t b work command outcome h' t' w =
-      let r = row_of disk store meta p keep h t b work command outcome h' t' w in row_sides p keep h t b r.x r.side work command outcome h' t' r.row
+  row_sides : (p : PartitionId) (config : Config) (h : Held D) (t : Tier S M) (b : ℕ) (x : Node D) (side : Side) (work : Work) (command : Command) (outcome : Outcome) (h' : Held D) (t' : Tier S M)
+      → Row disk store meta p config h t b x side work command outcome h' t' → length t'.sides ≡ length t.sides
+  row_sides p config h t b x side Idle command outcome h' t' w = begins_sides h t b x side command outcome h' t' w
+  row_sides p config h t b x side (Noted g) command outcome h' t' w = noted_sides p config h t b x side g command outcome h' t' w
+  row_sides p config h t b x side (Copies g copy next) command outcome h' t' w = copying_sides h t b x side g copy next command outcome h' t' w
+  row_sides p config h t b x side (Seeks g next) command outcome h' t' w = seeking_sides p h t b x side g next command outcome h' t' w
+  row_sides p config h t b x side (Expires g segment next) command outcome h' t' w = deleting_sides h t b x g segment next command outcome h' t' w
+
+  pub turn_sides : (p : PartitionId) (config : Config) (h : Held D) (t : Tier S M) (b : ℕ) (work : Work) (command : Command) (outcome : Outcome) (h' : Held D) (t' : Tier S M)
+      → TurnRow disk store meta p config h t b work command outcome h' t' → length t'.sides ≡ length t.sides
+  turn_sides p config h t b work command outcome h' t' w =
+      let r = row_of disk store meta p config h t b work command outcome h' t' w in row_sides p config h t b r.x r.side work command outcome h' t' r.row
 
   halts_sides : (h : Held D) (t : Tier S M) (b : ℕ) (x : Node D) (side : Side) (t' : Tier S M) → HaltsTier disk store meta h t b x side t' → length t'.sides ≡ length t.sides
   halts_sides h t b x side t' (inl halts) = sides_put t b (record side { view = halts.view }) t' (ap (λ (k : Tier S M). k.sides) halts.after)
   halts_sides h t b x side t' (inr (inl (copy, next, wants))) = sides_put t b (record side { view = wants.view }) t' (ap (λ (k : Tier S M). k.sides) wants.after)
-  halts_sides h t b x side t' (inr (inr (p, offset, limit, next, wants))) =
+  halts_sides h t b x side t' (inr (inr (inl (p, offset, limit, next, wants)))) =
       sides_put t b (record side { view = wants.view; cache = wants.cache }) t' (ap (λ (k : Tier S M). k.sides) wants.after)
+  halts_sides h t b x side t' (inr (inr (inr (segment, next, wants)))) = ap (λ (k : Tier S M). length k.sides) wants.after
 
   pub stays_sides : (h : Held D) (t : Tier S M) (b : ℕ) (h' : Held D) (t' : Tier S M) → StaysTier disk store meta h t b h' t' → length t'.sides ≡ length t.sides
   stays_sides h t b h' t' (inl k) = ap (λ (k : Tier S M). length k.sides) k.1

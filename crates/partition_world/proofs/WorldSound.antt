@@ -14,12 +14,13 @@ use Rattle.partition_turns.specs.declared.held.Held.{Held}
 use Rattle.partition_world.specs.Sound.{AreWorks, IsWorkFor, IsSound}
 use Rattle.partition_world.specs.Whole.{Whole}
 use Rattle.tier_base.specs.declared.names.PartitionId.{PartitionId}
-use Rattle.tier_base.specs.declared.plain.Keep.{Keep}
 use Rattle.disk_model.specs.declared.disk.Disk.{Ghosts as DiskGhosts}
 use Rattle.object_store.specs.declared.store.Store.{Ghosts as StoreGhosts}
 use Rattle.meta_log.specs.declared.log.MetaLog.{Ghosts as MetaGhosts}
 use Rattle.copy_task.specs.Copying.{Copied}
 use Rattle.copy_task.specs.declared.turn.Next.{Next}
+use Rattle.expiry_task.specs.declared.turn.Doomed.{Doomed}
+use Rattle.expiry_task.specs.declared.turn.Next.{Next as Deletion}
 use Rattle.tier_fetch.specs.declared.turn.Next.{Next as Search}
 use Rattle.partition_seen.specs.declared.begun.Begun.{Begun}
 use Rattle.partition_seen.specs.declared.begun.Turned.TheVariants as seen
@@ -28,11 +29,11 @@ use Rattle.partition_seen.proofs.Standing.{map_set, map_get}
 use Rattle.partition_world.specs.declared.tier.Side.{Side}
 use Rattle.partition_world.specs.declared.tier.Tier.{Tier}
 use Rattle.partition_world.specs.declared.seat.Outcome.{Outcome}
-use Rattle.partition_world.specs.declared.seat.Outcome.TheVariants.{Answers, Begins, Chose, Goes, Seeks as Sought}
+use Rattle.partition_world.specs.declared.seat.Outcome.TheVariants.{Answers, Begins, Chose, Goes, Seeks as Sought, Dooms, Deletes}
 use Rattle.partition_world.specs.declared.seat.Seat.{Seat}
 use Rattle.partition_world.specs.declared.seat.Work.{Work}
-use Rattle.partition_world.specs.declared.seat.Work.TheVariants.{Idle, Noted, Copies, Seeks}
-use Rattle.partition_world.specs.Seats.{seat_seen, desk_seen, noted_in, chosen, moved, sought, seat_after, told_count, stepped_of}
+use Rattle.partition_world.specs.declared.seat.Work.TheVariants.{Idle, Noted, Copies, Seeks, Expires}
+use Rattle.partition_world.specs.Seats.{seat_seen, desk_seen, noted_in, chosen, moved, sought, doomed, deleting, seat_after, told_count, stepped_of}
 use Rattle.partition_world.specs.Turn.{IsSeat, IsAtEnd, IsTurn, Steps}
 use Rattle.partition_world.specs.Turns.{TurnRow, StaysTier}
 use Rattle.partition_world.proofs.Begins.{begins_idle}
@@ -47,18 +48,35 @@ chosen_seen Idle copy = refl
 chosen_seen (Noted g) copy = refl
 chosen_seen (Copies g c next) copy = refl
 chosen_seen (Seeks g next) copy = refl
+chosen_seen (Expires g segment next) copy = refl
 
 pub moved_seen : (work : Work) (next : Next) → noted_in (moved work next) ≡ noted_in work
 moved_seen Idle next = refl
 moved_seen (Noted g) next = refl
 moved_seen (Copies g c before) next = refl
 moved_seen (Seeks g before) next = refl
+moved_seen (Expires g segment before) next = refl
 
 pub sought_seen : (work : Work) (next : Search) → noted_in (sought work next) ≡ noted_in work
 sought_seen Idle next = refl
 sought_seen (Noted g) next = refl
 sought_seen (Copies g c before) next = refl
 sought_seen (Seeks g before) next = refl
+sought_seen (Expires g segment before) next = refl
+
+pub doomed_seen : (work : Work) (segment : Doomed) → noted_in (doomed work segment) ≡ noted_in work
+doomed_seen Idle segment = refl
+doomed_seen (Noted g) segment = refl
+doomed_seen (Copies g c before) segment = refl
+doomed_seen (Seeks g before) segment = refl
+doomed_seen (Expires g before next) segment = refl
+
+pub deleting_seen : (work : Work) (next : Deletion) → noted_in (deleting work next) ≡ noted_in work
+deleting_seen Idle next = refl
+deleting_seen (Noted g) next = refl
+deleting_seen (Copies g c before) next = refl
+deleting_seen (Seeks g before) next = refl
+deleting_seen (Expires g segment before) next = refl
 
 module _ {D S M : Type 0} (disk : DiskGhosts D) (store : StoreGhosts S) (meta : MetaGhosts M) where
   -- what holds of all holds of the one that stands at a place
@@ -84,56 +102,62 @@ module _ {D S M : Type 0} (disk : DiskGhosts D) (store : StoreGhosts S) (meta : 
       map_set seat_seen desk place after ∙ (ap (λ k. slice_set (desk_seen desk) place k) same ∙ set_same (desk_seen desk) place (seat_seen seat) (map_get seat_seen desk place seat to))
 
   -- the entries that are left after a turn
-  entries_after : (lists : List ActorList) (p : PartitionId) (keep : Keep) (h : Held D) (t : Tier S M) (h' : Held D) (t' : Tier S M) (desk : List Seat) (place : ℕ) (l : ActorList) (seat : Seat) (order : Order) (outcome : Outcome)
+  entries_after : (lists : List ActorList) (p : PartitionId) (config : Config) (h : Held D) (t : Tier S M) (h' : Held D) (t' : Tier S M) (desk : List Seat) (place : ℕ) (l : ActorList) (seat : Seat) (order : Order) (outcome : Outcome)
       → slice_get lists place ≡ Some l → slice_get desk place ≡ Some seat → seat.number < length l.orders
-      → TurnRow disk store meta p keep h t order.broker.0 seat.work order.command outcome h' t'
+      → TurnRow disk store meta p config h t order.broker.0 seat.work order.command outcome h' t'
       → turns_left lists (desk_seen (slice_set desk place (seat_after seat outcome))) + told_count outcome ≤ turns_left lists (desk_seen desk)
-  entries_after lists p keep h t h' t' desk place l seat order (Answers answer) at to lt row =
+  entries_after lists p config h t h' t' desk place l seat order (Answers answer) at to lt row =
       let less = turns_less lists (desk_seen desk) place l (seat_seen seat) (seen.Answers answer) at (map_get seat_seen desk place seat to) lt tt in
       rw (map_set seat_seen desk place (seat_after seat (Answers answer))) less
-  entries_after lists p keep h t h' t' desk place l seat order (Begins g) at to lt row =
-      let idle = begins_idle disk store meta p keep h t order.broker.0 seat.work order.command g h' t' row in
+  entries_after lists p config h t h' t' desk place l seat order (Begins g) at to lt row =
+      let idle = begins_idle disk store meta p config h t order.broker.0 seat.work order.command g h' t' row in
       let less = turns_less lists (desk_seen desk) place l (seat_seen seat) (seen.Begins g) at (map_get seat_seen desk place seat to) lt (ap noted_in idle) in
       rw (map_set seat_seen desk place (seat_after seat (Begins g))) less
-  entries_after lists p keep h t h' t' desk place l seat order (Chose copy) at to lt row =
+  entries_after lists p config h t h' t' desk place l seat order (Chose copy) at to lt row =
       let same = seen_stays desk place seat (seat_after seat (Chose copy)) to (ap (λ (o : Option Begun). record { number = seat.number; begun = o }) (chosen_seen seat.work copy)) in
       omega (arith, ap (λ k. turns_left lists k) same)
-  entries_after lists p keep h t h' t' desk place l seat order (Goes next) at to lt row =
+  entries_after lists p config h t h' t' desk place l seat order (Goes next) at to lt row =
       let same = seen_stays desk place seat (seat_after seat (Goes next)) to (ap (λ (o : Option Begun). record { number = seat.number; begun = o }) (moved_seen seat.work next)) in
       omega (arith, ap (λ k. turns_left lists k) same)
-  entries_after lists p keep h t h' t' desk place l seat order (Sought next) at to lt row =
+  entries_after lists p config h t h' t' desk place l seat order (Sought next) at to lt row =
       let same = seen_stays desk place seat (seat_after seat (Sought next)) to (ap (λ (o : Option Begun). record { number = seat.number; begun = o }) (sought_seen seat.work next)) in
+      omega (arith, ap (λ k. turns_left lists k) same)
+  entries_after lists p config h t h' t' desk place l seat order (Dooms segment) at to lt row =
+      let same = seen_stays desk place seat (seat_after seat (Dooms segment)) to (ap (λ (o : Option Begun). record { number = seat.number; begun = o }) (doomed_seen seat.work segment)) in
+      omega (arith, ap (λ k. turns_left lists k) same)
+  entries_after lists p config h t h' t' desk place l seat order (Deletes next) at to lt row =
+      let same = seen_stays desk place seat (seat_after seat (Deletes next)) to (ap (λ (o : Option Begun). record { number = seat.number; begun = o }) (deleting_seen seat.work next)) in
       omega (arith, ap (λ k. turns_left lists k) same)
 
   -- what the seats keep after a turn
-  works_after : (lists : List ActorList) (p : PartitionId) (keep : Keep) (h : Held D) (t : Tier S M) (h' : Held D) (t' : Tier S M) (desk : List Seat) (place : ℕ) (l : ActorList) (seat : Seat) (order : Order) (outcome : Outcome)
+  works_after : (lists : List ActorList) (p : PartitionId) (config : Config) (h : Held D) (t : Tier S M) (h' : Held D) (t' : Tier S M) (desk : List Seat) (place : ℕ) (l : ActorList) (seat : Seat) (order : Order) (outcome : Outcome)
       → AreWorks lists desk → slice_get lists place ≡ Some l → slice_get desk place ≡ Some seat → slice_get l.orders seat.number ≡ Some order
-      → TurnRow disk store meta p keep h t order.broker.0 seat.work order.command outcome h' t' → AreWorks lists (slice_set desk place (seat_after seat outcome))
-  works_after lists p keep h t h' t' desk place l seat order outcome works at to next row = λ i k s o at2 to2 next2.
+      → TurnRow disk store meta p config h t order.broker.0 seat.work order.command outcome h' t' → AreWorks lists (slice_set desk place (seat_after seat outcome))
+  works_after lists p config h t h' t' desk place l seat order outcome works at to next row = λ i k s o at2 to2 next2.
       elim (get-set desk place (seat_after seat outcome) i s to2) [
         | inl one ↦
             let list : k ≡ l = cc (at2, at, ap (λ (n : ℕ). slice_get lists n) one.0) in
             let there : slice_get l.orders (seat_after seat outcome).number ≡ Some o =
             ap (λ (m : ActorList). slice_get m.orders (seat_after seat outcome).number) (sym list) ∙ (ap (λ (m : Seat). slice_get k.orders m.number) (sym one.1) ∙ next2) in
             subst (λ (m : Seat). IsWorkFor o.command m.work) (sym one.1)
-            (work_after disk store meta p keep h t h' t' l seat order outcome o next (works place l seat order at to next) row there)
+            (work_after disk store meta p config h t h' t' l seat order outcome o next (works place l seat order at to next) row there)
         | inr other ↦ works i k s o at2 other.1 next2
       ]
 
   -- the world after the turn
-  pub sound_after : (config : Config) (lists : List ActorList) (p : PartitionId) (keep : Keep) (h : Held D) (t : Tier S M) (h' : Held D) (t' : Tier S M) (desk desk' : List Seat) (free free' place : ℕ) (l : ActorList) (seat : Seat) (order : Order) (outcome : Outcome)
+  pub sound_after : (config : Config) (lists : List ActorList) (p : PartitionId) (h : Held D) (t : Tier S M) (h' : Held D) (t' : Tier S M) (desk desk' : List Seat) (free free' place : ℕ) (l : ActorList) (seat : Seat) (order : Order) (outcome : Outcome)
       → IsSound config lists h t.sides desk free → slice_get lists place ≡ Some l → slice_get desk place ≡ Some seat → slice_get l.orders seat.number ≡ Some order → seat.number < length l.orders
-      → TurnRow disk store meta p keep h t order.broker.0 seat.work order.command outcome h' t' → desk' ≡ slice_set desk place (seat_after seat outcome)
+      → TurnRow disk store meta p config h t order.broker.0 seat.work order.command outcome h' t' → desk' ≡ slice_set desk place (seat_after seat outcome)
       → free' ≡ free - told_count outcome → IsSound config lists h' t'.sides desk' free'
-  sound_after config lists p keep h t h' t' desk desk' free free' place l seat order outcome s at to next lt row desk_is free_is =
-      let less = entries_after lists p keep h t h' t' desk place l seat order outcome at to lt row in
+  sound_after config lists p h t h' t' desk desk' free free' place l seat order outcome s at to next lt row desk_is free_is =
+      let less = entries_after lists p config h t h' t' desk place l seat order outcome at to lt row in
       record {
         config_fits = s.config_fits;
         fit = s.fit;
-        held = turn_sound disk store meta config.brokers p keep h t order.broker.0 seat.work order.command outcome h' t' s.held row;
-        sided = turn_sides disk store meta p keep h t order.broker.0 seat.work order.command outcome h' t' row ∙ s.sided;
+        held = turn_sound disk store meta config.brokers p config h t order.broker.0 seat.work order.command outcome h' t' s.held row;
+        sided = turn_sides disk store meta p config h t order.broker.0 seat.work order.command outcome h' t' row ∙ s.sided;
         seats = ap (λ (k : List Seat). length k) desk_is ∙ (length-slice_set desk place (seat_after seat outcome) ∙ s.seats);
-        works = subst (AreWorks lists) (sym desk_is) (works_after lists p keep h t h' t' desk place l seat order outcome s.works at to next row);
+        works = subst (AreWorks lists) (sym desk_is) (works_after lists p config h t h' t' desk place l seat order outcome s.works at to next row);
         room = rw (desk_is, free_is) (omega (arith, less, s.room));
       }
 
@@ -157,6 +181,8 @@ module _ {D S M : Type 0} (disk : DiskGhosts D) (store : StoreGhosts S) (meta : 
   steps_of w a (Chose copy) w' t = (Chose copy, tt, t)
   steps_of w a (Goes next) w' t = (Goes next, tt, t)
   steps_of w a (Sought next) w' t = (Sought next, tt, t)
+  steps_of w a (Dooms segment) w' t = (Dooms segment, tt, t)
+  steps_of w a (Deletes next) w' t = (Deletes next, tt, t)
 
   -- an actor whose list is at its end is at its end
   pub at_end : (w : Whole D S M) (a place : ℕ) (l : ActorList) (seat : Seat) → AreRising w.lists → IsSeat w a place l seat → length l.orders ≤ seat.number → IsAtEnd w a

@@ -7,6 +7,7 @@ use Rattle.disk_model.specs.declared.disk.Disk.{Ghosts as DiskGhosts}
 use Rattle.object_store.specs.declared.store.Store.{Ghosts as StoreGhosts}
 use Rattle.meta_log.specs.declared.log.MetaLog.{Ghosts as MetaGhosts}
 use Rattle.copy_task.specs.declared.turn.Next.TheVariants.{Start, Put, Finish}
+use Rattle.expiry_task.specs.declared.turn.Next.TheVariants as deletion
 use Rattle.tier_fetch.specs.declared.turn.Next.{Next as Search}
 use Rattle.tier_fetch.specs.declared.turn.Next.TheVariants.{Refresh}
 use Rattle.plain_log.specs.declared.command.ActorList.{ActorList}
@@ -21,12 +22,12 @@ use Rattle.partition_seen.specs.Central as seen_central
 use Rattle.partition_tier.specs.Sites.{sites_of, Side as SideSeen}
 use Rattle.partition_tier.specs.Works.{work_of as work_seen}
 use Rattle.partition_turns.specs.Held.{ShowsHeld}
-use Rattle.tier_safe.specs.Scene.{Scene, Work as WorkSeen, Free, Copies as CopiesSeen, Seeks as SeeksSeen}
+use Rattle.tier_safe.specs.Scene.{Scene, Work as WorkSeen, Free, Copies as CopiesSeen, Expires as ExpiresSeen, Seeks as SeeksSeen}
 use Rattle.tier_safe.specs.Safe.{TierSafe}
 use Rattle.tier_serves.specs.Seeking.{sought_of, indexes_in}
 use Rattle.partition_world.specs.declared.seat.Seat.{Seat}
 use Rattle.partition_world.specs.declared.seat.Work.{Work}
-use Rattle.partition_world.specs.declared.seat.Work.TheVariants.{Idle, Noted, Copies, Seeks}
+use Rattle.partition_world.specs.declared.seat.Work.TheVariants.{Idle, Noted, Copies, Seeks, Expires}
 use Rattle.partition_world.specs.declared.tier.Side.{Side}
 use Rattle.partition_world.specs.Whole.{Whole, seen_as}
 
@@ -60,6 +61,7 @@ work_of (Some order) Idle = Free
 work_of (Some order) (Noted g) = begun_of order.broker.0 g order.command
 work_of (Some order) (Copies g copy next) = CopiesSeen copy next
 work_of (Some order) (Seeks g next) = seeks_of order.broker.0 g next order.command
+work_of (Some order) (Expires g segment next) = ExpiresSeen segment next
 
 -- of the whole desk
 abbrev pub desk_of : List ActorList → List Seat → List WorkSeen
@@ -73,6 +75,8 @@ told_by (Copies g copy Start) = 0
 told_by (Copies g copy (Put n)) = 1
 told_by (Copies g copy Finish) = 1
 told_by (Copies g copy next) = 2
+told_by (Expires g segment deletion.Start) = 0
+told_by (Expires g segment next) = 1
 told_by other = 0
 
 -- how many notes may be appended yet

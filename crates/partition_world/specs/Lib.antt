@@ -1,6 +1,7 @@
 pub mod Tier
 pub mod Seats
 pub mod TurnsOfCopy
+pub mod TurnsOfExpiry
 pub mod TurnsOfFetch
 pub mod TurnsOfTrim
 pub mod Turns

@@ -6,6 +6,11 @@ use Rattle.copy_task.specs.declared.turn.CopyTurn.{CopyTurn}
 use Rattle.copy_task.specs.declared.turn.CopyTurn.TheVariants.{Goes as GoesOn, Ends}
 use Rattle.copy_task.specs.declared.turn.Next.{Next}
 use Rattle.copy_task.specs.declared.turn.Next.TheVariants.{Start}
+use Rattle.expiry_task.specs.declared.turn.Doomed.{Doomed}
+use Rattle.expiry_task.specs.declared.turn.ExpiryTurn.{ExpiryTurn}
+use Rattle.expiry_task.specs.declared.turn.ExpiryTurn.TheVariants as expiry
+use Rattle.expiry_task.specs.declared.turn.Next.{Next as Deletion}
+use Rattle.expiry_task.specs.declared.turn.Next.TheVariants as deletion
 use Rattle.tier_fetch.specs.declared.turn.FetchTurn.{FetchTurn}
 use Rattle.tier_fetch.specs.declared.turn.FetchTurn.TheVariants as fetch
 use Rattle.tier_fetch.specs.declared.turn.Next.{Next as Search}
@@ -20,11 +25,11 @@ use Rattle.partition_seen.specs.declared.seat.Stepped.{Stepped}
 use Rattle.partition_seen.specs.declared.seat.Stepped.TheVariants.{Ran, Done}
 use Rattle.partition_seen.specs.Turn.{event_of}
 use Rattle.partition_world.specs.declared.seat.Outcome.{Outcome}
-use Rattle.partition_world.specs.declared.seat.Outcome.TheVariants.{Answers, Begins, Chose, Goes, Seeks}
+use Rattle.partition_world.specs.declared.seat.Outcome.TheVariants.{Answers, Begins, Chose, Goes, Seeks, Dooms, Deletes}
 use Rattle.partition_world.specs.declared.seat.Seat.{Seat}
 use Rattle.partition_world.specs.declared.seat.Work.{Work}
 use Rattle.partition_world.specs.declared.seat.Work.TheVariants as work
-use Rattle.partition_world.specs.declared.seat.Work.TheVariants.{Idle, Noted, Copies}
+use Rattle.partition_world.specs.declared.seat.Work.TheVariants.{Idle, Noted, Copies, Expires}
 
 -- what was noted where the command began
 abbrev pub noted_in : Work → Option Begun
@@ -32,6 +37,7 @@ noted_in Idle = None
 noted_in (Noted g) = Some g
 noted_in (Copies g copy next) = Some g
 noted_in (work.Seeks g next) = Some g
+noted_in (Expires g segment next) = Some g
 
 -- a copy that has chosen its segment starts with it next
 abbrev pub chosen : Work → Copied → Work
@@ -49,7 +55,17 @@ sought (Noted g) next = work.Seeks g next
 sought (work.Seeks g before) next = work.Seeks g next
 sought other next = other
 
--- the seat as it is seen: what was noted is seen, and not a copy's segment, nor what a fetch has found
+-- an expiry that has taken up a remote segment starts its deletion next
+abbrev pub doomed : Work → Doomed → Work
+doomed (Noted g) segment = Expires g segment deletion.Start
+doomed other segment = other
+
+-- an expiry does this next
+abbrev pub deleting : Work → Deletion → Work
+deleting (Expires g segment before) next = Expires g segment next
+deleting other next = other
+
+-- the seat as it is seen: what was noted is seen, and not the segment of a copy or an expiry, nor what a fetch has found
 abbrev pub seat_seen : Seat → seen_seat.Seat
 seat_seen seat = record { number = seat.number; begun = noted_in seat.work }
 
@@ -72,6 +88,11 @@ abbrev pub fetch_outcome : FetchTurn → Outcome
 fetch_outcome (fetch.Goes next) = Seeks next
 fetch_outcome (fetch.Ends answer) = Answers answer
 
+-- what a turn of an expiry came to
+abbrev pub expiry_outcome : ExpiryTurn → Outcome
+expiry_outcome (expiry.Goes next) = Deletes next
+expiry_outcome (expiry.Ends answer) = Answers answer
+
 -- the seat after a turn: at the next order after an answer, else with what the order goes on with
 abbrev pub seat_after : Seat → Outcome → Seat
 seat_after seat (Answers answer) = record { number = seat.number + 1; work = Idle }
@@ -79,6 +100,8 @@ seat_after seat (Begins g) = record seat { work = Noted g }
 seat_after seat (Chose copy) = record seat { work = chosen seat.work copy }
 seat_after seat (Goes next) = record seat { work = moved seat.work next }
 seat_after seat (Seeks next) = record seat { work = sought seat.work next }
+seat_after seat (Dooms segment) = record seat { work = doomed seat.work segment }
+seat_after seat (Deletes next) = record seat { work = deleting seat.work next }
 
 -- what the journal says of a turn: nothing of one that neither begins its command nor answers it
 abbrev pub told_of : ActorId → ℕ → Command → Outcome → List JournalEntry

@@ -41,7 +41,7 @@ module _ {D S M : Type 0} (disk : DiskGhosts D) (store : StoreGhosts S) (meta : 
     pub order : Order
     pub at : IsSeat w a place list seat
     pub next : slice_get list.orders seat.number ≡ Some order
-    pub row : TurnRow disk store meta w.partition w.config.local_keep w.held w.tier order.broker.0 seat.work order.command outcome w'.held w'.tier
+    pub row : TurnRow disk store meta w.partition w.config w.held w.tier order.broker.0 seat.work order.command outcome w'.held w'.tier
     pub desk : w'.desk ≡ slice_set w.desk place (seat_after seat outcome)
     pub entered : w'.journal.items ≡ w.journal.items ++ told_of list.actor seat.number order.command outcome
     pub partition : w'.partition ≡ w.partition

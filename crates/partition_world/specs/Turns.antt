@@ -6,14 +6,16 @@ use Rattle.disk_model.specs.declared.disk.Disk.{Ghosts as DiskGhosts}
 use Rattle.object_store.specs.declared.store.Store.{Ghosts as StoreGhosts}
 use Rattle.meta_log.specs.declared.log.MetaLog.{Ghosts as MetaGhosts}
 use Rattle.tier_base.specs.declared.names.PartitionId.{PartitionId}
-use Rattle.tier_base.specs.declared.plain.Keep.{Keep}
 use Rattle.copy_task.specs.Copying.{Copied}
 use Rattle.copy_task.specs.declared.turn.Next.{Next}
+use Rattle.expiry_task.specs.declared.turn.Doomed.{Doomed}
+use Rattle.expiry_task.specs.declared.turn.Next.{Next as Deletion}
 use Rattle.tier_fetch.specs.declared.turn.Next.{Next as Search}
 use Rattle.tier_fetch.specs.declared.turn.Next.TheVariants.{Refresh}
 use Rattle.plain_log.specs.declared.answer.Answer.{Answer}
 use Rattle.plain_log.specs.declared.command.Command.{Command}
-use Rattle.plain_log.specs.declared.command.Command.TheVariants.{Copy, Trim, Fetch}
+use Rattle.plain_log.specs.declared.command.Command.TheVariants.{Copy, Trim, Expire, Fetch}
+use Rattle.plain_log.specs.declared.command.Config.{Config}
 use Rattle.partition_seen.specs.declared.begun.Begun.{Begun}
 use Rattle.partition_seen.specs.declared.begun.Turned.{Turned}
 use Rattle.partition_seen.specs.declared.begun.Turned.TheVariants as turned
@@ -26,10 +28,11 @@ use Rattle.partition_world.specs.declared.tier.Tier.{Tier}
 use Rattle.partition_world.specs.declared.seat.Outcome.{Outcome}
 use Rattle.partition_world.specs.declared.seat.Outcome.TheVariants.{Answers}
 use Rattle.partition_world.specs.declared.seat.Work.{Work}
-use Rattle.partition_world.specs.declared.seat.Work.TheVariants.{Idle, Noted, Copies, Seeks}
+use Rattle.partition_world.specs.declared.seat.Work.TheVariants.{Idle, Noted, Copies, Seeks, Expires}
 use Rattle.partition_world.specs.Tier.{AtSide, Halts}
 use Rattle.partition_world.specs.Seats.{outcome_of}
 use Rattle.partition_world.specs.TurnsOfCopy.{CopyFirstRow, ChooseRow, CopyOnRow, WantsForCopy}
+use Rattle.partition_world.specs.TurnsOfExpiry.{ExpireFirstRow, ExpireOnRow, DeleteOnRow, WantsForDeletion}
 use Rattle.partition_world.specs.TurnsOfFetch.{FetchOnRow, WantsForFetch}
 use Rattle.partition_world.specs.TurnsOfTrim.{TrimFirstRow, TrimOnRow}
 
@@ -57,40 +60,50 @@ module _ {D S M : Type 0} (store : StoreGhosts S) (meta : MetaGhosts M) where
       FetchOnRow store meta p h t b x side g offset limit next outcome t' × (h' ≡ h)
   SeekingRow p h t b x side g next command outcome h' t' = ⊥
 
+  -- a later turn of an expiry that has taken up a remote segment; no other command has one
+  abbrev pub DeletingRow : Held D → Tier S M → ℕ → Node D → Begun → Doomed → Deletion → Command → Outcome → Held D → Tier S M → Type 0
+  DeletingRow h t b x g doomed next Expire outcome h' t' = DeleteOnRow store meta h t b x g doomed next outcome t' × (h' ≡ h)
+  DeletingRow h t b x g doomed next command outcome h' t' = ⊥
+
 module _ {D S M : Type 0} (disk : DiskGhosts D) (store : StoreGhosts S) (meta : MetaGhosts M) where
   -- the second turn, of a command of which its seat keeps what was noted: a fetch begins with a refresh
-  abbrev pub NotedRow : PartitionId → Keep → Held D → Tier S M → ℕ → Node D → Side → Begun → Command → Outcome → Held D → Tier S M → Type 0
-  NotedRow p keep h t b x side g Copy outcome h' t' = ChooseRow disk p h t b x side g outcome h' t'
-  NotedRow p keep h t b x side g Trim outcome h' t' = TrimOnRow disk h b x side g keep outcome h' × (t' ≡ t)
-  NotedRow p keep h t b x side g (Fetch offset limit) outcome h' t' =
+  abbrev pub NotedRow : PartitionId → Config → Held D → Tier S M → ℕ → Node D → Side → Begun → Command → Outcome → Held D → Tier S M → Type 0
+  NotedRow p config h t b x side g Copy outcome h' t' = ChooseRow disk p h t b x side g outcome h' t'
+  NotedRow p config h t b x side g Trim outcome h' t' = TrimOnRow disk h b x side g config.local_keep outcome h' × (t' ≡ t)
+  NotedRow p config h t b x side g Expire outcome h' t' = ExpireOnRow p h x side g config.keep outcome h' × (t' ≡ t)
+  NotedRow p config h t b x side g (Fetch offset limit) outcome h' t' =
       FetchOnRow store meta p h t b x side g offset limit Refresh outcome t' × (h' ≡ h)
-  NotedRow p keep h t b x side g command outcome h' t' = OwnOnRow disk h t b x g command outcome h' t'
+  NotedRow p config h t b x side g command outcome h' t' = OwnOnRow disk h t b x g command outcome h' t'
 
   -- a command's first turn
   abbrev pub BeginRow : Held D → Tier S M → ℕ → Node D → Side → Command → Outcome → Held D → Tier S M → Type 0
   BeginRow h t b x side Copy outcome h' t' = CopyFirstRow meta h t b x side outcome t' × (h' ≡ h)
   BeginRow h t b x side Trim outcome h' t' = TrimFirstRow meta h t b x side outcome t' × (h' ≡ h)
+  BeginRow h t b x side Expire outcome h' t' = ExpireFirstRow meta h t b x side outcome t' × (h' ≡ h)
   BeginRow h t b x side command outcome h' t' = OwnRow disk h t b x command outcome h' t'
 
   -- a turn of a command of broker b, of which so much is kept
-  abbrev pub Row : PartitionId → Keep → Held D → Tier S M → ℕ → Node D → Side → Work → Command → Outcome → Held D → Tier S M → Type 0
-  Row p keep h t b x side Idle command outcome h' t' = BeginRow h t b x side command outcome h' t'
-  Row p keep h t b x side (Noted g) command outcome h' t' = NotedRow p keep h t b x side g command outcome h' t'
-  Row p keep h t b x side (Copies g copy next) command outcome h' t' =
+  abbrev pub Row : PartitionId → Config → Held D → Tier S M → ℕ → Node D → Side → Work → Command → Outcome → Held D → Tier S M → Type 0
+  Row p config h t b x side Idle command outcome h' t' = BeginRow h t b x side command outcome h' t'
+  Row p config h t b x side (Noted g) command outcome h' t' = NotedRow p config h t b x side g command outcome h' t'
+  Row p config h t b x side (Copies g copy next) command outcome h' t' =
       CopyingRow store meta h t b x side g copy next command outcome h' t'
-  Row p keep h t b x side (Seeks g next) command outcome h' t' =
+  Row p config h t b x side (Seeks g next) command outcome h' t' =
       SeekingRow store meta p h t b x side g next command outcome h' t'
+  Row p config h t b x side (Expires g doomed next) command outcome h' t' =
+      DeletingRow store meta h t b x g doomed next command outcome h' t'
 
   -- there are such a broker and such a side, and the row holds of them
-  abbrev pub TurnRow : PartitionId → Keep → Held D → Tier S M → ℕ → Work → Command → Outcome → Held D → Tier S M → Type 0
-  TurnRow p keep h t b work command outcome h' t' =
-      AtNode h b (λ x. AtSide t b (λ side. Row p keep h t b x side work command outcome h' t'))
+  abbrev pub TurnRow : PartitionId → Config → Held D → Tier S M → ℕ → Work → Command → Outcome → Held D → Tier S M → Type 0
+  TurnRow p config h t b work command outcome h' t' =
+      AtNode h b (λ x. AtSide t b (λ side. Row p config h t b x side work command outcome h' t'))
 
   -- memory was wanting for the tier: nothing that is seen has changed, but that a view may have taken in some notes
   abbrev pub HaltsTier : Held D → Tier S M → ℕ → Node D → Side → Tier S M → Type 0
   HaltsTier h t b x side t' =
       Halts meta t b side t' ⊎ (((copy : Copied) × (next : Next) × WantsForCopy store meta h t b side copy next t')
-      ⊎ ((p : PartitionId) × (offset : ℕ) × (limit : ℕ) × (next : Search) × WantsForFetch store meta p t b x side offset limit next t'))
+      ⊎ (((p : PartitionId) × (offset : ℕ) × (limit : ℕ) × (next : Search) × WantsForFetch store meta p t b x side offset limit next t')
+      ⊎ ((doomed : Doomed) × (next : Deletion) × WantsForDeletion store meta h t b doomed next t')))
 
   -- memory was wanting
   abbrev pub StaysTier : Held D → Tier S M → ℕ → Held D → Tier S M → Type 0

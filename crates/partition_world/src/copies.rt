@@ -33,7 +33,7 @@ use std::alloc::{AllocError, Global};
 use tier_base::{BrokerId, PartitionId, SegmentId, Trouble, segment_id};
 
 /// Whether a broker is up, has not stopped since a command began, and has the role that it had.
-fn keeps_lead<D: Disk>(node: &Node<D>, noted: &Begun) -> bool
+pub(crate) fn keeps_lead<D: Disk>(node: &Node<D>, noted: &Begun) -> bool
     ensures { IsTrue result ↔ KeepsLead node.now noted.now }
 {
     noted.stops == node.stops && node.is_up() && noted.role == node.role
@@ -129,8 +129,8 @@ fn read_next<D: Disk>(
     }
 }
 
-/// Who tells of a broker's copy.
-fn teller<D: Disk>(held: &Held<D>, broker: BrokerId) -> Teller
+/// Who tells of what a broker does.
+pub(crate) fn teller<D: Disk>(held: &Held<D>, broker: BrokerId) -> Teller
     ensures { result ≡ teller_of held.now broker.0 }
 {
     Teller {

@@ -7,11 +7,12 @@ ghost use Rattle.partition_seen.specs.Sound.{turns_left};
 ghost use Rattle.partition_seen.specs.Turn.{event_of};
 ghost use Rattle.partition_seen.specs.declared.begun.Turned.TheVariants as turned;
 ghost use Rattle.plain_log.specs.declared.journal.Event.TheVariants as event;
-ghost use Rattle.partition_world.specs.declared.seat.Outcome.TheVariants.{Chose, Goes, Seeks};
+ghost use Rattle.partition_world.specs.declared.seat.Outcome.TheVariants.{Chose, Goes, Seeks, Dooms, Deletes};
 ghost use Rattle.partition_world.specs.Seats.{seat_after, told_of, told_count, stepped_of};
 
 use crate::seat::{Outcome, Seat, Work};
 use copy_task::{Copying, Next};
+use expiry_task::{Doomed, Next as Deletion};
 use partition_seen::{Begun, Stepped};
 use plain_log::{ActorList, Command, Event, Journal, JournalEntry};
 use std::alloc::{AllocError, Global};
@@ -114,6 +115,30 @@ fn seek_at(desk: &mut Row<Seat>, place: usize, next: Search)
     set_seat(desk, place, number, work);
 }
 
+/// Lets an expiry go on with the remote segment that it has taken up.
+#[tactic(auto, using(crate::proofs::Sides::set_twice))]
+fn doom_at(desk: &mut Row<Seat>, place: usize, segment: Doomed)
+    requires { place < length desk.old }
+    ensures { IsSomeAnd (slice_get desk.old place) (λ seat. desk.new ≡ slice_set desk.old place (seat_after seat (Dooms segment))) }
+{
+    let seat = take_seat(desk, place);
+    let number = seat.number;
+    let work = seat.work.doomed(segment);
+    set_seat(desk, place, number, work);
+}
+
+/// Lets an expiry go on with a turn.
+#[tactic(auto, using(crate::proofs::Sides::set_twice))]
+fn delete_at(desk: &mut Row<Seat>, place: usize, next: Deletion)
+    requires { place < length desk.old }
+    ensures { IsSomeAnd (slice_get desk.old place) (λ seat. desk.new ≡ slice_set desk.old place (seat_after seat (Deletes next))) }
+{
+    let seat = take_seat(desk, place);
+    let number = seat.number;
+    let work = seat.work.deleting(next);
+    set_seat(desk, place, number, work);
+}
+
 /// Where the log was cut, of a join that begins.
 fn cut_of(command: &Command, begun: &Begun) -> Option<u64>
     ensures { event_of (turned.Begins begun.now) command.now ≡ event.Begins result }
@@ -173,6 +198,14 @@ pub(crate) fn enter(
         }
         Outcome::Seeks(next) => {
             seek_at(desk, place, next);
+            Stepped::Ran
+        }
+        Outcome::Dooms(segment) => {
+            doom_at(desk, place, segment);
+            Stepped::Ran
+        }
+        Outcome::Deletes(next) => {
+            delete_at(desk, place, next);
             Stepped::Ran
         }
     }

@@ -17,6 +17,7 @@
 mod copies;
 mod covering;
 mod desk;
+mod expiries;
 mod fetches;
 mod laws;
 mod runs;

@@ -1,9 +1,10 @@
 //! How far an actor has come, what is kept of its command between two turns, and what a turn came to.
 
 ghost use Rattle.std.specs.Prelude.{◌≡◌};
-ghost use Rattle.partition_world.specs.Seats.{chosen, moved, sought, outcome_of, copy_outcome, fetch_outcome};
+ghost use Rattle.partition_world.specs.Seats.{chosen, moved, sought, doomed, deleting, outcome_of, copy_outcome, fetch_outcome, expiry_outcome};
 
 use copy_task::{CopyTurn, Copying, Next};
+use expiry_task::{Doomed, ExpiryTurn, Next as Deletion};
 use partition_seen::{Begun, Turned};
 use plain_log::Answer;
 use tier_fetch::{FetchTurn, Next as Search};
@@ -13,12 +14,14 @@ use tier_fetch::{FetchTurn, Next as Search};
 pub enum Work {
     /// Nothing: it hasn't begun.
     Idle,
-    /// What was noted where it began. A follow has its run there, and a copy has yet to choose its segment.
+    /// What was noted where it began. A follow has its run there, and a copy or an expiry has yet to choose its segment.
     Noted(Begun),
     /// A copy of a segment, and what it does next.
     Copies(Begun, Copying, Next),
     /// A fetch from the remote tier, and what it does next.
     Seeks(Begun, Search),
+    /// An expiry of a remote segment, and what it does next.
+    Expires(Begun, Doomed, Deletion),
 }
 
 /// An actor's place at the desk.
@@ -43,6 +46,10 @@ pub enum Outcome {
     Goes(Next),
     /// A fetch from the remote tier goes on with this turn.
     Seeks(Search),
+    /// An expiry has taken up a remote segment.
+    Dooms(Doomed),
+    /// An expiry goes on with this turn.
+    Deletes(Deletion),
 }
 
 impl Work {
@@ -75,6 +82,26 @@ impl Work {
             other => other,
         }
     }
+
+    /// The work of an expiry that has taken up a remote segment.
+    pub(crate) fn doomed(self, segment: Doomed) -> Work
+        ensures { result ≡ doomed self segment }
+    {
+        match self {
+            Work::Noted(begun) => Work::Expires(begun, segment, Deletion::Start),
+            other => other,
+        }
+    }
+
+    /// The work of an expiry that goes on.
+    pub(crate) fn deleting(self, next: Deletion) -> Work
+        ensures { result ≡ deleting self next }
+    {
+        match self {
+            Work::Expires(begun, segment, _) => Work::Expires(begun, segment, next),
+            other => other,
+        }
+    }
 }
 
 /// What a turn came to of a command that the remote tier has no part in.
@@ -104,5 +131,15 @@ pub(crate) fn fetch_outcome(turn: FetchTurn) -> Outcome
     match turn {
         FetchTurn::Goes(next) => Outcome::Seeks(next),
         FetchTurn::Ends(answer) => Outcome::Answers(answer),
+    }
+}
+
+/// What a turn of an expiry came to.
+pub(crate) fn expiry_outcome(turn: ExpiryTurn) -> Outcome
+    ensures { result ≡ expiry_outcome turn }
+{
+    match turn {
+        ExpiryTurn::Goes(next) => Outcome::Deletes(next),
+        ExpiryTurn::Ends(answer) => Outcome::Answers(answer),
     }
 }

@@ -8,19 +8,20 @@ ghost use Rattle.partition_world.specs.Tier.{AtSide};
 ghost use Rattle.partition_world.specs.declared.seat.Work.TheVariants.{Seeks};
 ghost use Rattle.tier_fetch.specs.Turns.{IsFor};
 ghost use Rattle.partition_world.specs.Sound.{IsWorkFor};
-ghost use Rattle.partition_world.specs.Turns.{OwnRow, OwnOnRow, BeginRow, NotedRow, CopyingRow, SeekingRow, TurnRow, StaysTier};
+ghost use Rattle.partition_world.specs.Turns.{OwnRow, OwnOnRow, BeginRow, NotedRow, CopyingRow, SeekingRow, DeletingRow, TurnRow, StaysTier};
 
 use crate::seat::{Outcome, Work, outcome_of};
 use crate::tier::Tier;
 use copy_task::{Copying, Next};
 use disk_model::Disk;
+use expiry_task::{Doomed, Next as Deletion};
 use meta_log::MetaLog;
 use object_store::Store;
 use partition_seen::Begun;
 use partition_turns::Held;
-use plain_log::{Command, Order};
+use plain_log::{Command, Config, Order};
 use std::alloc::{AllocError, Global};
-use tier_base::{Keep, PartitionId};
+use tier_base::PartitionId;
 use tier_fetch::Next as Search;
 
 impl<S: Store, M: MetaLog> Tier<S, M> {
@@ -29,7 +30,7 @@ impl<S: Store, M: MetaLog> Tier<S, M> {
         &mut self,
         alloc: Global,
         partition: PartitionId,
-        keep: Keep,
+        config: Config,
         order: &Order,
         work: &Work,
         held: &mut Held<D>,
@@ -39,7 +40,7 @@ impl<S: Store, M: MetaLog> Tier<S, M> {
         requires sound { HeldSound (length held.old.nodes) held.old }
         requires fit { IsInRange order.now.command }
         requires work { IsWorkFor order.now.command work.now }
-        ensures row { IfOk result (λ outcome. TurnRow D.Disk S.Store M.MetaLog partition keep held.old self.old
+        ensures row { IfOk result (λ outcome. TurnRow D.Disk S.Store M.MetaLog partition config held.old self.old
             order.now.broker.0 work.now order.now.command outcome held.new self.new) }
         ensures err { OnErr result (StaysTier D.Disk S.Store M.MetaLog held.old self.old order.now.broker.0 held.new self.new) }
     {
@@ -48,12 +49,15 @@ impl<S: Store, M: MetaLog> Tier<S, M> {
         }
         match work {
             Work::Idle => self.begin(alloc, order, held),
-            Work::Noted(noted) => self.go_on(alloc, partition, keep, order, noted, held),
+            Work::Noted(noted) => self.go_on(alloc, partition, config, order, noted, held),
             Work::Copies(noted, copying, next) => {
                 self.go_copying(alloc, order, noted, copying, *next, held)
             }
             Work::Seeks(noted, next) => {
                 self.go_seeking(alloc, partition, order, noted, *next, held)
+            }
+            Work::Expires(noted, doomed, next) => {
+                self.go_deleting(order, noted, *doomed, *next, held)
             }
         }
     }
@@ -76,6 +80,7 @@ impl<S: Store, M: MetaLog> Tier<S, M> {
         match &order.command {
             Command::Copy => self.copy(alloc, order.broker.0 as usize, held),
             Command::Trim => self.trim(alloc, order.broker.0 as usize, held),
+            Command::Expire => self.expire(alloc, order.broker.0 as usize, held),
             _ => self.begin_own(alloc, order, held),
         }
     }
@@ -105,7 +110,7 @@ impl<S: Store, M: MetaLog> Tier<S, M> {
         &mut self,
         alloc: Global,
         partition: PartitionId,
-        keep: Keep,
+        config: Config,
         order: &Order,
         noted: &Begun,
         held: &mut Held<D>,
@@ -114,12 +119,14 @@ impl<S: Store, M: MetaLog> Tier<S, M> {
         requires side { order.now.broker.0 < length self.old.sides }
         requires sound { HeldSound (length held.old.nodes) held.old }
         ensures row { IfOk result (λ outcome. AtNode held.old order.now.broker.0 (λ x. AtSide self.old order.now.broker.0 (λ side.
-            NotedRow D.Disk S.Store M.MetaLog partition keep held.old self.old order.now.broker.0 x side noted.now order.now.command outcome held.new self.new))) }
+            NotedRow D.Disk S.Store M.MetaLog partition config held.old self.old order.now.broker.0 x side noted.now order.now.command outcome held.new self.new))) }
         ensures err { OnErr result (StaysTier D.Disk S.Store M.MetaLog held.old self.old order.now.broker.0 held.new self.new) }
     {
+        let b = order.broker.0 as usize;
         match &order.command {
             Command::Copy => self.choose(alloc, partition, order.broker, noted, held),
-            Command::Trim => self.trim_on(alloc, order.broker.0 as usize, noted, keep, held),
+            Command::Trim => self.trim_on(alloc, b, noted, config.local_keep, held),
+            Command::Expire => self.expire_on(alloc, partition, b, noted, config.keep, held),
             Command::Fetch { offset, limit } => self.fetch_on(
                 alloc,
                 partition,
@@ -206,6 +213,29 @@ impl<S: Store, M: MetaLog> Tier<S, M> {
                 *limit,
                 held,
             ),
+            // No other command has such a turn.
+            _ => Err(AllocError),
+        }
+    }
+
+    /// Carries out a turn of an expiry that has taken up a remote segment.
+    fn go_deleting<D: Disk>(
+        &mut self,
+        order: &Order,
+        noted: &Begun,
+        doomed: Doomed,
+        next: Deletion,
+        held: &Held<D>,
+    ) -> Result<Outcome, AllocError>
+        requires node { order.now.broker.0 < length held.now.nodes }
+        requires side { order.now.broker.0 < length self.old.sides }
+        ensures row { IfOk result (λ outcome. AtNode held.now order.now.broker.0 (λ x.
+            DeletingRow S.Store M.MetaLog held.now self.old order.now.broker.0 x noted.now doomed next order.now.command
+            outcome held.now self.new)) }
+        ensures err { OnErr result (StaysTier D.Disk S.Store M.MetaLog held.now self.old order.now.broker.0 held.now self.new) }
+    {
+        match &order.command {
+            Command::Expire => self.delete_on(order.broker, noted, doomed, next, held),
             // No other command has such a turn.
             _ => Err(AllocError),
         }

@@ -195,7 +195,7 @@ impl<D: Disk, S: Store, M: MetaLog> World<D, S, M> {
         match self.tier.turn(
             alloc,
             self.partition,
-            self.config.local_keep,
+            self.config,
             order,
             &seat.work,
             &mut self.held,

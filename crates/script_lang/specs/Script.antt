@@ -9,7 +9,7 @@
 --   5. TooMany, BatchTooLarge, FetchSum, CopySum, TurnSum     the limits (Limits)
 --   6. Unbuilt                            a form that isn't built yet
 --
--- Built are blank lines and comments, all options, later, turn, fault, and all commands but expire, pack, copying and offset.
+-- Built are blank lines and comments, all options, later, turn, fault, and all commands but pack, copying and offset.
 --
 -- Behind the last line each partition's schedule steps its actors in rising order, each to the end of its list.
 use Rattle.std.specs.Prelude.{◌≡◌, ℕ, zero, suc, ◌+◌, ◌==◌, Bool, true, false, if◌then◌else◌, is_some, ℤ, pos, negsuc, List, [], ◌∷◌, ◌++◌, length, replicate, take, Option, Some, None, Result, Ok, Err}
@@ -20,7 +20,7 @@ use Rattle.tier_base.specs.declared.names.ActorId.{ActorId}
 use Rattle.tier_base.specs.declared.names.PartitionId.{PartitionId}
 use Rattle.tier_base.specs.declared.plain.Keep.{Keep}
 use Rattle.plain_log.specs.declared.command.Command.{Command}
-use Rattle.plain_log.specs.declared.command.Command.TheVariants.{Append, Raw, Flush, Roll, Elect, Unclean, Learn, Join, Follow, Ack, Shrink, Expand, Copy, Trim, Raise, Clock, Stop, Up, Fetch}
+use Rattle.plain_log.specs.declared.command.Command.TheVariants.{Append, Raw, Flush, Roll, Elect, Unclean, Learn, Join, Follow, Ack, Shrink, Expand, Copy, Trim, Expire, Raise, Clock, Stop, Up, Fetch}
 use Rattle.plain_log.specs.declared.command.Config.{Config}
 use Rattle.plain_log.specs.declared.command.Order.{Order}
 use Rattle.plain_log.specs.declared.command.Pace.{Pace}
@@ -154,6 +154,7 @@ is_built_command Shrink = true
 is_built_command Expand = true
 is_built_command Copy = true
 is_built_command Trim = true
+is_built_command Expire = true
 is_built_command (Raise start) = true
 is_built_command (Clock ms) = true
 is_built_command Stop = true

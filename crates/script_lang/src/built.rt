@@ -11,7 +11,6 @@ fn is_built_command(command: &Command) -> bool
     ensures { result ≡ is_built_command command.now }
 {
     match command {
-        Command::Expire => false,
         Command::Pack(_) => false,
         Command::Copying(_) => false,
         Command::Offset(_) => false,

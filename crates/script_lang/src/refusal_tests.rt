@@ -268,14 +268,17 @@ static BAD: [(&str, &str); 151] = [
         "line 2: FetchSum",
     ),
     // forms that are not built
-    ("0 0 0 expire\n", "line 1: Unbuilt"),
+    ("0 0 0 offset earliest\n", "line 1: Unbuilt"),
     ("0 0 0 offset latest\n", "line 1: Unbuilt"),
     ("0 0 0 offset at 0\n", "line 1: Unbuilt"),
     ("0 0 - pack 0\n", "line 1: Unbuilt"),
     ("0 0 - copying 1\n", "line 1: Unbuilt"),
-    ("brokers 8\n0 0 7 trim\n0 0 7 expire\n", "line 3: Unbuilt"),
     (
-        "later 0 0 0 up\nturn 0 1\nlater 0 0 0 expire\n0 0 0 frob\n",
+        "brokers 8\n0 0 7 expire\n0 0 7 offset latest\n",
+        "line 3: Unbuilt",
+    ),
+    (
+        "later 0 0 0 up\nturn 0 1\nlater 0 0 - pack 1\n0 0 0 frob\n",
         "line 3: Unbuilt",
     ),
     // actors of two partitions

@@ -45,7 +45,7 @@ enter-requires-clause-room g c =
 pub invariant_of-self : goal.invariant_of-self
 invariant_of-self g c =
     let desk = some_at (λ seat. c.enter.new.desk ≡ slice_set c.self.inside.desk c.in-Some.place (seat_after seat c.in-Ok.outcome)) c.self.inside.desk c.in-Some.place c.get-seat.result.now c.enter.ensures.desk c.get-seat.ensures in
-    sound_after g.D.Disk g.S.Store g.M.MetaLog c.self.inside.config c.self.inside.lists c.self.inside.partition c.self.inside.config.local_keep c.self.inside.held c.self.inside.tier c.turn.new.held c.turn.new.self c.self.inside.desk c.enter.new.desk c.self.inside.journal.room _ c.in-Some.place
+    sound_after g.D.Disk g.S.Store g.M.MetaLog c.self.inside.config c.self.inside.lists c.self.inside.partition c.self.inside.held c.self.inside.tier c.turn.new.held c.turn.new.self c.self.inside.desk c.enter.new.desk c.self.inside.journal.room _ c.in-Some.place
     c.get-list.result.now c.get-seat.result.now c.get-order.result.now c.in-Ok.outcome c.self.invariant c.get-list.ensures c.get-seat.ensures c.get-order.ensures (omega (arith, c.len.ensures, c.if-number-len.false))
     c.in-Ok.ensures.row desk c.enter.ensures.room
 

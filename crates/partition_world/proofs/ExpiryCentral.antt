@@ -1,0 +1,263 @@
+-- Each turn of an expiry keeps the central fact. What it takes up is due, and its deletion makes changes of the tier; of the
+-- partition only a raise of the log start is seen.
+use Rattle.std.proofs.Common.{◌≡◌, ◌∙◌, inl, inr, sym, ap, subst, refl, ℕ, ◌<◌, ◌&&◌, ◌==◌, List, [], ◌∷◌, slice_get, slice_set, Some, None, Option, Ok, Err, Bool, true, false, arith}
+use Rattle.std.specs.Prelude.{nat_lt, nat_le, not, if◌then◌else◌, IsSomeAnd}
+use Rattle.std.proofs.lemmas.Bool.Decides.{nat_tests}
+use Rattle.disk_model.specs.declared.disk.Disk.{Ghosts as DiskGhosts}
+use Rattle.object_store.specs.declared.store.Store.{Ghosts as StoreGhosts}
+use Rattle.object_store.specs.Content.{Objects}
+use Rattle.meta_log.specs.declared.log.MetaLog.{Ghosts as MetaGhosts}
+use Rattle.segment_meta.specs.declared.note.Note.{Note}
+use Rattle.segment_meta.specs.declared.note.Entry.{Entry}
+use Rattle.registry.specs.declared.registry.Registry.{Registry}
+use Rattle.registry.specs.declared.refusal.RegRefusal.TheVariants as Reg
+use Rattle.registry.specs.Calls.{when, is_stale, after_raise}
+use Rattle.log_terms.specs.Log.{end_of}
+use Rattle.remote_view.specs.Fold.{Seen as View, entry_of, fold, AreDistinct}
+use Rattle.remote_view.specs.Lookup.{is_due, due}
+use Rattle.remote_view.proofs.Best.{Among, entry_found}
+use Rattle.expiry_task.specs.declared.turn.Doomed.{Doomed}
+use Rattle.expiry_task.specs.declared.turn.ExpiryTurn.{ExpiryTurn}
+use Rattle.expiry_task.specs.declared.turn.ExpiryTurn.TheVariants.{Goes as GoesOn, Ends}
+use Rattle.expiry_task.specs.declared.turn.Next.{Next}
+use Rattle.expiry_task.specs.declared.turn.Next.TheVariants.{Start}
+use Rattle.plain_log.specs.declared.answer.Answer.{Answer}
+use Rattle.plain_log.specs.declared.answer.Answer.TheVariants.{Down, NotLeader, MetaFault, LostLead, Kept, StaleEpoch, Raised}
+use Rattle.plain_log.specs.declared.command.Command.{Command}
+use Rattle.plain_log.specs.declared.command.Command.TheVariants.{Expire}
+use Rattle.plain_log.specs.declared.command.Order.{Order}
+use Rattle.plain_log.specs.declared.state.Role.{Role}
+use Rattle.plain_log.specs.declared.state.Role.TheVariants.{Leads}
+use Rattle.plain_log.specs.declared.state.State.{State}
+use Rattle.partition_seen.specs.declared.begun.Begun.{Begun}
+use Rattle.partition_seen.specs.declared.begun.Turned.TheVariants as turned
+use Rattle.plain_log.specs.State.{epoch_in}
+use Rattle.partition_seen.specs.RowsOfTiers as seen_tiers
+use Rattle.partition_seen.specs.Seen as seen
+use Rattle.partition_seen.proofs.BoolTests.{some_of}
+use Rattle.partition_turns.specs.declared.held.Node.{Node}
+use Rattle.partition_turns.specs.declared.held.Held.{Held}
+use Rattle.partition_turns.specs.Held.{node_of, ShowsHeld}
+use Rattle.partition_turns.specs.Shown.{Refines}
+use Rattle.partition_turns.specs.TurnsOfElections.{Leaves}
+use Rattle.partition_turns.proofs.OwnRefined.{notes_shown}
+use Rattle.partition_turns.proofs.Shown.{leaves, some_at}
+use Rattle.tier_safe.specs.Changes.{Moves, Dooms}
+use Rattle.tier_safe.specs.May.{IsChanged}
+use Rattle.tier_safe.specs.Moves.{MayDoom}
+use Rattle.tier_safe.specs.Scene.{Scene, Site, Work as WorkSeen, Free, Expires as ExpiresSeen}
+use Rattle.tier_safe.specs.Turns.{Shows, expiry_work}
+use Rattle.tier_safe.proofs.Entries.{prefix_goes}
+use Rattle.tier_safe.proofs.Turning.{expiry_turns}
+use Rattle.partition_world.specs.declared.seat.Outcome.{Outcome}
+use Rattle.partition_world.specs.declared.seat.Outcome.TheVariants as outcomes
+use Rattle.partition_world.specs.declared.seat.Outcome.TheVariants.{Answers, Begins, Deletes}
+use Rattle.partition_world.specs.declared.seat.Work.{Work}
+use Rattle.partition_world.specs.declared.seat.Work.TheVariants.{Idle, Noted, Expires}
+use Rattle.partition_world.specs.declared.tier.Side.{Side}
+use Rattle.partition_world.specs.declared.tier.Tier.{Tier}
+use Rattle.partition_world.specs.Seats.{noted_in, doomed, deleting, expiry_outcome, seat_after, seat_seen, told_of}
+use Rattle.partition_world.specs.Tier.{Refreshes}
+use Rattle.partition_world.specs.Central.{IsCentral, ShowsTier, begun_of, work_of}
+use Rattle.partition_world.specs.Turn.{IsTurn}
+use Rattle.partition_world.specs.TurnsOfCopy.{KeepsLead, teller_of}
+use Rattle.partition_world.specs.TurnsOfExpiry.{ExpireFirstRow, RaiseRow, TakesUp, GoesOnDeletion, DeleteOnRow, expiry_tiers}
+use Rattle.partition_world.specs.Whole.{Whole}
+use Rattle.partition_world.proofs.CopyEnds.{TellsOn, keeps_seen, keeps_back}
+use Rattle.partition_world.proofs.ExpiryEnds.{expiry_ends, expiry_tells, end_row}
+use Rattle.partition_world.proofs.LineTells.{right_view}
+use Rattle.partition_world.proofs.Scenes.{Place, site, site_is, seated, scene_after, shows_at, work_after, same_sides, answered_free}
+use Rattle.partition_world.proofs.Sides.{set_same}
+use Rattle.partition_world.proofs.TurnCentral.{here, after, seat_shows, shown, entered, rests, stands, held_same, begins, silent, untold, unseen}
+use Rattle.partition_world.proofs.WorldSound.{doomed_seen, deleting_seen}
+
+-- the first entry that is due is one of the entries, and is due
+due_found : (start : ℕ) (es : List Entry) (e : Entry) → due start es ≡ Some e → Among e es × (is_due start e ≡ true)
+due_found start [] e is = absurd cc
+due_found start (x ∷ es) e is = by (is_due start x) refl is (due_found start es e)
+  where
+    by : (t : Bool) → is_due start x ≡ t → (if t then Some x else due start es) ≡ Some e → (due start es ≡ Some e → Among e es × (is_due start e ≡ true))
+        → Among e (x ∷ es) × (is_due start e ≡ true)
+    by true t one more = let same : x ≡ e = cc (one) in (inl (sym same), ap (is_due start) (sym same) ∙ t)
+    by false t one more = let k = more one in (inr k.0, k.1)
+
+-- a raise that the registry refuses since another leads leaves it as it is
+stale_raise : (r : Registry) (e wanted n : ℕ) (P : Registry → Type 0) → IsSomeAnd (after_raise r e wanted (Err (Reg.StaleEpoch n))) P → (e < r.epoch) × (n ≡ r.epoch) × P r
+stale_raise r e wanted n P w = by (is_stale r e) (n == r.epoch) refl refl w
+  where
+    by : (s t : Bool) → nat_lt e r.epoch ≡ s → (n == r.epoch) ≡ t → IsSomeAnd (when (s && t) r) P → (e < r.epoch) × (n ≡ r.epoch) × P r
+    by true true s t k = (grind (arith, nat_tests, s), grind (arith, nat_tests, t), k)
+    by true false s t k = absurd k
+    by false t s u k = absurd k
+
+-- one that the registry grants is to the start that was asked for
+granted_raise : (r : Registry) (e wanted start : ℕ) (P : Registry → Type 0) → IsSomeAnd (after_raise r e wanted (Ok start)) P → start ≡ wanted
+granted_raise r e wanted start P w = by (not (is_stale r e) && nat_lt r.start wanted && nat_le wanted r.mark) (start == wanted) refl _ w
+  where
+    by : (s t : Bool) → (start == wanted) ≡ t → (k : Registry) → IsSomeAnd (when (s && t) k) P → start ≡ wanted
+    by true true t r k = grind (arith, nat_tests, t)
+    by true false t r k = absurd k
+    by false t u r k = absurd k
+
+module _ {D S M : Type 0} (disk : DiskGhosts D) (store : StoreGhosts S) (meta : MetaGhosts M) where
+  -- a turn of an expiry, in its place
+  module _ (opening : State) (w : Whole D S M) (a : ℕ) (outcome : Outcome) (w' : Whole D S M) (t : IsTurn disk store meta w a outcome w') (c : IsCentral disk store meta opening w)
+      (z : Place disk store meta opening w c t.place t.list t.seat t.order) (expires : t.order.command ≡ Expire) where
+    abbrev y : seen.Node
+    y = node_of z.x z.s
+
+    abbrev its : Site
+    its = here disk store meta opening w a outcome w' t c z Expire expires
+
+    abbrev next_scene : WorkSeen → Objects → List Note → View → Scene
+    next_scene = after disk store meta opening w a outcome w' t c z Expire expires
+
+    same_held : w'.held ≡ w.held → ShowsHeld disk.content w'.held c.partition
+    same_held = held_same disk store meta opening w a outcome w' t c z Expire expires
+
+    start_plain : c.central.plain.registry.start ≡ w.held.registry.start
+    start_plain = ap (λ (r : Registry). r.start) c.central.stands.held.registry ∙ ap (λ (r : Registry). r.start) z.sees.held.registry
+
+    epoch_seen : c.partition.registry ≡ w.held.registry
+    epoch_seen = z.sees.held.registry
+
+    pub expire_first : t.seat.work ≡ Idle → (o : Outcome) → outcome ≡ o → ExpireFirstRow meta w.held w.tier t.order.broker.0 z.x z.side o w'.tier → w'.held ≡ w.held → IsCentral disk store meta opening w'
+    expire_first idle (Answers Down) is row same = stands disk store meta opening w a outcome w' t c z Expire expires Idle idle Down is refl row.1 (same_held same) (row.0, refl)
+    expire_first idle (Answers NotLeader) is row same = stands disk store meta opening w a outcome w' t c z Expire expires Idle idle NotLeader is refl row.2 (same_held same) (row.0, row.1, refl)
+    expire_first idle (Answers MetaFault) is row same =
+        rests disk store meta opening w a outcome w' t c z Expire expires Idle idle MetaFault is refl (ap (λ (u : Tier S M). u.sides) row.2.after)
+        (ap (λ (u : Tier S M). (store.content u.store).tells) row.2.after, row.2.reads.content.tells)
+        (ap (λ (u : Tier S M). (store.content u.store).objects) row.2.after) row.2.reads.content.notes (same_held same) (row.0, row.1, refl)
+    expire_first idle (Begins g) is row same =
+        begins disk store meta opening w a outcome w' t c z Expire expires idle g is refl refl
+        (row.0, row.1, notes_shown disk.content disk.control w.held c.partition t.order.broker.0 z.x z.s g z.sees row.0 row.2, refl) row.3 same
+    expire_first idle other is row same = elim row [ ]
+
+    -- the second turn
+
+    pub expire_lost : (g : Begun) → t.seat.work ≡ Noted g → outcome ≡ Answers LostLead → (KeepsLead z.x g → ⊥) → w'.tier ≡ w.tier → w'.held ≡ w.held → IsCentral disk store meta opening w'
+    expire_lost g noted is lost tier held =
+        stands disk store meta opening w a outcome w' t c z Expire expires (Noted g) noted LostLead is refl tier (same_held held) ((λ k. lost (keeps_back z.x z.s g k)), refl)
+
+    pub expire_kept : (g : Begun) → t.seat.work ≡ Noted g → outcome ≡ Answers Kept → KeepsLead z.x g → w'.tier ≡ w.tier → w'.held ≡ w.held → IsCentral disk store meta opening w'
+    expire_kept g noted is keeps tier held =
+        stands disk store meta opening w a outcome w' t c z Expire expires (Noted g) noted Kept is refl tier (same_held held) (keeps_seen z.x z.s g keeps, refl)
+
+    -- another leads by now
+    pub expire_stale : (g : Begun) → t.seat.work ≡ Noted g → (n : ℕ) → outcome ≡ Answers (StaleEpoch n) → KeepsLead z.x g → w'.tier ≡ w.tier → (start : ℕ)
+        → RaiseRow w.held z.x.role start (StaleEpoch n) w'.held → IsCentral disk store meta opening w'
+    expire_stale g noted n is keeps tier start row =
+        let k = stale_raise w.held.registry row.0 start n (λ (r : Registry). w'.held ≡ record w.held { registry = r }) row.2 in
+        let epoch = ap (λ (r : Registry). r.epoch) epoch_seen in
+        let old = k.0 in
+        let role : g.role ≡ Leads row.0 = keeps.role ∙ row.1 in
+        stands disk store meta opening w a outcome w' t c z Expire expires (Noted g) noted (StaleEpoch n) is refl tier (same_held k.2) (
+          some_at (λ (e : ℕ). e < c.partition.registry.epoch) (epoch_in g.role) row.0 (ap epoch_in role) (subst (λ (e : ℕ). row.0 < e) (sym epoch) old),
+          k.1 ∙ sym epoch,
+          (keeps_seen z.x z.s g keeps, refl),
+        )
+
+    -- the log start rises
+    pub raise_seen : (g : Begun) (start wanted : ℕ) → KeepsLead z.x g → RaiseRow w.held z.x.role wanted (Raised start) w'.held
+        → Refines disk.content w'.held (λ h'. seen_tiers.ExpireOnRow c.partition y g (Raised start) h')
+    raise_seen g start wanted keeps row =
+        let P = λ (r : Registry). w'.held ≡ record w.held { registry = r } in
+        let same : wanted ≡ start = sym (granted_raise w.held.registry row.0 wanted start P row.2) in
+        let r = some_of P (after_raise w.held.registry row.0 wanted (Ok start)) row.2 in
+        let at : after_raise c.partition.registry row.0 start (Ok start) ≡ Some r.0 =
+        ap (λ (k : Registry). after_raise k row.0 start (Ok start)) epoch_seen ∙ (ap (λ (n : ℕ). after_raise w.held.registry row.0 n (Ok start)) (sym same) ∙ r.1) in
+        leaves disk.content disk.control w.held c.partition w'.held (λ h'. seen_tiers.ExpireOnRow c.partition y g (Raised start) h') r.0 c.shows r.2 (
+          keeps_seen z.x z.s g keeps,
+          record {
+            epoch = row.0;
+            role = row.1;
+            after = some_at (λ (k : Registry). record c.partition { registry = r.0 } ≡ record c.partition { registry = k })
+                (after_raise c.partition.registry row.0 start (Ok start)) r.0 at refl;
+          },
+        )
+
+    -- a due segment is taken up
+    doom_may : (g : Begun) (segment : Doomed) → t.seat.work ≡ Noted g → TakesUp w.partition w.held z.side segment w'.held → MayDoom t.place t.order.broker.0 segment c.scene c.central.plain
+    doom_may g segment noted k =
+        let view = c.tier.views t.order.broker.0 its (site_is disk store meta opening w c t.place t.list t.seat t.order z) in
+        let right = right_view c.scene.notes c.scene.desk z.side.view c.tier.notes view in
+        let found = due_found w.held.registry.start z.side.view.entries k.entry k.first in
+        let there : entry_of k.entry.id z.side.view.entries ≡ Some k.entry = entry_found z.side.view.entries k.entry right.distinct found.0 in
+        let before : entry_of k.entry.id (fold view.before) ≡ Some k.entry = subst (λ (v : View). entry_of k.entry.id v.entries ≡ Some k.entry) view.is there in
+        let now = prefix_goes view.before c.scene.notes k.entry.id k.entry view.begins before in
+        let part = c.tier.partition.told k.entry.id now.0 now.1 in
+        record {
+          seat = seated disk store meta opening w c t.place t.list t.seat t.order z
+              ∙ ap (λ (u : Work). Some (work_of (Some t.order) u)) noted ∙ ap (λ (u : Command). Some (begun_of t.order.broker.0 g u)) expires;
+          site = its;
+          site_is = site_is disk store meta opening w c t.place t.list t.seat t.order z;
+          entry = k.entry;
+          there = ap (λ id. entry_of id z.side.view.entries) k.id_is ∙ there;
+          due = ap (λ (n : ℕ). is_due n k.entry) start_plain ∙ found.1;
+          partition = k.partition_is ∙ (sym c.shows_tier.partition ∙ (sym part ∙ now.2.partition));
+        }
+
+    doom_changed : (g : Begun) (segment : Doomed) → t.seat.work ≡ Noted g → TakesUp w.partition w.held z.side segment w'.held
+        → IsChanged c.scene c.central.plain (next_scene (ExpiresSeen segment Start) c.scene.objects c.scene.notes z.side.view)
+    doom_changed g segment noted k = record {
+      changes = Moves t.place (Dooms t.order.broker.0 segment) ∷ [];
+      may = (c.central.plain, (refl, doom_may g segment noted k), refl);
+      is = ap (λ (u : List Site). record c.scene { sites = u; desk = slice_set c.scene.desk t.place (ExpiresSeen segment Start) })
+          (sym (set_same c.scene.sites t.order.broker.0 its (site_is disk store meta opening w c t.place t.list t.seat t.order z)));
+    }
+
+    pub dooms : (g : Begun) (segment : Doomed) → t.seat.work ≡ Noted g → outcome ≡ outcomes.Dooms segment → TakesUp w.partition w.held z.side segment w'.held → w'.tier ≡ w.tier
+        → IsCentral disk store meta opening w'
+    dooms g segment noted is k same =
+        silent disk store meta opening w a outcome w' t c z Expire expires
+        (unseen disk store meta opening w a outcome w' t c z Expire expires
+        (ap (λ (o : Outcome). seat_seen (seat_after t.seat o)) is ∙ ap (λ (o : Option Begun). record { number = t.seat.number; begun = o }) (doomed_seen t.seat.work segment)))
+        (untold disk store meta opening w a outcome w' t c z Expire expires (ap (told_of t.list.actor t.seat.number t.order.command) is)) (same_held k.stays) _ (doom_changed g segment noted k)
+        (shown disk store meta opening w a outcome w' t c z Expire expires (ExpiresSeen segment Start) c.scene.objects c.scene.notes z.side.view
+        (ap (λ (u : Tier S M). u.sides) same ∙ same_sides disk store meta opening w c t.place t.list t.seat t.order z)
+        (ap (λ (u : Tier S M). (store.content u.store).tells) same, ap (λ (u : Tier S M). (meta.content u.meta).tells) same)
+        (c.shows_tier.objects ∙ sym (ap (λ (u : Tier S M). (store.content u.store).objects) same)) (c.shows_tier.notes ∙ sym (ap (λ (u : Tier S M). (meta.content u.meta).notes) same))
+        (ap (λ (o : Outcome). work_after disk store meta opening w c t.place t.list t.seat t.order z o) is
+        ∙ (ap (λ (u : Work). work_of (slice_get t.list.orders t.seat.number) (doomed u segment)) noted ∙ ap (λ (o : Option Order). work_of o (Expires g segment Start)) z.next)))
+
+    -- a later turn
+    deletes_on : (g : Begun) (segment : Doomed) (next : Next) → t.seat.work ≡ Expires g segment next → KeepsLead z.x g → (turn : ExpiryTurn) → outcome ≡ expiry_outcome turn
+        → GoesOnDeletion store meta w.held w.tier t.order.broker.0 segment next turn w'.tier → w'.held ≡ w.held → IsCentral disk store meta opening w'
+    deletes_on g segment next works keeps turn is goes same = by turn is goes changed
+      where
+        at : Shows c.scene t.place t.order.broker.0 its (ExpiresSeen segment next) (store.content w.tier.store) (meta.content w.tier.meta) z.side.view
+        at = subst (λ (k : WorkSeen). Shows c.scene t.place t.order.broker.0 its k (store.content w.tier.store) (meta.content w.tier.meta) z.side.view) (ap (work_of (Some t.order)) works)
+            (shows_at disk store meta opening w c t.place t.list t.seat t.order z)
+
+        sides : w'.tier.sides ≡ slice_set w.tier.sides t.order.broker.0 (record z.side { view = z.side.view })
+        sides = ap (λ (u : Tier S M). u.sides) goes.after ∙ same_sides disk store meta opening w c t.place t.list t.seat t.order z
+
+        changed : IsChanged c.scene c.central.plain (next_scene (expiry_work segment turn) (store.content w'.tier.store).objects (meta.content w'.tier.meta).notes z.side.view)
+        changed = expiry_turns store.content store.control meta.content meta.control segment (teller_of w.held t.order.broker.0) next (Ok turn) (expiry_tiers w.tier) (expiry_tiers w'.tier)
+            c.scene c.central.plain t.place t.order.broker.0 its goes.row at c.tier
+
+        by : (turn : ExpiryTurn) → outcome ≡ expiry_outcome turn → (goes : GoesOnDeletion store meta w.held w.tier t.order.broker.0 segment next turn w'.tier)
+            → IsChanged c.scene c.central.plain (next_scene (expiry_work segment turn) (store.content w'.tier.store).objects (meta.content w'.tier.meta).notes z.side.view) → IsCentral disk store meta opening w'
+        by (Ends answer) is goes k =
+            entered disk store meta opening w a outcome w' t c z Expire expires (Expires g segment next) works (turned.Answers answer) (next_scene Free (store.content w'.tier.store).objects (meta.content w'.tier.meta).notes z.side.view) is refl (same_held same)
+            (end_row c.partition y g answer (expiry_ends store meta segment (teller_of w.held t.order.broker.0) next answer (expiry_tiers w.tier) (expiry_tiers w'.tier) goes.row) (keeps_seen z.x z.s g keeps))
+            k
+            (shown disk store meta opening w a outcome w' t c z Expire expires Free (store.content w'.tier.store).objects (meta.content w'.tier.meta).notes z.side.view sides
+            (expiry_tells store meta segment (teller_of w.held t.order.broker.0) next (Ends answer) (expiry_tiers w.tier) (expiry_tiers w'.tier) goes.row) refl refl
+            (answered_free disk store meta opening w c t.place t.list t.seat t.order z outcome answer is))
+        by (GoesOn further) is goes k =
+            silent disk store meta opening w a outcome w' t c z Expire expires
+            (unseen disk store meta opening w a outcome w' t c z Expire expires
+            (ap (λ (o : Outcome). seat_seen (seat_after t.seat o)) is ∙ ap (λ (o : Option Begun). record { number = t.seat.number; begun = o }) (deleting_seen t.seat.work further)))
+            (untold disk store meta opening w a outcome w' t c z Expire expires (ap (told_of t.list.actor t.seat.number t.order.command) is)) (same_held same)
+            (next_scene (ExpiresSeen segment further) (store.content w'.tier.store).objects (meta.content w'.tier.meta).notes z.side.view) k
+            (shown disk store meta opening w a outcome w' t c z Expire expires (ExpiresSeen segment further) (store.content w'.tier.store).objects (meta.content w'.tier.meta).notes z.side.view sides
+            (expiry_tells store meta segment (teller_of w.held t.order.broker.0) next (GoesOn further) (expiry_tiers w.tier) (expiry_tiers w'.tier) goes.row) refl refl
+            (ap (λ (o : Outcome). work_after disk store meta opening w c t.place t.list t.seat t.order z o) is
+            ∙ (ap (λ (u : Work). work_of (slice_get t.list.orders t.seat.number) (deleting u further)) works ∙ ap (λ (o : Option Order). work_of o (Expires g segment further)) z.next)))
+
+    pub deletes : (g : Begun) (segment : Doomed) (next : Next) → t.seat.work ≡ Expires g segment next → DeleteOnRow store meta w.held w.tier t.order.broker.0 z.x g segment next outcome w'.tier
+        → w'.held ≡ w.held → IsCentral disk store meta opening w'
+    deletes g segment next works (inl lost) same =
+        stands disk store meta opening w a outcome w' t c z Expire expires (Expires g segment next) works LostLead lost.1 refl lost.2 (same_held same) ((λ k. lost.0 (keeps_back z.x z.s g k)), refl)
+    deletes g segment next works (inr (keeps, (turn, is, goes))) same = deletes_on g segment next works keeps turn is goes same

@@ -1,0 +1,134 @@
+-- What a turn of an expiry comes to over devices.
+--
+--   turn      does                                                        answers
+--   first     refreshes the leader's view                                 Down, NotLeader, MetaFault
+--   second    takes up the view's first due segment, or raises the start  LostLead, Kept, StaleEpoch, Raised
+--   later     one call of a device, by the expiry's row                   LostLead, and what that row answers
+--
+-- A broker that has stopped, or has another role than at the first turn, has lost its lead. A segment is due where it ends below
+-- the log start and its deletion isn't whole. Only where none is due does retention count: the pieces of remote segments from the
+-- log start up to the known mark, by the leader's own line, and behind them what its local log has. Local logs stay as they are.
+--
+-- Source: KIP-405, where the leader alone deletes remote segments, and by the retention of the whole log moves its start.
+use Rattle.std.specs.Prelude.{◌≡◌, ◌⊎◌, ℕ, List, Option, Some, None, option_map, unwrap_or, Ok, Err}
+use Rattle.std.specs.declared.alloc.AllocError.{AllocError}
+use Rattle.tier_base.specs.declared.names.PartitionId.{PartitionId}
+use Rattle.tier_base.specs.declared.plain.Keep.{Keep}
+use Rattle.object_store.specs.declared.store.Store.{Ghosts as StoreGhosts}
+use Rattle.meta_log.specs.declared.log.MetaLog.{Ghosts as MetaGhosts}
+use Rattle.local_log.specs.Stored.{size_of}
+use Rattle.registry.specs.Calls.{after_raise}
+use Rattle.registry.specs.declared.refusal.RegRefusal.TheVariants as Reg
+use Rattle.segment_meta.specs.declared.note.Entry.{Entry}
+use Rattle.remote_view.specs.Lookup.{due}
+use Rattle.remote_find.specs.declared.piece.Piece.{Piece}
+use Rattle.remote_find.specs.Pieces.{chain}
+use Rattle.expiry_task.specs.Rule.{raised_to, rest_behind}
+use Rattle.expiry_task.specs.Turns.{Tiers, ExpiryRow}
+use Rattle.expiry_task.specs.declared.turn.Doomed.{Doomed}
+use Rattle.expiry_task.specs.declared.turn.ExpiryTurn.{ExpiryTurn}
+use Rattle.expiry_task.specs.declared.turn.Next.{Next}
+use Rattle.plain_log.specs.declared.answer.Answer.{Answer}
+use Rattle.plain_log.specs.declared.answer.Answer.TheVariants.{LostLead, Kept, StaleEpoch, Raised}
+use Rattle.plain_log.specs.declared.state.Role.{Role}
+use Rattle.plain_log.specs.declared.state.Role.TheVariants.{Leads}
+use Rattle.broker_log.specs.Seen.{closed_in, layout_in}
+use Rattle.partition_seen.specs.declared.begun.Begun.{Begun}
+use Rattle.partition_turns.specs.declared.held.Node.{Node}
+use Rattle.partition_turns.specs.declared.held.Held.{Held}
+use Rattle.partition_turns.specs.Held.{end_of, line_of}
+use Rattle.partition_turns.specs.TurnsOfElections.{Leaves}
+use Rattle.partition_world.specs.declared.tier.Side.{Side}
+use Rattle.partition_world.specs.declared.tier.Tier.{Tier}
+use Rattle.partition_world.specs.declared.seat.Outcome.{Outcome}
+use Rattle.partition_world.specs.declared.seat.Outcome.TheVariants.{Answers, Dooms}
+use Rattle.partition_world.specs.Seats.{expiry_outcome}
+use Rattle.partition_world.specs.TurnsOfCopy.{KeepsLead, teller_of, CopyFirstRow}
+
+-- expire, first turn: as a copy's
+module _ {D S M : Type 0} (meta : MetaGhosts M) where
+  abbrev pub ExpireFirstRow : Held D → Tier S M → ℕ → Node D → Side → Outcome → Tier S M → Type 0
+  ExpireFirstRow h t b x side outcome t' = CopyFirstRow meta h t b x side outcome t'
+
+module _ {D : Type 0} where
+  -- the first segment of the view that ends below the log start, and whose deletion isn't whole
+  abbrev pub due_of : Held D → Side → Option Entry
+  due_of h side = due h.registry.start side.view.entries
+
+  -- the pieces of remote segments from the log start on that end at or below the known mark, by the broker's own line
+  abbrev pub pieces_of : Held D → Node D → Side → List Piece
+  pieces_of h x side = chain side.view.entries (line_of x) (end_of x) h.registry.start x.known
+
+  -- the bytes of the open segment, where the broker is up
+  abbrev pub open_size_of : Node D → ℕ
+  open_size_of x = unwrap_or (option_map (λ layout. size_of layout.active) (layout_in x.log)) 0
+
+  -- the bytes of the broker's local log behind these pieces
+  abbrev pub rest_of : Held D → Node D → List Piece → ℕ
+  rest_of h x pieces = rest_behind pieces h.registry.start (closed_in x.log) (open_size_of x) (end_of x)
+
+  -- where the log start comes to, where retention lets it rise
+  abbrev pub rises_to : Held D → Node D → Side → Keep → Option ℕ
+  rises_to h x side keep =
+      raised_to side.view.entries (pieces_of h x side) (rest_of h x (pieces_of h x side)) h.clock keep
+
+  -- the registry raises the log start to this for a broker of a role, or refuses since another leads by now
+  abbrev pub RaiseRow : Held D → Role → ℕ → Answer → Held D → Type 0
+  RaiseRow h role wanted (StaleEpoch n) h' =
+      (e : ℕ) × (role ≡ Leads e) × Leaves h (after_raise h.registry e wanted (Err (Reg.StaleEpoch n))) h'
+  RaiseRow h role wanted (Raised start) h' =
+      (e : ℕ) × (role ≡ Leads e) × Leaves h (after_raise h.registry e wanted (Ok start)) h'
+  RaiseRow h role wanted other h' = ⊥
+
+  -- it takes up the first due segment of the view
+  pub record TakesUp (p : PartitionId) (h : Held D) (side : Side) (doomed : Doomed) (h' : Held D) : Type 0 where
+    pub entry : Entry
+    pub first : due_of h side ≡ Some entry
+    pub id_is : doomed.id ≡ entry.id
+    pub partition_is : doomed.partition ≡ p
+    pub stays : h' ≡ h
+
+  -- no segment is due, and the log start is to rise to this
+  pub record MayRise (h : Held D) (x : Node D) (side : Side) (keep : Keep) (start : ℕ) : Type 0 where
+    pub none : due_of h side ≡ None
+    pub rises : rises_to h x side keep ≡ Some start
+
+  -- expire, second turn, where it has kept its lead: by what it came to
+  abbrev pub ExpiresBy : PartitionId → Held D → Node D → Side → Keep → Outcome → Held D → Type 0
+  ExpiresBy p h x side keep (Dooms doomed) h' = TakesUp p h side doomed h'
+  ExpiresBy p h x side keep (Answers Kept) h' =
+      (due_of h side ≡ None) × (rises_to h x side keep ≡ None) × (h' ≡ h)
+  ExpiresBy p h x side keep (Answers answer) h' =
+      (start : ℕ) × MayRise h x side keep start × RaiseRow h x.role start answer h'
+  ExpiresBy p h x side keep other h' = ⊥
+
+  -- expire, second turn
+  abbrev pub ExpireOnRow : PartitionId → Held D → Node D → Side → Begun → Keep → Outcome → Held D → Type 0
+  ExpireOnRow p h x side g keep outcome h' =
+      ((KeepsLead x g → ⊥) × (outcome ≡ Answers LostLead) × (h' ≡ h))
+      ⊎ (KeepsLead x g × ExpiresBy p h x side keep outcome h')
+
+-- what an expiry's turn changes
+abbrev pub expiry_tiers : {S M : Type 0} → Tier S M → Tiers S M
+expiry_tiers t = record { store = t.store; meta = t.meta }
+
+module _ {D S M : Type 0} (store : StoreGhosts S) (meta : MetaGhosts M) where
+  -- a turn of the expiry's row, and nothing else changes
+  pub record GoesOnDeletion (h : Held D) (t : Tier S M) (b : ℕ) (doomed : Doomed) (next : Next) (turn : ExpiryTurn) (t' : Tier S M)
+      : Type 0 where
+    pub row : ExpiryRow store.content store.control meta.content meta.control doomed (teller_of h b) next (Ok turn)
+        (expiry_tiers t) (expiry_tiers t')
+    pub after : t' ≡ record t { store = t'.store; meta = t'.meta }
+
+  -- it wanted memory
+  pub record WantsForDeletion (h : Held D) (t : Tier S M) (b : ℕ) (doomed : Doomed) (next : Next) (t' : Tier S M) : Type 0 where
+    pub error : AllocError
+    pub row : ExpiryRow store.content store.control meta.content meta.control doomed (teller_of h b) next (Err error)
+        (expiry_tiers t) (expiry_tiers t')
+    pub after : t' ≡ record t { store = t'.store; meta = t'.meta }
+
+  -- expire, a later turn: the lead is lost, or it goes by the expiry's row
+  abbrev pub DeleteOnRow : Held D → Tier S M → ℕ → Node D → Begun → Doomed → Next → Outcome → Tier S M → Type 0
+  DeleteOnRow h t b x g doomed next outcome t' =
+      ((KeepsLead x g → ⊥) × (outcome ≡ Answers LostLead) × (t' ≡ t))
+      ⊎ (KeepsLead x g × ((turn : ExpiryTurn) × (outcome ≡ expiry_outcome turn) × GoesOnDeletion h t b doomed next turn t'))

@@ -1,0 +1,134 @@
+//! The turns of an expiry: a remote segment that the log start has left behind goes, or the log start rises.
+//!
+//! The first turn refreshes the leader's view. The second takes up the first segment of the view whose deletion is due; where
+//! there is none, retention may raise the log start. From the third on the expiry makes a call of a device in each. A broker
+//! that has stopped, or has another role, has lost its lead.
+
+ghost use Rattle.std.specs.Prelude.{◌≡◌, ◌<◌, true, length, IfOk, OnErr};
+ghost use Rattle.partition_turns.specs.Held.{AtNode, is_up};
+ghost use Rattle.partition_world.specs.Tier.{AtSide, Halts};
+ghost use Rattle.partition_world.specs.TurnsOfExpiry.{rises_to, RaiseRow, ExpireFirstRow, ExpireOnRow, DeleteOnRow, WantsForDeletion};
+
+use crate::copies::{keeps_lead, teller};
+use crate::seat::{Outcome, expiry_outcome};
+use crate::tier::{Side, Tier};
+use disk_model::Disk;
+use expiry_task::{Doomed, Next as Deletion, expiry_turn, raised_to, rest_behind};
+use meta_log::MetaLog;
+use object_store::Store;
+use partition_seen::Begun;
+use partition_turns::{Held, Node, leading};
+use plain_log::{Answer, Role};
+use registry::RegRefusal;
+use remote_find::chain;
+use std::alloc::{AllocError, Global};
+use tier_base::{BrokerId, Keep, PartitionId};
+
+/// Where the log start comes to by a broker's log and view, where retention lets it rise.
+fn rises_to<D: Disk>(
+    alloc: Global,
+    held: &Held<D>,
+    node: &Node<D>,
+    side: &Side,
+    keep: Keep,
+) -> Result<Option<u64>, AllocError>
+    requires { is_up node.now ≡ true }
+    ensures { IfOk result (λ start. start ≡ rises_to held.now node.now side.now keep) }
+{
+    let (Some(line), Some(open)) = (node.log.line(), node.log.open_size()) else {
+        unreachable!()
+    };
+    let (start, end) = (held.registry.start, node.end());
+    let pieces = chain(alloc, &side.view, line, end, start, node.known)?;
+    let rest = rest_behind(pieces.as_slice(), start, node.log.closed(), open, end);
+    raised_to(alloc, &side.view, pieces.as_slice(), rest, held.clock, keep)
+}
+
+/// Raises the log start for a broker of this role.
+fn raise<D: Disk>(held: &mut Held<D>, role: Role, start: u64) -> Result<Answer, AllocError>
+    ensures row { IfOk result (λ answer. RaiseRow held.old role start answer held.new) }
+    ensures err { OnErr result (held.new ≡ held.old) }
+{
+    let Some(epoch) = leading(role) else {
+        // An expiry begins at a leader alone.
+        return Err(AllocError);
+    };
+    match held.registry.raise(epoch, start) {
+        Ok(start) => Ok(Answer::Raised(start)),
+        Err(RegRefusal::StaleEpoch { current }) => Ok(Answer::StaleEpoch(current as u64)),
+        // Retention raises it above the log start, and to the known mark at most.
+        Err(_) => Err(AllocError),
+    }
+}
+
+impl<S: Store, M: MetaLog> Tier<S, M> {
+    /// Begins an expiry, as a copy begins: the leader's view takes in what the metadata log has more.
+    pub(crate) fn expire<D: Disk>(
+        &mut self,
+        alloc: Global,
+        b: usize,
+        held: &Held<D>,
+    ) -> Result<Outcome, AllocError>
+        requires node { b < length held.now.nodes }
+        requires side { b < length self.old.sides }
+        ensures row { IfOk result (λ outcome. AtNode held.now b (λ x. AtSide self.old b (λ side.
+            ExpireFirstRow M.MetaLog held.now self.old b x side outcome self.new))) }
+        ensures err { OnErr result (AtSide self.old b (λ side. Halts M.MetaLog self.old b side self.new)) }
+    {
+        self.copy(alloc, b, held)
+    }
+
+    /// Takes up a remote segment whose deletion is due, or raises the log start as retention says.
+    pub(crate) fn expire_on<D: Disk>(
+        &self,
+        alloc: Global,
+        partition: PartitionId,
+        b: usize,
+        noted: &Begun,
+        keep: Keep,
+        held: &mut Held<D>,
+    ) -> Result<Outcome, AllocError>
+        requires node { b < length held.old.nodes }
+        requires side { b < length self.now.sides }
+        ensures row { IfOk result (λ outcome. AtNode held.old b (λ x. AtSide self.now b (λ side.
+            ExpireOnRow partition held.old x side noted.now keep outcome held.new))) }
+        ensures err { OnErr result (held.new ≡ held.old) }
+    {
+        let node = held.nodes.get(b);
+        if !keeps_lead(node, noted) {
+            return Ok(Outcome::Answers(Answer::LostLead));
+        }
+        let side = self.sides.get(b);
+        if let Some(entry) = side.view.due(held.registry.start) {
+            let id = entry.id;
+            return Ok(Outcome::Dooms(Doomed { partition, id }));
+        }
+        let Some(start) = rises_to(alloc, held, node, side, keep)? else {
+            return Ok(Outcome::Answers(Answer::Kept));
+        };
+        let role = node.role;
+        Ok(Outcome::Answers(raise(held, role, start)?))
+    }
+
+    /// Takes a later turn of an expiry: one of the deletion of its remote segment.
+    pub(crate) fn delete_on<D: Disk>(
+        &mut self,
+        broker: BrokerId,
+        noted: &Begun,
+        doomed: Doomed,
+        next: Deletion,
+        held: &Held<D>,
+    ) -> Result<Outcome, AllocError>
+        requires node { broker.0 < length held.now.nodes }
+        ensures row { IfOk result (λ outcome. AtNode held.now broker.0 (λ x.
+            DeleteOnRow S.Store M.MetaLog held.now self.old broker.0 x noted.now doomed next outcome self.new)) }
+        ensures err { OnErr result (WantsForDeletion S.Store M.MetaLog held.now self.old broker.0 doomed next self.new) }
+    {
+        if !keeps_lead(held.nodes.get(broker.0 as usize), noted) {
+            return Ok(Outcome::Answers(Answer::LostLead));
+        }
+        let teller = teller(held, broker);
+        let turn = expiry_turn(doomed, next, teller, &mut self.store, &mut self.meta)?;
+        Ok(expiry_outcome(turn))
+    }
+}
