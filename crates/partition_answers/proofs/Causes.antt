@@ -37,7 +37,7 @@ use Rattle.tier_safe.specs.Turns.{Shows}
 use Rattle.tier_safe.proofs.Turning.{refreshes}
 use Rattle.partition_world.specs.declared.seat.Outcome.TheVariants.{Answers}
 use Rattle.partition_world.specs.declared.seat.Work.{Work}
-use Rattle.partition_world.specs.declared.seat.Work.TheVariants.{Idle, Noted, Copies, Seeks, Expires}
+use Rattle.partition_world.specs.declared.seat.Work.TheVariants.{Idle, Noted, Copies, Seeks, Expires, Rebuilds}
 use Rattle.partition_world.specs.declared.tier.Side.{Side}
 use Rattle.partition_world.specs.Seats.{copy_outcome}
 use Rattle.partition_world.specs.Tier.{AtSide}
@@ -183,6 +183,7 @@ module _ {D S M : Type 0} (disk : DiskGhosts D) (store : StoreGhosts S) (meta : 
     by_work (Copies g copy next) is row = later g copy next is row.0
     by_work (Seeks g next) is row = elim row [ ]
     by_work (Expires g doomed next) is row = elim row [ ]
+    by_work (Rebuilds g next) is row = elim row [ ]
 
   pub have_causes : (opening : State) (w : Whole D S M) (a : ℕ) (answer : Answer) (w' : Whole D S M) → IsCentral disk store meta opening w → DeletionsKnown meta w
       → (t : IsTurn disk store meta w a (Answers answer) w') → t.order.command ≡ Copy

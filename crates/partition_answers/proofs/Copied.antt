@@ -22,13 +22,13 @@ use Rattle.partition_turns.specs.Calm.{HasNoFault, AreFaultless}
 use Rattle.tier_safe.proofs.Basics.{one_some}
 use Rattle.partition_world.specs.declared.tier.Side.{Side}
 use Rattle.partition_world.specs.declared.seat.Outcome.{Outcome}
-use Rattle.partition_world.specs.declared.seat.Outcome.TheVariants.{Answers, Begins, Chose, Goes, Seeks as Sought, Dooms, Deletes}
+use Rattle.partition_world.specs.declared.seat.Outcome.TheVariants.{Answers, Begins, Chose, Goes, Seeks as Sought, Dooms, Deletes, Rebuilds as Rebuilding}
 use Rattle.partition_world.specs.declared.seat.Seat.{Seat}
 use Rattle.partition_world.specs.declared.seat.Work.{Work}
-use Rattle.partition_world.specs.declared.seat.Work.TheVariants.{Idle, Noted, Copies, Seeks, Expires}
+use Rattle.partition_world.specs.declared.seat.Work.TheVariants.{Idle, Noted, Copies, Seeks, Expires, Rebuilds}
 use Rattle.partition_world.specs.Calm.{IsUnfailing}
 use Rattle.partition_world.specs.Central.{IsCentral}
-use Rattle.partition_world.specs.Seats.{chosen, moved, sought, doomed, deleting, seat_after, IsUnanswered}
+use Rattle.partition_world.specs.Seats.{chosen, moved, sought, doomed, deleting, rebuilding, seat_after, IsUnanswered}
 use Rattle.partition_world.specs.Tier.{AtSide}
 use Rattle.partition_world.specs.Turn.{IsNext, IsTurn}
 use Rattle.partition_world.specs.Whole.{Whole}
@@ -58,6 +58,7 @@ module _ {D S M : Type 0} (disk : DiskGhosts D) (store : StoreGhosts S) (meta : 
   copied_so (Copies g copy next) answer is = (copy.id, copy.segment.base, copy.segment.last, is)
   copied_so (Seeks g next) answer is = is
   copied_so (Expires g segment next) answer is = is
+  copied_so (Rebuilds g next) answer is = is
 
   -- where the turn tells of a fault none was met
   record Clear (b : ℕ) (answer : Answer) (w w' : Whole D S M) : Type 0 where
@@ -95,6 +96,7 @@ module _ {D S M : Type 0} (disk : DiskGhosts D) (store : StoreGhosts S) (meta : 
   any_copied w b x side (Copies g copy next) answer w' cause may clear = later_copied w b x side g copy next answer w' cause may clear
   any_copied w b x side (Seeks g next) answer w' cause may clear = absurd cause
   any_copied w b x side (Expires g segment next) answer w' cause may clear = absurd cause
+  any_copied w b x side (Rebuilds g next) answer w' cause may clear = absurd cause
 
   -- what is known all along
   abbrev AllKnown : State → Whole D S M → Type 0
@@ -165,6 +167,7 @@ module _ {D S M : Type 0} (disk : DiskGhosts D) (store : StoreGhosts S) (meta : 
   still_of g copy v b (Sought next) u t un of = (of.0, ap (λ (work : Work). sought work next) of.1)
   still_of g copy v b (Dooms segment) u t un of = (of.0, ap (λ (work : Work). doomed work segment) of.1)
   still_of g copy v b (Deletes next) u t un of = (of.0, ap (λ (work : Work). deleting work next) of.1)
+  still_of g copy v b (Rebuilding next) u t un of = (of.0, ap (λ (work : Work). rebuilding work next) of.1)
 
   pub chosen_copied : (opening : State) (w : Whole D S M) (a place : ℕ) (l : ActorList) (seat : Seat) (order : Order) (g : Begun) (copy : Copied) (next : Next) (actors : List ℕ) (w' : Whole D S M)
       → IsCentral disk store meta opening w → DeletionsKnown meta w → IsNext w a place l seat order → order.command ≡ Copy → seat.work ≡ Copies g copy next

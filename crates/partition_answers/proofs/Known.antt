@@ -24,6 +24,7 @@ use Rattle.copy_task.specs.declared.turn.Next.{Next}
 use Rattle.copy_task.specs.declared.turn.Next.TheVariants.{Start, Put, Finish, Check, Delete}
 use Rattle.expiry_task.specs.declared.turn.Doomed.{Doomed}
 use Rattle.expiry_task.specs.declared.turn.Next.{Next as Deletion}
+use Rattle.rebuild_task.specs.declared.turn.Next.{Next as Rebuild}
 use Rattle.tier_fetch.specs.declared.turn.Next.{Next as Search}
 use Rattle.plain_log.specs.declared.command.ActorList.{ActorList}
 use Rattle.plain_log.specs.declared.command.Command.{Command}
@@ -45,13 +46,13 @@ use Rattle.tier_safe.proofs.Basics.{nat_cases, one_some}
 use Rattle.partition_world.specs.declared.tier.Side.{Side}
 use Rattle.partition_world.specs.declared.tier.Tier.{Tier}
 use Rattle.partition_world.specs.declared.seat.Outcome.{Outcome}
-use Rattle.partition_world.specs.declared.seat.Outcome.TheVariants.{Answers, Begins, Chose, Goes, Seeks as Sought, Dooms, Deletes}
+use Rattle.partition_world.specs.declared.seat.Outcome.TheVariants.{Answers, Begins, Chose, Goes, Seeks as Sought, Dooms, Deletes, Rebuilds as Rebuilding}
 use Rattle.partition_world.specs.declared.seat.Seat.{Seat}
 use Rattle.partition_world.specs.declared.seat.Work.{Work}
-use Rattle.partition_world.specs.declared.seat.Work.TheVariants.{Idle, Noted, Copies, Seeks, Expires}
+use Rattle.partition_world.specs.declared.seat.Work.TheVariants.{Idle, Noted, Copies, Seeks, Expires, Rebuilds}
 use Rattle.partition_world.specs.Central.{IsCentral, work_of}
 use Rattle.partition_world.specs.Fresh.{IsFresh, IsSeenEmpty, fresh_seat}
-use Rattle.partition_world.specs.Seats.{chosen, moved, sought, doomed, deleting, copy_outcome, seat_after, told_of}
+use Rattle.partition_world.specs.Seats.{chosen, moved, sought, doomed, deleting, rebuilding, copy_outcome, seat_after, told_of}
 use Rattle.partition_world.specs.Turn.{IsNext, IsTurn}
 use Rattle.partition_world.specs.TurnsOfCopy.{GoesOnCopy, tiers_of, teller_of}
 use Rattle.partition_world.specs.Turns.{CopyingRow, Row}
@@ -95,6 +96,7 @@ work_after work (Goes next) = moved work next
 work_after work (Sought next) = sought work next
 work_after work (Dooms segment) = doomed work segment
 work_after work (Deletes next) = deleting work next
+work_after work (Rebuilding next) = rebuilding work next
 
 work_same : (seat : Seat) (outcome : Outcome) → (seat_after seat outcome).work ≡ work_after seat.work outcome
 work_same seat (Answers answer) = refl
@@ -115,6 +117,10 @@ seeks_never f next other g copy n is = absurd (cc (is))
 expires_never : {A : Type 0} (f : Begun) (segment : Doomed) (next : Deletion) (o : Outcome) (g : Begun) (copy : Copied) (n : ℕ) → work_after (Expires f segment next) o ≡ Copies g copy (Delete n) → A
 expires_never f segment next (Answers answer) g copy n is = absurd (cc (is))
 expires_never f segment next other g copy n is = absurd (cc (is))
+
+rebuilds_never : {A : Type 0} (f : Begun) (next : Rebuild) (o : Outcome) (g : Begun) (copy : Copied) (n : ℕ) → work_after (Rebuilds f next) o ≡ Copies g copy (Delete n) → A
+rebuilds_never f next (Answers answer) g copy n is = absurd (cc (is))
+rebuilds_never f next other g copy n is = absurd (cc (is))
 
 -- a seat that keeps a copy is at the order that it was at
 number_kept : (seat : Seat) (o : Outcome) (g : Begun) (copy : Copied) (next : Next) → (seat_after seat o).work ≡ Copies g copy next → (seat_after seat o).number ≡ seat.number
@@ -194,6 +200,7 @@ module _ {D S M : Type 0} (disk : DiskGhosts D) (store : StoreGhosts S) (meta : 
     dooms (Noted g) works = tt
     dooms (Copies g copy next) works = tt
     dooms (Seeks g next) works = tt
+    dooms (Rebuilds g next) works = tt
     dooms (Expires g segment next) works =
         let z = place_of disk store meta opening w c t.place t.list t.seat t.order t.at.list t.at.seat_is t.next x at_node side side_at in
         let shows = shows_at disk store meta opening w c t.place t.list t.seat t.order z in
@@ -248,8 +255,10 @@ module _ {D S M : Type 0} (disk : DiskGhosts D) (store : StoreGhosts S) (meta : 
     own_shown (Copies f k before) works (Sought next) r g copy n is new at = before_shown g copy n (works ∙ is) new at
     own_shown (Copies f k before) works (Dooms segment) r g copy n is new at = before_shown g copy n (works ∙ is) new at
     own_shown (Copies f k before) works (Deletes next) r g copy n is new at = before_shown g copy n (works ∙ is) new at
+    own_shown (Copies f k before) works (Rebuilding next) r g copy n is new at = before_shown g copy n (works ∙ is) new at
     own_shown (Seeks f before) works o r g copy n is new at = seeks_never f before o g copy n is
     own_shown (Expires f segment before) works o r g copy n is new at = expires_never f segment before o g copy n is
+    own_shown (Rebuilds f before) works o r g copy n is new at = rebuilds_never f before o g copy n is
 
     told : DeletedBelow (fold (meta.content w'.tier.meta).notes) w.held.registry.start
     told = elim goes.notes [

@@ -24,11 +24,11 @@ use Rattle.partition_turns.specs.declared.held.Held.{Held}
 use Rattle.partition_world.specs.declared.tier.Side.{Side}
 use Rattle.partition_world.specs.declared.tier.Tier.{Tier}
 use Rattle.partition_world.specs.declared.seat.Outcome.{Outcome}
-use Rattle.partition_world.specs.declared.seat.Outcome.TheVariants.{Answers, Begins, Chose, Goes, Seeks as Sought, Dooms, Deletes}
+use Rattle.partition_world.specs.declared.seat.Outcome.TheVariants.{Answers, Begins, Chose, Goes, Seeks as Sought, Dooms, Deletes, Rebuilds as Rebuilding}
 use Rattle.partition_world.specs.declared.seat.Seat.{Seat}
 use Rattle.partition_world.specs.declared.seat.Work.{Work}
-use Rattle.partition_world.specs.declared.seat.Work.TheVariants.{Idle, Noted, Copies, Seeks, Expires}
-use Rattle.partition_world.specs.Seats.{chosen, moved, sought, doomed, deleting, copy_outcome, seat_after, IsUnanswered}
+use Rattle.partition_world.specs.declared.seat.Work.TheVariants.{Idle, Noted, Copies, Seeks, Expires, Rebuilds}
+use Rattle.partition_world.specs.Seats.{chosen, moved, sought, doomed, deleting, rebuilding, copy_outcome, seat_after, IsUnanswered}
 use Rattle.partition_world.specs.Turn.{IsTurn}
 use Rattle.partition_world.specs.TurnsOfCopy.{CopyFirstRow, ReadRow, ChooseRow, CopyOnRow, GoesOnCopy, copied_to, tiers_of, teller_of}
 use Rattle.partition_world.specs.Turns.{Row}
@@ -53,6 +53,7 @@ Less work (Goes next) = most_turns (moved work next) < most_turns work
 Less work (Sought next) = most_turns (sought work next) < most_turns work
 Less work (Dooms segment) = most_turns (doomed work segment) < most_turns work
 Less work (Deletes next) = most_turns (deleting work next) < most_turns work
+Less work (Rebuilding next) = most_turns (rebuilding work next) < most_turns work
 
 -- a copy goes on with this turn
 to : (before next after : Next) → GoesOn next ≡ GoesOn after → most_before after < most_before before → most_before next < most_before before
@@ -134,6 +135,7 @@ module _ {D S M : Type 0} (disk : DiskGhosts D) (store : StoreGhosts S) (meta : 
   row_less p config h t b x side (Copies g copy next) outcome h' t' row = later_less h t b x side g copy next outcome t' row.0
   row_less p config h t b x side (Seeks g next) outcome h' t' row = elim row [ ]
   row_less p config h t b x side (Expires g segment next) outcome h' t' row = elim row [ ]
+  row_less p config h t b x side (Rebuilds g next) outcome h' t' row = elim row [ ]
 
   seat_less : (seat : Seat) (outcome : Outcome) → Less seat.work outcome → IsUnanswered outcome → most_turns (seat_after seat outcome).work < most_turns seat.work
   seat_less seat (Answers answer) less un = absurd un

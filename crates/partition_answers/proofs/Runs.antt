@@ -23,7 +23,7 @@ use Rattle.partition_world.specs.declared.seat.Outcome.{Outcome}
 use Rattle.partition_world.specs.declared.seat.Outcome.TheVariants.{Answers}
 use Rattle.partition_world.specs.declared.seat.Seat.{Seat}
 use Rattle.partition_world.specs.declared.seat.Work.{Work}
-use Rattle.partition_world.specs.declared.seat.Work.TheVariants.{Idle, Noted, Copies, Seeks, Expires}
+use Rattle.partition_world.specs.declared.seat.Work.TheVariants.{Idle, Noted, Copies, Seeks, Expires, Rebuilds}
 use Rattle.partition_world.specs.Reaches.{Goes as GoesOnce}
 use Rattle.partition_world.specs.Seats.{seat_after, told_of, IsUnanswered}
 use Rattle.partition_world.specs.Turn.{IsNext, IsTurn}
@@ -45,6 +45,7 @@ some_most (Noted g) = omega arith
 some_most (Copies g copy next) = some_before next
 some_most (Seeks g next) = omega arith
 some_most (Expires g doomed next) = omega arith
+some_most (Rebuilds g next) = omega arith
 
 -- the actor's own turns are counted
 times_own : (a b : ℕ) (actors : List ℕ) → b ≡ a → times a (b ∷ actors) ≡ 1 + times a actors

@@ -32,11 +32,13 @@ use Rattle.tier_fetch.specs.declared.turn.FetchTurn.TheVariants as fetch
 use Rattle.tier_fetch.specs.declared.turn.Next.{Next as Search}
 use Rattle.tier_fetch.specs.declared.turn.Next.TheVariants.{Refresh, Index, Log}
 use Rattle.tier_fetch.specs.declared.turn.Wanted.{Wanted}
+use Rattle.rebuild_task.specs.declared.turn.Next.{Next as Rebuild}
+use Rattle.rebuild_task.specs.declared.turn.Next.TheVariants.{Epochs, Restart}
 use Rattle.tier_fetch.specs.Turns.{Tiers as FetchTiers, RefreshRow, FetchRow}
 use Rattle.plain_log.specs.declared.answer.Answer.TheVariants.{Down, NotLeader, MetaFault, DiskFault, Damaged, Stopped, OutOfRange, Empty}
 use Rattle.plain_log.specs.declared.answer.Place.TheVariants.{File}
 use Rattle.plain_log.specs.declared.command.Command.{Command}
-use Rattle.plain_log.specs.declared.command.Command.TheVariants.{Copy, Trim, Expire, Fetch}
+use Rattle.plain_log.specs.declared.command.Command.TheVariants.{Copy, Trim, Expire, Fetch, Join}
 use Rattle.plain_log.specs.declared.command.Config.{Config}
 use Rattle.partition_seen.specs.declared.begun.Begun.{Begun}
 use Rattle.partition_seen.proofs.BoolTests.{some_of}
@@ -47,15 +49,16 @@ use Rattle.partition_turns.specs.Held.{line_of}
 use Rattle.partition_world.specs.declared.tier.Side.{Side}
 use Rattle.partition_world.specs.declared.tier.Tier.{Tier}
 use Rattle.partition_world.specs.declared.seat.Outcome.{Outcome}
-use Rattle.partition_world.specs.declared.seat.Outcome.TheVariants.{Answers, Begins, Chose, Seeks as Sought}
+use Rattle.partition_world.specs.declared.seat.Outcome.TheVariants.{Answers, Begins, Chose, Seeks as Sought, Rebuilds as Rebuilding}
 use Rattle.partition_world.specs.declared.seat.Work.{Work}
-use Rattle.partition_world.specs.declared.seat.Work.TheVariants.{Idle, Noted, Copies, Seeks, Expires}
+use Rattle.partition_world.specs.declared.seat.Work.TheVariants.{Idle, Noted, Copies, Seeks, Expires, Rebuilds}
 use Rattle.partition_world.specs.Tier.{counted}
 use Rattle.partition_world.specs.TurnsOfCopy.{CopyFirstRow, ReadRow, ChooseRow, CopyOnRow, copied_to, tiers_of, teller_of}
 use Rattle.partition_world.specs.TurnsOfExpiry.{DeleteOnRow, expiry_tiers}
 use Rattle.partition_world.specs.TurnsOfFetch.{FetchOnRow, GoesOnFetch, fetch_tiers, wanted_of}
 use Rattle.partition_world.specs.TurnsOfTrim.{TrimFirstRow}
-use Rattle.partition_world.specs.Turns.{BeginRow, NotedRow, CopyingRow, SeekingRow, DeletingRow, Row}
+use Rattle.partition_world.specs.TurnsOfRebuild.{RefreshedRow}
+use Rattle.partition_world.specs.Turns.{BeginRow, NotedRow, CopyingRow, SeekingRow, DeletingRow, RebuildingRow, Row}
 use Rattle.partition_world.proofs.Sides.{set_same}
 use Rattle.partition_answers.proofs.Notes.{EndsBelow, LeavesBe}
 
@@ -252,11 +255,32 @@ module _ {D S M : Type 0} (disk : DiskGhosts D) (store : StoreGhosts S) (meta : 
   fetch_on_goes p h t b x side g offset limit next (Sought later) t' at row = seeks_goes p t b x side offset limit next _ t' row.1
   fetch_on_goes p h t b x side g offset limit next other t' at row = elim row [ ]
 
+  -- a join's view is refreshed
+  refreshed_goes : (t : Tier S M) (b : ℕ) (side : Side) (outcome : Outcome) (t' : Tier S M) → slice_get t.sides b ≡ Some side → RefreshedRow meta t b side outcome t' → TierGoes meta start b side t t'
+  refreshed_goes t b side (Answers MetaFault) t' at row = record {
+    notes = inl row.reads.content.notes;
+    after = side;
+    sides = ap (λ (k : Tier S M). k.sides) row.after ∙ sym (set_same t.sides b side at);
+    fed = [];
+    view = refl;
+  }
+  refreshed_goes t b side (Rebuilding Epochs) t' at row = record {
+    notes = inl row.reads.content.notes;
+    after = record side { view = row.view };
+    sides = ap (λ (k : Tier S M). k.sides) row.after;
+    fed = row.reads.view.notes;
+    view = row.reads.view.view;
+  }
+  refreshed_goes t b side other t' at row = elim row [ ]
+
   noted_goes : (p : PartitionId) (config : Config) (h : Held D) (t : Tier S M) (b : ℕ) (x : Node D) (side : Side) (g : Begun) (command : Command) (outcome : Outcome) (h' : Held D) (t' : Tier S M)
       → slice_get t.sides b ≡ Some side → NotedRow disk store meta p config h t b x side g command outcome h' t' → TierGoes meta start b side t t'
   noted_goes p config h t b x side g Copy outcome h' t' at row = choose_goes p h t b x side g outcome h' t' at row
   noted_goes p config h t b x side g Trim outcome h' t' at row = same_tier meta start b side t t' at row.1
   noted_goes p config h t b x side g (Fetch offset limit) outcome h' t' at row = fetch_on_goes p h t b x side g offset limit Refresh outcome t' at row.0
+  noted_goes p config h t b x side g Join outcome h' t' at (inl (low, own)) = same_tier meta start b side t t' at own.1
+  noted_goes p config h t b x side g Join outcome h' t' at (inr (high, inl (answer, is, once, tier), same)) = same_tier meta start b side t t' at tier
+  noted_goes p config h t b x side g Join outcome h' t' at (inr (high, inr (may, row), same)) = refreshed_goes t b side outcome t' at row
   noted_goes p config h t b x side g other outcome h' t' at row = same_tier meta start b side t t' at row.1
 
   copying_goes : (h : Held D) (t : Tier S M) (b : ℕ) (x : Node D) (side : Side) (g : Begun) (copy : Copied) (next : Next) (command : Command) (outcome : Outcome) (h' : Held D) (t' : Tier S M)
@@ -286,6 +310,19 @@ module _ {D S M : Type 0} (disk : DiskGhosts D) (store : StoreGhosts S) (meta : 
   deleting_goes h t b x side g doomed next Expire outcome h' t' at tells low row = delete_on_goes h t b x side g doomed next outcome t' at tells low row.0
   deleting_goes h t b x side g doomed next other outcome h' t' at tells low row = elim row [ ]
 
+  rebuilding_goes : (p : PartitionId) (h : Held D) (t : Tier S M) (b : ℕ) (x : Node D) (side : Side) (g : Begun) (next : Rebuild) (command : Command) (outcome : Outcome) (h' : Held D) (t' : Tier S M)
+      → slice_get t.sides b ≡ Some side → RebuildingRow disk store p h t b x side g next command outcome h' t' → TierGoes meta start b side t t'
+  rebuilding_goes p h t b x side g Epochs Join outcome h' t' at (inl (answer, is, once, tier), same) = same_tier meta start b side t t' at tier
+  rebuilding_goes p h t b x side g Epochs Join outcome h' t' at (inr (may, (turn, is, goes)), same) = record {
+    notes = inl (ap (λ (k : Tier S M). (meta.content k.meta).notes) goes.after);
+    after = side;
+    sides = ap (λ (k : Tier S M). k.sides) goes.after ∙ sym (set_same t.sides b side at);
+    fed = [];
+    view = refl;
+  }
+  rebuilding_goes p h t b x side g (Restart line) Join outcome h' t' at row = same_tier meta start b side t t' at row.1
+  rebuilding_goes p h t b x side g next other outcome h' t' at row = elim row [ ]
+
   pub row_goes : (p : PartitionId) (config : Config) (h : Held D) (t : Tier S M) (b : ℕ) (x : Node D) (side : Side) (work : Work) (command : Command) (outcome : Outcome) (h' : Held D) (t' : Tier S M)
       → slice_get t.sides b ≡ Some side → IsTrue (meta.content t.meta).tells → DoomsBelow (fold (meta.content t.meta).notes) start work → Row disk store meta p config h t b x side work command outcome h' t' → TierGoes meta start b side t t'
   row_goes p config h t b x side Idle command outcome h' t' at tells low row = begin_goes h t b x side command outcome h' t' at row
@@ -293,3 +330,4 @@ module _ {D S M : Type 0} (disk : DiskGhosts D) (store : StoreGhosts S) (meta : 
   row_goes p config h t b x side (Copies g copy next) command outcome h' t' at tells low row = copying_goes h t b x side g copy next command outcome h' t' at tells row
   row_goes p config h t b x side (Seeks g next) command outcome h' t' at tells low row = seeking_goes p h t b x side g next command outcome h' t' at row
   row_goes p config h t b x side (Expires g doomed next) command outcome h' t' at tells low row = deleting_goes h t b x side g doomed next command outcome h' t' at tells low row
+  row_goes p config h t b x side (Rebuilds g next) command outcome h' t' at tells low row = rebuilding_goes p h t b x side g next command outcome h' t' at row

@@ -33,7 +33,7 @@ use Rattle.partition_seen.specs.declared.begun.Begun.{Begun}
 use Rattle.partition_turns.specs.declared.held.Node.{Node}
 use Rattle.partition_turns.specs.Held.{is_up, AtNode}
 use Rattle.partition_world.specs.declared.seat.Work.{Work}
-use Rattle.partition_world.specs.declared.seat.Work.TheVariants.{Idle, Noted, Copies, Seeks, Expires}
+use Rattle.partition_world.specs.declared.seat.Work.TheVariants.{Idle, Noted, Copies, Seeks, Expires, Rebuilds}
 use Rattle.partition_world.specs.declared.tier.Side.{Side}
 use Rattle.partition_world.specs.TurnsOfCopy.{KeepsLead, next_segment}
 use Rattle.partition_world.specs.Whole.{Whole}
@@ -91,6 +91,7 @@ module _ {D S M : Type 0} (disk : DiskGhosts D) (store : StoreGhosts S) (meta : 
   HasCause w b x side (Copies g copy next) answer w' = LaterCause w x g copy answer w'
   HasCause w b x side (Seeks g next) answer w' = ⊥
   HasCause w b x side (Expires g doomed next) answer w' = ⊥
+  HasCause w b x side (Rebuilds g next) answer w' = ⊥
 
   -- no call of a device failed that a copy of this broker makes
   pub record MeetsNoFault (b : ℕ) (w w' : Whole D S M) : Type 0 where
@@ -106,3 +107,4 @@ module _ {D S M : Type 0} where
   MayCopy w x side (Copies g copy next) = KeepsLead x g × (w.held.registry.start ≤ copy.segment.last)
   MayCopy w x side (Seeks g next) = ⊥
   MayCopy w x side (Expires g doomed next) = ⊥
+  MayCopy w x side (Rebuilds g next) = ⊥

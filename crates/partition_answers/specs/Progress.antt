@@ -25,7 +25,7 @@ use Rattle.plain_log.specs.declared.journal.JournalEntry.{JournalEntry}
 use Rattle.partition_turns.specs.Held.{AtNode}
 use Rattle.partition_world.specs.declared.seat.Seat.{Seat}
 use Rattle.partition_world.specs.declared.seat.Work.{Work}
-use Rattle.partition_world.specs.declared.seat.Work.TheVariants.{Idle, Noted, Copies, Seeks, Expires}
+use Rattle.partition_world.specs.declared.seat.Work.TheVariants.{Idle, Noted, Copies, Seeks, Expires, Rebuilds}
 use Rattle.partition_world.specs.Reaches.{Goes}
 use Rattle.partition_world.specs.Tier.{AtSide}
 use Rattle.partition_world.specs.Turn.{IsNext}
@@ -40,13 +40,15 @@ most_before Finish = 6
 most_before Check = 5
 most_before (Delete n) = 1 + (3 - n)
 
--- how many a copy takes at most of which so much is kept; with what a fetch or an expiry keeps no copy goes on
+-- how many a copy takes at most of which so much is kept; with what a fetch, an expiry or a join keeps no copy goes
+-- on
 abbrev pub most_turns : Work → ℕ
 most_turns Idle = 13
 most_turns (Noted g) = 12
 most_turns (Copies g copy next) = most_before next
 most_turns (Seeks g next) = 1
 most_turns (Expires g doomed next) = 1
+most_turns (Rebuilds g next) = 1
 
 -- how many of these turns are the actor's
 abbrev pub times : ℕ → List ℕ → ℕ

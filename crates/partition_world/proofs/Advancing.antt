@@ -20,11 +20,15 @@ use Rattle.expiry_task.specs.declared.turn.Doomed.{Doomed}
 use Rattle.expiry_task.specs.declared.turn.ExpiryTurn.{ExpiryTurn}
 use Rattle.expiry_task.specs.declared.turn.ExpiryTurn.TheVariants as expiry
 use Rattle.expiry_task.specs.declared.turn.Next.{Next as Deletion}
+use Rattle.rebuild_task.specs.declared.turn.Next.{Next as Rebuild}
+use Rattle.rebuild_task.specs.declared.turn.Next.TheVariants.{Epochs, Restart}
+use Rattle.rebuild_task.specs.declared.turn.RebuildTurn.{RebuildTurn}
+use Rattle.rebuild_task.specs.declared.turn.RebuildTurn.TheVariants as rebuild
 use Rattle.tier_fetch.specs.declared.turn.Next.{Next as Search}
 use Rattle.tier_fetch.specs.declared.turn.Next.TheVariants.{Refresh}
 use Rattle.plain_log.specs.declared.command.ActorList.{ActorList}
 use Rattle.plain_log.specs.declared.command.Command.{Command}
-use Rattle.plain_log.specs.declared.command.Command.TheVariants.{Copy, Trim, Expire, Fetch}
+use Rattle.plain_log.specs.declared.command.Command.TheVariants.{Copy, Trim, Expire, Fetch, Join}
 use Rattle.plain_log.specs.declared.command.Config.{Config}
 use Rattle.plain_log.specs.declared.command.Order.{Order}
 use Rattle.partition_seen.specs.declared.begun.Begun.{Begun}
@@ -36,15 +40,17 @@ use Rattle.partition_turns.specs.Held.{line_of}
 use Rattle.partition_world.specs.declared.tier.Side.{Side}
 use Rattle.partition_world.specs.declared.tier.Tier.{Tier}
 use Rattle.partition_world.specs.declared.seat.Outcome.{Outcome}
-use Rattle.partition_world.specs.declared.seat.Outcome.TheVariants.{Answers, Begins, Chose, Goes, Seeks as Sought, Dooms, Deletes}
+use Rattle.partition_world.specs.declared.seat.Outcome.TheVariants.{Answers, Begins, Chose, Goes, Seeks as Sought, Dooms, Deletes, Rebuilds as Rebuilding}
 use Rattle.partition_world.specs.declared.seat.Seat.{Seat}
 use Rattle.partition_world.specs.declared.seat.Work.{Work}
-use Rattle.partition_world.specs.declared.seat.Work.TheVariants.{Idle, Noted, Copies, Seeks, Expires}
-use Rattle.partition_world.specs.Seats.{chosen, moved, sought, doomed, deleting, copy_outcome, expiry_outcome, seat_after}
+use Rattle.partition_world.specs.declared.seat.Work.TheVariants.{Idle, Noted, Copies, Seeks, Expires, Rebuilds}
+use Rattle.partition_world.specs.Seats.{chosen, moved, sought, doomed, deleting, rebuilding, copy_outcome, expiry_outcome, rebuild_outcome, seat_after}
 use Rattle.partition_world.specs.TurnsOfFetch.{FetchOnRow, fetch_tiers, wanted_of}
-use Rattle.partition_world.specs.Turns.{NotedRow, CopyingRow, SeekingRow, DeletingRow, Row, TurnRow}
+use Rattle.partition_world.specs.Turns.{NotedRow, CopyingRow, SeekingRow, DeletingRow, RebuildingRow, Row, TurnRow}
 use Rattle.partition_world.proofs.Begins.{MayComeTo, row_of, row_may}
 use Rattle.partition_world.proofs.ExpiryAdvances.{deleting_before, few_deleting, expiry_advances}
+use Rattle.partition_world.proofs.RebuildEnds.{MayTurn, rebuild_may_turn}
+use Rattle.partition_world.specs.TurnsOfRebuild.{wanted_of as rebuilt_to}
 use Rattle.partition_world.proofs.FetchAdvances.{sought_before, few_sought, fetch_advances}
 
 -- how many turns a copy has taken at most that does this next
@@ -55,6 +61,19 @@ taken_before Finish = 8
 taken_before Check = 9
 taken_before (Delete n) = 10 + min n 3
 
+-- how many a join has taken that does this next
+abbrev pub rebuilding_before : Rebuild → ℕ
+rebuilding_before Epochs = 2
+rebuilding_before (Restart line) = 3
+
+few_rebuilding : (next : Rebuild) → rebuilding_before next ≤ 13
+few_rebuilding Epochs = omega arith
+few_rebuilding (Restart line) = omega arith
+
+second_rebuilding : (next : Rebuild) → 1 < rebuilding_before next
+second_rebuilding Epochs = omega arith
+second_rebuilding (Restart line) = omega arith
+
 -- how many a command has taken at most; it has one more at least
 abbrev pub taken_of : Work → ℕ
 taken_of Idle = 0
@@ -62,6 +81,7 @@ taken_of (Noted g) = 1
 taken_of (Copies g copy next) = taken_before next
 taken_of (Seeks g next) = sought_before next
 taken_of (Expires g segment next) = deleting_before next
+taken_of (Rebuilds g next) = rebuilding_before next
 
 -- the turns that are left of a list
 abbrev pub turns_of : List Order → Seat → ℕ
@@ -82,6 +102,7 @@ Advances work (Goes next) = taken_of work < taken_of (moved work next)
 Advances work (Sought next) = taken_of work < taken_of (sought work next)
 Advances work (Dooms segment) = taken_of work < taken_of (doomed work segment)
 Advances work (Deletes next) = taken_of work < taken_of (deleting work next)
+Advances work (Rebuilding next) = taken_of work < taken_of (rebuilding work next)
 
 few_before : (next : Next) → taken_before next ≤ 13
 few_before Start = omega arith
@@ -96,6 +117,7 @@ few_taken (Noted g) = omega arith
 few_taken (Copies g copy next) = few_before next
 few_taken (Seeks g next) = few_sought next
 few_taken (Expires g segment next) = few_deleting next
+few_taken (Rebuilds g next) = few_rebuilding next
 
 -- a copy goes on with a later turn
 to : (before next after : Next) → GoesOn next ≡ GoesOn after → taken_before before < taken_before after → taken_before before < taken_before next
@@ -151,6 +173,15 @@ expiry_goes : (turn : ExpiryTurn) (next : Deletion) → Deletes next ≡ expiry_
 expiry_goes (expiry.Goes n) next is = cc
 expiry_goes (expiry.Ends answer) next is = absurd cc
 
+rebuild_goes : (turn : RebuildTurn) (next : Rebuild) → Rebuilding next ≡ rebuild_outcome turn → turn ≡ rebuild.Goes next
+rebuild_goes (rebuild.Goes n) next is = cc
+rebuild_goes (rebuild.Ends answer) next is = absurd cc
+
+-- behind the line that was read the log is begun anew
+read_advances : (next : Rebuild) → MayTurn (rebuild.Goes next) → 2 < rebuilding_before next
+read_advances (Restart line) may = omega arith
+read_advances Epochs may = absurd may
+
 module _ {D S M : Type 0} (disk : DiskGhosts D) (store : StoreGhosts S) (meta : MetaGhosts M) where
   seek_advances : (p : PartitionId) (h : Held D) (t : Tier S M) (b : ℕ) (x : Node D) (side : Side) (g : Begun) (offset limit : ℕ) (before next : Search) (t' : Tier S M)
       → FetchOnRow store meta p h t b x side g offset limit before (Sought next) t' → sought_before before < sought_before next
@@ -165,6 +196,9 @@ module _ {D S M : Type 0} (disk : DiskGhosts D) (store : StoreGhosts S) (meta : 
   noted_sought p config h t b x side g Trim next h' t' w = elim w.0 [ ]
   noted_sought p config h t b x side g Expire next h' t' (inl lost, same) = let e = lost.1 in absurd (cc (e))
   noted_sought p config h t b x side g Expire next h' t' (inr (keeps, by), same) = elim by [ ]
+  noted_sought p config h t b x side g Join next h' t' (inl (low, own)) = let e = own.0.1 in absurd (cc (e))
+  noted_sought p config h t b x side g Join next h' t' (inr (high, inl (answer, is, at, tier), same)) = absurd (cc (is))
+  noted_sought p config h t b x side g Join next h' t' (inr (high, inr (may, row), same)) = elim row [ ]
   noted_sought p config h t b x side g (Fetch offset limit) next h' t' w = seek_advances p h t b x side g offset limit Refresh next t' w.0
   noted_sought p config h t b x side g other next h' t' w = let e = w.0.1 in absurd (cc (e))
 
@@ -189,6 +223,15 @@ module _ {D S M : Type 0} (disk : DiskGhosts D) (store : StoreGhosts S) (meta : 
       expiry_advances store meta segment _ before next _ _ (rw one at goes.row)
   deleting_deletes h t b x g segment before command next h' t' w = elim w [ ]
 
+  rebuilding_goes : (p : PartitionId) (h : Held D) (t : Tier S M) (b : ℕ) (x : Node D) (side : Side) (g : Begun) (before : Rebuild) (command : Command) (next : Rebuild) (h' : Held D) (t' : Tier S M)
+      → RebuildingRow disk store p h t b x side g before command (Rebuilding next) h' t' → rebuilding_before before < rebuilding_before next
+  rebuilding_goes p h t b x side g Epochs Join next h' t' (inl (answer, is, at, tier), same) = absurd (cc (is))
+  rebuilding_goes p h t b x side g Epochs Join next h' t' (inr (may, (turn, is, goes)), same) =
+      let one = rebuild_goes turn next is in
+      read_advances next (subst MayTurn one (rebuild_may_turn store (rebuilt_to p g) g.line side.view turn t.store t'.store goes.row))
+  rebuilding_goes p h t b x side g (Restart line) Join next h' t' w = let e = w.0.1 in absurd (cc (e))
+  rebuilding_goes p h t b x side g before command next h' t' w = elim w [ ]
+
   advances : (p : PartitionId) (config : Config) (h : Held D) (t : Tier S M) (b : ℕ) (x : Node D) (side : Side) (work : Work) (command : Command) (outcome : Outcome) (h' : Held D) (t' : Tier S M)
       → MayComeTo work outcome → Row disk store meta p config h t b x side work command outcome h' t' → Advances work outcome
   advances p config h t b x side work command (Answers answer) h' t' may w = tt
@@ -199,6 +242,8 @@ module _ {D S M : Type 0} (disk : DiskGhosts D) (store : StoreGhosts S) (meta : 
   advances p config h t b x side (Copies g c before) command (Goes next) h' t' may w = copying_goes h t b x side g c before command next h' t' w
   advances p config h t b x side (Seeks g before) command (Sought next) h' t' may w = seeking_sought p h t b x side g before command next h' t' w
   advances p config h t b x side (Expires g segment before) command (Deletes next) h' t' may w = deleting_deletes h t b x g segment before command next h' t' w
+  advances p config h t b x side (Noted g) command (Rebuilding next) h' t' may w = second_rebuilding next
+  advances p config h t b x side (Rebuilds g before) command (Rebuilding next) h' t' may w = rebuilding_goes p h t b x side g before command next h' t' w
   advances p config h t b x side work command outcome h' t' may w = elim may [ ]
 
   pub advances_at : (p : PartitionId) (config : Config) (h : Held D) (t : Tier S M) (b : ℕ) (work : Work) (command : Command) (outcome : Outcome) (h' : Held D) (t' : Tier S M)
@@ -216,6 +261,7 @@ of_less orders seat (Goes next) lt on = let few = few_taken (moved seat.work nex
 of_less orders seat (Sought next) lt on = let few = few_taken (sought seat.work next) in omega (arith, lt, few, on)
 of_less orders seat (Dooms segment) lt on = let few = few_taken (doomed seat.work segment) in omega (arith, lt, few, on)
 of_less orders seat (Deletes next) lt on = let few = few_taken (deleting seat.work next) in omega (arith, lt, few, on)
+of_less orders seat (Rebuilding next) lt on = let few = few_taken (rebuilding seat.work next) in omega (arith, lt, few, on)
 
 pub turns_less : (lists : List ActorList) (desk : List Seat) (i : ℕ) (l : ActorList) (seat : Seat) (outcome : Outcome) → slice_get lists i ≡ Some l → slice_get desk i ≡ Some seat
     → seat.number < length l.orders → Advances seat.work outcome → turns_left lists (slice_set desk i (seat_after seat outcome)) + 1 ≤ turns_left lists desk

@@ -12,9 +12,13 @@ use Rattle.expiry_task.specs.declared.turn.Doomed.{Doomed}
 use Rattle.expiry_task.specs.declared.turn.ExpiryTurn.{ExpiryTurn}
 use Rattle.expiry_task.specs.declared.turn.ExpiryTurn.TheVariants as expiry
 use Rattle.expiry_task.specs.declared.turn.Next.{Next as Deletion}
+use Rattle.rebuild_task.specs.declared.turn.Next.{Next as Rebuild}
+use Rattle.rebuild_task.specs.declared.turn.Next.TheVariants.{Epochs, Restart}
+use Rattle.rebuild_task.specs.declared.turn.RebuildTurn.{RebuildTurn}
+use Rattle.rebuild_task.specs.declared.turn.RebuildTurn.TheVariants as rebuild
 use Rattle.tier_fetch.specs.declared.turn.Next.{Next as Search}
 use Rattle.plain_log.specs.declared.command.Command.{Command}
-use Rattle.plain_log.specs.declared.command.Command.TheVariants.{Copy, Trim, Expire, Fetch}
+use Rattle.plain_log.specs.declared.command.Command.TheVariants.{Copy, Trim, Expire, Fetch, Join}
 use Rattle.plain_log.specs.declared.command.Config.{Config}
 use Rattle.partition_seen.specs.declared.begun.Begun.{Begun}
 use Rattle.partition_seen.specs.declared.begun.Turned.{Turned}
@@ -25,12 +29,12 @@ use Rattle.partition_turns.specs.declared.held.Held.{Held}
 use Rattle.partition_world.specs.declared.tier.Side.{Side}
 use Rattle.partition_world.specs.declared.tier.Tier.{Tier}
 use Rattle.partition_world.specs.declared.seat.Outcome.{Outcome}
-use Rattle.partition_world.specs.declared.seat.Outcome.TheVariants.{Answers, Begins, Chose, Goes, Seeks as Sought, Dooms, Deletes}
+use Rattle.partition_world.specs.declared.seat.Outcome.TheVariants.{Answers, Begins, Chose, Goes, Seeks as Sought, Dooms, Deletes, Rebuilds as Rebuilding}
 use Rattle.partition_world.specs.declared.seat.Work.{Work}
-use Rattle.partition_world.specs.declared.seat.Work.TheVariants.{Idle, Noted, Copies, Seeks, Expires}
+use Rattle.partition_world.specs.declared.seat.Work.TheVariants.{Idle, Noted, Copies, Seeks, Expires, Rebuilds}
 use Rattle.partition_world.specs.Tier.{AtSide}
-use Rattle.partition_world.specs.Seats.{outcome_of, copy_outcome, expiry_outcome}
-use Rattle.partition_world.specs.Turns.{BeginRow, NotedRow, CopyingRow, SeekingRow, DeletingRow, Row, TurnRow}
+use Rattle.partition_world.specs.Seats.{outcome_of, copy_outcome, expiry_outcome, rebuild_outcome}
+use Rattle.partition_world.specs.Turns.{BeginRow, NotedRow, CopyingRow, SeekingRow, DeletingRow, RebuildingRow, Row, TurnRow}
 
 -- what a turn may come to where its seat keeps this
 abbrev pub MayComeTo : Work → Outcome → Type 0
@@ -39,9 +43,11 @@ MayComeTo Idle (Begins g) = Unit {0}
 MayComeTo (Noted g) (Chose copy) = Unit {0}
 MayComeTo (Noted g) (Sought next) = Unit {0}
 MayComeTo (Noted g) (Dooms segment) = Unit {0}
+MayComeTo (Noted g) (Rebuilding next) = Unit {0}
 MayComeTo (Copies g copy before) (Goes next) = Unit {0}
 MayComeTo (Seeks g before) (Sought next) = Unit {0}
 MayComeTo (Expires g segment before) (Deletes next) = Unit {0}
+MayComeTo (Rebuilds g before) (Rebuilding next) = Unit {0}
 MayComeTo work outcome = ⊥
 
 own_may : (turn : Turned) (outcome : Outcome) → outcome ≡ outcome_of turn → MayComeTo Idle outcome
@@ -55,6 +61,10 @@ copy_may g copy next (Ends answer) outcome is = rw is tt
 expiry_may : (g : Begun) (segment : Doomed) (next : Deletion) (turn : ExpiryTurn) (outcome : Outcome) → outcome ≡ expiry_outcome turn → MayComeTo (Expires g segment next) outcome
 expiry_may g segment next (expiry.Goes further) outcome is = rw is tt
 expiry_may g segment next (expiry.Ends answer) outcome is = rw is tt
+
+rebuild_may : (g : Begun) (next : Rebuild) (turn : RebuildTurn) (outcome : Outcome) → outcome ≡ rebuild_outcome turn → MayComeTo (Rebuilds g next) outcome
+rebuild_may g next (rebuild.Goes further) outcome is = rw is tt
+rebuild_may g next (rebuild.Ends answer) outcome is = rw is tt
 
 module _ {D S M : Type 0} (disk : DiskGhosts D) (store : StoreGhosts S) (meta : MetaGhosts M) where
   -- there are a broker and a side of a turn
@@ -87,12 +97,16 @@ module _ {D S M : Type 0} (disk : DiskGhosts D) (store : StoreGhosts S) (meta : 
   noted_may p config h t b x side g command (Chose copy) h' t' w = tt
   noted_may p config h t b x side g command (Sought next) h' t' w = tt
   noted_may p config h t b x side g command (Dooms segment) h' t' w = tt
+  noted_may p config h t b x side g command (Rebuilding next) h' t' w = tt
   noted_may p config h t b x side g Copy outcome h' t' (inl lost) = let e = lost.1 in absurd (cc (e))
   noted_may p config h t b x side g Copy outcome h' t' (inr (keeps, inl level)) = let e = level.1 in absurd (cc (e))
   noted_may p config h t b x side g Copy outcome h' t' (inr (keeps, inr reads)) = elim reads.row [ ]
   noted_may p config h t b x side g Trim outcome h' t' w = elim w.0 [ ]
   noted_may p config h t b x side g Expire outcome h' t' (inl lost, same) = let e = lost.1 in absurd (cc (e))
   noted_may p config h t b x side g Expire outcome h' t' (inr (keeps, by), same) = elim by [ ]
+  noted_may p config h t b x side g Join outcome h' t' (inl (low, own)) = let e = own.0.1 in absurd (cc (e))
+  noted_may p config h t b x side g Join outcome h' t' (inr (high, inl (answer, is, at, tier), same)) = absurd (cc (is))
+  noted_may p config h t b x side g Join outcome h' t' (inr (high, inr (may, row), same)) = elim row [ ]
   noted_may p config h t b x side g (Fetch offset limit) outcome h' t' w = elim w.0 [ ]
   noted_may p config h t b x side g other outcome h' t' w = let e = w.0.1 in absurd (cc (e))
 
@@ -115,6 +129,15 @@ module _ {D S M : Type 0} (disk : DiskGhosts D) (store : StoreGhosts S) (meta : 
   deleting_may h t b x g segment next Expire outcome h' t' (inr (keeps, (turn, is, goes)), same) = expiry_may g segment next turn outcome is
   deleting_may h t b x g segment next other outcome h' t' w = elim w [ ]
 
+  rebuilding_may : (p : PartitionId) (h : Held D) (t : Tier S M) (b : ℕ) (x : Node D) (side : Side) (g : Begun) (next : Rebuild) (command : Command) (outcome : Outcome) (h' : Held D) (t' : Tier S M)
+      → RebuildingRow disk store p h t b x side g next command outcome h' t' → MayComeTo (Rebuilds g next) outcome
+  rebuilding_may p h t b x side g next command (Answers answer) h' t' w = tt
+  rebuilding_may p h t b x side g next command (Rebuilding later) h' t' w = tt
+  rebuilding_may p h t b x side g Epochs Join outcome h' t' (inl (answer, is, at, tier), same) = absurd (cc (is))
+  rebuilding_may p h t b x side g Epochs Join outcome h' t' (inr (may, (turn, is, goes)), same) = rebuild_may g Epochs turn outcome is
+  rebuilding_may p h t b x side g (Restart line) Join outcome h' t' w = let e = w.0.1 in absurd (cc (e))
+  rebuilding_may p h t b x side g next command outcome h' t' w = elim w [ ]
+
   pub row_may : (p : PartitionId) (config : Config) (h : Held D) (t : Tier S M) (b : ℕ) (x : Node D) (side : Side) (work : Work) (command : Command) (outcome : Outcome) (h' : Held D) (t' : Tier S M)
       → Row disk store meta p config h t b x side work command outcome h' t' → MayComeTo work outcome
   row_may p config h t b x side Idle command outcome h' t' w = begin_may h t b x side command outcome h' t' w
@@ -122,6 +145,7 @@ module _ {D S M : Type 0} (disk : DiskGhosts D) (store : StoreGhosts S) (meta : 
   row_may p config h t b x side (Copies g copy next) command outcome h' t' w = copying_may h t b x side g copy next command outcome h' t' w
   row_may p config h t b x side (Seeks g next) command outcome h' t' w = seeking_may p h t b x side g next command outcome h' t' w
   row_may p config h t b x side (Expires g segment next) command outcome h' t' w = deleting_may h t b x g segment next command outcome h' t' w
+  row_may p config h t b x side (Rebuilds g next) command outcome h' t' w = rebuilding_may p h t b x side g next command outcome h' t' w
 
   began : (work : Work) (f : Begun) → MayComeTo work (Begins f) → work ≡ Idle
   began Idle f may = refl

@@ -14,10 +14,12 @@ use Rattle.tier_fetch.specs.declared.turn.FetchTurn.{FetchTurn}
 use Rattle.tier_fetch.specs.declared.turn.FetchTurn.TheVariants as fetch
 use Rattle.expiry_task.specs.declared.turn.Doomed.{Doomed}
 use Rattle.expiry_task.specs.declared.turn.Next.{Next as Deletion}
+use Rattle.rebuild_task.specs.declared.turn.Next.{Next as Rebuild}
+use Rattle.rebuild_task.specs.declared.turn.Next.TheVariants.{Epochs, Restart}
 use Rattle.tier_fetch.specs.declared.turn.Next.{Next as Search}
 use Rattle.tier_fetch.specs.declared.turn.Next.TheVariants.{Refresh}
 use Rattle.plain_log.specs.declared.answer.Answer.{Answer}
-use Rattle.plain_log.specs.declared.answer.Answer.TheVariants.{Down, NotLeader, MetaFault, DiskFault, Damaged, Stopped, OutOfRange, Empty, Kept as Remains, StaleEpoch, Raised, OkAt}
+use Rattle.plain_log.specs.declared.answer.Answer.TheVariants.{Down, NotLeader, MetaFault, DiskFault, Damaged, Stopped, OutOfRange, Empty, Kept as Remains, StaleEpoch, Raised, OkAt, Passed, BelowStart}
 use Rattle.plain_log.specs.declared.answer.Place.TheVariants.{File}
 use Rattle.plain_log.specs.declared.command.ActorList.{ActorList}
 use Rattle.plain_log.specs.declared.command.Command.{Command}
@@ -40,9 +42,9 @@ use Rattle.partition_turns.proofs.CalmRows.{lasting_calm, calm_fault, calm_get, 
 use Rattle.partition_world.specs.declared.tier.Side.{Side}
 use Rattle.partition_world.specs.declared.tier.Tier.{Tier}
 use Rattle.partition_world.specs.declared.seat.Outcome.{Outcome}
-use Rattle.partition_world.specs.declared.seat.Outcome.TheVariants.{Answers, Begins, Chose, Goes, Seeks as Sought, Dooms, Deletes}
+use Rattle.partition_world.specs.declared.seat.Outcome.TheVariants.{Answers, Begins, Chose, Goes, Seeks as Sought, Dooms, Deletes, Rebuilds as Rebuilding}
 use Rattle.partition_world.specs.declared.seat.Work.{Work}
-use Rattle.partition_world.specs.declared.seat.Work.TheVariants.{Idle, Noted, Copies, Seeks, Expires}
+use Rattle.partition_world.specs.declared.seat.Work.TheVariants.{Idle, Noted, Copies, Seeks, Expires, Rebuilds}
 use Rattle.partition_world.specs.Calm.{IsCalm, IsUnplanned, IsUnfailing}
 use Rattle.partition_world.specs.Fresh.{IsFresh}
 use Rattle.partition_world.specs.Seats.{outcome_of, fetch_outcome, told_of}
@@ -50,8 +52,9 @@ use Rattle.partition_world.specs.Turn.{IsTurn}
 use Rattle.partition_world.specs.TurnsOfCopy.{ReadsLog, ReadRow, CopyFirstRow, ChooseRow, tiers_of, teller_of}
 use Rattle.partition_world.specs.TurnsOfFetch.{FetchOnRow, GoesOnFetch, fetch_tiers, wanted_of}
 use Rattle.partition_world.specs.TurnsOfExpiry.{RaiseRow, ExpireOnRow, ExpiresBy, expiry_tiers}
+use Rattle.partition_world.specs.TurnsOfRebuild.{AnswersAtOnce, RefreshedRow, with_line, wanted_of as rebuilt_to}
 use Rattle.partition_world.specs.TurnsOfTrim.{TrimFirstRow, TrimOnRow}
-use Rattle.partition_world.specs.Turns.{BeginRow, NotedRow, CopyingRow, SeekingRow, DeletingRow, Row}
+use Rattle.partition_world.specs.Turns.{OwnOnRow, BeginRow, NotedRow, CopyingRow, SeekingRow, DeletingRow, JoinSecondRow, RebuildingRow, Row}
 use Rattle.partition_world.specs.Reaches.{Goes as GoesOnce, GoesTimes, GoesUntil, Paces, Reaches}
 use Rattle.partition_world.specs.Whole.{Whole}
 use Rattle.partition_world.proofs.Begins.{row_of}
@@ -59,6 +62,7 @@ use Rattle.partition_world.proofs.Quiet.{IsQuiet, AreQuiet, call_calm, no_fault}
 use Rattle.partition_world.proofs.CopyCalm.{copy_calm}
 use Rattle.partition_world.proofs.FetchCalm.{fetch_calm}
 use Rattle.partition_world.proofs.ExpiryCalm.{expiry_calm}
+use Rattle.partition_world.proofs.RebuildEnds.{rebuild_calm}
 
 module _ {K : Type 0} {code : K → ℕ} where
   -- one whose empty plan comes in force stays so
@@ -196,10 +200,47 @@ module _ {D S M : Type 0} (disk : DiskGhosts D) (store : StoreGhosts S) (meta : 
   expire_calm p h t b x side g keep outcome h' t' at c same (inl lost) = (same_calm h t h' t' lost.2 same c, rw lost.1 tt)
   expire_calm p h t b x side g keep outcome h' t' at c same (inr k) = expires_calm p h t b x side keep outcome h' t' at k.0.up c same k.1
 
+  -- and of a join
+
+  at_once_quiet : (h : Held D) (x : Node D) (g : Begun) (answer : Answer) → AnswersAtOnce h x g answer → IsQuiet (Answers answer)
+  at_once_quiet h x g Stopped w = tt
+  at_once_quiet h x g (StaleEpoch n) w = tt
+  at_once_quiet h x g (Passed n) w = tt
+  at_once_quiet h x g (BelowStart start) w = tt
+  at_once_quiet h x g other w = elim w [ ]
+
+  refreshed_calm : (h : Held D) (t : Tier S M) (b : ℕ) (side : Side) (outcome : Outcome) (h' : Held D) (t' : Tier S M) → AreAllCalm h t → h' ≡ h → RefreshedRow meta t b side outcome t' → Calmly h' t' outcome
+  refreshed_calm h t b side (Answers MetaFault) h' t' c same w = no_fault _ (meta.control t.meta) (meta.control t'.meta) w.reads.control.ran c.stores.1
+  refreshed_calm h t b side (Rebuilding Epochs) h' t' c same w = (
+    record {
+      held = rw same c.held;
+      stores = (
+        subst (λ (s : S). IsCalm (store.control s)) (sym (ap (λ (k : Tier S M). k.store) w.after)) c.stores.0,
+        call_calm _ _ (meta.control t.meta) (meta.control t'.meta) w.reads.control.ran c.stores.1,
+      );
+    },
+    tt,
+  )
+  refreshed_calm h t b side other h' t' c same w = elim w [ ]
+
+  -- a join's turn on its broker's log
+  joined_calm : (h : Held D) (t : Tier S M) (b : ℕ) (x : Node D) (g : Begun) (outcome : Outcome) (h' : Held D) (t' : Tier S M) → slice_get h.nodes b ≡ Some x → AreAllCalm h t
+      → OwnOnRow disk h t b x g Join outcome h' t' → Calmly h' t' outcome
+  joined_calm h t b x g outcome h' t' at c w =
+      let k = row_calm disk.content disk.control h b x (Some g) Join (turned.Answers w.0.0) h' at c.held w.0.2 in
+      (record { held = k.0; stores = rw w.1 c.stores }, rw w.0.1 k.1)
+
+  join_calm : (h : Held D) (t : Tier S M) (b : ℕ) (x : Node D) (side : Side) (g : Begun) (outcome : Outcome) (h' : Held D) (t' : Tier S M) → slice_get h.nodes b ≡ Some x → AreAllCalm h t
+      → JoinSecondRow disk meta h t b x side g outcome h' t' → Calmly h' t' outcome
+  join_calm h t b x side g outcome h' t' at c (inl (low, own)) = joined_calm h t b x g outcome h' t' at c own
+  join_calm h t b x side g outcome h' t' at c (inr (high, inl (answer, is, once, tier), same)) = (same_calm h t h' t' same tier c, rw is (at_once_quiet h x g answer once))
+  join_calm h t b x side g outcome h' t' at c (inr (high, inr (may, row), same)) = refreshed_calm h t b side outcome h' t' c same row
+
   noted_calm : (p : PartitionId) (config : Config) (h : Held D) (t : Tier S M) (b : ℕ) (x : Node D) (side : Side) (g : Begun) (command : Command) (outcome : Outcome) (h' : Held D) (t' : Tier S M) → slice_get h.nodes b ≡ Some x
       → AreAllCalm h t → NotedRow disk store meta p config h t b x side g command outcome h' t' → Calmly h' t' outcome
   noted_calm p config h t b x side g Copy outcome h' t' at c w = choose_calm p h t b x side g outcome h' t' at c w
   noted_calm p config h t b x side g Trim outcome h' t' at c w = trims_calm h t b x side g config.local_keep outcome h' t' at c w.0 w.1
+  noted_calm p config h t b x side g Join outcome h' t' at c w = join_calm h t b x side g outcome h' t' at c w
   noted_calm p config h t b x side g Expire outcome h' t' at c w = expire_calm p h t b x side g config.keep outcome h' t' at c w.1 w.0
   noted_calm p config h t b x side g (Fetch offset limit) outcome h' t' at c w = seek_calm p h t b x side g offset limit Refresh outcome h' t' c w.1 w.0
   noted_calm p config h t b x side g other outcome h' t' at c w =
@@ -227,6 +268,15 @@ module _ {D S M : Type 0} (disk : DiskGhosts D) (store : StoreGhosts S) (meta : 
       (record { held = rw same c.held; stores = k.0 }, rw is k.1)
   deleting_calm h t b x g segment next other outcome h' t' c w = elim w [ ]
 
+  rebuilding_calm : (p : PartitionId) (h : Held D) (t : Tier S M) (b : ℕ) (x : Node D) (side : Side) (g : Begun) (next : Rebuild) (command : Command) (outcome : Outcome) (h' : Held D) (t' : Tier S M)
+      → slice_get h.nodes b ≡ Some x → AreAllCalm h t → RebuildingRow disk store p h t b x side g next command outcome h' t' → Calmly h' t' outcome
+  rebuilding_calm p h t b x side g Epochs Join outcome h' t' at c (inl (answer, is, once, tier), same) = (same_calm h t h' t' same tier c, rw is (at_once_quiet h x g answer once))
+  rebuilding_calm p h t b x side g Epochs Join outcome h' t' at c (inr (may, (turn, is, goes)), same) =
+      let k = rebuild_calm store (rebuilt_to p g) g.line side.view turn t.store t'.store goes.row c.stores.0 in
+      (record { held = rw same c.held; stores = (k.0, subst (λ (m : M). IsCalm (meta.control m)) (sym (ap (λ (u : Tier S M). u.meta) goes.after)) c.stores.1) }, rw is k.1)
+  rebuilding_calm p h t b x side g (Restart line) Join outcome h' t' at c w = joined_calm h t b x (with_line g line) outcome h' t' at c w
+  rebuilding_calm p h t b x side g next other outcome h' t' at c w = elim w [ ]
+
   work_calm : (p : PartitionId) (config : Config) (h : Held D) (t : Tier S M) (b : ℕ) (x : Node D) (side : Side) (work : Work) (command : Command) (outcome : Outcome) (h' : Held D) (t' : Tier S M)
       → slice_get h.nodes b ≡ Some x → AreAllCalm h t → Row disk store meta p config h t b x side work command outcome h' t' → Calmly h' t' outcome
   work_calm p config h t b x side Idle command outcome h' t' at c w = begin_calm h t b x side command outcome h' t' at c w
@@ -234,6 +284,7 @@ module _ {D S M : Type 0} (disk : DiskGhosts D) (store : StoreGhosts S) (meta : 
   work_calm p config h t b x side (Copies g copy next) command outcome h' t' at c w = copying_calm h t b x side g copy next command outcome h' t' c w
   work_calm p config h t b x side (Seeks g next) command outcome h' t' at c w = seeking_calm p h t b x side g next command outcome h' t' c w
   work_calm p config h t b x side (Expires g segment next) command outcome h' t' at c w = deleting_calm h t b x g segment next command outcome h' t' c w
+  work_calm p config h t b x side (Rebuilds g next) command outcome h' t' at c w = rebuilding_calm p h t b x side g next command outcome h' t' at c w
 
   -- the journal
 
@@ -263,6 +314,7 @@ module _ {D S M : Type 0} (disk : DiskGhosts D) (store : StoreGhosts S) (meta : 
       told (Sought next) q = faultless_same w.journal.items u.journal
       told (Dooms segment) q = faultless_same w.journal.items u.journal
       told (Deletes next) q = faultless_same w.journal.items u.journal
+      told (Rebuilding next) q = faultless_same w.journal.items u.journal
 
   same_unfailing : (w w' : Whole D S M) → w' ≡ w → IsUnfailing disk store meta w → IsUnfailing disk store meta w'
   same_unfailing w w' is u = subst (IsUnfailing disk store meta) (sym is) u

@@ -1,5 +1,5 @@
 -- Each turn keeps the central fact, and at the end it says that the run is complete.
-use Rattle.std.proofs.Common.{◌≡◌, ◌⊎◌, ◌∙◌, ◌^◌, ◌<◌, ◌≤◌, ◌+◌, inl, inr, sym, ap, subst, refl, ℕ, zero, suc, Some, None, Option, slice_get, slice_set, length, List, [], ◌∷◌, true, arith}
+use Rattle.std.proofs.Common.{◌≡◌, ◌⊎◌, ◌∙◌, ◌^◌, ◌<◌, ◌≤◌, ◌+◌, inl, inr, sym, ap, subst, refl, ℕ, zero, suc, Some, None, Option, Err, slice_get, slice_set, length, List, [], ◌∷◌, true, arith}
 use Rattle.std.proofs.lemmas.List.{length-map}
 use Rattle.disk_model.specs.declared.disk.Disk.{Ghosts as DiskGhosts}
 use Rattle.object_store.specs.declared.store.Store.{Ghosts as StoreGhosts}
@@ -56,7 +56,7 @@ use Rattle.partition_world.specs.declared.seat.Outcome.{Outcome}
 use Rattle.partition_world.specs.declared.seat.Outcome.TheVariants.{Answers, Dooms}
 use Rattle.partition_world.specs.declared.seat.Seat.{Seat}
 use Rattle.partition_world.specs.declared.seat.Work.{Work}
-use Rattle.partition_world.specs.declared.seat.Work.TheVariants.{Idle, Noted, Copies, Seeks, Expires}
+use Rattle.partition_world.specs.declared.seat.Work.TheVariants.{Idle, Noted, Copies, Seeks, Expires, Rebuilds}
 use Rattle.partition_world.specs.declared.tier.Side.{Side}
 use Rattle.partition_world.specs.declared.tier.Tier.{Tier}
 use Rattle.partition_world.specs.Seats.{noted_in, outcome_of, seat_after, seat_seen, desk_seen}
@@ -88,6 +88,15 @@ use Rattle.partition_world.specs.TurnsOfCopy.{KeepsLead}
 use Rattle.partition_world.specs.TurnsOfExpiry.{ExpiresBy, ExpireOnRow, expiry_tiers}
 use Rattle.partition_world.proofs.ExpiryCentral.{expire_first, expire_lost, expire_kept, expire_stale, raise_seen, dooms, deletes}
 use Rattle.partition_world.proofs.ExpiryEnds.{expiry_dry}
+use Rattle.rebuild_task.specs.declared.turn.Next.{Next as Rebuild}
+use Rattle.rebuild_task.specs.declared.turn.Next.TheVariants.{Epochs, Restart}
+use Rattle.partition_turns.specs.TurnsOfFollowers.{JoinOnRow}
+use Rattle.partition_world.specs.TurnsOfRebuild.{with_line, wanted_of as rebuilt_to}
+use Rattle.partition_world.specs.Turns.{JoinSecondRow, RebuildingRow}
+use Rattle.partition_world.specs.Central.{IsNoted, AreNoted, rebuilds_of}
+use Rattle.partition_world.proofs.Noting.{own_noted, turn_noted}
+use Rattle.partition_world.proofs.RebuildEnds.{rebuild_kept}
+use Rattle.partition_world.proofs.RebuildCentral.{once_row, noted_row, join_refreshes, join_reads}
 use Rattle.partition_world.proofs.FetchCentral.{fetch_asks, fetch_on}
 use Rattle.partition_world.proofs.FetchEnds.{Dries, fetch_dry}
 use Rattle.partition_world.proofs.LineTells.{line_tells, right_view}
@@ -224,6 +233,7 @@ module _ {D S M : Type 0} (disk : DiskGhosts D) (store : StoreGhosts S) (meta : 
         (record { work = work_of (Some t.order) t.seat.work; seat = seated disk store meta opening w c t.place t.list t.seat t.order z; is = works }) owes in
         let shows = own_shows turn r.after is seat same in
         turned_central disk store meta opening w a outcome w' t c e k (after_own c.scene t.place t.order turn (sides_seen w.tier.sides) r.after) changed shows
+        (turn_noted disk store meta w a outcome w' t c.noted (own_noted t.seat.work turn outcome is))
         (few_after disk store meta opening w a outcome w' t c r.after (after_own c.scene t.place t.order turn (sides_seen w.tier.sides) r.after) shows)
 
     own_central : (turn : Turned) → outcome ≡ outcome_of turn → IsSeatOf turn → turns.Row disk.content disk.control w.held t.order.broker.0 z.x (noted_in t.seat.work) t.order.command turn w'.held → w'.tier ≡ w.tier
@@ -292,6 +302,38 @@ module _ {D S M : Type 0} (disk : DiskGhosts D) (store : StoreGhosts S) (meta : 
     expires_on is g noted (inl lost) same = expire_lost disk store meta opening w a outcome w' t c z is g noted lost.1 lost.0 same lost.2
     expires_on is g noted (inr k) same = expires_by is g noted k.0 outcome refl k.1 same
 
+    -- the second turn of a join, and later ones
+
+    join_own : t.order.command ≡ Join → (work : Work) → t.seat.work ≡ work → (g : Begun) → noted_in work ≡ Some g → KeepsWork t.order.broker.0 t.order.command (noted_in work) (work_of (Some t.order) work)
+        → (answer : Answer) → outcome ≡ Answers answer → JoinOnRow disk.content disk.control w.held t.order.broker.0 z.x g answer w'.held → w'.tier ≡ w.tier → IsCentral disk store meta opening w'
+    join_own is work keeps g noted works answer said row same =
+        own_central (turned.Answers answer) said (seat_answered answer)
+        (row_at Join is work keeps (turned.Answers answer)
+        (subst (λ (o : Option Begun). turns.Row disk.content disk.control w.held t.order.broker.0 z.x o Join (turned.Answers answer) w'.held) (sym noted) row)) same (works_at work keeps works)
+        (λ h'. owes_at Join is h' tt)
+
+    noted_works : t.order.command ≡ Join → (g : Begun) → KeepsWork t.order.broker.0 t.order.command (noted_in (Noted g)) (work_of (Some t.order) (Noted g))
+    noted_works is g = begun_keeps t.order.broker.0 t.order.command g (subst IsOwn (sym is) tt)
+
+    rebuilding_works : t.order.command ≡ Join → (g : Begun) (next : Rebuild) → KeepsWork t.order.broker.0 t.order.command (noted_in (Rebuilds g next)) (work_of (Some t.order) (Rebuilds g next))
+    rebuilding_works is g next = subst (λ (k : Command). KeepsWork t.order.broker.0 k (Some g) (rebuilds_of t.order.broker.0 g k)) (sym is) (true, None, refl)
+
+    join_on : t.order.command ≡ Join → (g : Begun) → t.seat.work ≡ Noted g → JoinSecondRow disk meta w.held w.tier t.order.broker.0 z.x z.side g outcome w'.held w'.tier → IsCentral disk store meta opening w'
+    join_on is g noted (inl (low, own)) = join_own is (Noted g) noted g refl (noted_works is g) own.0.0 own.0.1 own.0.2 own.1
+    join_on is g noted (inr (high, inl (answer, said, once, tier), same)) =
+        join_own is (Noted g) noted g refl (noted_works is g) answer said (once_row disk w.held t.order.broker.0 z.x g answer w'.held once same) tier
+    join_on is g noted (inr (high, inr (may, row), same)) = join_refreshes disk store meta opening w a outcome w' t c z is g noted high may outcome refl row same
+
+    join_later : t.order.command ≡ Join → (g : Begun) (next : Rebuild) → t.seat.work ≡ Rebuilds g next → RebuildingRow disk store w.partition w.held w.tier t.order.broker.0 z.x z.side g next Join outcome w'.held w'.tier
+        → IsCentral disk store meta opening w'
+    join_later is g Epochs works (inl (answer, said, once, tier), same) =
+        join_own is (Rebuilds g Epochs) works g refl (rebuilding_works is g Epochs) answer said (once_row disk w.held t.order.broker.0 z.x g answer w'.held once same) tier
+    join_later is g Epochs works (inr (may, (turn, said, goes)), same) = join_reads disk store meta opening w a outcome w' t c z is g works may turn said goes same
+    join_later is g (Restart line) works row =
+        let one : line ≡ g.line = subst IsNoted works (c.noted t.place t.seat t.at.seat_is) in
+        let own = subst (λ (l : List (ℕ × ℕ)). JoinOnRow disk.content disk.control w.held t.order.broker.0 z.x (with_line g l) row.0.0 w'.held) one row.0.2 in
+        join_own is (Rebuilds g (Restart line)) works g refl (rebuilding_works is g (Restart line)) row.0.0 row.0.1 (noted_row disk w.held t.order.broker.0 z.x g row.0.0 w'.held own) row.1
+
     -- the first turn of a fetch
     fetch_first : (offset limit : ℕ) → t.order.command ≡ Fetch offset limit → t.seat.work ≡ Idle → (turn : Turned) → outcome ≡ outcome_of turn
         → turns.FirstRow disk.content disk.control w.held t.order.broker.0 z.x (Fetch offset limit) turn w'.held → w'.tier ≡ w.tier → IsCentral disk store meta opening w'
@@ -309,11 +351,15 @@ module _ {D S M : Type 0} (disk : DiskGhosts D) (store : StoreGhosts S) (meta : 
     by_command Trim is (Copies g copy next) keeps row = absurd row
     by_command Trim is (Seeks g next) keeps row = absurd row
     by_command Trim is (Expires g segment next) keeps row = absurd row
+    by_command Trim is (Rebuilds g next) keeps row = absurd row
     by_command Expire is Idle keeps row = expire_first disk store meta opening w a outcome w' t c z is keeps outcome refl row.0 row.1
     by_command Expire is (Noted g) keeps row = expires_on is g keeps row.0 row.1
     by_command Expire is (Copies g copy next) keeps row = absurd row
     by_command Expire is (Seeks g next) keeps row = absurd row
     by_command Expire is (Expires g segment next) keeps row = deletes disk store meta opening w a outcome w' t c z is g segment next keeps row.0 row.1
+    by_command Expire is (Rebuilds g next) keeps row = absurd row
+    by_command Join is (Noted g) keeps row = join_on is g keeps row
+    by_command Join is (Rebuilds g next) keeps row = join_later is g next keeps row
     by_command (Fetch offset limit) is Idle keeps row = fetch_first offset limit is keeps row.0.0 row.0.1 row.0.2 row.1
     by_command (Fetch offset limit) is (Noted g) keeps row =
         fetch_on disk store meta opening w a outcome w' t c z offset limit is (Noted g) keeps g refl Refresh
@@ -322,6 +368,7 @@ module _ {D S M : Type 0} (disk : DiskGhosts D) (store : StoreGhosts S) (meta : 
     by_command (Fetch offset limit) is (Seeks g next) keeps row =
         fetch_on disk store meta opening w a outcome w' t c z offset limit is (Seeks g next) keeps g refl next refl (λ later. refl) outcome refl row.0 row.1
     by_command (Fetch offset limit) is (Expires g segment next) keeps row = absurd row
+    by_command (Fetch offset limit) is (Rebuilds g next) keeps row = absurd row
     by_command command is Idle keeps row =
         own_central row.0.0 row.0.1 (seat_own (subst IsOwn (sym is) tt) row.0.0) (row_at command is Idle keeps row.0.0 row.0.2) row.1 (works_at Idle keeps (keeps_none t.order.broker.0 t.order.command))
         (λ h'. owes_at command is h' tt)
@@ -331,6 +378,7 @@ module _ {D S M : Type 0} (disk : DiskGhosts D) (store : StoreGhosts S) (meta : 
     by_command command is (Copies g copy next) keeps row = elim row [ ]
     by_command command is (Seeks g next) keeps row = elim row [ ]
     by_command command is (Expires g segment next) keeps row = elim row [ ]
+    by_command command is (Rebuilds g next) keeps row = elim row [ ]
 
   -- a turn keeps the central fact
   pub turn_central : (opening : State) (w : Whole D S M) (a : ℕ) (outcome : Outcome) (w' : Whole D S M) → IsTurn disk store meta w a outcome w' → IsCentral disk store meta opening w → IsCentral disk store meta opening w'
@@ -362,7 +410,7 @@ module _ {D S M : Type 0} (disk : DiskGhosts D) (store : StoreGhosts S) (meta : 
     -- changes of the tier alone
     waits : ShowsHeld disk.content w'.held c.partition → (d : Scene) → IsChanged c.scene c.central.plain d → ShowsTier store meta w' c.partition d → IsCentral disk store meta opening w'
     waits held d changed shows =
-        silent_central disk store meta opening w w' c same_lists (ap desk_seen same_desk) (ap (λ (k : Whole D S M). k.journal.items) s.fields) held d changed shows
+        silent_central disk store meta opening w w' c same_lists (ap desk_seen same_desk) (ap (λ (k : Whole D S M). k.journal.items) s.fields) held d changed shows (subst AreNoted (sym same_desk) c.noted)
         (few_stays opening w a w' s c d shows)
 
     -- nothing has changed
@@ -424,7 +472,16 @@ module _ {D S M : Type 0} (disk : DiskGhosts D) (store : StoreGhosts S) (meta : 
         (shows_kept disk store meta opening w c s.place s.list s.seat s.order z w' (store.content w'.tier.store).objects (meta.content w'.tier.meta).notes k.view same_part same_lists same_desk
         (ap (λ (u : Tier S M). u.sides) k.after)
         (dry_tells store meta copy (teller_of w.held s.order.broker.0) next k.error (tiers_of z.side.view w.tier) (tiers_of k.view w'.tier) k.row) refl refl)
-    halted z same (inr (inr (inr (segment, next, k)))) =
+    halted z same (inr (inr (inr (inr (p, g, k))))) =
+        let kept = rebuild_kept store (rebuilt_to p g) g.line z.side.view (Err k.error) w.tier.store w'.tier.store k.row in
+        waits (subst (λ (h : Held D). ShowsHeld disk.content h c.partition) (sym same) c.shows)
+        (scene_after disk store meta opening w c s.place s.list s.seat s.order z (work_of (Some s.order) s.seat.work) c.scene.objects c.scene.notes z.side.view)
+        (stayed disk store meta opening w c s.place s.list s.seat s.order z)
+        (shows_kept disk store meta opening w c s.place s.list s.seat s.order z w' c.scene.objects c.scene.notes z.side.view same_part same_lists same_desk
+        (ap (λ (u : Tier S M). u.sides) k.after ∙ same_sides disk store meta opening w c s.place s.list s.seat s.order z)
+        (kept.tells, ap (λ (u : Tier S M). (meta.content u.meta).tells) k.after) (c.shows_tier.objects ∙ sym kept.objects)
+        (c.shows_tier.notes ∙ sym (ap (λ (u : Tier S M). (meta.content u.meta).notes) k.after)))
+    halted z same (inr (inr (inr (inl (segment, next, k))))) =
         let d = expiry_dry store meta segment (teller_of w.held s.order.broker.0) next k.error (expiry_tiers w.tier) (expiry_tiers w'.tier) k.row in
         waits (subst (λ (h : Held D). ShowsHeld disk.content h c.partition) (sym same) c.shows)
         (scene_after disk store meta opening w c s.place s.list s.seat s.order z (work_of (Some s.order) s.seat.work) c.scene.objects c.scene.notes z.side.view)

@@ -8,7 +8,7 @@ use Rattle.object_store.specs.declared.store.Store.{Ghosts as StoreGhosts}
 use Rattle.meta_log.specs.declared.log.MetaLog.{Ghosts as MetaGhosts}
 use Rattle.tier_base.specs.declared.names.PartitionId.{PartitionId}
 use Rattle.plain_log.specs.declared.command.Command.{Command}
-use Rattle.plain_log.specs.declared.command.Command.TheVariants.{Copy, Trim, Expire, Fetch}
+use Rattle.plain_log.specs.declared.command.Command.TheVariants.{Copy, Trim, Expire, Fetch, Join}
 use Rattle.tier_base.specs.declared.plain.Settings.{Settings}
 use Rattle.plain_log.specs.declared.command.Config.{Config}
 use Rattle.broker_log.specs.Seen.{Kept, Up, Down, Away, is_up, settings_in, WhileUp}
@@ -64,19 +64,20 @@ module _ {D S M : Type 0} (disk : DiskGhosts D) (store : StoreGhosts S) (meta : 
       (λ x row. there (λ side. BeginRow disk store meta h t b x side command outcome h' t') t.sides b lt (λ side. begin_row h t b x side command outcome h' t' not row)) r
 
   noted_row : (p : PartitionId) (config : Config) (h : Held D) (t : Tier S M) (b : ℕ) (x : Node D) (side : Side) (g : Begun) (command : Command) (outcome : Outcome) (h' : Held D) (t' : Tier S M)
-      → command ≢ Trim → OwnOnRow disk h t b x g command outcome h' t' → NotedRow disk store meta p config h t b x side g command outcome h' t'
-  noted_row p config h t b x side g Copy outcome h' t' not ((answer, is, row), same) = absurd row
-  noted_row p config h t b x side g Trim outcome h' t' not w = absurd (not refl)
-  noted_row p config h t b x side g Expire outcome h' t' not ((answer, is, row), same) = absurd row
-  noted_row p config h t b x side g (Fetch offset limit) outcome h' t' not ((answer, is, row), same) = absurd row
-  noted_row p config h t b x side g other outcome h' t' not w = w
+      → command ≢ Trim → command ≢ Join → OwnOnRow disk h t b x g command outcome h' t' → NotedRow disk store meta p config h t b x side g command outcome h' t'
+  noted_row p config h t b x side g Copy outcome h' t' not two ((answer, is, row), same) = absurd row
+  noted_row p config h t b x side g Trim outcome h' t' not two w = absurd (not refl)
+  noted_row p config h t b x side g Join outcome h' t' not two w = absurd (two refl)
+  noted_row p config h t b x side g Expire outcome h' t' not two ((answer, is, row), same) = absurd row
+  noted_row p config h t b x side g (Fetch offset limit) outcome h' t' not two ((answer, is, row), same) = absurd row
+  noted_row p config h t b x side g other outcome h' t' not two w = w
 
   -- and its last one
-  pub noted_at : (p : PartitionId) (config : Config) (h : Held D) (t : Tier S M) (b : ℕ) (g : Begun) (command : Command) (outcome : Outcome) (h' : Held D) (t' : Tier S M) → b < length t.sides → command ≢ Trim
+  pub noted_at : (p : PartitionId) (config : Config) (h : Held D) (t : Tier S M) (b : ℕ) (g : Begun) (command : Command) (outcome : Outcome) (h' : Held D) (t' : Tier S M) → b < length t.sides → command ≢ Trim → command ≢ Join
       → AtNode h b (λ x. OwnOnRow disk h t b x g command outcome h' t') → AtNode h b (λ x. AtSide t b (λ side. NotedRow disk store meta p config h t b x side g command outcome h' t'))
-  noted_at p config h t b g command outcome h' t' lt not r =
+  noted_at p config h t b g command outcome h' t' lt not two r =
       some_more (λ x. OwnOnRow disk h t b x g command outcome h' t') (λ x. AtSide t b (λ side. NotedRow disk store meta p config h t b x side g command outcome h' t')) (slice_get h.nodes b)
-      (λ x row. there (λ side. NotedRow disk store meta p config h t b x side g command outcome h' t') t.sides b lt (λ side. noted_row p config h t b x side g command outcome h' t' not row)) r
+      (λ x row. there (λ side. NotedRow disk store meta p config h t b x side g command outcome h' t') t.sides b lt (λ side. noted_row p config h t b x side g command outcome h' t' not two row)) r
 
   read_rests : (h : Held D) (b : ℕ) (x y : Node D) (h' : Held D) → ReadsLog disk x y → h' ≡ put_node h b y → Rests disk.content disk.control h b x h'
   read_rests h b x y h' r is = (r.kept, r.stays, r.lasts, is ∙ ap (λ (k : Node D). put_node h b k) r.after)

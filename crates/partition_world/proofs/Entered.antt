@@ -41,7 +41,7 @@ use Rattle.tier_safe.proofs.Kept.{all_kept}
 use Rattle.partition_world.specs.declared.seat.Outcome.{Outcome}
 use Rattle.partition_world.specs.declared.seat.Seat.{Seat}
 use Rattle.partition_world.specs.Seats.{seat_seen, desk_seen, noted_in, outcome_of, seat_after, told_of}
-use Rattle.partition_world.specs.Central.{sides_seen, notes_left, ShowsTier, IsCentral}
+use Rattle.partition_world.specs.Central.{AreNoted, sides_seen, notes_left, ShowsTier, IsCentral}
 use Rattle.partition_world.specs.Turn.{IsTurn}
 use Rattle.partition_world.specs.Whole.{Whole, seen_as}
 
@@ -161,8 +161,8 @@ module _ {D S M : Type 0} (disk : DiskGhosts D) (store : StoreGhosts S) (meta : 
   pub entered_central : (opening : State) (w : Whole D S M) (a : ℕ) (outcome : Outcome) (w' : Whole D S M) (t : IsTurn disk store meta w a outcome w') (c : IsCentral disk store meta opening w)
       → (e : IsEntered w outcome w' c.partition t.list t.seat t.order) → (d : Scene) → IsChanged c.scene c.central.plain d → ShowsTier store meta w' c.partition d
       → may_raise (noted_in t.seat.work) t.order.command e.turned ≡ false
-      → length d.notes + notes_left w'.lists w'.desk < 2 ^ 64 → IsCentral disk store meta opening w'
-  entered_central opening w a outcome w' t c e d changed shows low few =
+      → AreNoted w'.desk → length d.notes + notes_left w'.lists w'.desk < 2 ^ 64 → IsCentral disk store meta opening w'
+  entered_central opening w a outcome w' t c e d changed shows low noted few =
       let p = c.central.plain in
       let turn = seen_turn_of w a outcome w' c.partition t e in
       let k = seen_law.turn_went opening (seen_as w c.partition) a e.turned (seen_as w' e.after) turn c.central in
@@ -189,6 +189,7 @@ module _ {D S M : Type 0} (disk : DiskGhosts D) (store : StoreGhosts S) (meta : 
           desk = shows.desk;
         };
         tier = after.tier;
+        noted = noted;
         few = few;
       }
 
@@ -196,9 +197,9 @@ module _ {D S M : Type 0} (disk : DiskGhosts D) (store : StoreGhosts S) (meta : 
   pub turned_central : (opening : State) (w : Whole D S M) (a : ℕ) (outcome : Outcome) (w' : Whole D S M) (t : IsTurn disk store meta w a outcome w') (c : IsCentral disk store meta opening w)
       → (e : IsEntered w outcome w' c.partition t.list t.seat t.order)
       → (k : seen_law.Went opening (seen_as w c.partition) a e.turned (seen_as w' e.after) (seen_turn_of w a outcome w' c.partition t e) c.central)
-      → (d : Scene) → IsTurned c.scene c.central.plain k.central.plain d → ShowsTier store meta w' e.after d
+      → (d : Scene) → IsTurned c.scene c.central.plain k.central.plain d → ShowsTier store meta w' e.after d → AreNoted w'.desk
       → length d.notes + notes_left w'.lists w'.desk < 2 ^ 64 → IsCentral disk store meta opening w'
-  turned_central opening w a outcome w' t c e k d changed shows few =
+  turned_central opening w a outcome w' t c e k d changed shows noted few =
       let safe : BothSafe d k.central.plain = subst (λ (z : Scene). BothSafe z k.central.plain) changed.is (all_kept changed.changes c.scene c.central.plain k.central.plain changed.may (both_of opening w c)) in
       record {
         partition = e.after;
@@ -207,14 +208,15 @@ module _ {D S M : Type 0} (disk : DiskGhosts D) (store : StoreGhosts S) (meta : 
         scene = d;
         shows_tier = shows;
         tier = safe.tier;
+        noted = noted;
         few = few;
       }
 
   -- a turn that is entered nowhere, or one that wanted memory: changes of the tier alone
   pub silent_central : (opening : State) (w w' : Whole D S M) (c : IsCentral disk store meta opening w) → w'.lists ≡ w.lists → desk_seen w'.desk ≡ desk_seen w.desk
       → w'.journal.items ≡ w.journal.items → ShowsHeld disk.content w'.held c.partition → (d : Scene) → IsChanged c.scene c.central.plain d → ShowsTier store meta w' c.partition d
-      → length d.notes + notes_left w'.lists w'.desk < 2 ^ 64 → IsCentral disk store meta opening w'
-  silent_central opening w w' c lists desk items held d changed shows few =
+      → AreNoted w'.desk → length d.notes + notes_left w'.lists w'.desk < 2 ^ 64 → IsCentral disk store meta opening w'
+  silent_central opening w w' c lists desk items held d changed shows noted few =
       let safe : BothSafe d c.central.plain = subst (λ (z : Scene). BothSafe z c.central.plain) changed.is (all_kept changed.changes c.scene c.central.plain c.central.plain changed.may (both_of opening w c)) in
       record {
         partition = c.partition;
@@ -235,5 +237,6 @@ module _ {D S M : Type 0} (disk : DiskGhosts D) (store : StoreGhosts S) (meta : 
         scene = d;
         shows_tier = shows;
         tier = safe.tier;
+        noted = noted;
         few = few;
       }

@@ -37,7 +37,7 @@ use Rattle.partition_world.specs.declared.seat.Work.TheVariants.{Idle}
 use Rattle.partition_world.specs.declared.tier.Side.{Side}
 use Rattle.partition_world.specs.Seats.{desk_seen}
 use Rattle.partition_world.specs.Whole.{Whole, seen_as}
-use Rattle.partition_world.specs.Central.{IsCentral, ShowsTier, sides_seen, work_of, desk_of, notes_left}
+use Rattle.partition_world.specs.Central.{IsNoted, AreNoted, IsCentral, ShowsTier, sides_seen, work_of, desk_of, notes_left}
 use Rattle.partition_world.specs.Fresh.{IsFresh, IsSeenEmpty, fresh_seat, fresh_side}
 use Rattle.partition_world.proofs.WorldFresh.{all_fresh}
 
@@ -144,6 +144,15 @@ module _ {D S M : Type 0} (disk : DiskGhosts D) (store : StoreGhosts S) (meta : 
   plain_fresh : (opening : State) (v : seen_whole.Whole) (c : seen_central.IsCentral opening v) → v.journal.items ≡ [] → opening ≡ c.plain
   plain_fresh opening v c none = let is : Some opening ≡ Some c.plain = sym (ap (λ (l : List JournalEntry). replay v.lists opening l) none) ∙ c.replays in cc (is)
 
+  -- no seat keeps anything
+  idle_noted : (n place : ℕ) (seat : Seat) → slice_get (replicate n fresh_seat) place ≡ Some seat → IsNoted seat.work
+  idle_noted zero place seat at = absurd cc
+  idle_noted (suc n) zero seat at = let is : fresh_seat ≡ seat = cc (at) in subst (λ (k : Seat). IsNoted k.work) is tt
+  idle_noted (suc n) (suc place) seat at = idle_noted n place seat at
+
+  fresh_noted : (n : ℕ) (desk : List Seat) → desk ≡ replicate n fresh_seat → AreNoted desk
+  fresh_noted n desk is = λ place seat at. idle_noted n place seat (ap (λ (k : List Seat). slice_get k place) (sym is) ∙ at)
+
   pub fresh_is_central : (partition : PartitionId) (config : Config) (lists : List ActorList) (disks : List D) (s : S) (m : M) (w : Whole D S M) → IsConfig config → AreListsFor config lists
       → IsFresh disk store meta partition config lists disks s m w → IsSeenEmpty disk store meta w → IsCentral disk store meta (fresh config) w
   fresh_is_central partition config lists disks s m w fits fit f seen = record {
@@ -157,6 +166,7 @@ module _ {D S M : Type 0} (disk : DiskGhosts D) (store : StoreGhosts S) (meta : 
     scene = scene_of config lists w;
     shows_tier = tier_shown partition config lists disks s m w f seen;
     tier = subst (λ (p : State). TierSafe (scene_of config lists w) p) (plain_fresh (fresh config) (seen_as w (fresh_held config.brokers)) central f.journal) safe;
+    noted = fresh_noted (length lists) w.desk f.desk;
     few = left config lists w.lists w.desk fit f.lists_are f.desk;
   }
     where

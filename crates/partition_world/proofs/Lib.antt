@@ -21,6 +21,7 @@ pub mod CalmLaw
 pub mod Chains
 pub mod FreshLaw
 pub mod SceneParts
+pub mod Noting
 pub mod Entered
 pub mod CopyEnds
 pub mod ExpiryEnds
@@ -36,3 +37,5 @@ pub mod FetchEnds
 pub mod FetchTurns
 pub mod FetchCentral
 pub mod ExpiryCentral
+pub mod RebuildEnds
+pub mod RebuildCentral

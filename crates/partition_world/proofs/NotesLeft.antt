@@ -8,13 +8,15 @@ use Rattle.copy_task.specs.Copying.{Copied}
 use Rattle.copy_task.specs.declared.turn.Next.{Next}
 use Rattle.expiry_task.specs.declared.turn.Doomed.{Doomed}
 use Rattle.expiry_task.specs.declared.turn.Next.{Next as Deletion}
+use Rattle.rebuild_task.specs.declared.turn.Next.{Next as Rebuild}
+use Rattle.rebuild_task.specs.declared.turn.Next.TheVariants.{Epochs, Restart}
 use Rattle.tier_fetch.specs.declared.turn.FetchTurn.{FetchTurn}
 use Rattle.tier_fetch.specs.declared.turn.Next.{Next as Search}
 use Rattle.tier_fetch.specs.declared.turn.Next.TheVariants.{Refresh}
 use Rattle.plain_log.specs.declared.answer.Answer.TheVariants.{Down, NotLeader, MetaFault, Stopped, OutOfRange, Empty}
 use Rattle.plain_log.specs.declared.command.ActorList.{ActorList}
 use Rattle.plain_log.specs.declared.command.Command.{Command}
-use Rattle.plain_log.specs.declared.command.Command.TheVariants.{Copy, Trim, Expire, Fetch}
+use Rattle.plain_log.specs.declared.command.Command.TheVariants.{Copy, Trim, Expire, Fetch, Join}
 use Rattle.plain_log.specs.declared.command.Config.{Config}
 use Rattle.partition_seen.specs.declared.begun.Begun.{Begun}
 use Rattle.partition_seen.proofs.BoolTests.{some_of}
@@ -24,19 +26,20 @@ use Rattle.partition_turns.specs.Held.{line_of}
 use Rattle.partition_world.specs.declared.tier.Side.{Side}
 use Rattle.partition_world.specs.declared.tier.Tier.{Tier}
 use Rattle.partition_world.specs.declared.seat.Outcome.{Outcome}
-use Rattle.partition_world.specs.declared.seat.Outcome.TheVariants.{Answers, Begins, Chose, Goes, Seeks as Sought, Dooms, Deletes}
+use Rattle.partition_world.specs.declared.seat.Outcome.TheVariants.{Answers, Begins, Chose, Goes, Seeks as Sought, Dooms, Deletes, Rebuilds as Rebuilding}
 use Rattle.partition_world.specs.declared.seat.Seat.{Seat}
 use Rattle.partition_world.specs.declared.seat.Work.{Work}
-use Rattle.partition_world.specs.declared.seat.Work.TheVariants.{Idle, Noted, Copies, Seeks, Expires}
+use Rattle.partition_world.specs.declared.seat.Work.TheVariants.{Idle, Noted, Copies, Seeks, Expires, Rebuilds}
 use Rattle.partition_world.specs.Central.{told_by, notes_left}
-use Rattle.partition_world.specs.Seats.{chosen, moved, sought, doomed, deleting, seat_after}
+use Rattle.partition_world.specs.Seats.{chosen, moved, sought, doomed, deleting, rebuilding, seat_after}
 use Rattle.partition_world.specs.Turn.{IsTurn, StaysWhole}
 use Rattle.partition_world.specs.Tier.{AtSide}
 use Rattle.partition_world.specs.TurnsOfCopy.{CopyFirstRow, ChooseRow, tiers_of, teller_of}
 use Rattle.partition_world.specs.TurnsOfFetch.{FetchOnRow, GoesOnFetch, fetch_tiers, wanted_of}
 use Rattle.partition_world.specs.TurnsOfTrim.{TrimFirstRow}
 use Rattle.partition_world.specs.TurnsOfExpiry.{expiry_tiers}
-use Rattle.partition_world.specs.Turns.{BeginRow, NotedRow, CopyingRow, SeekingRow, DeletingRow, Row, HaltsTier, StaysTier}
+use Rattle.partition_world.specs.TurnsOfRebuild.{RefreshedRow}
+use Rattle.partition_world.specs.Turns.{BeginRow, NotedRow, CopyingRow, SeekingRow, DeletingRow, JoinSecondRow, RebuildingRow, Row, HaltsTier, StaysTier}
 use Rattle.partition_world.specs.Whole.{Whole}
 use Rattle.partition_world.proofs.Begins.{row_of}
 use Rattle.partition_world.proofs.NotesTold.{told_after, few_told, count, keeps_count, same_count, copy_told, copy_wants, fetch_count, fetch_wants, expiry_told, expiry_wants, turn_told, deletes_told}
@@ -83,10 +86,22 @@ module _ {D S M : Type 0} (disk : DiskGhosts D) (store : StoreGhosts S) (meta : 
   seek_count p h t b x side g offset limit next (Sought later) t' w = goes_count p t b x side offset limit next _ t' w.1
   seek_count p h t b x side g offset limit next other t' w = elim w [ ]
 
+  refresh_count : (t : Tier S M) (b : ℕ) (side : Side) (outcome : Outcome) (t' : Tier S M) → RefreshedRow meta t b side outcome t' → count meta t'.meta ≤ count meta t.meta
+  refresh_count t b side (Answers MetaFault) t' w = keeps_count meta t.meta t'.meta w.reads.content
+  refresh_count t b side (Rebuilding Epochs) t' w = keeps_count meta t.meta t'.meta w.reads.content
+  refresh_count t b side other t' w = elim w [ ]
+
+  join_count : (h : Held D) (t : Tier S M) (b : ℕ) (x : Node D) (side : Side) (g : Begun) (outcome : Outcome) (h' : Held D) (t' : Tier S M)
+      → JoinSecondRow disk meta h t b x side g outcome h' t' → count meta t'.meta ≤ count meta t.meta
+  join_count h t b x side g outcome h' t' (inl (low, own)) = same_count meta t.meta t'.meta (ap (λ (k : Tier S M). k.meta) own.1)
+  join_count h t b x side g outcome h' t' (inr (high, inl (answer, is, at, tier), same)) = same_count meta t.meta t'.meta (ap (λ (k : Tier S M). k.meta) tier)
+  join_count h t b x side g outcome h' t' (inr (high, inr (may, row), same)) = refresh_count t b side outcome t' row
+
   noted_count : (p : PartitionId) (config : Config) (h : Held D) (t : Tier S M) (b : ℕ) (x : Node D) (side : Side) (g : Begun) (command : Command) (outcome : Outcome) (h' : Held D) (t' : Tier S M)
       → NotedRow disk store meta p config h t b x side g command outcome h' t' → count meta t'.meta ≤ count meta t.meta
   noted_count p config h t b x side g Copy outcome h' t' w = choose_count p h t b x side g outcome h' t' w
   noted_count p config h t b x side g Trim outcome h' t' w = same_count meta t.meta t'.meta (ap (λ (k : Tier S M). k.meta) w.1)
+  noted_count p config h t b x side g Join outcome h' t' w = join_count h t b x side g outcome h' t' w
   noted_count p config h t b x side g Expire outcome h' t' w = same_count meta t.meta t'.meta (ap (λ (k : Tier S M). k.meta) w.1)
   noted_count p config h t b x side g (Fetch offset limit) outcome h' t' w = seek_count p h t b x side g offset limit Refresh outcome t' w.0
   noted_count p config h t b x side g other outcome h' t' w = same_count meta t.meta t'.meta (ap (λ (k : Tier S M). k.meta) w.1)
@@ -124,6 +139,13 @@ module _ {D S M : Type 0} (disk : DiskGhosts D) (store : StoreGhosts S) (meta : 
       omega (arith, most, told)
   deleting_told h t b x g segment next command outcome h' t' w tells = elim w [ ]
 
+  rebuilding_count : (p : PartitionId) (h : Held D) (t : Tier S M) (b : ℕ) (x : Node D) (side : Side) (g : Begun) (next : Rebuild) (command : Command) (outcome : Outcome) (h' : Held D) (t' : Tier S M)
+      → RebuildingRow disk store p h t b x side g next command outcome h' t' → count meta t'.meta ≤ count meta t.meta
+  rebuilding_count p h t b x side g Epochs Join outcome h' t' (inl (answer, is, at, tier), same) = same_count meta t.meta t'.meta (ap (λ (k : Tier S M). k.meta) tier)
+  rebuilding_count p h t b x side g Epochs Join outcome h' t' (inr (may, (turn, is, goes)), same) = same_count meta t.meta t'.meta (ap (λ (k : Tier S M). k.meta) goes.after)
+  rebuilding_count p h t b x side g (Restart line) Join outcome h' t' w = same_count meta t.meta t'.meta (ap (λ (k : Tier S M). k.meta) w.1)
+  rebuilding_count p h t b x side g next command outcome h' t' w = elim w [ ]
+
   row_told : (p : PartitionId) (config : Config) (h : Held D) (t : Tier S M) (b : ℕ) (x : Node D) (side : Side) (work : Work) (command : Command) (outcome : Outcome) (h' : Held D) (t' : Tier S M)
       → Row disk store meta p config h t b x side work command outcome h' t' → IsTrue (meta.content t.meta).tells
       → count meta t'.meta + told_by work ≤ count meta t.meta + told_after work outcome
@@ -132,6 +154,7 @@ module _ {D S M : Type 0} (disk : DiskGhosts D) (store : StoreGhosts S) (meta : 
   row_told p config h t b x side (Copies g copy next) command outcome h' t' w tells = copying_told h t b x side g copy next command outcome h' t' w tells
   row_told p config h t b x side (Seeks g next) command outcome h' t' w tells = let most = seeking_count p h t b x side g next command outcome h' t' w in omega (arith, most)
   row_told p config h t b x side (Expires g segment next) command outcome h' t' w tells = deleting_told h t b x g segment next command outcome h' t' w tells
+  row_told p config h t b x side (Rebuilds g next) command outcome h' t' w tells = let most = rebuilding_count p h t b x side g next command outcome h' t' w in omega (arith, most)
 
   -- memory was wanting
   halts_count : (h : Held D) (t : Tier S M) (b : ℕ) (x : Node D) (side : Side) (t' : Tier S M) → HaltsTier disk store meta h t b x side t' → IsTrue (meta.content t.meta).tells → count meta t'.meta ≤ count meta t.meta
@@ -140,8 +163,9 @@ module _ {D S M : Type 0} (disk : DiskGhosts D) (store : StoreGhosts S) (meta : 
       copy_wants store meta copy (teller_of h b) next wants.error (tiers_of side.view t) (tiers_of wants.view t') wants.row tells
   halts_count h t b x side t' (inr (inr (inl (p, offset, limit, next, wants)))) tells =
       fetch_wants store meta (wanted_of p x offset limit) (line_of x) next wants.error (fetch_tiers side.view side.cache t) (fetch_tiers wants.view wants.cache t') wants.row
-  halts_count h t b x side t' (inr (inr (inr (segment, next, wants)))) tells =
+  halts_count h t b x side t' (inr (inr (inr (inl (segment, next, wants))))) tells =
       expiry_wants store meta segment (teller_of h b) next wants.error (expiry_tiers t) (expiry_tiers t') wants.row tells
+  halts_count h t b x side t' (inr (inr (inr (inr (p, g, wants))))) tells = same_count meta t.meta t'.meta (ap (λ (k : Tier S M). k.meta) wants.after)
 
   stays_count : (h : Held D) (t : Tier S M) (b : ℕ) (h' : Held D) (t' : Tier S M) → StaysTier disk store meta h t b h' t' → IsTrue (meta.content t.meta).tells → count meta t'.meta ≤ count meta t.meta
   stays_count h t b h' t' (inl same) tells = same_count meta t.meta t'.meta (ap (λ (k : Tier S M). k.meta) same.1)
@@ -163,6 +187,7 @@ seat_told l seat (Goes next) old new lt told = let few = few_told seat.work in l
 seat_told l seat (Sought next) old new lt told = let few = few_told seat.work in let after = few_told (sought seat.work next) in omega (arith, lt, few, after, told)
 seat_told l seat (Dooms segment) old new lt told = let few = few_told seat.work in let after = few_told (doomed seat.work segment) in omega (arith, lt, few, after, told)
 seat_told l seat (Deletes next) old new lt told = let few = few_told seat.work in let after = few_told (deleting seat.work next) in omega (arith, lt, few, after, told)
+seat_told l seat (Rebuilding next) old new lt told = let few = few_told seat.work in let after = few_told (rebuilding seat.work next) in omega (arith, lt, few, after, told)
 
 desk_told : (lists : List ActorList) (desk : List Seat) (i : ℕ) (l : ActorList) (seat after : Seat) (old new : ℕ) → slice_get lists i ≡ Some l → slice_get desk i ≡ Some seat
     → new + left_of l after ≤ old + left_of l seat → new + notes_left lists (slice_set desk i after) ≤ old + notes_left lists desk

@@ -34,11 +34,11 @@ use Rattle.plain_log.specs.declared.answer.Answer.TheVariants.{MetaFault, StoreF
 use Rattle.partition_seen.specs.declared.begun.Begun.{Begun}
 use Rattle.partition_turns.proofs.FreshNodes.{length_more}
 use Rattle.partition_world.specs.declared.seat.Outcome.{Outcome}
-use Rattle.partition_world.specs.declared.seat.Outcome.TheVariants.{Answers, Begins, Chose, Goes, Seeks as Sought, Dooms, Deletes}
+use Rattle.partition_world.specs.declared.seat.Outcome.TheVariants.{Answers, Begins, Chose, Goes, Seeks as Sought, Dooms, Deletes, Rebuilds as Rebuilding}
 use Rattle.partition_world.specs.declared.seat.Work.{Work}
-use Rattle.partition_world.specs.declared.seat.Work.TheVariants.{Idle, Noted, Copies, Seeks, Expires}
+use Rattle.partition_world.specs.declared.seat.Work.TheVariants.{Idle, Noted, Copies, Seeks, Expires, Rebuilds}
 use Rattle.partition_world.specs.Central.{told_by}
-use Rattle.partition_world.specs.Seats.{chosen, moved, sought, doomed, deleting, copy_outcome, expiry_outcome}
+use Rattle.partition_world.specs.Seats.{chosen, moved, sought, doomed, deleting, rebuilding, copy_outcome, expiry_outcome}
 
 -- how many notes a command has appended at most after a turn; once it is answered it appends none
 abbrev pub told_after : Work → Outcome → ℕ
@@ -49,6 +49,7 @@ told_after work (Goes next) = told_by (moved work next)
 told_after work (Sought next) = told_by (sought work next)
 told_after work (Dooms segment) = told_by (doomed work segment)
 told_after work (Deletes next) = told_by (deleting work next)
+told_after work (Rebuilding next) = told_by (rebuilding work next)
 
 pub few_told : (work : Work) → told_by work ≤ 2
 few_told Idle = omega arith
@@ -62,6 +63,7 @@ few_told (Seeks g next) = omega arith
 few_told (Expires g segment deletion.Start) = omega arith
 few_told (Expires g segment (deletion.Delete n)) = omega arith
 few_told (Expires g segment deletion.Finish) = omega arith
+few_told (Rebuilds g next) = omega arith
 
 -- how many notes a copy has appended at most after a turn
 abbrev told_turn : Begun → Copied → CopyTurn → ℕ

@@ -55,6 +55,7 @@ use Rattle.partition_world.proofs.Choosing.{chosen_scene, chosen_changed, chosen
 use Rattle.partition_world.proofs.CopyEnds.{TellsOn, copy_ends, copy_tells, keeps_seen, keeps_back, end_row}
 use Rattle.partition_world.proofs.Entered.{enters, entered_central, silent_central}
 use Rattle.partition_world.proofs.Scenes.{Place, site, scene_after, shows_at, shows_after, work_after, same_sides, left_changed, answered_free, few_now, few_after}
+use Rattle.partition_world.proofs.Noting.{GoesAsNoted, own_noted, turn_noted}
 use Rattle.partition_world.proofs.Sides.{set_same}
 use Rattle.partition_world.proofs.WorldSound.{seen_stays, chosen_seen, moved_seen}
 
@@ -97,6 +98,7 @@ module _ {D S M : Type 0} (disk : DiskGhosts D) (store : StoreGhosts S) (meta : 
         (subst (λ (k : Command). seen_rows.Row c.partition t.order.broker.0 y (noted_in t.seat.work) k turn c.partition) (sym is_command) kept) in
         entered_central disk store meta opening w a outcome w' t c e d changed shows
         (ap (λ (k : Command). may_raise (noted_in t.seat.work) k turn) is_command ∙ (ap (λ (k : Work). may_raise (noted_in k) command turn) keeps ∙ low))
+        (turn_noted disk store meta w a outcome w' t c.noted (own_noted t.seat.work turn outcome is))
         (few_after disk store meta opening w a outcome w' t c c.partition d shows)
 
     -- an answer after which the devices hold what they did
@@ -137,10 +139,11 @@ module _ {D S M : Type 0} (disk : DiskGhosts D) (store : StoreGhosts S) (meta : 
         (c.shows_tier.objects ∙ sym (ap (λ (u : Tier S M). (store.content u.store).objects) r.after)) (c.shows_tier.notes ∙ sym r.reads.content.notes) (begun_shows g is ∙ free))
 
     -- a turn that enters nothing
-    pub silent : desk_seen w'.desk ≡ desk_seen w.desk → w'.journal.items ≡ w.journal.items → ShowsHeld disk.content w'.held c.partition → (d : Scene) → IsChanged c.scene c.central.plain d
+    pub silent : GoesAsNoted t.seat.work outcome → desk_seen w'.desk ≡ desk_seen w.desk → w'.journal.items ≡ w.journal.items → ShowsHeld disk.content w'.held c.partition → (d : Scene) → IsChanged c.scene c.central.plain d
         → ShowsTier store meta w' c.partition d → IsCentral disk store meta opening w'
-    silent desk items held d changed shows =
-        silent_central disk store meta opening w w' c t.lists desk items held d changed shows (few_after disk store meta opening w a outcome w' t c c.partition d shows)
+    silent goes desk items held d changed shows =
+        silent_central disk store meta opening w w' c t.lists desk items held d changed shows (turn_noted disk store meta w a outcome w' t c.noted goes)
+        (few_after disk store meta opening w a outcome w' t c c.partition d shows)
 
     pub untold : told_of t.list.actor t.seat.number t.order.command outcome ≡ [] → w'.journal.items ≡ w.journal.items
     untold none = t.entered ∙ (ap (λ (more : List JournalEntry). w.journal.items ++ more) none ∙ append-nil w.journal.items)

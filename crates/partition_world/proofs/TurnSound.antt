@@ -12,6 +12,8 @@ use Rattle.copy_task.specs.Copying.{Copied}
 use Rattle.copy_task.specs.declared.turn.Next.{Next}
 use Rattle.expiry_task.specs.declared.turn.Doomed.{Doomed}
 use Rattle.expiry_task.specs.declared.turn.Next.{Next as Deletion}
+use Rattle.rebuild_task.specs.declared.turn.Next.{Next as Rebuild}
+use Rattle.rebuild_task.specs.declared.turn.Next.TheVariants.{Epochs, Restart}
 use Rattle.tier_fetch.specs.declared.turn.Next.{Next as Search}
 use Rattle.tier_fetch.specs.declared.turn.Next.TheVariants.{Refresh}
 use Rattle.tier_fetch.specs.declared.turn.FetchTurn.{FetchTurn}
@@ -19,7 +21,7 @@ use Rattle.plain_log.specs.declared.answer.Answer.{Answer}
 use Rattle.plain_log.specs.declared.answer.Answer.TheVariants.{Down, NotLeader, MetaFault, DiskFault, Damaged, Stopped, OutOfRange, Empty, Kept, StaleEpoch, Raised, OkAt}
 use Rattle.plain_log.specs.declared.answer.Place.TheVariants.{File}
 use Rattle.plain_log.specs.declared.command.Command.{Command}
-use Rattle.plain_log.specs.declared.command.Command.TheVariants.{Copy, Trim, Expire, Fetch, Raise}
+use Rattle.plain_log.specs.declared.command.Command.TheVariants.{Copy, Trim, Expire, Fetch, Join, Raise}
 use Rattle.plain_log.specs.declared.command.Config.{Config}
 use Rattle.partition_seen.specs.declared.begun.Begun.{Begun}
 use Rattle.partition_seen.specs.declared.begun.Turned.TheVariants as turned
@@ -32,15 +34,16 @@ use Rattle.partition_turns.proofs.SoundLaw.{same, put_is, first_sound, later_sou
 use Rattle.partition_world.specs.declared.tier.Side.{Side}
 use Rattle.partition_world.specs.declared.tier.Tier.{Tier}
 use Rattle.partition_world.specs.declared.seat.Outcome.{Outcome}
-use Rattle.partition_world.specs.declared.seat.Outcome.TheVariants.{Answers, Begins, Chose, Seeks as Sought, Dooms}
+use Rattle.partition_world.specs.declared.seat.Outcome.TheVariants.{Answers, Begins, Chose, Seeks as Sought, Dooms, Rebuilds as Rebuilding}
 use Rattle.partition_world.specs.declared.seat.Work.{Work}
-use Rattle.partition_world.specs.declared.seat.Work.TheVariants.{Idle, Noted, Copies, Seeks, Expires}
+use Rattle.partition_world.specs.declared.seat.Work.TheVariants.{Idle, Noted, Copies, Seeks, Expires, Rebuilds}
 use Rattle.partition_world.specs.Tier.{AtSide}
 use Rattle.partition_world.specs.TurnsOfCopy.{ReadsLog, ReadRow, ChooseRow, CopyFirstRow}
 use Rattle.partition_world.specs.TurnsOfFetch.{FetchOnRow, GoesOnFetch}
-use Rattle.partition_world.specs.TurnsOfExpiry.{RaiseRow, ExpireOnRow, ExpiresBy, DeleteOnRow}
+use Rattle.partition_world.specs.TurnsOfExpiry.{RaiseRow, ExpireOnRow, ExpiresBy}
+use Rattle.partition_world.specs.TurnsOfRebuild.{with_line, RefreshOnRow, RefreshedRow, EpochsOnRow}
 use Rattle.partition_world.specs.TurnsOfTrim.{TrimFirstRow, TrimOnRow}
-use Rattle.partition_world.specs.Turns.{NotedRow, CopyingRow, SeekingRow, DeletingRow, BeginRow, Row, TurnRow, HaltsTier, StaysTier}
+use Rattle.partition_world.specs.Turns.{NotedRow, CopyingRow, SeekingRow, DeletingRow, JoinSecondRow, RebuildingRow, BeginRow, Row, TurnRow, HaltsTier, StaysTier}
 use Rattle.partition_world.proofs.Begins.{row_of}
 
 module _ {D : Type 0} where
@@ -110,6 +113,8 @@ module _ {D S M : Type 0} (disk : DiskGhosts D) (store : StoreGhosts S) (meta : 
   noted_sound : (n : ℕ) (p : PartitionId) (config : Config) (h : Held D) (t : Tier S M) (b : ℕ) (x : Node D) (side : Side) (g : Begun) (command : Command) (outcome : Outcome) (h' : Held D) (t' : Tier S M)
       → slice_get h.nodes b ≡ Some x → HeldSound n h → NotedRow disk store meta p config h t b x side g command outcome h' t' → HeldSound n h'
   noted_sound n p config h t b x side g Copy outcome h' t' at s w = choose_sound n p h t b x side g outcome h' t' at s w
+  noted_sound n p config h t b x side g Join outcome h' t' at s (inl (low, own)) = later_sound disk.content disk.control n h b x Join g (turned.Answers own.0.0) h' at s own.0.2
+  noted_sound n p config h t b x side g Join outcome h' t' at s (inr (high, row, is)) = same n h h' is s
   noted_sound n p config h t b x side g Expire outcome h' t' at s w = expire_sound n p h b x side g config.keep outcome h' at s w.0
   noted_sound n p config h t b x side g Trim outcome h' t' at s w = trim_sound n h b x side g config.local_keep outcome h' at s w.0
   noted_sound n p config h t b x side g (Fetch offset limit) outcome h' t' at s w = same n h h' w.1 s
@@ -137,6 +142,12 @@ module _ {D S M : Type 0} (disk : DiskGhosts D) (store : StoreGhosts S) (meta : 
   deleting_sound n h t b x g segment next Expire outcome h' t' s w = same n h h' w.1 s
   deleting_sound n h t b x g segment next other outcome h' t' s w = elim w [ ]
 
+  rebuilding_sound : (n : ℕ) (p : PartitionId) (h : Held D) (t : Tier S M) (b : ℕ) (x : Node D) (side : Side) (g : Begun) (next : Rebuild) (command : Command) (outcome : Outcome) (h' : Held D) (t' : Tier S M)
+      → slice_get h.nodes b ≡ Some x → HeldSound n h → RebuildingRow disk store p h t b x side g next command outcome h' t' → HeldSound n h'
+  rebuilding_sound n p h t b x side g Epochs Join outcome h' t' at s w = same n h h' w.1 s
+  rebuilding_sound n p h t b x side g (Restart line) Join outcome h' t' at s w = later_sound disk.content disk.control n h b x Join (with_line g line) (turned.Answers w.0.0) h' at s w.0.2
+  rebuilding_sound n p h t b x side g next other outcome h' t' at s w = elim w [ ]
+
   row_sound : (n : ℕ) (p : PartitionId) (config : Config) (h : Held D) (t : Tier S M) (b : ℕ) (x : Node D) (side : Side) (work : Work) (command : Command) (outcome : Outcome) (h' : Held D) (t' : Tier S M)
       → slice_get h.nodes b ≡ Some x → HeldSound n h → Row disk store meta p config h t b x side work command outcome h' t' → HeldSound n h'
   row_sound n p config h t b x side Idle command outcome h' t' at s w = begins_sound n h t b x side command outcome h' t' at s w
@@ -144,6 +155,7 @@ module _ {D S M : Type 0} (disk : DiskGhosts D) (store : StoreGhosts S) (meta : 
   row_sound n p config h t b x side (Copies g copy next) command outcome h' t' at s w = copying_sound n h t b x side g copy next command outcome h' t' s w
   row_sound n p config h t b x side (Seeks g next) command outcome h' t' at s w = seeking_sound n p h t b x side g next command outcome h' t' s w
   row_sound n p config h t b x side (Expires g segment next) command outcome h' t' at s w = deleting_sound n h t b x g segment next command outcome h' t' s w
+  row_sound n p config h t b x side (Rebuilds g next) command outcome h' t' at s w = rebuilding_sound n p h t b x side g next command outcome h' t' at s w
 
   -- each turn does
   pub turn_sound : (n : ℕ) (p : PartitionId) (config : Config) (h : Held D) (t : Tier S M) (b : ℕ) (work : Work) (command : Command) (outcome : Outcome) (h' : Held D) (t' : Tier S M) → HeldSound n h
@@ -180,10 +192,22 @@ module _ {D S M : Type 0} (disk : DiskGhosts D) (store : StoreGhosts S) (meta : 
   fetch_sides p h t b x side g offset limit next (Sought later) t' w = goes_sides p t b x side offset limit next _ t' w.1
   fetch_sides p h t b x side g offset limit next other t' w = elim w [ ]
 
+  refresh_sides : (t : Tier S M) (b : ℕ) (side : Side) (outcome : Outcome) (t' : Tier S M) → RefreshedRow meta t b side outcome t' → length t'.sides ≡ length t.sides
+  refresh_sides t b side (Answers MetaFault) t' w = ap (λ (k : Tier S M). length k.sides) w.after
+  refresh_sides t b side (Rebuilding Epochs) t' w = sides_put t b (record side { view = w.view }) t' (ap (λ (k : Tier S M). k.sides) w.after)
+  refresh_sides t b side other t' w = elim w [ ]
+
+  join_sides : (h : Held D) (t : Tier S M) (b : ℕ) (x : Node D) (side : Side) (g : Begun) (outcome : Outcome) (h' : Held D) (t' : Tier S M)
+      → JoinSecondRow disk meta h t b x side g outcome h' t' → length t'.sides ≡ length t.sides
+  join_sides h t b x side g outcome h' t' (inl (low, own)) = ap (λ (k : Tier S M). length k.sides) own.1
+  join_sides h t b x side g outcome h' t' (inr (high, inl (answer, is, at, tier), same)) = ap (λ (k : Tier S M). length k.sides) tier
+  join_sides h t b x side g outcome h' t' (inr (high, inr (may, row), same)) = refresh_sides t b side outcome t' row
+
   noted_sides : (p : PartitionId) (config : Config) (h : Held D) (t : Tier S M) (b : ℕ) (x : Node D) (side : Side) (g : Begun) (command : Command) (outcome : Outcome) (h' : Held D) (t' : Tier S M)
       → NotedRow disk store meta p config h t b x side g command outcome h' t' → length t'.sides ≡ length t.sides
   noted_sides p config h t b x side g Copy outcome h' t' w = choose_sides p h t b x side g outcome h' t' w
   noted_sides p config h t b x side g Trim outcome h' t' w = ap (λ (k : Tier S M). length k.sides) w.1
+  noted_sides p config h t b x side g Join outcome h' t' w = join_sides h t b x side g outcome h' t' w
   noted_sides p config h t b x side g Expire outcome h' t' w = ap (λ (k : Tier S M). length k.sides) w.1
   noted_sides p config h t b x side g (Fetch offset limit) outcome h' t' w = fetch_sides p h t b x side g offset limit Refresh outcome t' w.0
   noted_sides p config h t b x side g other outcome h' t' w = ap (λ (k : Tier S M). length k.sides) w.1
@@ -225,6 +249,13 @@ module _ {D S M : Type 0} (disk : DiskGhosts D) (store : StoreGhosts S) (meta : 
   deleting_sides h t b x g segment next Expire outcome h' t' (inr (keeps, (turn, is, goes)), same) = ap (λ (k : Tier S M). length k.sides) goes.after
   deleting_sides h t b x g segment next other outcome h' t' w = elim w [ ]
 
+  rebuilding_sides : (p : PartitionId) (h : Held D) (t : Tier S M) (b : ℕ) (x : Node D) (side : Side) (g : Begun) (next : Rebuild) (command : Command) (outcome : Outcome) (h' : Held D) (t' : Tier S M)
+      → RebuildingRow disk store p h t b x side g next command outcome h' t' → length t'.sides ≡ length t.sides
+  rebuilding_sides p h t b x side g Epochs Join outcome h' t' (inl (answer, is, at, tier), same) = ap (λ (k : Tier S M). length k.sides) tier
+  rebuilding_sides p h t b x side g Epochs Join outcome h' t' (inr (may, (turn, is, goes)), same) = ap (λ (k : Tier S M). length k.sides) goes.after
+  rebuilding_sides p h t b x side g (Restart line) Join outcome h' t' w = ap (λ (k : Tier S M). length k.sides) w.1
+  rebuilding_sides p h t b x side g next other outcome h' t' w = elim w [ ]
+
   row_sides : (p : PartitionId) (config : Config) (h : Held D) (t : Tier S M) (b : ℕ) (x : Node D) (side : Side) (work : Work) (command : Command) (outcome : Outcome) (h' : Held D) (t' : Tier S M)
       → Row disk store meta p config h t b x side work command outcome h' t' → length t'.sides ≡ length t.sides
   row_sides p config h t b x side Idle command outcome h' t' w = begins_sides h t b x side command outcome h' t' w
@@ -232,6 +263,7 @@ module _ {D S M : Type 0} (disk : DiskGhosts D) (store : StoreGhosts S) (meta : 
   row_sides p config h t b x side (Copies g copy next) command outcome h' t' w = copying_sides h t b x side g copy next command outcome h' t' w
   row_sides p config h t b x side (Seeks g next) command outcome h' t' w = seeking_sides p h t b x side g next command outcome h' t' w
   row_sides p config h t b x side (Expires g segment next) command outcome h' t' w = deleting_sides h t b x g segment next command outcome h' t' w
+  row_sides p config h t b x side (Rebuilds g next) command outcome h' t' w = rebuilding_sides p h t b x side g next command outcome h' t' w
 
   pub turn_sides : (p : PartitionId) (config : Config) (h : Held D) (t : Tier S M) (b : ℕ) (work : Work) (command : Command) (outcome : Outcome) (h' : Held D) (t' : Tier S M)
       → TurnRow disk store meta p config h t b work command outcome h' t' → length t'.sides ≡ length t.sides
@@ -243,7 +275,8 @@ module _ {D S M : Type 0} (disk : DiskGhosts D) (store : StoreGhosts S) (meta : 
   halts_sides h t b x side t' (inr (inl (copy, next, wants))) = sides_put t b (record side { view = wants.view }) t' (ap (λ (k : Tier S M). k.sides) wants.after)
   halts_sides h t b x side t' (inr (inr (inl (p, offset, limit, next, wants)))) =
       sides_put t b (record side { view = wants.view; cache = wants.cache }) t' (ap (λ (k : Tier S M). k.sides) wants.after)
-  halts_sides h t b x side t' (inr (inr (inr (segment, next, wants)))) = ap (λ (k : Tier S M). length k.sides) wants.after
+  halts_sides h t b x side t' (inr (inr (inr (inl (segment, next, wants))))) = ap (λ (k : Tier S M). length k.sides) wants.after
+  halts_sides h t b x side t' (inr (inr (inr (inr (p, g, wants))))) = ap (λ (k : Tier S M). length k.sides) wants.after
 
   pub stays_sides : (h : Held D) (t : Tier S M) (b : ℕ) (h' : Held D) (t' : Tier S M) → StaysTier disk store meta h t b h' t' → length t'.sides ≡ length t.sides
   stays_sides h t b h' t' (inl k) = ap (λ (k : Tier S M). length k.sides) k.1

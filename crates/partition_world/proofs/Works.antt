@@ -8,6 +8,7 @@ use Rattle.copy_task.specs.Copying.{Copied}
 use Rattle.copy_task.specs.declared.turn.Next.{Next}
 use Rattle.expiry_task.specs.declared.turn.Doomed.{Doomed}
 use Rattle.expiry_task.specs.declared.turn.Next.{Next as Deletion}
+use Rattle.rebuild_task.specs.declared.turn.Next.{Next as Rebuild}
 use Rattle.tier_fetch.specs.declared.turn.Next.{Next as Search}
 use Rattle.plain_log.specs.declared.command.ActorList.{ActorList}
 use Rattle.plain_log.specs.declared.command.Command.{Command}
@@ -20,11 +21,11 @@ use Rattle.partition_turns.specs.declared.held.Held.{Held}
 use Rattle.partition_world.specs.declared.tier.Side.{Side}
 use Rattle.partition_world.specs.declared.tier.Tier.{Tier}
 use Rattle.partition_world.specs.declared.seat.Outcome.{Outcome}
-use Rattle.partition_world.specs.declared.seat.Outcome.TheVariants.{Answers, Begins, Chose, Goes, Seeks as Sought, Dooms, Deletes}
+use Rattle.partition_world.specs.declared.seat.Outcome.TheVariants.{Answers, Begins, Chose, Goes, Seeks as Sought, Dooms, Deletes, Rebuilds as Rebuilding}
 use Rattle.partition_world.specs.declared.seat.Seat.{Seat}
 use Rattle.partition_world.specs.declared.seat.Work.{Work}
-use Rattle.partition_world.specs.declared.seat.Work.TheVariants.{Idle, Noted, Copies, Seeks, Expires}
-use Rattle.partition_world.specs.Seats.{chosen, moved, sought, doomed, deleting, seat_after}
+use Rattle.partition_world.specs.declared.seat.Work.TheVariants.{Idle, Noted, Copies, Seeks, Expires, Rebuilds}
+use Rattle.partition_world.specs.Seats.{chosen, moved, sought, doomed, deleting, rebuilding, seat_after}
 use Rattle.partition_world.specs.Sound.{IsWorkFor}
 use Rattle.partition_world.specs.Turns.{Row, TurnRow}
 use Rattle.partition_world.proofs.Begins.{row_of}
@@ -45,6 +46,7 @@ chosen_for (Fetch offset limit) (Noted g) copy k = tt
 chosen_for (Fetch offset limit) (Copies g c next) copy k = tt
 chosen_for (Fetch offset limit) (Seeks g next) copy k = k
 chosen_for (Fetch offset limit) (Expires g segment next) copy k = tt
+chosen_for (Fetch offset limit) (Rebuilds g next) copy k = tt
 chosen_for other work copy k = tt
 
 moved_for : (command : Command) (work : Work) (next : Next) → IsWorkFor command work → IsWorkFor command (moved work next)
@@ -53,6 +55,7 @@ moved_for (Fetch offset limit) (Noted g) next k = tt
 moved_for (Fetch offset limit) (Copies g c before) next k = tt
 moved_for (Fetch offset limit) (Seeks g before) next k = k
 moved_for (Fetch offset limit) (Expires g segment before) next k = tt
+moved_for (Fetch offset limit) (Rebuilds g before) next k = tt
 moved_for other work next k = tt
 
 -- and what an expiry does
@@ -62,6 +65,7 @@ doomed_for (Fetch offset limit) (Noted g) segment k = tt
 doomed_for (Fetch offset limit) (Copies g c next) segment k = tt
 doomed_for (Fetch offset limit) (Seeks g next) segment k = k
 doomed_for (Fetch offset limit) (Expires g before next) segment k = tt
+doomed_for (Fetch offset limit) (Rebuilds g before) segment k = tt
 doomed_for other work segment k = tt
 
 deleting_for : (command : Command) (work : Work) (next : Deletion) → IsWorkFor command work → IsWorkFor command (deleting work next)
@@ -70,7 +74,18 @@ deleting_for (Fetch offset limit) (Noted g) next k = tt
 deleting_for (Fetch offset limit) (Copies g c before) next k = tt
 deleting_for (Fetch offset limit) (Seeks g before) next k = k
 deleting_for (Fetch offset limit) (Expires g segment before) next k = tt
+deleting_for (Fetch offset limit) (Rebuilds g before) next k = tt
 deleting_for other work next k = tt
+
+-- and what a join does that begins its log anew
+rebuilding_for : (command : Command) (work : Work) (next : Rebuild) → IsWorkFor command work → IsWorkFor command (rebuilding work next)
+rebuilding_for (Fetch offset limit) Idle next k = tt
+rebuilding_for (Fetch offset limit) (Noted g) next k = tt
+rebuilding_for (Fetch offset limit) (Copies g c before) next k = tt
+rebuilding_for (Fetch offset limit) (Seeks g before) next k = k
+rebuilding_for (Fetch offset limit) (Expires g segment before) next k = tt
+rebuilding_for (Fetch offset limit) (Rebuilds g before) next k = tt
+rebuilding_for other work next k = tt
 
 module _ {D S M : Type 0} (disk : DiskGhosts D) (store : StoreGhosts S) (meta : MetaGhosts M) where
   -- a fetch goes on with what is for its offset
@@ -81,6 +96,7 @@ module _ {D S M : Type 0} (disk : DiskGhosts D) (store : StoreGhosts S) (meta : 
   sought_for p config h t b x side (Copies g copy before) (Fetch offset limit) next h' t' w = tt
   sought_for p config h t b x side (Seeks g before) (Fetch offset limit) next h' t' w = w.0.2
   sought_for p config h t b x side (Expires g segment before) (Fetch offset limit) next h' t' w = tt
+  sought_for p config h t b x side (Rebuilds g before) (Fetch offset limit) next h' t' w = tt
   sought_for p config h t b x side work other next h' t' w = tt
 
   -- the seat keeps what the next turn of its list needs
@@ -101,6 +117,9 @@ module _ {D S M : Type 0} (disk : DiskGhosts D) (store : StoreGhosts S) (meta : 
   work_after p config h t h' t' l seat order (Deletes next) later at k row to =
       let same : order ≡ later = cc (at, to) in
       subst (λ (o : Order). IsWorkFor o.command (deleting seat.work next)) same (deleting_for order.command seat.work next k)
+  work_after p config h t h' t' l seat order (Rebuilding next) later at k row to =
+      let same : order ≡ later = cc (at, to) in
+      subst (λ (o : Order). IsWorkFor o.command (rebuilding seat.work next)) same (rebuilding_for order.command seat.work next k)
   work_after p config h t h' t' l seat order (Sought next) later at k row to =
       let same : order ≡ later = cc (at, to) in
       let r = row_of disk store meta p config h t order.broker.0 seat.work order.command (Sought next) h' t' row in

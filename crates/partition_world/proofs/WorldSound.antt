@@ -21,6 +21,7 @@ use Rattle.copy_task.specs.Copying.{Copied}
 use Rattle.copy_task.specs.declared.turn.Next.{Next}
 use Rattle.expiry_task.specs.declared.turn.Doomed.{Doomed}
 use Rattle.expiry_task.specs.declared.turn.Next.{Next as Deletion}
+use Rattle.rebuild_task.specs.declared.turn.Next.{Next as Rebuild}
 use Rattle.tier_fetch.specs.declared.turn.Next.{Next as Search}
 use Rattle.partition_seen.specs.declared.begun.Begun.{Begun}
 use Rattle.partition_seen.specs.declared.begun.Turned.TheVariants as seen
@@ -29,11 +30,11 @@ use Rattle.partition_seen.proofs.Standing.{map_set, map_get}
 use Rattle.partition_world.specs.declared.tier.Side.{Side}
 use Rattle.partition_world.specs.declared.tier.Tier.{Tier}
 use Rattle.partition_world.specs.declared.seat.Outcome.{Outcome}
-use Rattle.partition_world.specs.declared.seat.Outcome.TheVariants.{Answers, Begins, Chose, Goes, Seeks as Sought, Dooms, Deletes}
+use Rattle.partition_world.specs.declared.seat.Outcome.TheVariants.{Answers, Begins, Chose, Goes, Seeks as Sought, Dooms, Deletes, Rebuilds as Rebuilding}
 use Rattle.partition_world.specs.declared.seat.Seat.{Seat}
 use Rattle.partition_world.specs.declared.seat.Work.{Work}
-use Rattle.partition_world.specs.declared.seat.Work.TheVariants.{Idle, Noted, Copies, Seeks, Expires}
-use Rattle.partition_world.specs.Seats.{seat_seen, desk_seen, noted_in, chosen, moved, sought, doomed, deleting, seat_after, told_count, stepped_of}
+use Rattle.partition_world.specs.declared.seat.Work.TheVariants.{Idle, Noted, Copies, Seeks, Expires, Rebuilds}
+use Rattle.partition_world.specs.Seats.{seat_seen, desk_seen, noted_in, chosen, moved, sought, doomed, deleting, rebuilding, seat_after, told_count, stepped_of}
 use Rattle.partition_world.specs.Turn.{IsSeat, IsAtEnd, IsTurn, Steps}
 use Rattle.partition_world.specs.Turns.{TurnRow, StaysTier}
 use Rattle.partition_world.proofs.Begins.{begins_idle}
@@ -49,6 +50,7 @@ chosen_seen (Noted g) copy = refl
 chosen_seen (Copies g c next) copy = refl
 chosen_seen (Seeks g next) copy = refl
 chosen_seen (Expires g segment next) copy = refl
+chosen_seen (Rebuilds g next) copy = refl
 
 pub moved_seen : (work : Work) (next : Next) → noted_in (moved work next) ≡ noted_in work
 moved_seen Idle next = refl
@@ -56,6 +58,7 @@ moved_seen (Noted g) next = refl
 moved_seen (Copies g c before) next = refl
 moved_seen (Seeks g before) next = refl
 moved_seen (Expires g segment before) next = refl
+moved_seen (Rebuilds g before) next = refl
 
 pub sought_seen : (work : Work) (next : Search) → noted_in (sought work next) ≡ noted_in work
 sought_seen Idle next = refl
@@ -63,6 +66,7 @@ sought_seen (Noted g) next = refl
 sought_seen (Copies g c before) next = refl
 sought_seen (Seeks g before) next = refl
 sought_seen (Expires g segment before) next = refl
+sought_seen (Rebuilds g before) next = refl
 
 pub doomed_seen : (work : Work) (segment : Doomed) → noted_in (doomed work segment) ≡ noted_in work
 doomed_seen Idle segment = refl
@@ -70,6 +74,7 @@ doomed_seen (Noted g) segment = refl
 doomed_seen (Copies g c before) segment = refl
 doomed_seen (Seeks g before) segment = refl
 doomed_seen (Expires g before next) segment = refl
+doomed_seen (Rebuilds g before) segment = refl
 
 pub deleting_seen : (work : Work) (next : Deletion) → noted_in (deleting work next) ≡ noted_in work
 deleting_seen Idle next = refl
@@ -77,6 +82,15 @@ deleting_seen (Noted g) next = refl
 deleting_seen (Copies g c before) next = refl
 deleting_seen (Seeks g before) next = refl
 deleting_seen (Expires g segment before) next = refl
+deleting_seen (Rebuilds g before) next = refl
+
+pub rebuilding_seen : (work : Work) (next : Rebuild) → noted_in (rebuilding work next) ≡ noted_in work
+rebuilding_seen Idle next = refl
+rebuilding_seen (Noted g) next = refl
+rebuilding_seen (Copies g c before) next = refl
+rebuilding_seen (Seeks g before) next = refl
+rebuilding_seen (Expires g segment before) next = refl
+rebuilding_seen (Rebuilds g before) next = refl
 
 module _ {D S M : Type 0} (disk : DiskGhosts D) (store : StoreGhosts S) (meta : MetaGhosts M) where
   -- what holds of all holds of the one that stands at a place
@@ -127,6 +141,9 @@ module _ {D S M : Type 0} (disk : DiskGhosts D) (store : StoreGhosts S) (meta : 
       omega (arith, ap (λ k. turns_left lists k) same)
   entries_after lists p config h t h' t' desk place l seat order (Deletes next) at to lt row =
       let same = seen_stays desk place seat (seat_after seat (Deletes next)) to (ap (λ (o : Option Begun). record { number = seat.number; begun = o }) (deleting_seen seat.work next)) in
+      omega (arith, ap (λ k. turns_left lists k) same)
+  entries_after lists p config h t h' t' desk place l seat order (Rebuilding next) at to lt row =
+      let same = seen_stays desk place seat (seat_after seat (Rebuilding next)) to (ap (λ (o : Option Begun). record { number = seat.number; begun = o }) (rebuilding_seen seat.work next)) in
       omega (arith, ap (λ k. turns_left lists k) same)
 
   -- what the seats keep after a turn
@@ -183,6 +200,7 @@ module _ {D S M : Type 0} (disk : DiskGhosts D) (store : StoreGhosts S) (meta : 
   steps_of w a (Sought next) w' t = (Sought next, tt, t)
   steps_of w a (Dooms segment) w' t = (Dooms segment, tt, t)
   steps_of w a (Deletes next) w' t = (Deletes next, tt, t)
+  steps_of w a (Rebuilding next) w' t = (Rebuilding next, tt, t)
 
   -- an actor whose list is at its end is at its end
   pub at_end : (w : Whole D S M) (a place : ℕ) (l : ActorList) (seat : Seat) → AreRising w.lists → IsSeat w a place l seat → length l.orders ≤ seat.number → IsAtEnd w a

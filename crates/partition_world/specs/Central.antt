@@ -1,8 +1,8 @@
 -- The central fact, which holds between any two turns where the devices tell.
 --
--- The world, as its partition is seen, is the plain log after the world's own journal; and the remote tier, as it is seen
--- beside that state of the plain log, keeps its safety rules.
-use Rattle.std.specs.Prelude.{◌≡◌, ℕ, ◌+◌, ◌-◌, ◌*◌, ◌^◌, ◌<◌, length, List, [], ◌∷◌, Option, Some, None, unwrap_or, slice_get, IsTrue}
+-- The world, as its partition is seen, is the plain log after the world's own journal; the remote tier, as it is seen beside that
+-- state of the plain log, keeps its safety rules; and the lines that joins have read in the tier are those that they noted.
+use Rattle.std.specs.Prelude.{◌≡◌, ℕ, ◌+◌, ◌-◌, ◌*◌, ◌^◌, ◌<◌, length, true, List, [], ◌∷◌, Option, Some, None, unwrap_or, slice_get, IsTrue}
 use Rattle.disk_model.specs.declared.disk.Disk.{Ghosts as DiskGhosts}
 use Rattle.object_store.specs.declared.store.Store.{Ghosts as StoreGhosts}
 use Rattle.meta_log.specs.declared.log.MetaLog.{Ghosts as MetaGhosts}
@@ -10,9 +10,10 @@ use Rattle.copy_task.specs.declared.turn.Next.TheVariants.{Start, Put, Finish}
 use Rattle.expiry_task.specs.declared.turn.Next.TheVariants as deletion
 use Rattle.tier_fetch.specs.declared.turn.Next.{Next as Search}
 use Rattle.tier_fetch.specs.declared.turn.Next.TheVariants.{Refresh}
+use Rattle.rebuild_task.specs.declared.turn.Next.TheVariants.{Epochs, Restart}
 use Rattle.plain_log.specs.declared.command.ActorList.{ActorList}
 use Rattle.plain_log.specs.declared.command.Command.{Command}
-use Rattle.plain_log.specs.declared.command.Command.TheVariants.{Fetch}
+use Rattle.plain_log.specs.declared.command.Command.TheVariants.{Fetch, Join}
 use Rattle.plain_log.specs.declared.command.Order.{Order}
 use Rattle.plain_log.specs.declared.state.State.{State}
 use Rattle.plain_log.specs.State.{leading}
@@ -20,14 +21,14 @@ use Rattle.partition_seen.specs.declared.begun.Begun.{Begun}
 use Rattle.partition_seen.specs.Seen as seen
 use Rattle.partition_seen.specs.Central as seen_central
 use Rattle.partition_tier.specs.Sites.{sites_of, Side as SideSeen}
-use Rattle.partition_tier.specs.Works.{work_of as work_seen}
+use Rattle.partition_tier.specs.Works.{rebuild_of, work_of as work_seen}
 use Rattle.partition_turns.specs.Held.{ShowsHeld}
-use Rattle.tier_safe.specs.Scene.{Scene, Work as WorkSeen, Free, Copies as CopiesSeen, Expires as ExpiresSeen, Seeks as SeeksSeen}
+use Rattle.tier_safe.specs.Scene.{Scene, Work as WorkSeen, Free, Copies as CopiesSeen, Expires as ExpiresSeen, Rebuilds as RebuildsSeen, Seeks as SeeksSeen}
 use Rattle.tier_safe.specs.Safe.{TierSafe}
 use Rattle.tier_serves.specs.Seeking.{sought_of, indexes_in}
 use Rattle.partition_world.specs.declared.seat.Seat.{Seat}
 use Rattle.partition_world.specs.declared.seat.Work.{Work}
-use Rattle.partition_world.specs.declared.seat.Work.TheVariants.{Idle, Noted, Copies, Seeks, Expires}
+use Rattle.partition_world.specs.declared.seat.Work.TheVariants.{Idle, Noted, Copies, Seeks, Expires, Rebuilds}
 use Rattle.partition_world.specs.declared.tier.Side.{Side}
 use Rattle.partition_world.specs.Whole.{Whole, seen_as}
 
@@ -49,6 +50,11 @@ abbrev pub seeks_of : ℕ → Begun → Search → Command → WorkSeen
 seeks_of b g next (Fetch offset limit) = SeeksSeen (sought_of b g.stops (unwrap_or (leading g.role) 0) offset next)
 seeks_of b g next command = Free
 
+-- what it sees of a join whose broker has refreshed its view to begin its log anew
+abbrev pub rebuilds_of : ℕ → Begun → Command → WorkSeen
+rebuilds_of b g Join = RebuildsSeen (record (rebuild_of b g) { refreshed = true })
+rebuilds_of b g command = Free
+
 -- what it sees of a command that has begun: a fetch looks below its broker's local log
 abbrev pub begun_of : ℕ → Begun → Command → WorkSeen
 begun_of b g (Fetch offset limit) = seeks_of b g Refresh (Fetch offset limit)
@@ -62,6 +68,7 @@ work_of (Some order) (Noted g) = begun_of order.broker.0 g order.command
 work_of (Some order) (Copies g copy next) = CopiesSeen copy next
 work_of (Some order) (Seeks g next) = seeks_of order.broker.0 g next order.command
 work_of (Some order) (Expires g segment next) = ExpiresSeen segment next
+work_of (Some order) (Rebuilds g next) = rebuilds_of order.broker.0 g order.command
 
 -- of the whole desk
 abbrev pub desk_of : List ActorList → List Seat → List WorkSeen
@@ -85,6 +92,17 @@ notes_left [] desk = 0
 notes_left (l ∷ lists) [] = 0
 notes_left (l ∷ lists) (seat ∷ desk) = 2 * (length l.orders - seat.number) - told_by seat.work + notes_left lists desk
 
+-- a join that is to read a line in the tier began while the log start was below the wanted offset, and the line that it has read
+-- is the leader's, as it noted it
+abbrev pub IsNoted : Work → Type 0
+IsNoted (Rebuilds g Epochs) = g.start < g.wanted
+IsNoted (Rebuilds g (Restart line)) = line ≡ g.line
+IsNoted work = Unit {0}
+
+-- at each seat
+abbrev pub AreNoted : List Seat → Type 0
+AreNoted desk = (place : ℕ) (seat : Seat) → slice_get desk place ≡ Some seat → IsNoted seat.work
+
 module _ {D S M : Type 0} (store : StoreGhosts S) (meta : MetaGhosts M) where
   -- the remote tier is seen so, beside the partition
   pub record ShowsTier (w : Whole D S M) (a : seen.Held) (c : Scene) : Type 0 where
@@ -105,6 +123,7 @@ module _ {D S M : Type 0} (disk : DiskGhosts D) (store : StoreGhosts S) (meta : 
     pub scene : Scene
     pub shows_tier : ShowsTier store meta w partition scene
     pub tier : TierSafe scene central.plain
+    pub noted : AreNoted w.desk
     -- a view can count all notes that there will be
     pub few : length scene.notes + notes_left w.lists w.desk < 2 ^ 64
 

@@ -3,6 +3,7 @@ pub mod Seats
 pub mod TurnsOfCopy
 pub mod TurnsOfExpiry
 pub mod TurnsOfFetch
+pub mod TurnsOfRebuild
 pub mod TurnsOfTrim
 pub mod Turns
 pub mod Sound

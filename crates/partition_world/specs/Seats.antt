@@ -14,6 +14,9 @@ use Rattle.expiry_task.specs.declared.turn.Next.TheVariants as deletion
 use Rattle.tier_fetch.specs.declared.turn.FetchTurn.{FetchTurn}
 use Rattle.tier_fetch.specs.declared.turn.FetchTurn.TheVariants as fetch
 use Rattle.tier_fetch.specs.declared.turn.Next.{Next as Search}
+use Rattle.rebuild_task.specs.declared.turn.Next.{Next as Rebuild}
+use Rattle.rebuild_task.specs.declared.turn.RebuildTurn.{RebuildTurn}
+use Rattle.rebuild_task.specs.declared.turn.RebuildTurn.TheVariants as rebuild
 use Rattle.plain_log.specs.declared.command.Command.{Command}
 use Rattle.plain_log.specs.declared.journal.Event.TheVariants as event
 use Rattle.plain_log.specs.declared.journal.JournalEntry.{JournalEntry}
@@ -25,7 +28,7 @@ use Rattle.partition_seen.specs.declared.seat.Stepped.{Stepped}
 use Rattle.partition_seen.specs.declared.seat.Stepped.TheVariants.{Ran, Done}
 use Rattle.partition_seen.specs.Turn.{event_of}
 use Rattle.partition_world.specs.declared.seat.Outcome.{Outcome}
-use Rattle.partition_world.specs.declared.seat.Outcome.TheVariants.{Answers, Begins, Chose, Goes, Seeks, Dooms, Deletes}
+use Rattle.partition_world.specs.declared.seat.Outcome.TheVariants.{Answers, Begins, Chose, Goes, Seeks, Dooms, Deletes, Rebuilds}
 use Rattle.partition_world.specs.declared.seat.Seat.{Seat}
 use Rattle.partition_world.specs.declared.seat.Work.{Work}
 use Rattle.partition_world.specs.declared.seat.Work.TheVariants as work
@@ -38,6 +41,7 @@ noted_in (Noted g) = Some g
 noted_in (Copies g copy next) = Some g
 noted_in (work.Seeks g next) = Some g
 noted_in (Expires g segment next) = Some g
+noted_in (work.Rebuilds g next) = Some g
 
 -- a copy that has chosen its segment starts with it next
 abbrev pub chosen : Work → Copied → Work
@@ -65,7 +69,14 @@ abbrev pub deleting : Work → Deletion → Work
 deleting (Expires g segment before) next = Expires g segment next
 deleting other next = other
 
--- the seat as it is seen: what was noted is seen, and not the segment of a copy or an expiry, nor what a fetch has found
+-- a join goes on with this to begin its log anew
+abbrev pub rebuilding : Work → Rebuild → Work
+rebuilding (Noted g) next = work.Rebuilds g next
+rebuilding (work.Rebuilds g before) next = work.Rebuilds g next
+rebuilding other next = other
+
+-- the seat as it is seen: what was noted is seen, and not the segment of a copy or an expiry, nor what a fetch or a rebuild has
+-- found
 abbrev pub seat_seen : Seat → seen_seat.Seat
 seat_seen seat = record { number = seat.number; begun = noted_in seat.work }
 
@@ -93,6 +104,11 @@ abbrev pub expiry_outcome : ExpiryTurn → Outcome
 expiry_outcome (expiry.Goes next) = Deletes next
 expiry_outcome (expiry.Ends answer) = Answers answer
 
+-- what a turn of a rebuild came to
+abbrev pub rebuild_outcome : RebuildTurn → Outcome
+rebuild_outcome (rebuild.Goes next) = Rebuilds next
+rebuild_outcome (rebuild.Ends answer) = Answers answer
+
 -- the seat after a turn: at the next order after an answer, else with what the order goes on with
 abbrev pub seat_after : Seat → Outcome → Seat
 seat_after seat (Answers answer) = record { number = seat.number + 1; work = Idle }
@@ -102,6 +118,7 @@ seat_after seat (Goes next) = record seat { work = moved seat.work next }
 seat_after seat (Seeks next) = record seat { work = sought seat.work next }
 seat_after seat (Dooms segment) = record seat { work = doomed seat.work segment }
 seat_after seat (Deletes next) = record seat { work = deleting seat.work next }
+seat_after seat (Rebuilds next) = record seat { work = rebuilding seat.work next }
 
 -- what the journal says of a turn: nothing of one that neither begins its command nor answers it
 abbrev pub told_of : ActorId → ℕ → Command → Outcome → List JournalEntry

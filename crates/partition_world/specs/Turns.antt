@@ -1,7 +1,7 @@
 -- A turn of a command of any kind, over all devices.
 --
 -- Commands on brokers' logs and the registry leave the remote tier as it is (the crate `partition_turns` has their rows).
-use Rattle.std.specs.Prelude.{◌≡◌, ◌⊎◌, ℕ}
+use Rattle.std.specs.Prelude.{◌≡◌, ◌⊎◌, ◌<◌, ◌≤◌, ℕ}
 use Rattle.disk_model.specs.declared.disk.Disk.{Ghosts as DiskGhosts}
 use Rattle.object_store.specs.declared.store.Store.{Ghosts as StoreGhosts}
 use Rattle.meta_log.specs.declared.log.MetaLog.{Ghosts as MetaGhosts}
@@ -12,9 +12,11 @@ use Rattle.expiry_task.specs.declared.turn.Doomed.{Doomed}
 use Rattle.expiry_task.specs.declared.turn.Next.{Next as Deletion}
 use Rattle.tier_fetch.specs.declared.turn.Next.{Next as Search}
 use Rattle.tier_fetch.specs.declared.turn.Next.TheVariants.{Refresh}
+use Rattle.rebuild_task.specs.declared.turn.Next.{Next as Rebuild}
+use Rattle.rebuild_task.specs.declared.turn.Next.TheVariants.{Epochs, Restart}
 use Rattle.plain_log.specs.declared.answer.Answer.{Answer}
 use Rattle.plain_log.specs.declared.command.Command.{Command}
-use Rattle.plain_log.specs.declared.command.Command.TheVariants.{Copy, Trim, Expire, Fetch}
+use Rattle.plain_log.specs.declared.command.Command.TheVariants.{Copy, Trim, Expire, Fetch, Join}
 use Rattle.plain_log.specs.declared.command.Config.{Config}
 use Rattle.partition_seen.specs.declared.begun.Begun.{Begun}
 use Rattle.partition_seen.specs.declared.begun.Turned.{Turned}
@@ -28,12 +30,13 @@ use Rattle.partition_world.specs.declared.tier.Tier.{Tier}
 use Rattle.partition_world.specs.declared.seat.Outcome.{Outcome}
 use Rattle.partition_world.specs.declared.seat.Outcome.TheVariants.{Answers}
 use Rattle.partition_world.specs.declared.seat.Work.{Work}
-use Rattle.partition_world.specs.declared.seat.Work.TheVariants.{Idle, Noted, Copies, Seeks, Expires}
+use Rattle.partition_world.specs.declared.seat.Work.TheVariants.{Idle, Noted, Copies, Seeks, Expires, Rebuilds}
 use Rattle.partition_world.specs.Tier.{AtSide, Halts}
 use Rattle.partition_world.specs.Seats.{outcome_of}
 use Rattle.partition_world.specs.TurnsOfCopy.{CopyFirstRow, ChooseRow, CopyOnRow, WantsForCopy}
 use Rattle.partition_world.specs.TurnsOfExpiry.{ExpireFirstRow, ExpireOnRow, DeleteOnRow, WantsForDeletion}
 use Rattle.partition_world.specs.TurnsOfFetch.{FetchOnRow, WantsForFetch}
+use Rattle.partition_world.specs.TurnsOfRebuild.{with_line, RefreshOnRow, EpochsOnRow, WantsForRebuild}
 use Rattle.partition_world.specs.TurnsOfTrim.{TrimFirstRow, TrimOnRow}
 
 module _ {D S M : Type 0} (disk : DiskGhosts D) where
@@ -65,6 +68,24 @@ module _ {D S M : Type 0} (store : StoreGhosts S) (meta : MetaGhosts M) where
   DeletingRow h t b x g doomed next Expire outcome h' t' = DeleteOnRow store meta h t b x g doomed next outcome t' × (h' ≡ h)
   DeletingRow h t b x g doomed next command outcome h' t' = ⊥
 
+module _ {D S M : Type 0} (disk : DiskGhosts D) (meta : MetaGhosts M) where
+  -- the second turn of a join: where the log start had come up to the wanted offset when it began, the log begins anew at once
+  abbrev pub JoinSecondRow : Held D → Tier S M → ℕ → Node D → Side → Begun → Outcome → Held D → Tier S M → Type 0
+  JoinSecondRow h t b x side g outcome h' t' =
+      ((g.wanted ≤ g.start) × OwnOnRow disk h t b x g Join outcome h' t')
+      ⊎ ((g.start < g.wanted) × RefreshOnRow meta h t b x side g outcome t' × (h' ≡ h))
+
+module _ {D S M : Type 0} (disk : DiskGhosts D) (store : StoreGhosts S) where
+  -- a later turn of a join that begins its log anew: it reads the line, or begins the log anew with it
+  abbrev pub RebuildOnRow : PartitionId → Held D → Tier S M → ℕ → Node D → Side → Begun → Rebuild → Outcome → Held D → Tier S M → Type 0
+  RebuildOnRow p h t b x side g Epochs outcome h' t' = EpochsOnRow store p h t x side g outcome t' × (h' ≡ h)
+  RebuildOnRow p h t b x side g (Restart line) outcome h' t' = OwnOnRow disk h t b x (with_line g line) Join outcome h' t'
+
+  -- no other command has one
+  abbrev pub RebuildingRow : PartitionId → Held D → Tier S M → ℕ → Node D → Side → Begun → Rebuild → Command → Outcome → Held D → Tier S M → Type 0
+  RebuildingRow p h t b x side g next Join outcome h' t' = RebuildOnRow p h t b x side g next outcome h' t'
+  RebuildingRow p h t b x side g next command outcome h' t' = ⊥
+
 module _ {D S M : Type 0} (disk : DiskGhosts D) (store : StoreGhosts S) (meta : MetaGhosts M) where
   -- the second turn, of a command of which its seat keeps what was noted: a fetch begins with a refresh
   abbrev pub NotedRow : PartitionId → Config → Held D → Tier S M → ℕ → Node D → Side → Begun → Command → Outcome → Held D → Tier S M → Type 0
@@ -73,6 +94,7 @@ module _ {D S M : Type 0} (disk : DiskGhosts D) (store : StoreGhosts S) (meta : 
   NotedRow p config h t b x side g Expire outcome h' t' = ExpireOnRow p h x side g config.keep outcome h' × (t' ≡ t)
   NotedRow p config h t b x side g (Fetch offset limit) outcome h' t' =
       FetchOnRow store meta p h t b x side g offset limit Refresh outcome t' × (h' ≡ h)
+  NotedRow p config h t b x side g Join outcome h' t' = JoinSecondRow disk meta h t b x side g outcome h' t'
   NotedRow p config h t b x side g command outcome h' t' = OwnOnRow disk h t b x g command outcome h' t'
 
   -- a command's first turn
@@ -92,6 +114,8 @@ module _ {D S M : Type 0} (disk : DiskGhosts D) (store : StoreGhosts S) (meta : 
       SeekingRow store meta p h t b x side g next command outcome h' t'
   Row p config h t b x side (Expires g doomed next) command outcome h' t' =
       DeletingRow store meta h t b x g doomed next command outcome h' t'
+  Row p config h t b x side (Rebuilds g next) command outcome h' t' =
+      RebuildingRow disk store p h t b x side g next command outcome h' t'
 
   -- there are such a broker and such a side, and the row holds of them
   abbrev pub TurnRow : PartitionId → Config → Held D → Tier S M → ℕ → Work → Command → Outcome → Held D → Tier S M → Type 0
@@ -103,7 +127,8 @@ module _ {D S M : Type 0} (disk : DiskGhosts D) (store : StoreGhosts S) (meta : 
   HaltsTier h t b x side t' =
       Halts meta t b side t' ⊎ (((copy : Copied) × (next : Next) × WantsForCopy store meta h t b side copy next t')
       ⊎ (((p : PartitionId) × (offset : ℕ) × (limit : ℕ) × (next : Search) × WantsForFetch store meta p t b x side offset limit next t')
-      ⊎ ((doomed : Doomed) × (next : Deletion) × WantsForDeletion store meta h t b doomed next t')))
+      ⊎ (((doomed : Doomed) × (next : Deletion) × WantsForDeletion store meta h t b doomed next t')
+      ⊎ ((p : PartitionId) × (g : Begun) × WantsForRebuild store p t side g t'))))
 
   -- memory was wanting
   abbrev pub StaysTier : Held D → Tier S M → ℕ → Held D → Tier S M → Type 0

@@ -7,7 +7,7 @@ ghost use Rattle.partition_seen.specs.Sound.{turns_left};
 ghost use Rattle.partition_seen.specs.Turn.{event_of};
 ghost use Rattle.partition_seen.specs.declared.begun.Turned.TheVariants as turned;
 ghost use Rattle.plain_log.specs.declared.journal.Event.TheVariants as event;
-ghost use Rattle.partition_world.specs.declared.seat.Outcome.TheVariants.{Chose, Goes, Seeks, Dooms, Deletes};
+ghost use Rattle.partition_world.specs.declared.seat.Outcome.TheVariants.{Chose, Goes, Seeks, Dooms, Deletes, Rebuilds};
 ghost use Rattle.partition_world.specs.Seats.{seat_after, told_of, told_count, stepped_of};
 
 use crate::seat::{Outcome, Seat, Work};
@@ -15,6 +15,7 @@ use copy_task::{Copying, Next};
 use expiry_task::{Doomed, Next as Deletion};
 use partition_seen::{Begun, Stepped};
 use plain_log::{ActorList, Command, Event, Journal, JournalEntry};
+use rebuild_task::Next as Rebuild;
 use std::alloc::{AllocError, Global};
 use tier_base::{ActorId, Row};
 use tier_fetch::Next as Search;
@@ -139,6 +140,18 @@ fn delete_at(desk: &mut Row<Seat>, place: usize, next: Deletion)
     set_seat(desk, place, number, work);
 }
 
+/// Lets a join go on that begins its log anew.
+#[tactic(auto, using(crate::proofs::Sides::set_twice))]
+fn rebuild_at(desk: &mut Row<Seat>, place: usize, next: Rebuild)
+    requires { place < length desk.old }
+    ensures { IsSomeAnd (slice_get desk.old place) (λ seat. desk.new ≡ slice_set desk.old place (seat_after seat (Rebuilds next))) }
+{
+    let seat = take_seat(desk, place);
+    let number = seat.number;
+    let work = seat.work.rebuilding(next);
+    set_seat(desk, place, number, work);
+}
+
 /// Where the log was cut, of a join that begins.
 fn cut_of(command: &Command, begun: &Begun) -> Option<u64>
     ensures { event_of (turned.Begins begun.now) command.now ≡ event.Begins result }
@@ -206,6 +219,10 @@ pub(crate) fn enter(
         }
         Outcome::Deletes(next) => {
             delete_at(desk, place, next);
+            Stepped::Ran
+        }
+        Outcome::Rebuilds(next) => {
+            rebuild_at(desk, place, next);
             Stepped::Ran
         }
     }

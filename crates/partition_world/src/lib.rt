@@ -20,6 +20,7 @@ mod desk;
 mod expiries;
 mod fetches;
 mod laws;
+mod rebuilds;
 mod runs;
 mod seat;
 mod tier;

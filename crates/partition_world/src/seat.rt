@@ -1,12 +1,13 @@
 //! How far an actor has come, what is kept of its command between two turns, and what a turn came to.
 
 ghost use Rattle.std.specs.Prelude.{◌≡◌};
-ghost use Rattle.partition_world.specs.Seats.{chosen, moved, sought, doomed, deleting, outcome_of, copy_outcome, fetch_outcome, expiry_outcome};
+ghost use Rattle.partition_world.specs.Seats.{chosen, moved, sought, doomed, deleting, rebuilding, outcome_of, copy_outcome, fetch_outcome, expiry_outcome, rebuild_outcome};
 
 use copy_task::{CopyTurn, Copying, Next};
 use expiry_task::{Doomed, ExpiryTurn, Next as Deletion};
 use partition_seen::{Begun, Turned};
 use plain_log::Answer;
+use rebuild_task::{Next as Rebuild, RebuildTurn};
 use tier_fetch::{FetchTurn, Next as Search};
 
 /// What is kept of a command between its turns.
@@ -22,6 +23,8 @@ pub enum Work {
     Seeks(Begun, Search),
     /// An expiry of a remote segment, and what it does next.
     Expires(Begun, Doomed, Deletion),
+    /// A join whose broker has refreshed its view to begin its log anew, and what it does next.
+    Rebuilds(Begun, Rebuild),
 }
 
 /// An actor's place at the desk.
@@ -50,6 +53,8 @@ pub enum Outcome {
     Dooms(Doomed),
     /// An expiry goes on with this turn.
     Deletes(Deletion),
+    /// A join that begins its log anew goes on with this turn.
+    Rebuilds(Rebuild),
 }
 
 impl Work {
@@ -102,6 +107,17 @@ impl Work {
             other => other,
         }
     }
+
+    /// The work of a join that goes on to begin its log anew.
+    pub(crate) fn rebuilding(self, next: Rebuild) -> Work
+        ensures { result ≡ rebuilding self next }
+    {
+        match self {
+            Work::Noted(begun) => Work::Rebuilds(begun, next),
+            Work::Rebuilds(begun, _) => Work::Rebuilds(begun, next),
+            other => other,
+        }
+    }
 }
 
 /// What a turn came to of a command that the remote tier has no part in.
@@ -141,5 +157,15 @@ pub(crate) fn expiry_outcome(turn: ExpiryTurn) -> Outcome
     match turn {
         ExpiryTurn::Goes(next) => Outcome::Deletes(next),
         ExpiryTurn::Ends(answer) => Outcome::Answers(answer),
+    }
+}
+
+/// What a turn of a rebuild came to.
+pub(crate) fn rebuild_outcome(turn: RebuildTurn) -> Outcome
+    ensures { result ≡ rebuild_outcome turn }
+{
+    match turn {
+        RebuildTurn::Goes(next) => Outcome::Rebuilds(next),
+        RebuildTurn::Ends(answer) => Outcome::Answers(answer),
     }
 }

@@ -8,7 +8,7 @@ ghost use Rattle.partition_world.specs.Tier.{AtSide};
 ghost use Rattle.partition_world.specs.declared.seat.Work.TheVariants.{Seeks};
 ghost use Rattle.tier_fetch.specs.Turns.{IsFor};
 ghost use Rattle.partition_world.specs.Sound.{IsWorkFor};
-ghost use Rattle.partition_world.specs.Turns.{OwnRow, OwnOnRow, BeginRow, NotedRow, CopyingRow, SeekingRow, DeletingRow, TurnRow, StaysTier};
+ghost use Rattle.partition_world.specs.Turns.{OwnRow, OwnOnRow, BeginRow, NotedRow, CopyingRow, SeekingRow, DeletingRow, RebuildingRow, TurnRow, StaysTier};
 
 use crate::seat::{Outcome, Work, outcome_of};
 use crate::tier::Tier;
@@ -20,6 +20,7 @@ use object_store::Store;
 use partition_seen::Begun;
 use partition_turns::Held;
 use plain_log::{Command, Config, Order};
+use rebuild_task::Next as Rebuild;
 use std::alloc::{AllocError, Global};
 use tier_base::PartitionId;
 use tier_fetch::Next as Search;
@@ -58,6 +59,9 @@ impl<S: Store, M: MetaLog> Tier<S, M> {
             }
             Work::Expires(noted, doomed, next) => {
                 self.go_deleting(order, noted, *doomed, *next, held)
+            }
+            Work::Rebuilds(noted, next) => {
+                self.go_rebuilding(alloc, partition, order, noted, next, held)
             }
         }
     }
@@ -137,12 +141,13 @@ impl<S: Store, M: MetaLog> Tier<S, M> {
                 *limit,
                 held,
             ),
+            Command::Join => self.join_on(alloc, order, noted, held),
             _ => self.end_own(alloc, order, noted, held),
         }
     }
 
-    /// Carries out the last turn of a command that the remote tier has no part in.
-    fn end_own<D: Disk>(
+    /// Carries out the last turn of a command on a broker's log.
+    pub(crate) fn end_own<D: Disk>(
         &mut self,
         alloc: Global,
         order: &Order,
@@ -236,6 +241,36 @@ impl<S: Store, M: MetaLog> Tier<S, M> {
     {
         match &order.command {
             Command::Expire => self.delete_on(order.broker, noted, doomed, next, held),
+            // No other command has such a turn.
+            _ => Err(AllocError),
+        }
+    }
+
+    /// Carries out a turn of a join that begins its log anew.
+    fn go_rebuilding<D: Disk>(
+        &mut self,
+        alloc: Global,
+        partition: PartitionId,
+        order: &Order,
+        noted: &Begun,
+        next: &Rebuild,
+        held: &mut Held<D>,
+    ) -> Result<Outcome, AllocError>
+        requires node { CanStop held.old order.now.broker.0 }
+        requires side { order.now.broker.0 < length self.old.sides }
+        requires sound { HeldSound (length held.old.nodes) held.old }
+        ensures row { IfOk result (λ outcome. AtNode held.old order.now.broker.0 (λ x. AtSide self.old order.now.broker.0 (λ side.
+            RebuildingRow D.Disk S.Store partition held.old self.old order.now.broker.0 x side noted.now next.now order.now.command
+            outcome held.new self.new))) }
+        ensures err { OnErr result (StaysTier D.Disk S.Store M.MetaLog held.old self.old order.now.broker.0 held.new self.new) }
+    {
+        match (&order.command, next) {
+            (Command::Join, Rebuild::Epochs) => {
+                self.read_epochs(alloc, partition, order.broker, noted, held)
+            }
+            (Command::Join, Rebuild::Restart(line)) => {
+                self.restart(alloc, order, noted, line, held)
+            }
             // No other command has such a turn.
             _ => Err(AllocError),
         }

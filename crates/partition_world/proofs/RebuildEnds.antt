@@ -1,0 +1,85 @@
+-- What the turn of a rebuild that reads its line may come to, and that the store goes on to tell.
+use Rattle.std.proofs.Common.{◌≡◌, ap, subst, sym, ℕ, ◌<◌, List, Some, None, Option, Ok, Err, true, false}
+use mathlib.Core.Path.{fun_ext}
+use Rattle.std.specs.declared.result.Result.{Result}
+use Rattle.std.specs.declared.alloc.AllocError.{AllocError}
+use Rattle.tier_base.specs.Device.{Ran, fate_of}
+use Rattle.tier_base.specs.declared.fault.Trouble.{Trouble}
+use Rattle.tier_base.specs.declared.fault.Trouble.TheVariants.{Failed, NoMemory}
+use Rattle.object_store.specs.declared.call.StoreCall.TheVariants.{Get}
+use Rattle.object_store.specs.declared.placing.Spot.{Spot}
+use Rattle.object_store.specs.declared.store.Store.{Ghosts as StoreGhosts}
+use Rattle.remote_view.specs.Fold.{Seen as View}
+use Rattle.remote_find.specs.Pieces.{piece_at}
+use Rattle.rebuild_task.specs.declared.turn.Next.{Next}
+use Rattle.rebuild_task.specs.declared.turn.Next.TheVariants.{Epochs, Restart}
+use Rattle.rebuild_task.specs.declared.turn.RebuildTurn.{RebuildTurn}
+use Rattle.rebuild_task.specs.declared.turn.RebuildTurn.TheVariants.{Goes, Ends}
+use Rattle.rebuild_task.specs.declared.turn.Wanted.{Wanted}
+use Rattle.rebuild_task.specs.Turns.{Takes, EpochsRow, RebuildRow, epochs_of}
+use Rattle.plain_log.specs.declared.answer.Answer.{Answer}
+use Rattle.plain_log.specs.declared.answer.Answer.TheVariants.{StoreFault, Damaged}
+use Rattle.partition_world.specs.Calm.{IsCalm}
+use Rattle.partition_world.specs.Seats.{rebuild_outcome}
+use Rattle.partition_world.proofs.Quiet.{IsQuiet, call_calm, no_fault}
+
+-- it is answered so, or the log is begun anew next
+abbrev pub MayTurn : RebuildTurn → Type 0
+MayTurn (Goes (Restart line)) = Unit {0}
+MayTurn (Ends StoreFault) = Unit {0}
+MayTurn (Ends (Damaged place at)) = Unit {0}
+MayTurn other = ⊥
+
+may_same : (turn after : RebuildTurn) → ◌≡◌ {A = Result RebuildTurn AllocError} (Ok turn) (Ok after) → MayTurn after → MayTurn turn
+may_same turn after is may = let same : turn ≡ after = cc (is) in subst MayTurn (sym same) may
+
+takes_may : (wanted : ℕ) (spot : Spot) (answer : Result (Option (List ℕ)) Trouble) (turn : RebuildTurn) → Takes wanted spot answer (Ok turn) → MayTurn turn
+takes_may wanted spot (Err Failed) turn w = may_same turn _ w tt
+takes_may wanted spot (Err NoMemory) turn w = absurd (let no : false ≡ true = w in cc)
+takes_may wanted spot (Ok None) turn w = may_same turn _ w tt
+takes_may wanted spot (Ok (Some bytes)) (Goes (Restart line)) w = tt
+takes_may wanted spot (Ok (Some bytes)) (Goes next) w = elim w [ ]
+takes_may wanted spot (Ok (Some bytes)) (Ends answer) w = may_same (Ends answer) _ (ap (λ (a : Answer). Ok (Ends a)) w.0) tt
+
+quiet_same : (turn after : RebuildTurn) → ◌≡◌ {A = Result RebuildTurn AllocError} (Ok turn) (Ok after) → IsQuiet (rebuild_outcome after) → IsQuiet (rebuild_outcome turn)
+quiet_same turn after is q = let same : turn ≡ after = cc (is) in subst (λ (t : RebuildTurn). IsQuiet (rebuild_outcome t)) (sym same) q
+
+-- over a calm store it is no fault
+takes_quiet : {S : Type 0} (store : StoreGhosts S) (wanted : ℕ) (spot : Spot) (answer : Result (Option (List ℕ)) Trouble) (turn : RebuildTurn) (old new : S)
+    → Ran Get (fate_of answer) (store.control old) (store.control new) → Takes wanted spot answer (Ok turn) → IsCalm (store.control old) → IsQuiet (rebuild_outcome turn)
+takes_quiet store wanted spot (Err Failed) turn old new r w c = no_fault _ (store.control old) (store.control new) r c
+takes_quiet store wanted spot (Err NoMemory) turn old new r w c = absurd (let no : false ≡ true = w in cc)
+takes_quiet store wanted spot (Ok None) turn old new r w c = quiet_same turn _ w tt
+takes_quiet store wanted spot (Ok (Some bytes)) (Goes next) old new r w c = tt
+takes_quiet store wanted spot (Ok (Some bytes)) (Ends answer) old new r w c = subst (λ (a : Answer). IsQuiet (rebuild_outcome (Ends a))) (sym w.0) tt
+
+module _ {S : Type 0} (store : StoreGhosts S) where
+  epochs_may : (wanted : ℕ) (view : View) (spot : Option Spot) (turn : RebuildTurn) (old new : S) → EpochsRow store.content store.control wanted view spot (Ok turn) old new → MayTurn turn
+  epochs_may wanted view None turn old new w = may_same turn _ w.0 tt
+  epochs_may wanted view (Some spot) turn old new w = takes_may wanted spot w.answer turn w.takes
+
+  pub rebuild_may_turn : (wanted : Wanted) (line : List (ℕ × ℕ)) (view : View) (turn : RebuildTurn) (old new : S) → RebuildRow store.content store.control wanted line view (Ok turn) old new → MayTurn turn
+  rebuild_may_turn wanted line view turn old new w = epochs_may wanted.offset view _ turn old new w
+
+  -- the store holds and tells what it did
+  pub record IsKept (old new : S) : Type 0 where
+    pub tells : (store.content new).tells ≡ (store.content old).tells
+    pub objects : (store.content new).objects ≡ (store.content old).objects
+
+  epochs_kept : (wanted : ℕ) (view : View) (spot : Option Spot) (result : Result RebuildTurn AllocError) (old new : S) → EpochsRow store.content store.control wanted view spot result old new → IsKept old new
+  epochs_kept wanted view None result old new w = record { tells = ap (λ (s : S). (store.content s).tells) w.1; objects = ap (λ (s : S). (store.content s).objects) w.1 }
+  epochs_kept wanted view (Some spot) result old new w = record { tells = w.content.tells; objects = fun_ext (λ k. w.content.objects k) }
+
+  pub rebuild_kept : (wanted : Wanted) (line : List (ℕ × ℕ)) (view : View) (result : Result RebuildTurn AllocError) (old new : S) → RebuildRow store.content store.control wanted line view result old new → IsKept old new
+  rebuild_kept wanted line view result old new w = epochs_kept wanted.offset view _ result old new w
+
+  epochs_calm : (wanted : ℕ) (view : View) (spot : Option Spot) (turn : RebuildTurn) (old new : S) → EpochsRow store.content store.control wanted view spot (Ok turn) old new → IsCalm (store.control old)
+      → IsCalm (store.control new) × IsQuiet (rebuild_outcome turn)
+  epochs_calm wanted view None turn old new w c =
+      (rw w.1 c, quiet_same turn _ w.0 tt)
+  epochs_calm wanted view (Some spot) turn old new w c =
+      (call_calm _ _ (store.control old) (store.control new) w.control c, takes_quiet store wanted spot w.answer turn old new w.control w.takes c)
+
+  pub rebuild_calm : (wanted : Wanted) (line : List (ℕ × ℕ)) (view : View) (turn : RebuildTurn) (old new : S) → RebuildRow store.content store.control wanted line view (Ok turn) old new → IsCalm (store.control old)
+      → IsCalm (store.control new) × IsQuiet (rebuild_outcome turn)
+  rebuild_calm wanted line view turn old new w c = epochs_calm wanted.offset view _ turn old new w c

@@ -1,0 +1,92 @@
+-- What the turn of a rebuild does that reads the remote tier.
+--
+--   turn       does                                           answers
+--   Epochs     reads a remote segment's line of epochs        StoreFault, Damaged
+--
+-- The segment is the one that holds the last offset below the wanted one, by the leader's line up to there, the wanted offset
+-- standing for the log's end. The local log is to begin anew with the entries of the line that was read which start below the
+-- wanted offset. A view without such a segment, or that tells of a packed one, is damage of the metadata log. An object that isn't
+-- there is damaged at 0, and a text without a reading where it begins.
+--
+-- Source: KIP-405, where a follower that begins at its leader's local log start offset builds its leader epochs out of the remote
+-- segment of the offset before.
+use Rattle.std.specs.Prelude.{◌≡◌, ◌≢◌, ℕ, ◌-◌, List, drop, option_map, Option, Some, None, Ok, Err, IsErr, IfOk, IsTrue}
+use Rattle.std.specs.declared.result.Result.{Result}
+use Rattle.std.specs.declared.alloc.AllocError.{AllocError}
+use Rattle.tier_base.specs.declared.fault.Trouble.{Trouble}
+use Rattle.tier_base.specs.declared.fault.Trouble.TheVariants.{Failed, NoMemory}
+use Rattle.tier_base.specs.declared.names.PartitionId.{PartitionId}
+use Rattle.tier_base.specs.declared.names.SegmentId.{SegmentId}
+use Rattle.tier_base.specs.declared.plain.Part.TheVariants.{Epochs as EpochsPart}
+use Rattle.tier_base.specs.Device.{Control, Ran, fate_of}
+use Rattle.tier_base.specs.Told.{handed_after}
+use Rattle.epoch_line.specs.Line.{IsLine, cut_end}
+use Rattle.epoch_line.specs.Text.{text_of}
+use Rattle.segment_meta.specs.declared.note.Entry.{Entry}
+use Rattle.object_store.specs.declared.placing.Spot.{Spot}
+use Rattle.object_store.specs.declared.call.StoreCall.TheVariants.{Get}
+use Rattle.object_store.specs.Call.{call_code}
+use Rattle.object_store.specs.Content.{Content, Keeps}
+use Rattle.object_store.specs.Place.{spot_of}
+use Rattle.remote_view.specs.Fold.{Seen, entry_of}
+use Rattle.remote_find.specs.declared.piece.Piece.{Piece}
+use Rattle.remote_find.specs.Pieces.{piece_at}
+use Rattle.plain_log.specs.declared.answer.Answer.TheVariants.{StoreFault, Damaged}
+use Rattle.plain_log.specs.declared.answer.Place.TheVariants.{Key, Meta}
+use Rattle.rebuild_task.specs.declared.turn.Wanted.{Wanted}
+use Rattle.rebuild_task.specs.declared.turn.Next.TheVariants.{Restart}
+use Rattle.rebuild_task.specs.declared.turn.RebuildTurn.{RebuildTurn}
+use Rattle.rebuild_task.specs.declared.turn.RebuildTurn.TheVariants.{Goes, Ends}
+
+-- where a segment's epochs stand, by its entry
+abbrev pub spot_in : PartitionId → SegmentId → Option Entry → Option Spot
+spot_in partition id None = None
+spot_in partition id (Some entry) = spot_of partition id entry.packed entry.custom EpochsPart
+
+-- where those of a piece's segment stand, by a view's entries
+abbrev pub epochs_of : PartitionId → List Entry → Option Piece → Option Spot
+epochs_of partition entries None = None
+epochs_of partition entries (Some piece) = spot_in partition piece.id (entry_of piece.id entries)
+
+-- the bytes are the text of a line, whose entries that start below the wanted offset are taken
+pub record IsTaken (wanted : ℕ) (bytes : List ℕ) (line : List (ℕ × ℕ)) : Type 0 where
+  pub whole : List (ℕ × ℕ)
+  pub rises : IsLine whole
+  pub bytes_are : bytes ≡ text_of whole
+  pub line_is : line ≡ cut_end whole wanted
+
+-- they are the text of no line
+abbrev pub IsUnread : List ℕ → Type 0
+IsUnread bytes = (line : List (ℕ × ℕ)) → IsLine line → bytes ≢ text_of line
+
+-- what becomes of a rebuild by what the store answered
+abbrev pub Takes : ℕ → Spot → Result (Option (List ℕ)) Trouble → Result RebuildTurn AllocError → Type 0
+Takes wanted spot (Err Failed) result = result ≡ Ok (Ends StoreFault)
+Takes wanted spot (Err NoMemory) result = IsErr result
+Takes wanted spot (Ok None) result = result ≡ Ok (Ends (Damaged (Key spot.key) 0))
+Takes wanted spot (Ok (Some bytes)) (Ok (Goes (Restart line))) = IsTaken wanted bytes line
+Takes wanted spot (Ok (Some bytes)) (Ok (Goes next)) = ⊥
+Takes wanted spot (Ok (Some bytes)) (Ok (Ends answer)) = (answer ≡ Damaged (Key spot.key) spot.at) × IsUnread bytes
+Takes wanted spot (Ok (Some bytes)) (Err e) = Unit {0}
+
+module _ {S : Type 0} (objects : S → Content) (calls : S → Control call_code) where
+  -- one read of a segment's epochs
+  pub record ReadsEpochs (wanted : ℕ) (spot : Spot) (result : Result RebuildTurn AllocError) (old new : S) : Type 0 where
+    pub answer : Result (Option (List ℕ)) Trouble
+    pub control : Ran Get (fate_of answer) (calls old) (calls new)
+    pub handed : (calls new).handed ≡ handed_after answer (calls old).handed
+    pub content : Keeps (objects old) (objects new)
+    pub bytes : IsTrue (objects old).tells
+        → IfOk answer (λ given. given ≡ option_map (drop spot.at) ((objects old).objects spot.key))
+    pub takes : Takes wanted spot answer result
+
+  -- they are read where they stand
+  abbrev pub EpochsRow : ℕ → Seen → Option Spot → Result RebuildTurn AllocError → S → S → Type 0
+  EpochsRow wanted view None result old new = (result ≡ Ok (Ends (Damaged Meta view.notes))) × (new ≡ old)
+  EpochsRow wanted view (Some spot) result old new = ReadsEpochs wanted spot result old new
+
+  -- a turn of a rebuild: what it came to, or that it wanted memory
+  abbrev pub RebuildRow : Wanted → List (ℕ × ℕ) → Seen → Result RebuildTurn AllocError → S → S → Type 0
+  RebuildRow wanted line view result old new =
+      EpochsRow wanted.offset view
+      (epochs_of wanted.partition view.entries (piece_at view.entries line wanted.offset (wanted.offset - 1))) result old new

@@ -1,0 +1,95 @@
+//! The turn of a rebuild that reads the remote tier, at most one call of a device.
+
+ghost use Rattle.std.specs.Prelude.{◌≡◌, ◌-◌, Ok};
+ghost use Rattle.plain_log.specs.declared.answer.Answer.TheVariants.{Damaged};
+ghost use Rattle.plain_log.specs.declared.answer.Place.TheVariants.{Key, Meta};
+ghost use Rattle.remote_find.specs.Pieces.{piece_at};
+ghost use Rattle.rebuild_task.specs.declared.turn.RebuildTurn.TheVariants.{Ends};
+ghost use Rattle.rebuild_task.specs.Turns.{epochs_of, Takes, RebuildRow};
+
+use crate::turn::{Next, RebuildTurn, Wanted};
+use bytes::Bytes;
+use epoch_line::{Line, TextRefusal};
+use object_store::{Spot, Store, place};
+use plain_log::{Answer, Place};
+use remote_find::find;
+use remote_view::View;
+use std::alloc::{AllocError, Global};
+use tier_base::{Part, Trouble};
+
+/// Reads the line of leader epochs up to the wanted offset. The line that is given is the leader's, up to there.
+pub fn rebuild_turn<S: Store>(
+    alloc: Global,
+    wanted: Wanted,
+    line: &Line,
+    view: &View,
+    store: &mut S,
+) -> Result<RebuildTurn, AllocError>
+    ensures { RebuildRow S.content S.control wanted line.now view.now result store.old store.new }
+{
+    let Some(spot) = epochs_of(wanted, line, view) else {
+        return Ok(lost(view));
+    };
+    let answer = store.get(&spot.key, spot.at);
+    match answer {
+        Ok(given) => take(alloc, wanted.offset, &spot, given),
+        Err(Trouble::Failed) => Ok(RebuildTurn::Ends(Answer::StoreFault)),
+        Err(Trouble::NoMemory) => Err(AllocError),
+    }
+}
+
+/// Where the epochs stand of the segment that holds the last offset below the wanted one.
+fn epochs_of(wanted: Wanted, line: &Line, view: &View) -> Option<Spot>
+    ensures { result ≡ epochs_of wanted.partition view.now.entries
+        (piece_at view.now.entries line.now wanted.offset (wanted.offset - 1)) }
+{
+    let Some(piece) = find(view, line, wanted.offset, wanted.offset.saturating_sub(1)) else {
+        return None;
+    };
+    let Some(entry) = view.entry(piece.id) else {
+        return None;
+    };
+    place(
+        wanted.partition,
+        piece.id,
+        entry.packed,
+        entry.custom.as_ref(),
+        Part::Epochs,
+    )
+}
+
+/// Reads a line in what the store gave, and takes what starts below the wanted offset.
+fn take(
+    alloc: Global,
+    wanted: u64,
+    spot: &Spot,
+    given: Option<Bytes>,
+) -> Result<RebuildTurn, AllocError>
+    ensures { Takes wanted spot.now (Ok given) result }
+{
+    let Some(bytes) = given else {
+        return Ok(damaged(spot, 0));
+    };
+    match Line::from_text(alloc, bytes.as_slice()) {
+        Ok(mut line) => {
+            line.cut_end(wanted);
+            Ok(RebuildTurn::Goes(Next::Restart(line)))
+        }
+        Err(TextRefusal::BadText { .. }) => Ok(damaged(spot, spot.at)),
+        Err(TextRefusal::NoMemory) => Err(AllocError),
+    }
+}
+
+/// A view that lacks what the notes must hold is damage of the metadata log.
+fn lost(view: &View) -> RebuildTurn
+    ensures { result ≡ Ends (Damaged Meta view.now.notes) }
+{
+    RebuildTurn::Ends(Answer::Damaged(Place::Meta, view.seen()))
+}
+
+/// An object that is absent, or has no reading from a place on.
+fn damaged(spot: &Spot, at: u64) -> RebuildTurn
+    ensures { result ≡ Ends (Damaged (Key spot.now.key) at) }
+{
+    RebuildTurn::Ends(Answer::Damaged(Place::Key(spot.key), at))
+}
