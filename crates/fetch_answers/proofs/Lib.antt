@@ -1,0 +1,12 @@
+pub mod Ends
+pub mod Reading
+pub mod Grows
+pub mod Notes
+pub mod Places
+pub mod Known
+pub mod Causes
+pub mod Damage
+pub mod Progress
+pub mod Runs
+pub mod Served
+pub mod Schedules

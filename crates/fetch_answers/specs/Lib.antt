@@ -1,0 +1,5 @@
+pub mod Found
+pub mod Causes
+pub mod Damage
+pub mod Progress
+pub mod Laws

@@ -1,0 +1,97 @@
+//! Laws of what a fetch is answered. Each is the contract of a function that does nothing: calling
+//! it cites the law.
+
+ghost use Rattle.fetch_answers.specs.Laws.{PiecesEnd, FetchesHaveCauses, NoFetchIsDamaged};
+ghost use Rattle.fetch_answers.specs.Laws.{FetchesMeetNoDamage, FetchesGoOn};
+ghost use Rattle.fetch_answers.specs.Laws.{FetchesAreAnswered, UnhinderedAreServed};
+ghost use Rattle.fetch_answers.specs.Laws.{UnfailingAreServed, SchedulesAnswerFetches};
+ghost use Rattle.fetch_answers.specs.Laws.{ReachesSpans, TurnsKeepSpans, FreshHasSpans};
+
+use disk_model::Disk;
+use meta_log::MetaLog;
+use object_store::Store;
+
+/// A piece that is found by a log's line ends where a batch of that log does.
+pub fn pieces_end()
+    ensures { PiecesEnd }
+{}
+
+/// Over devices that tell, each answer of a fetch has its cause. None is `Damaged`.
+pub fn fetches_have_causes<D: Disk, S: Store, M: MetaLog>()
+    ensures { FetchesHaveCauses D.Disk S.Store M.MetaLog }
+{}
+
+/// No fetch is answered `Damaged` there.
+pub fn no_fetch_is_damaged<D: Disk, S: Store, M: MetaLog>()
+    ensures { NoFetchIsDamaged D.Disk S.Store M.MetaLog }
+{}
+
+/// Nor does the journal tell of such an answer, of a world that a schedule reaches from a fresh one.
+pub fn fetches_meet_no_damage<D: Disk, S: Store, M: MetaLog>()
+    ensures { FetchesMeetNoDamage D.Disk S.Store M.MetaLog }
+{}
+
+/// A turn of a fetch that isn't answered leaves fewer to come.
+pub fn fetches_go_on<D: Disk, S: Store, M: MetaLog>()
+    ensures { FetchesGoOn D.Disk S.Store M.MetaLog }
+{}
+
+/// A fetch is answered by its fourth turn, whatever the devices do, and whatever turns of other
+/// actors come between.
+pub fn fetches_are_answered<D: Disk, S: Store, M: MetaLog>()
+    ensures { FetchesAreAnswered D.Disk S.Store M.MetaLog }
+{}
+
+/// A fetch whose broker leads on, of an offset that the log start isn't past and the known high
+/// watermark is, and that meets no fault is answered by a run.
+pub fn unhindered_are_served<D: Disk, S: Store, M: MetaLog>()
+    ensures { UnhinderedAreServed D.Disk S.Store M.MetaLog }
+{}
+
+/// Over devices of which no call can fail a fetch is answered so where its broker leads on and may
+/// give the offset.
+pub fn unfailing_are_served<D: Disk, S: Store, M: MetaLog>()
+    ensures { UnfailingAreServed D.Disk S.Store M.MetaLog }
+{}
+
+/// A schedule that gives its actor four turns answers a fetch.
+pub fn schedules_answer_fetches<D: Disk, S: Store, M: MetaLog>()
+    ensures { SchedulesAnswerFetches D.Disk S.Store M.MetaLog }
+{}
+
+/// What a schedule reaches keeps what is known of what fetches have found, beside the central fact.
+pub fn reaches_spans<D: Disk, S: Store, M: MetaLog>()
+    ensures { ReachesSpans D.Disk S.Store M.MetaLog }
+{}
+
+/// Each turn keeps what is known of what fetches have found.
+pub fn turns_keep_spans<D: Disk, S: Store, M: MetaLog>()
+    ensures { TurnsKeepSpans D.Disk S.Store M.MetaLog }
+{}
+
+/// It is known of a fresh world.
+pub fn fresh_has_spans<D: Disk, S: Store, M: MetaLog>()
+    ensures { FreshHasSpans D.Disk S.Store M.MetaLog }
+{}
+
+#[cfg(test)]
+mod tests {
+    use super::{
+        fetches_are_answered, fetches_have_causes, fetches_meet_no_damage, fresh_has_spans,
+        turns_keep_spans, unfailing_are_served, unhindered_are_served,
+    };
+    use disk_model::MemoryDisk;
+    use meta_log::MemoryLog;
+    use object_store::MemoryStore;
+
+    #[test]
+    fn fetches_over_devices_in_memory_are_served() {
+        fresh_has_spans::<MemoryDisk, MemoryStore, MemoryLog>();
+        turns_keep_spans::<MemoryDisk, MemoryStore, MemoryLog>();
+        fetches_have_causes::<MemoryDisk, MemoryStore, MemoryLog>();
+        fetches_are_answered::<MemoryDisk, MemoryStore, MemoryLog>();
+        fetches_meet_no_damage::<MemoryDisk, MemoryStore, MemoryLog>();
+        unhindered_are_served::<MemoryDisk, MemoryStore, MemoryLog>();
+        unfailing_are_served::<MemoryDisk, MemoryStore, MemoryLog>();
+    }
+}
