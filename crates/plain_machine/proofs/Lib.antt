@@ -10,4 +10,7 @@ pub mod Actors
 pub mod Safety
 pub mod Taken
 pub mod Verdicts
+pub mod Tally
+pub mod Completion
+pub mod Fitting
 pub mod Rows

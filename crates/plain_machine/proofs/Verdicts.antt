@@ -1,6 +1,6 @@
--- What a verdict on a journal says of runs.
-use Rattle.std.proofs.Common.{◌≡◌, refl, subst, ℕ, zero, suc, List, [], ◌∷◌, take, Some, None, Option, Bool, true, false, ◌↔◌}
-use Rattle.std.specs.Prelude.{slice_get, is_none, is_some, not, IsTrue}
+-- What a replay says of runs.
+use Rattle.std.proofs.Common.{◌≡◌, refl, sym, subst, ℕ, zero, suc, List, [], ◌∷◌, take, Some, None, Option, Bool, ◌↔◌}
+use Rattle.std.specs.Prelude.{slice_get, is_some, IsTrue}
 use Rattle.log_terms.proofs.Lists.{and_then_some}
 use Rattle.plain_log.specs.declared.command.ActorList.{ActorList}
 use Rattle.plain_log.specs.declared.command.Config.{Config}
@@ -8,7 +8,6 @@ use Rattle.plain_log.specs.declared.journal.JournalEntry.{JournalEntry}
 use Rattle.plain_log.specs.declared.state.State.{State}
 use Rattle.plain_log.specs.Fresh.{fresh}
 use Rattle.plain_log.specs.Runs.{replay, entry_step, IsPlainRun}
-use Rattle.plain_machine.specs.Traces.{IsFirstRefused, IsVerdict}
 
 -- an entry that is no step ends the replay
 pub ends : (lists : List ActorList) (p : State) (journal : List JournalEntry) (place : ℕ) (q : State) (entry : JournalEntry)
@@ -25,23 +24,8 @@ ends lists p (first ∷ journal) (suc place) q entry run get none =
     let m = and_then_some (λ (w : State). replay lists w (take place journal)) (entry_step lists p first) q run in
     rw m.1 (ends lists m.0 journal place q entry m.2 get none)
 
--- so the journal is no run
-pub not_run : (config : Config) (lists : List ActorList) (journal : List JournalEntry) (place : ℕ) → IsFirstRefused config lists journal place
-    → IsPlainRun config lists journal → ⊥
-not_run config lists journal place h run =
-    let none = ends lists (fresh config) journal place h.state h.entry h.run h.entry_is h.refused in
-    let some = run.replays in
-    cc (none, some)
-
--- the verdict that there is no such entry is that the journal is a run
-pub verdict_tells : (config : Config) (lists : List ActorList) (journal : List JournalEntry) (place : Option ℕ) → IsVerdict config lists journal place
-    → IsTrue (is_none place) ↔ IsPlainRun config lists journal
-verdict_tells config lists journal None h = (λ t. h, λ run. refl)
-verdict_tells config lists journal (Some place) h = (λ t. absurd (cc t), λ run. absurd (not_run config lists journal place h run))
-
--- a test that an option is none, made by the other one
-pub none_told : (o : Option ℕ) (r : Bool) → is_some o ≡ not r → is_none o ≡ r
-none_told None true e = refl
-none_told None false e = absurd cc
-none_told (Some n) true e = absurd cc
-none_told (Some n) false e = refl
+-- the state after a journal tells whether it is a run
+pub state_tells : (config : Config) (lists : List ActorList) (journal : List JournalEntry) (o : Option State) (r : Bool) → o ≡ replay lists (fresh config) journal
+    → r ≡ is_some o → IsTrue r ↔ IsPlainRun config lists journal
+state_tells config lists journal None r e is = (λ t. absurd (cc (t, is)), λ run. absurd (let some = run.replays in cc (e, some)))
+state_tells config lists journal (Some p) r e is = (λ t. record { last = p; replays = sym e }, λ run. is)

@@ -1,4 +1,5 @@
 pub mod Change
+pub mod Complete
 pub mod Fits
 pub mod Stepped
 pub mod Traces

@@ -8,13 +8,15 @@
 //! Batches are shared bytes, so a log, a path and what is committed have them in common. Ends of logs are numbers of 128
 //! bits, since the model's have no bound; where one would have to be kept that has no 64, there is no memory for it.
 //!
-//! `first_refused` and `is_run` go over whole journals.
+//! `replay`, `first_refused`, `is_run` and `is_complete_run` go over whole journals by steps, `is_complete` by counts alone.
 #![tactic(auto)]
 
 mod altering;
 mod beginning;
 mod bytes_of;
 mod change;
+mod complete;
+mod counts;
 mod deciding;
 mod elections;
 mod ends;
@@ -35,5 +37,6 @@ mod tests;
 mod tiers;
 mod trace;
 
+pub use complete::{is_complete, is_complete_run, runs_end_complete};
 pub use plain::Plain;
-pub use trace::{first_refused, is_run};
+pub use trace::{find_order, first_refused, is_run, replay};

@@ -4,6 +4,7 @@ ghost use Rattle.std.specs.Prelude.{◌≡◌, ◌≤◌, ◌<◌, IfOk, OnErr, 
 ghost use Rattle.log_terms.specs.Log.{end_of};
 ghost use Rattle.plain_log.specs.Fresh.{fresh};
 ghost use Rattle.plain_log.specs.declared.state.Broker.{Broker as BrokerIs};
+ghost use Rattle.plain_log.specs.State.{actor_at};
 ghost use Rattle.plain_log.specs.Step.{step};
 ghost use Rattle.plain_machine.specs.Fits.{IsFor};
 ghost use Rattle.plain_machine.specs.Stepped.{Stepped};
@@ -14,7 +15,7 @@ use crate::stepping;
 use plain_log::{Config, JournalEntry, Order, State, fresh_is_safe, steps_keep_safe};
 use std::alloc::{AllocError, Global};
 use std::marker::Model;
-use tier_base::BrokerId;
+use tier_base::{ActorId, BrokerId};
 
 /// The plain log's state. Its safety rules hold.
 #[derive(Debug, Drop)]
@@ -55,11 +56,18 @@ impl Plain {
     }
 
     /// The high watermark that a broker knows.
-    pub fn mark(&self, broker: BrokerId) -> u64
+    pub fn known(&self, broker: BrokerId) -> u64
         requires { broker.0 < length self.now.brokers }
         ensures { (x : BrokerIs) → slice_get self.now.brokers broker.0 ≡ Some x → result ≡ x.known }
     {
         self.state.brokers.get(broker.0 as usize).known
+    }
+
+    /// The high watermark.
+    pub fn mark(&self) -> u64
+        ensures { result ≡ self.now.registry.mark }
+    {
+        self.state.registry.mark
     }
 
     /// The log start offset.
@@ -74,6 +82,13 @@ impl Plain {
         ensures { result ≡ length self.now.brokers }
     {
         self.state.brokers.len()
+    }
+
+    /// The number of an actor's next command, or of the one that has begun: how many of its commands were answered.
+    pub fn number(&self, actor: ActorId) -> u32
+        ensures { result ≡ (actor_at self.now.actors actor.0).number }
+    {
+        stepping::number(&self.state, actor.0 as usize)
     }
 
     /// Carries out an entry of a journal about an order, and answers whether it is a step of the plain log. Where it

@@ -1,8 +1,9 @@
 //! The happy path of each public call, and an entry that is refused. Expected values are worked by hand.
 
-ghost use Rattle.std.specs.Prelude.{◌≡◌};
+ghost use Rattle.std.specs.Prelude.{◌≡◌, All, IfOk};
+ghost use Rattle.plain_machine.specs.Fits.{AreFor, IsFor};
 
-use crate::{Plain, first_refused, is_run};
+use crate::{Plain, first_refused, is_complete, is_complete_run, is_run};
 use plain_log::{ActorList, Answer, Command, Config, Event, JournalEntry, Order};
 use std::alloc::{AllocError, Global};
 use std::test::Fail;
@@ -124,17 +125,20 @@ fn first_wrong(alloc: Global, rows: &[(Step, bool)]) -> Result<Option<usize>, Al
     Ok(None)
 }
 
-/// What is told of a fresh state: the first end, the first mark, the log start, and how many brokers there are.
-fn told(alloc: Global) -> Result<(u128, u64, u64, usize), AllocError> {
+/// What is told of a fresh state: the first end, the first known mark, the mark, the log start, an actor's number, and
+/// how many brokers there are.
+fn told(alloc: Global) -> Result<(u128, u64, u64, u64, u32, usize), AllocError> {
     let plain = Plain::fresh(alloc, &config())?;
     if plain.count() == 0 {
-        return Ok((1, 1, 1, 0));
+        return Ok((1, 1, 1, 1, 1, 0));
     }
     let first = BrokerId(0);
     Ok((
         plain.end(first),
-        plain.mark(first),
+        plain.known(first),
+        plain.mark(),
         plain.start(),
+        plain.number(ActorId(3)),
         plain.count(),
     ))
 }
@@ -155,6 +159,128 @@ fn verdict(alloc: Global, entries: u32) -> Result<(Option<usize>, bool), AllocEr
     Ok((place, is))
 }
 
+/// An actor's flushes of broker 1.
+fn flushes(alloc: Global, actor: u16, count: u32) -> Result<ActorList, AllocError>
+    ensures { IfOk result (λ list. All (λ order. IsFor order.command) list.orders) }
+{
+    let mut orders = Row::new(alloc);
+    for _ in 0..count {
+        orders.push(Order {
+            broker: BrokerId(1),
+            command: Command::Flush,
+        })?;
+    }
+    Ok(ActorList {
+        actor: ActorId(actor),
+        orders,
+    })
+}
+
+/// The lists of two actors: two orders of actor 0, and one of actor 2.
+fn lists(alloc: Global) -> Result<Row<ActorList>, AllocError>
+    ensures { IfOk result (λ lists. AreFor lists) }
+{
+    let mut lists = Row::new(alloc);
+    lists.push(flushes(alloc, 0, 2)?)?;
+    lists.push(flushes(alloc, 2, 1)?)?;
+    Ok(lists)
+}
+
+/// A journal of answers to flushes, each of an actor and with a number and an end.
+fn journal(alloc: Global, answers: &[(u16, u32, u64)]) -> Result<Row<JournalEntry>, AllocError> {
+    let mut journal = Row::new(alloc);
+    for (actor, number, end) in answers {
+        journal.push(JournalEntry {
+            actor: ActorId(*actor),
+            number: *number,
+            event: Event::Answers(Answer::OkAt(*end)),
+        })?;
+    }
+    Ok(journal)
+}
+
+/// Answers to flushes, and whether they are a run and are complete.
+struct Case {
+    answers: &'static [(u16, u32, u64)],
+    is_run: bool,
+    is_complete: bool,
+}
+
+/// Journals of the two lists.
+static JOURNALS: [Case; 8] = [
+    Case {
+        answers: &[],
+        is_run: true,
+        is_complete: false,
+    },
+    Case {
+        answers: &[(0, 0, 0), (2, 0, 0), (0, 1, 0)],
+        is_run: true,
+        is_complete: true,
+    },
+    Case {
+        answers: &[(0, 0, 0), (0, 1, 0)],
+        is_run: true,
+        is_complete: false,
+    },
+    Case {
+        answers: &[(2, 0, 0), (0, 0, 0)],
+        is_run: true,
+        is_complete: false,
+    },
+    Case {
+        answers: &[(0, 1, 0), (0, 0, 0), (2, 0, 0)],
+        is_run: false,
+        is_complete: false,
+    },
+    Case {
+        answers: &[(0, 0, 0), (0, 0, 0), (2, 0, 0)],
+        is_run: false,
+        is_complete: false,
+    },
+    Case {
+        answers: &[(0, 0, 0), (2, 0, 0), (0, 1, 0), (5, 0, 0)],
+        is_run: false,
+        is_complete: false,
+    },
+    Case {
+        answers: &[(0, 0, 7), (0, 1, 7), (2, 0, 7)],
+        is_run: false,
+        is_complete: true,
+    },
+];
+
+/// Whether a journal is told as its row has it.
+fn is_told(alloc: Global, case: &Case) -> Result<bool, AllocError> {
+    let lists = lists(alloc)?;
+    let journal = journal(alloc, case.answers)?;
+    let (lists, journal) = (lists.as_slice(), journal.as_slice());
+    let run = is_run(alloc, &config(), lists, journal)?;
+    let complete = is_complete(alloc, lists, journal)?;
+    let both = is_complete_run(alloc, &config(), lists, journal)?;
+    Ok(run == case.is_run && complete == case.is_complete && both == (run && complete))
+}
+
+/// Goes over journals, and answers the first that went wrong.
+fn first_mistold(alloc: Global, journals: &[Case]) -> Result<Option<usize>, AllocError> {
+    for (i, case) in journals.iter().enumerate() {
+        if !is_told(alloc, case)? {
+            return Ok(Some(i));
+        }
+    }
+    Ok(None)
+}
+
+#[test]
+fn a_complete_run_is_told(rt: HostRuntime) -> Result<(), Fail> {
+    assert_eq!(rt;
+        first_mistold(rt.alloc(), JOURNALS.as_slice())?,
+        None,
+        "a journal of the table"
+    );
+    Ok(())
+}
+
 #[test]
 fn steps_are_taken_in_order(rt: HostRuntime) -> Result<(), Fail> {
     assert_eq!(rt;
@@ -162,7 +288,7 @@ fn steps_are_taken_in_order(rt: HostRuntime) -> Result<(), Fail> {
         None,
         "a row of the table"
     );
-    assert_eq!(rt; told(rt.alloc())?, (0, 0, 0, 2));
+    assert_eq!(rt; told(rt.alloc())?, (0, 0, 0, 0, 0, 2));
     Ok(())
 }
 

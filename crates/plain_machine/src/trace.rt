@@ -2,7 +2,8 @@
 
 ghost use Rattle.std.specs.Prelude.{◌≡◌, ◌≤◌, ◌↔◌, [], IsTrue, IfOk, option_map, unwrap_or};
 ghost use Rattle.std.specs.Option.{option_copied};
-ghost use Rattle.plain_log.specs.Runs.{orders_of, order_of, entry_step, IsPlainRun, IsInOrder};
+ghost use Rattle.plain_log.specs.Fresh.{fresh};
+ghost use Rattle.plain_log.specs.Runs.{replay as replay_of, orders_of, order_of, entry_step, IsPlainRun, IsInOrder};
 ghost use Rattle.plain_machine.specs.Fits.{AreFor};
 ghost use Rattle.plain_machine.specs.Stepped.{Stepped};
 ghost use Rattle.plain_machine.specs.Traces.{IsVerdict};
@@ -23,8 +24,8 @@ fn list_of(lists: &[ActorList], a: u16) -> Option<&[Order]>
     None
 }
 
-/// The order that an entry is about.
-fn find_order<'a>(lists: &'a [ActorList], entry: &JournalEntry) -> Option<&'a Order>
+/// Finds the order that an entry is about.
+pub fn find_order<'a>(lists: &'a [ActorList], entry: &JournalEntry) -> Option<&'a Order>
     ensures { option_copied result ≡ order_of lists.now entry.now }
 {
     match list_of(lists, entry.actor.0) {
@@ -73,6 +74,27 @@ pub fn first_refused(
     Ok(None)
 }
 
+/// Carries out a journal, and answers the state after it, or none where an entry is no step of the plain log.
+pub fn replay(
+    alloc: Global,
+    config: &Config,
+    lists: &[ActorList],
+    journal: &[JournalEntry],
+) -> Result<Option<Plain>, AllocError>
+    requires some { 1 ≤ config.now.brokers }
+    requires few { config.now.brokers ≤ 8 }
+    requires fit { AreFor lists.now }
+    ensures { IfOk result (λ last. last ≡ replay_of lists.now (fresh config.now) journal.now) }
+{
+    let mut plain = Plain::fresh(alloc, config)?;
+    for entry in journal {
+        if !take(alloc, &mut plain, lists, entry)? {
+            return Ok(None);
+        }
+    }
+    Ok(Some(plain))
+}
+
 /// Answers whether a journal is a run of the plain log.
 pub fn is_run(
     alloc: Global,
@@ -87,6 +109,6 @@ pub fn is_run(
     ensures ordered { IfOk result (λ is. IsTrue is → IsInOrder journal.now) }
 {
     runs_answer_in_order();
-    let place = first_refused(alloc, config, lists, journal)?;
-    Ok(place.is_none())
+    let last = replay(alloc, config, lists, journal)?;
+    Ok(last.is_some())
 }

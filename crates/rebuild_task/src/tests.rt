@@ -72,7 +72,10 @@ enum Came {
     /// It has read the line of the text that was expected.
     Reads,
     StoreFault,
-    Damaged(Place, u64),
+    /// The epochs are damaged at their beginning.
+    DamagedEpochs,
+    /// The metadata log is damaged behind its second note.
+    DamagedNotes,
     Other,
 }
 
@@ -87,7 +90,10 @@ fn came_to(alloc: Global, turn: &RebuildTurn, text: &[u8]) -> Result<Came, Fail>
             }
         }
         RebuildTurn::Ends(Answer::StoreFault) => Came::StoreFault,
-        RebuildTurn::Ends(Answer::Damaged(place, at)) => Came::Damaged(*place, *at),
+        RebuildTurn::Ends(Answer::Damaged(Place::Key(found), 0)) if *found == key() => {
+            Came::DamagedEpochs
+        }
+        RebuildTurn::Ends(Answer::Damaged(Place::Meta, 2)) => Came::DamagedNotes,
         RebuildTurn::Goes(Next::Epochs) | RebuildTurn::Ends(_) => Came::Other,
     })
 }
@@ -140,20 +146,19 @@ fn a_line_is_read_up_to_the_wanted_offset(rt: HostRuntime) -> Result<(), Fail> {
 #[test]
 fn what_is_not_there_is_damaged(rt: HostRuntime) -> Result<(), Fail> {
     let alloc = rt.alloc();
-    let epochs = Place::Key(key());
-    // The wanted offset, the leader's line, the epochs that stand there, and what is damaged, at which place. Of the offset 4,
-    // of none below 0, and of epoch 3 there is no copy.
-    let rows: [(u64, &[u8], Option<&[u8]>, Place, u64); 5] = [
-        (4, LINE, None, epochs, 0),
-        (4, LINE, Some(b"0\n2\n0 0\n"), epochs, 0),
-        (5, LINE, Some(LINE), Place::Meta, 2),
-        (0, LINE, Some(LINE), Place::Meta, 2),
-        (4, b"0\n2\n0 0\n3 2\n", Some(LINE), Place::Meta, 2),
+    // The wanted offset, the leader's line, the epochs that stand there, and what is damaged. Of the offset 4, of none below 0,
+    // and of epoch 3 there is no copy.
+    let rows: [(u64, &[u8], Option<&[u8]>, Came); 5] = [
+        (4, LINE, None, Came::DamagedEpochs),
+        (4, LINE, Some(b"0\n2\n0 0\n"), Came::DamagedEpochs),
+        (5, LINE, Some(LINE), Came::DamagedNotes),
+        (0, LINE, Some(LINE), Came::DamagedNotes),
+        (4, b"0\n2\n0 0\n3 2\n", Some(LINE), Came::DamagedNotes),
     ];
-    for (offset, leaders, held, place, at) in rows {
+    for (offset, leaders, held, damaged) in rows {
         let mut store = holding(alloc, held)?;
         let came = read(alloc, offset, leaders, &mut store, LINE)?;
-        assert_eq!(rt; came, Came::Damaged(place, at), "offset {offset}");
+        assert_eq!(rt; came, damaged, "offset {offset}");
     }
     Ok(())
 }
