@@ -16,8 +16,7 @@ use Rattle.plain_log.specs.Runs.{IsPlainRun, IsComplete}
 use Rattle.plain_log.specs.Laws.{FreshIsSafe, ReplaysKeepSafe}
 use Rattle.plain_log.specs.Safe.{PlainSafe}
 use Rattle.plain_log.proofs.Grows.{replay_led, replay_runs}
-use Rattle.fetch_answers.specs.Damage.{MeetsNoDamage}
-use Rattle.fetch_answers.specs.Laws.{FetchesMeetNoDamage}
+use Rattle.no_damage.specs.Laws.{RunsMeetNoDamage}
 use Rattle.partition_world.specs.Whole.{Whole}
 use Rattle.partition_world.specs.Turn.{IsAtEnd}
 use Rattle.partition_world.specs.Central.{IsCentral}
@@ -71,7 +70,7 @@ module _ {D S M : Type 0} (disk : DiskGhosts D) (store : StoreGhosts S) (meta : 
       ])
 
   -- the journal of a world that was run by its schedule is a run of its partition
-  pub is_run_of : (config : Config) (part : PartScript) (w w' : Whole D S M) → EndsAreComplete disk store meta → ReachesLater disk store meta → ReachesInTurn disk store meta → FreshIsSafe → ReplaysKeepSafe → ReachesUnfailing disk store meta → FreshIsUnfailing disk store meta → FetchesMeetNoDamage disk store meta → IsConfig config → AreListsFor config part.lists → StepsToEnds part
+  pub is_run_of : (config : Config) (part : PartScript) (w w' : Whole D S M) → EndsAreComplete disk store meta → ReachesLater disk store meta → ReachesInTurn disk store meta → FreshIsSafe → ReplaysKeepSafe → ReachesUnfailing disk store meta → FreshIsUnfailing disk store meta → RunsMeetNoDamage disk store meta → IsConfig config → AreListsFor config part.lists → StepsToEnds part
       → StartsWith disk store meta part.partition config part.lists part.faults w → IsCentral disk store meta (fresh config) w → Reaches disk store meta w part.schedule w' → IsRunOf disk store meta config part (part.partition.0, w'.journal.items)
   is_run_of config part w w' law goes turns opens keeps calm unfailing undamaged fits fit ends starts c reaches =
       let f = starts.fresh in
@@ -97,8 +96,7 @@ module _ {D S M : Type 0} (disk : DiskGhosts D) (store : StoreGhosts S) (meta : 
         in_turn = subst (λ (k : List ActorList). IsInTurn k w'.journal.items) its (turns part.partition config lists starts.disks starts.objects starts.notes w part.schedule w' fit f reaches);
         led = replay_led lists (fresh config) w'.journal.items run.last run.replays (opens config);
         committed = λ clean. replay_runs lists (fresh config) w'.journal.items run.last run.replays (opens config) clean;
-        undamaged = subst (λ (k : List ActorList). MeetsNoDamage k w'.journal.items) its
-            (undamaged part.partition config lists starts.disks starts.objects starts.notes w part.schedule w' fits fit f starts.empty reaches);
+        undamaged = undamaged part.partition config lists starts.disks starts.objects starts.notes w part.schedule w' fits fit f starts.empty reaches;
         faultless = λ none. (calm w part.schedule w' reaches (unfailing part.partition config lists starts.disks starts.objects starts.notes w f
             (unplanned disk.control part.faults 0 starts.disks none starts.planned.disk_plans)
             (unplanned_device (store_plan part.faults) (store.control starts.objects) (ap store_plan none) starts.planned.store_plan_is)

@@ -14,7 +14,7 @@ use Rattle.plain_log.specs.declared.command.ActorList.{ActorList}
 use Rattle.plain_log.specs.declared.command.Config.{Config}
 use Rattle.plain_log.specs.declared.journal.JournalEntry.{JournalEntry}
 use Rattle.plain_log.specs.Fresh.{fresh}
-use Rattle.fetch_answers.specs.Damage.{MeetsNoDamage}
+use Rattle.no_damage.specs.Damage.{MeetsNoDamage}
 use Rattle.plain_log.specs.Runs.{IsPlainRun, IsComplete}
 use Rattle.plain_log.specs.Committed.{IsCommittedRun, IsRunOfPath}
 use Rattle.plain_log.specs.Safe.{PlainSafe}
@@ -56,7 +56,7 @@ module _ {D S M : Type 0} (disk : DiskGhosts D) (store : StoreGhosts S) (meta : 
   -- a partition's number and journal: a run of the plain log over the partition's lists, by its schedule, which ends with
   -- the safety rules; each command is answered once and in order, and begins at most once, right before its answer; each
   -- fetch is given a part of the log of a leader epoch as the run ends, and while elections are clean of what is committed
-  -- then, and none is answered `Damaged`; no device fails unasked
+  -- then; no command is answered `Damaged`; no device fails unasked
   pub record IsRunOf (config : Config) (part : PartScript) (run : ℕ × List JournalEntry) : Type 0 where
     pub partition : run.0 ≡ part.partition.0
     pub plain : IsPlainRun config part.lists run.1
@@ -65,7 +65,7 @@ module _ {D S M : Type 0} (disk : DiskGhosts D) (store : StoreGhosts S) (meta : 
     pub in_turn : IsInTurn part.lists run.1
     pub led : AllByRecursion (IsRunOfPath part.lists plain.last.paths) run.1
     pub committed : plain.last.unclean ≡ false → AllByRecursion (IsCommittedRun part.lists plain.last.committed) run.1
-    pub undamaged : MeetsNoDamage part.lists run.1
+    pub undamaged : MeetsNoDamage run.1
     pub faultless : part.faults ≡ [] → AreFaultless run.1
     pub reached : IsReached config part run.1
 

@@ -20,8 +20,8 @@ ghost use Rattle.broker_main.specs.Endings.{IsDoneOrNoMemory, IsRefusedOrNoMemor
 use crate::devices::devices;
 use crate::status::Status;
 use disk_model::{Disk, MemoryDisk};
-use fetch_answers::fetches_meet_no_damage;
 use meta_log::{MemoryLog, MetaLog};
+use no_damage::runs_meet_no_damage;
 use object_store::{MemoryStore, Store};
 use partition_world::{
     World, WorldRefusal, ends_are_complete, fresh_is_unfailing, reaches_in_turn, reaches_later,
@@ -78,7 +78,7 @@ fn run_part(
     reaches_in_turn::<MemoryDisk, MemoryStore, MemoryLog>();
     reaches_unfailing::<MemoryDisk, MemoryStore, MemoryLog>();
     fresh_is_unfailing::<MemoryDisk, MemoryStore, MemoryLog>();
-    fetches_meet_no_damage::<MemoryDisk, MemoryStore, MemoryLog>();
+    runs_meet_no_damage::<MemoryDisk, MemoryStore, MemoryLog>();
     fresh_is_safe();
     replays_keep_safe();
     let PartScript {

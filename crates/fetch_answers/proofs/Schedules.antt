@@ -1,33 +1,26 @@
 -- A schedule is turns of its actors, one after another.
 use Rattle.std.proofs.Common.{◌≡◌, inl, inr, sym, subst, refl, ℕ, zero, suc, ◌+◌, ◌≤◌, ◌==◌, Bool, true, false, cond, List, [], ◌∷◌, ◌++◌, arith}
 use Rattle.std.specs.Prelude.{if◌then◌else◌, replicate}
-use Rattle.tier_base.specs.declared.names.PartitionId.{PartitionId}
 use Rattle.disk_model.specs.declared.disk.Disk.{Ghosts as DiskGhosts}
 use Rattle.object_store.specs.declared.store.Store.{Ghosts as StoreGhosts}
 use Rattle.meta_log.specs.declared.log.MetaLog.{Ghosts as MetaGhosts}
 use Rattle.plain_log.specs.declared.answer.Answer.{Answer}
 use Rattle.plain_log.specs.declared.command.ActorList.{ActorList}
 use Rattle.plain_log.specs.declared.command.Command.TheVariants.{Fetch}
-use Rattle.plain_log.specs.declared.command.Config.{Config}
 use Rattle.plain_log.specs.declared.command.Order.{Order}
 use Rattle.plain_log.specs.declared.command.Pace.{Pace}
 use Rattle.plain_log.specs.declared.command.Pace.TheVariants.{Until, Times}
 use Rattle.plain_log.specs.declared.state.State.{State}
-use Rattle.plain_log.specs.Fresh.{fresh}
-use Rattle.plain_log.specs.Orders.{AreRising, AreListsFor, IsConfig}
+use Rattle.plain_log.specs.Orders.{AreRising}
 use Rattle.partition_world.specs.declared.seat.Seat.{Seat}
 use Rattle.partition_world.specs.Central.{IsCentral}
-use Rattle.partition_world.specs.Fresh.{IsFresh, IsSeenEmpty}
 use Rattle.partition_world.specs.Reaches.{GoesTimes, GoesUntil, Paces, Reaches}
 use Rattle.partition_world.specs.Turn.{IsNext}
 use Rattle.partition_world.specs.Whole.{Whole}
 use Rattle.partition_world.proofs.CentralLaw.{turn_central}
-use Rattle.partition_world.proofs.FreshLaw.{fresh_is_central}
-use Rattle.fetch_answers.specs.Damage.{MeetsNoDamage}
 use Rattle.fetch_answers.specs.Found.{SpansKnown}
 use Rattle.fetch_answers.specs.Progress.{most_turns, times, turns_in, IsAnswered, Runs}
-use Rattle.fetch_answers.proofs.Damage.{turn_meets}
-use Rattle.fetch_answers.proofs.Known.{keep_spans, fresh_spans}
+use Rattle.fetch_answers.proofs.Known.{keep_spans}
 use Rattle.fetch_answers.proofs.Runs.{are_answered}
 
 -- turns of one actor, and then those of others
@@ -101,21 +94,3 @@ module _ {D S M : Type 0} (disk : DiskGhosts D) (store : StoreGhosts S) (meta : 
   pub reaches_spans : (opening : State) (w : Whole D S M) (schedule : List Pace) (w' : Whole D S M) → IsCentral disk store meta opening w → SpansKnown meta opening w → Reaches disk store meta w schedule w'
       → IsCentral disk store meta opening w' × SpansKnown meta opening w'
   reaches_spans opening w schedule w' c known r = let any = any_of w schedule w' r in any_known opening w any.0 w' c known any.1
-
-  -- and no fetch meets damage
-  any_meets : (opening : State) (v : Whole D S M) (actors : List ℕ) (u : Whole D S M) → IsCentral disk store meta opening v → SpansKnown meta opening v → MeetsNoDamage v.lists v.journal.items → Any v actors u
-      → MeetsNoDamage u.lists u.journal.items
-  any_meets opening v [] u c known before r = subst (λ (k : Whole D S M). MeetsNoDamage k.lists k.journal.items) (sym r) before
-  any_meets opening v (b ∷ actors) u c known before (x, inl (outcome, t), p, rest) =
-      any_meets opening x actors u (turn_central disk store meta opening v b outcome x t c) (keep_spans disk store meta opening v b outcome x c known t)
-      (turn_meets disk store meta opening v b outcome x c known t before) rest
-  any_meets opening v (b ∷ actors) u c known before (x, inr (end, same), p, rest) =
-      any_meets opening v actors u c known before (subst (λ (k : Whole D S M). Any k actors u) same rest)
-
-  pub fetches_meet_none : (partition : PartitionId) (config : Config) (lists : List ActorList) (disks : List D) (s : S) (m : M) (w : Whole D S M) (schedule : List Pace) (w' : Whole D S M)
-      → IsConfig config → AreListsFor config lists → IsFresh disk store meta partition config lists disks s m w → IsSeenEmpty disk store meta w → Reaches disk store meta w schedule w'
-      → MeetsNoDamage w'.lists w'.journal.items
-  fetches_meet_none partition config lists disks s m w schedule w' right fit f seen r =
-      let any = any_of w schedule w' r in
-      any_meets (fresh config) w any.0 w' (fresh_is_central disk store meta partition config lists disks s m w right fit f seen)
-      (fresh_spans disk store meta (fresh config) partition config lists disks s m w f) (subst (MeetsNoDamage w.lists) (sym f.journal) tt) any.1

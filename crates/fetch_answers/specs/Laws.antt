@@ -16,7 +16,7 @@ use Rattle.plain_log.specs.declared.command.Config.{Config}
 use Rattle.plain_log.specs.declared.command.Order.{Order}
 use Rattle.plain_log.specs.declared.command.Pace.{Pace}
 use Rattle.plain_log.specs.declared.state.State.{State}
-use Rattle.plain_log.specs.Orders.{AreRising, AreListsFor, IsConfig}
+use Rattle.plain_log.specs.Orders.{AreRising}
 use Rattle.plain_log.specs.Safe.{LogSafe, PlainSafe}
 use Rattle.remote_view.specs.Fold.{AreKept, AreDistinct}
 use Rattle.remote_find.specs.declared.piece.Piece.{Piece}
@@ -29,13 +29,12 @@ use Rattle.partition_world.specs.declared.seat.Outcome.TheVariants.{Answers}
 use Rattle.partition_world.specs.declared.seat.Seat.{Seat}
 use Rattle.partition_world.specs.Calm.{IsUnfailing}
 use Rattle.partition_world.specs.Central.{IsCentral}
-use Rattle.partition_world.specs.Fresh.{IsFresh, IsSeenEmpty}
+use Rattle.partition_world.specs.Fresh.{IsFresh}
 use Rattle.partition_world.specs.Reaches.{Reaches}
 use Rattle.partition_world.specs.Seats.{seat_after, IsUnanswered}
 use Rattle.partition_world.specs.Turn.{IsNext, IsTurn}
 use Rattle.partition_world.specs.Whole.{Whole}
 use Rattle.fetch_answers.specs.Causes.{HasCause}
-use Rattle.fetch_answers.specs.Damage.{MeetsNoDamage}
 use Rattle.fetch_answers.specs.Found.{SpansKnown}
 use Rattle.fetch_answers.specs.Progress.{most_turns, times, turns_in, IsServed, IsAnswered, Runs, IsFree, IsUnhindered}
 
@@ -58,13 +57,6 @@ module _ {D S M : Type 0} (disk : DiskGhosts D) (store : StoreGhosts S) (meta : 
   NoFetchIsDamaged = (opening : State) (w : Whole D S M) (a : ℕ) (place : Place) (at : ℕ) (w' : Whole D S M) (offset limit : ℕ)
       → IsCentral disk store meta opening w → SpansKnown meta opening w
       → (t : IsTurn disk store meta w a (Answers (Damaged place at)) w') → t.order.command ≡ Fetch offset limit → ⊥
-
-  -- nor is it in a world that a schedule reaches from a fresh one which is seen empty
-  abbrev pub FetchesMeetNoDamage : Type 0
-  FetchesMeetNoDamage = (partition : PartitionId) (config : Config) (lists : List ActorList) (disks : List D) (s : S) (m : M)
-      (w : Whole D S M) (schedule : List Pace) (w' : Whole D S M) → IsConfig config → AreListsFor config lists
-      → IsFresh disk store meta partition config lists disks s m w → IsSeenEmpty disk store meta w
-      → Reaches disk store meta w schedule w' → MeetsNoDamage w'.lists w'.journal.items
 
   -- a turn of a fetch that isn't answered leaves fewer to come
   abbrev pub FetchesGoOn : Type 0

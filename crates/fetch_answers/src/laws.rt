@@ -2,8 +2,8 @@
 //! it cites the law.
 
 ghost use Rattle.fetch_answers.specs.Laws.{PiecesEnd, FetchesHaveCauses, NoFetchIsDamaged};
-ghost use Rattle.fetch_answers.specs.Laws.{FetchesMeetNoDamage, FetchesGoOn};
-ghost use Rattle.fetch_answers.specs.Laws.{FetchesAreAnswered, UnhinderedAreServed};
+ghost use Rattle.fetch_answers.specs.Laws.{FetchesGoOn, FetchesAreAnswered};
+ghost use Rattle.fetch_answers.specs.Laws.{UnhinderedAreServed};
 ghost use Rattle.fetch_answers.specs.Laws.{UnfailingAreServed, SchedulesAnswerFetches};
 ghost use Rattle.fetch_answers.specs.Laws.{ReachesSpans, TurnsKeepSpans, FreshHasSpans};
 
@@ -24,11 +24,6 @@ pub fn fetches_have_causes<D: Disk, S: Store, M: MetaLog>()
 /// No fetch is answered `Damaged` there.
 pub fn no_fetch_is_damaged<D: Disk, S: Store, M: MetaLog>()
     ensures { NoFetchIsDamaged D.Disk S.Store M.MetaLog }
-{}
-
-/// Nor does the journal tell of such an answer, of a world that a schedule reaches from a fresh one.
-pub fn fetches_meet_no_damage<D: Disk, S: Store, M: MetaLog>()
-    ensures { FetchesMeetNoDamage D.Disk S.Store M.MetaLog }
 {}
 
 /// A turn of a fetch that isn't answered leaves fewer to come.
@@ -77,8 +72,8 @@ pub fn fresh_has_spans<D: Disk, S: Store, M: MetaLog>()
 #[cfg(test)]
 mod tests {
     use super::{
-        fetches_are_answered, fetches_have_causes, fetches_meet_no_damage, fresh_has_spans,
-        turns_keep_spans, unfailing_are_served, unhindered_are_served,
+        fetches_are_answered, fetches_have_causes, fresh_has_spans, turns_keep_spans,
+        unfailing_are_served, unhindered_are_served,
     };
     use disk_model::MemoryDisk;
     use meta_log::MemoryLog;
@@ -90,7 +85,6 @@ mod tests {
         turns_keep_spans::<MemoryDisk, MemoryStore, MemoryLog>();
         fetches_have_causes::<MemoryDisk, MemoryStore, MemoryLog>();
         fetches_are_answered::<MemoryDisk, MemoryStore, MemoryLog>();
-        fetches_meet_no_damage::<MemoryDisk, MemoryStore, MemoryLog>();
         unhindered_are_served::<MemoryDisk, MemoryStore, MemoryLog>();
         unfailing_are_served::<MemoryDisk, MemoryStore, MemoryLog>();
     }

@@ -12,7 +12,7 @@
 mod laws;
 
 pub use laws::{
-    fetches_are_answered, fetches_go_on, fetches_have_causes, fetches_meet_no_damage,
-    fresh_has_spans, no_fetch_is_damaged, pieces_end, reaches_spans, schedules_answer_fetches,
-    turns_keep_spans, unfailing_are_served, unhindered_are_served,
+    fetches_are_answered, fetches_go_on, fetches_have_causes, fresh_has_spans, no_fetch_is_damaged,
+    pieces_end, reaches_spans, schedules_answer_fetches, turns_keep_spans, unfailing_are_served,
+    unhindered_are_served,
 };

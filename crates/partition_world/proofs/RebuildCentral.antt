@@ -167,7 +167,7 @@ module _ {D S M : Type 0} (disk : DiskGhosts D) (store : StoreGhosts S) (meta : 
           by true b = absurd (m.2 (low, grind (arith, nat_tests, b)))
           by false b = grind (arith, nat_tests, b)
 
-      to_read : IsToRead c.scene c.central.plain t.place (seen_all (rebuild_of t.order.broker.0 g)) its (wanted_of w.partition g) g.line (store.content w.tier.store) z.side.view
+      pub to_read : IsToRead c.scene c.central.plain t.place (seen_all (rebuild_of t.order.broker.0 g)) its (wanted_of w.partition g) g.line (store.content w.tier.store) z.side.view
       to_read = record {
         safe = both_of disk store meta opening w c;
         seat = seated disk store meta opening w c t.place t.list t.seat t.order z

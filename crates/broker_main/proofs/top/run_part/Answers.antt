@@ -17,7 +17,7 @@ returns c =
     (λ text is. record {
       run = (c.args.part.partition.0, c.run_in_order.new.world.journal.items);
       is = is_run_of disk store meta c.args.config c.args.part c.in_ok-world.world c.run_in_order.new.world c.ends_are_complete.ensures c.reaches_later.ensures
-          c.reaches_in_turn.ensures c.fresh_is_safe.ensures c.replays_keep_safe.ensures c.reaches_unfailing.ensures c.fresh_is_unfailing.ensures c.fetches_meet_no_damage.ensures c.requires.config c.requires.fit c.requires.ends (subst (λ (l : List Fault). StartsWith disk store meta c.args.part.partition c.args.config c.args.part.lists l c.in_ok-world.world) c.as_slice.ensures c.in_ok-world.ensures.fresh) c.in_ok-world.ensures.central
+          c.reaches_in_turn.ensures c.fresh_is_safe.ensures c.replays_keep_safe.ensures c.reaches_unfailing.ensures c.fresh_is_unfailing.ensures c.runs_meet_no_damage.ensures c.requires.config c.requires.fit c.requires.ends (subst (λ (l : List Fault). StartsWith disk store meta c.args.part.partition c.args.config c.args.part.lists l c.in_ok-world.world) c.as_slice.ensures c.in_ok-world.ensures.fresh) c.in_ok-world.ensures.central
           (subst (λ (k : List Pace). Reaches disk store meta c.in_ok-world.world k c.run_in_order.new.world) c.as_slice-2.ensures c.in_ok-run_in_order.ensures.reaches);
       added = is ∙ ap (λ (t : List ℕ). c.args.text.items ++ t) (c.in_ok-printed.ensures ∙ ap (λ (k : Rolled JournalEntry). journal_text c.args.part.partition.0 k.items) c.journal.ensures);
     })
