@@ -1,4 +1,6 @@
 pub mod Kept
 pub mod Name
+pub mod Object
 pub mod Path
-pub mod Tally
+pub mod Unfinished
+pub mod Yard

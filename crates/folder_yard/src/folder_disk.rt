@@ -5,11 +5,11 @@ ghost use Rattle.tier_base.specs.Device.{IsFresh};
 ghost use Rattle.disk_model.specs.Call.{call_code};
 ghost use Rattle.tier_base.specs.Told.{bytes_in};
 ghost use Rattle.disk_model.specs.Deaf.{nothing_told, deaf_lawful};
-ghost use Rattle.folder_yard.specs.Tally.{control_of};
+ghost use Rattle.device_tally.specs.Tally.{control_of};
 
 use crate::folder::Folder;
-use crate::tally::Tally;
 use bytes::Bytes;
+use device_tally::Tally;
 use disk_model::{Disk, DiskCall};
 use std::alloc::AllocError;
 use std::io::{self, ErrorKind};
@@ -129,7 +129,7 @@ impl<R: Files + AllocGlobal + Clone + Drop> Disk for FolderDisk<R> {
 
 /// Whether a call that changes files went well. Want of memory in the system is a failure too, since
 /// the call may have been done in part.
-fn done(outcome: io::Result<()>) -> Result<(), Failed>
+pub(crate) fn done(outcome: io::Result<()>) -> Result<(), Failed>
     ensures { IsOk result ↔ IsOk outcome }
 {
     match outcome {
@@ -139,7 +139,7 @@ fn done(outcome: io::Result<()>) -> Result<(), Failed>
 }
 
 /// What a call answered that changes nothing.
-fn told<T: Drop>(outcome: io::Result<T>) -> Result<T, Trouble>
+pub(crate) fn told<T: Drop>(outcome: io::Result<T>) -> Result<T, Trouble>
     ensures value { IfOk outcome (λ value. result ≡ Ok value) }
     ensures failed { IsErr outcome → IsErr result }
 {
@@ -151,7 +151,7 @@ fn told<T: Drop>(outcome: io::Result<T>) -> Result<T, Trouble>
 }
 
 /// Shares the bytes that a read found.
-fn share(file: &Result<Option<Bytes>, Trouble>) -> Result<Bytes, AllocError>
+pub(crate) fn share(file: &Result<Option<Bytes>, Trouble>) -> Result<Bytes, AllocError>
     ensures { IfOk result (λ shared. IfOk file.now (λ found. shared ≡ bytes_in found)) }
 {
     match file {
@@ -161,7 +161,7 @@ fn share(file: &Result<Option<Bytes>, Trouble>) -> Result<Bytes, AllocError>
 }
 
 /// Hands bytes where they are given.
-fn hand(handed: &mut Bytes, given: bool, bytes: Bytes)
+pub(crate) fn hand(handed: &mut Bytes, given: bool, bytes: Bytes)
     ensures { handed.new ≡ (if given then bytes else handed.old) }
 {
     if given {

@@ -1,14 +1,22 @@
 //! The names in a folder.
 
+ghost use Rattle.std.specs.Prelude.{◌≡◌, ◌↔◌, IsTrue};
+ghost use Rattle.folder_yard.specs.Name.{unfinished};
+ghost use Rattle.folder_yard.specs.Unfinished.{IsOurs, IsUnfinished};
+
 use crate::name::read_name;
+use crate::object_name::read_object;
 use std::alloc::Global;
 use std::fs::{self, DirEntry};
 use std::io::{self, ErrorKind};
 use std::rt::Files;
-use tier_base::{FileName, Row};
+use tier_base::{Blob, FileName, ObjectKey, PartitionId, Row};
 
 /// How the name of a file ends that is written and not yet put in its place.
 pub const UNFINISHED: &str = ".new";
+
+/// How many letters that has.
+const ENDING: usize = 4;
 
 /// Names the files of a log in a folder.
 pub fn list<R: Files + AllocGlobal + Clone + Drop>(
@@ -26,19 +34,95 @@ pub fn list<R: Files + AllocGlobal + Clone + Drop>(
     Ok(names)
 }
 
-/// Removes the files that were never put in their place.
+/// The first of the names in a folder in the order of their bytes. An absent folder has none. A name that is no text can't
+/// be told, and is a failure.
+pub fn first_name<R: Files + AllocGlobal + Clone + Drop>(
+    rt: &R,
+    folder: &str,
+) -> io::Result<Option<Blob>> {
+    let entries = match fs::read_dir(rt, folder) {
+        Ok(entries) => entries,
+        Err(error) if error.kind() == ErrorKind::NotFound => return Ok(None),
+        Err(error) => return Err(error),
+    };
+    let mut first = None;
+    for entry in entries {
+        let entry = entry?;
+        let name = entry.file_name().as_bytes();
+        if is_before(name, &first) {
+            first = Some(Blob::from_slice(rt.alloc(), name)?);
+        }
+    }
+    Ok(first)
+}
+
+/// Whether a name stands before the first one so far, if there is one.
+fn is_before(name: &[u8], first: &Option<Blob>) -> bool {
+    match first {
+        Some(first) => name < first.as_slice(),
+        None => true,
+    }
+}
+
+/// Names the objects of a partition in a folder.
+pub fn list_objects<R: Files + AllocGlobal + Clone + Drop>(
+    rt: &R,
+    folder: &str,
+    partition: PartitionId,
+) -> io::Result<Row<ObjectKey>> {
+    let mut keys = Row::new(rt.alloc());
+    for entry in fs::read_dir(rt, folder)? {
+        if let Some(entry) = readable(entry)? {
+            if let Some(key) = read_object(partition, entry.file_name().as_bytes()) {
+                keys.push(key)?;
+            }
+        }
+    }
+    Ok(keys)
+}
+
+/// Removes the files of a log, and the objects, that were never put in their place. Other files stay, also where they end
+/// so.
 pub fn remove_unfinished<R: Files + AllocGlobal + Clone + Drop>(
     rt: &R,
     folder: &str,
 ) -> io::Result<()> {
     for entry in fs::read_dir(rt, folder)? {
         if let Some(entry) = readable(entry)? {
-            if entry.file_name().ends_with(UNFINISHED) {
+            if is_unfinished(entry.file_name().as_bytes()) {
                 fs::remove_file(rt, entry.path())?;
             }
         }
     }
     Ok(())
+}
+
+/// Whether this is the name of a file of a log, or of an object, that is written and not yet put in its place.
+pub fn is_unfinished(text: &[u8]) -> bool
+    ensures { IsTrue result → IsUnfinished text.now }
+{
+    if text.len() < ENDING {
+        return false;
+    }
+    let (name, end) = text.split_at(text.len() - ENDING);
+    if !ends_so(end) {
+        return false;
+    }
+    is_ours(name)
+}
+
+/// Whether names of unfinished files end so.
+fn ends_so(end: &[u8]) -> bool
+    ensures { IsTrue result ↔ (end.now ≡ unfinished) }
+{
+    end == b".new".as_slice()
+}
+
+/// Whether this is the name of a file of a log, or of an object.
+fn is_ours(name: &[u8]) -> bool
+    ensures { IsTrue result → IsOurs name.now }
+{
+    read_name(name).is_some() || read_object(PartitionId(0), name).is_some()
 }
 
 /// Passes over a name that is no text, since none of ours is such.

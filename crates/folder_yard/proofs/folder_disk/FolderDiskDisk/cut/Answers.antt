@@ -1,5 +1,5 @@
 use Rattle.disk_model.specs.declared.call.DiskCall.TheVariants as call
-use Rattle.folder_yard.proofs.Tallies.{quiet}
+use Rattle.device_tally.proofs.Tallies.{quiet}
 use Rattle.folder_yard.proofs.folder_disk.FolderDiskDisk.cut.Goals as goal
 
 pub returns-clause-control : goal.returns-clause-control

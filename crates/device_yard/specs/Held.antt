@@ -1,0 +1,106 @@
+-- What a yard holds, where it tells: the devices that came back, and names of strangers.
+--
+-- Its names are `p` with the number of each partition that has a file, an object or a note, and the strangers' ones. The
+-- first of them is the least in the order of their bytes.
+use Rattle.std.specs.Prelude.{◌≡◌, ◌≢◌, ◌⊎◌, ℕ, ◌<◌, Bool, List, [], ◌∷◌, ◌++◌, codes, decimal, Option, Some, None, IsTrue, IsSome}
+use Rattle.tier_base.specs.declared.names.PartitionId.{PartitionId}
+use Rattle.tier_base.specs.declared.names.BrokerId.{BrokerId}
+use Rattle.tier_base.specs.declared.plain.FileName.{FileName}
+use Rattle.tier_base.specs.declared.object_key.ObjectKey.{ObjectKey}
+use Rattle.tier_base.specs.Told.{In}
+use Rattle.disk_model.specs.Content as disk
+use Rattle.disk_model.specs.Memory.{IsEmptyDisk}
+use Rattle.object_store.specs.Content as store
+use Rattle.object_store.specs.Memory.{IsEmptyStore}
+use Rattle.meta_log.specs.Content as log
+
+-- Of a yard that doesn't tell, the rest means nothing.
+pub record Held (D S M : Type 0) : Type 0 where
+  pub tells : Bool
+  pub strays : List (List ℕ)
+  pub disks : PartitionId → BrokerId → Option D
+  pub stores : PartitionId → Option S
+  pub logs : PartitionId → Option M
+
+-- it is there, and has P
+abbrev pub Has : {X : Type 0} → (X → Type 0) → Option X → Type 0
+Has P None = ⊥
+Has P (Some x) = P x
+
+-- neither is there, or both are, and R is between them
+abbrev pub Both : {X : Type 0} → (X → X → Type 0) → Option X → Option X → Type 0
+Both R None None = Unit {0}
+Both R (Some x) (Some y) = R x y
+Both R a b = ⊥
+
+-- a text stands before another, or is it
+abbrev pub IsUpTo : List ℕ → List ℕ → Type 0
+IsUpTo [] bs = Unit {0}
+IsUpTo (a ∷ more) [] = ⊥
+IsUpTo (a ∷ more) (b ∷ bs) = (a < b) ⊎ ((a ≡ b) × IsUpTo more bs)
+
+-- the first of the names, or none where there is none
+abbrev pub IsFirst : (List ℕ → Type 0) → Option (List ℕ) → Type 0
+IsFirst Named None = (text : List ℕ) → Named text → ⊥
+IsFirst Named (Some name) = Named name × ((text : List ℕ) → Named text → IsUpTo name text)
+
+-- a metadata log without notes
+pub record IsEmptyLog (c : log.Content) : Type 0 where
+  pub tells : IsTrue c.tells
+  pub notes : c.notes ≡ []
+
+module _ {D S M : Type 0} where
+  -- a disk is what is held now, or none, and the rest stays
+  pub record DiskIs (partition : PartitionId) (broker : BrokerId) (now : Option D) (old new : Held D S M) : Type 0 where
+    pub strays : new.strays ≡ old.strays
+    pub there : new.disks partition broker ≡ now
+    pub others : (p : PartitionId) (b : BrokerId) → (p ≢ partition) ⊎ (b ≢ broker) → new.disks p b ≡ old.disks p b
+    pub stores : (p : PartitionId) → new.stores p ≡ old.stores p
+    pub logs : (p : PartitionId) → new.logs p ≡ old.logs p
+
+  pub record StoreIs (partition : PartitionId) (now : Option S) (old new : Held D S M) : Type 0 where
+    pub strays : new.strays ≡ old.strays
+    pub there : new.stores partition ≡ now
+    pub others : (p : PartitionId) → p ≢ partition → new.stores p ≡ old.stores p
+    pub disks : (p : PartitionId) (b : BrokerId) → new.disks p b ≡ old.disks p b
+    pub logs : (p : PartitionId) → new.logs p ≡ old.logs p
+
+  pub record LogIs (partition : PartitionId) (now : Option M) (old new : Held D S M) : Type 0 where
+    pub strays : new.strays ≡ old.strays
+    pub there : new.logs partition ≡ now
+    pub others : (p : PartitionId) → p ≢ partition → new.logs p ≡ old.logs p
+    pub disks : (p : PartitionId) (b : BrokerId) → new.disks p b ≡ old.disks p b
+    pub stores : (p : PartitionId) → new.stores p ≡ old.stores p
+
+module _ {D S M : Type 0} (files : D → disk.Content) (objects : S → store.Content) (notes : M → log.Content) where
+  -- something of the partition stands
+  abbrev pub IsUsed : Held D S M → PartitionId → Type 0
+  IsUsed held p =
+      ((b : BrokerId) × Has (λ d. (n : FileName) × IsSome ((files d).files n)) (held.disks p b))
+      ⊎ (Has (λ s. (k : ObjectKey) × IsSome ((objects s).objects k)) (held.stores p)
+      ⊎ Has (λ m. (notes m).notes ≢ []) (held.logs p))
+
+  -- no name and no content that is held has changed
+  pub record Same (old new : Held D S M) : Type 0 where
+    pub tells : new.tells ≡ old.tells
+    pub strays : new.strays ≡ old.strays
+    pub disks : (p : PartitionId) (b : BrokerId) → Both (λ d e. disk.Keeps (files d) (files e)) (old.disks p b) (new.disks p b)
+    pub stores : (p : PartitionId) → Both (λ s t. store.Keeps (objects s) (objects t)) (old.stores p) (new.stores p)
+    pub logs : (p : PartitionId) → Both (λ m n. log.Keeps (notes m) (notes n)) (old.logs p) (new.logs p)
+
+  -- a name that stands in the yard
+  abbrev pub IsName : Held D S M → List ℕ → Type 0
+  IsName held text = In text held.strays ⊎ ((p : PartitionId) × IsUsed held p × (text ≡ codes "p" ++ decimal p.0))
+
+-- a disk that is handed out has what came back, or nothing
+abbrev pub HandsDisk : {D : Type 0} → (D → disk.Content) → Option D → disk.Content → Type 0
+HandsDisk files None c = IsEmptyDisk c
+HandsDisk files (Some d) c = disk.Keeps (files d) c
+
+abbrev pub HandsStore : {S : Type 0} → (S → store.Content) → Option S → store.Content → Type 0
+HandsStore objects None c = IsEmptyStore c
+HandsStore objects (Some s) c = store.Keeps (objects s) c
+
+abbrev pub HandsLog : {M : Type 0} → (M → log.Content) → Option M → log.Content → Type 0
+HandsLog notes None c = IsEmptyLog c
+HandsLog notes (Some m) c = log.Keeps (notes m) c

@@ -1,0 +1,132 @@
+//! The counts of a yard: its faults, the last first name, and how devices came back.
+
+ghost use Rattle.std.specs.Prelude.{◌≡◌, ◌+◌, ◌≤◌, if◌then◌else◌, Ok, None, IfOk, OnOk};
+ghost use Rattle.tier_base.specs.Counts.{counted};
+ghost use Rattle.tier_base.specs.Device.{fate_of};
+ghost use Rattle.device_yard.specs.Control.{IsFresh, Names, Hands, TakesBack};
+
+use crate::came::Came;
+use std::alloc::{AllocError, Global};
+use std::marker::Model;
+use tier_base::{Blob, Trouble};
+
+/// What a yard has counted. There is room for each device that is out to come back.
+#[derive(Drop)]
+pub struct YardCounts {
+    alloc: Global,
+    faults: u64,
+    named: Option<Blob>,
+    returned: Vec<Came>,
+    out: usize,
+}
+
+impl Model for YardCounts {
+    ghost use Rattle.std.specs.Prelude.{◌+◌, ◌≤◌, vec_len, vec_capacity};
+    ghost use Rattle.device_yard.specs.Control.{Control};
+
+    ghost Value = { Control };
+
+    ghost view = { λ y. record {
+      faults = y.faults;
+      named = y.named;
+      returned = y.returned.items;
+      out = y.out;
+    } };
+
+    ghost invariant = { λ y. vec_len y.returned + y.out ≤ vec_capacity y.returned };
+}
+
+impl YardCounts {
+    /// Counts nothing yet, without memory.
+    pub fn new(alloc: Global) -> YardCounts
+        ensures fresh { IsFresh result }
+        ensures named { result.named ≡ None }
+    {
+        YardCounts {
+            alloc,
+            faults: 0,
+            named: None,
+            returned: Vec::new(alloc),
+            out: 0,
+        }
+    }
+
+    /// Counts the faults of the yard.
+    pub fn faults(&self) -> u64
+        ensures { result ≡ self.now.faults }
+    {
+        self.faults
+    }
+
+    /// Lends how the devices came back.
+    pub fn returned(&self) -> &[Came]
+        ensures { result.now ≡ self.now.returned }
+    {
+        self.returned.as_slice()
+    }
+
+    /// Notes the first name as it was found, and answers it.
+    pub fn name(&mut self, found: Result<Option<Blob>, Trouble>) -> Result<Option<Blob>, Trouble>
+        ensures names { Names result self.old self.new }
+        ensures found { IfOk result (λ name. found ≡ Ok name) }
+    {
+        match found {
+            Ok(name) => {
+                let copy = copied(self.alloc, &name)?;
+                self.named = copy;
+                Ok(name)
+            }
+            Err(trouble) => {
+                raise_if(&mut self.faults, trouble == Trouble::Failed);
+                Err(trouble)
+            }
+        }
+    }
+
+    /// Counts a device that is handed out, if it was made.
+    pub fn hand<T: Drop>(&mut self, made: Result<T, Trouble>) -> Result<T, Trouble>
+        ensures hands { Hands (fate_of result) self.old self.new }
+        ensures made { IfOk result (λ device. made ≡ Ok device) }
+    {
+        match made {
+            Ok(device) => {
+                self.returned.reserve(self.out + 1)?;
+                self.out += 1;
+                Ok(device)
+            }
+            Err(trouble) => {
+                raise_if(&mut self.faults, trouble == Trouble::Failed);
+                Err(trouble)
+            }
+        }
+    }
+
+    /// Counts a device that comes back.
+    pub fn take_back(&mut self, came: Came)
+        requires { 1 ≤ self.old.out }
+        ensures { TakesBack came self.old self.new }
+    {
+        raise_if(&mut self.faults, came.is_fault());
+        self.returned.push_reserved(came);
+        self.out -= 1;
+    }
+}
+
+/// Counts a fault, where there is one.
+fn raise_if(faults: &mut u64, is_fault: bool)
+    ensures { faults.new ≡ (if is_fault then counted faults.old 1 else faults.old) }
+{
+    if is_fault {
+        *faults = faults.saturating_add(1);
+    }
+}
+
+/// The same name.
+fn copied(alloc: Global, name: &Option<Blob>) -> Result<Option<Blob>, AllocError>
+    ensures { IfOk result (λ copy. copy ≡ name.now) }
+{
+    match name {
+        Some(name) => Ok(Some(Blob::from_slice(alloc, name.as_slice())?)),
+        None => Ok(None),
+    }
+}

@@ -1,0 +1,107 @@
+//! What a yard's calls hand out and take back.
+//!
+//! A device is handed out unarmed and with no fault. What is handed out comes back by one of the three `keep` calls, which
+//! can't be refused: the call that handed the device out made the room.
+
+ghost use Rattle.std.specs.Prelude.{◌≡◌, ◌≤◌, Option, Some, None, IfOk, OnOk, OnErr, IsTrue};
+ghost use Rattle.tier_base.specs.Device.{fate_of, IsFresh};
+ghost use Rattle.device_yard.specs.declared.came.Came.{Came};
+ghost use Rattle.device_yard.specs.Control.{Control, Names, Hands, TakesBack};
+ghost use Rattle.device_yard.specs.Held.{Held, Same, DiskIs, StoreIs, LogIs, IsName, IsFirst, HandsDisk, HandsStore, HandsLog};
+
+use disk_model::Disk;
+use meta_log::MetaLog;
+use object_store::Store;
+use tier_base::{Blob, BrokerId, PartitionId, Trouble};
+
+/// A yard of devices.
+pub trait Yard {
+    type D: Disk;
+
+    type S: Store;
+
+    type M: MetaLog;
+
+    /// The devices that came back, and the names.
+    ghost held: { Self → Held Self.D Self.S Self.M };
+
+    /// The faults, the last first name, how devices came back, and how many are out.
+    ghost control: { Self → Control };
+
+    /// Gives the first of the names in the order of their bytes, if there is one.
+    fn first_name(&mut self) -> Result<Option<Blob>, Trouble>
+        ensures control { Names result (control self.old) (control self.new) }
+        ensures held { Same Self.D.content Self.S.content Self.M.content
+            (held self.old) (held self.new) }
+        ensures first { IsTrue (held self.old).tells → IfOk result
+            (IsFirst (IsName Self.D.content Self.S.content Self.M.content (held self.old))) };
+
+    /// Hands out a broker's disk.
+    fn disk(&mut self, partition: PartitionId, broker: BrokerId) -> Result<Self::D, Trouble>
+        ensures control { Hands (fate_of result) (control self.old) (control self.new) }
+        ensures tells { (held self.new).tells ≡ (held self.old).tells }
+        ensures fresh { IfOk result (λ disk. IsFresh (Self.D.control disk)) }
+        ensures content { IsTrue (held self.old).tells → IfOk result (λ disk.
+            HandsDisk Self.D.content ((held self.old).disks partition broker) (Self.D.content disk)) }
+        ensures out { IsTrue (held self.old).tells → OnOk result
+            (DiskIs partition broker None (held self.old) (held self.new)) }
+        ensures err { IsTrue (held self.old).tells → OnErr result
+            (Same Self.D.content Self.S.content Self.M.content (held self.old) (held self.new)) };
+
+    /// Hands out a partition's store.
+    fn store(&mut self, partition: PartitionId) -> Result<Self::S, Trouble>
+        ensures control { Hands (fate_of result) (control self.old) (control self.new) }
+        ensures tells { (held self.new).tells ≡ (held self.old).tells }
+        ensures fresh { IfOk result (λ store. IsFresh (Self.S.control store)) }
+        ensures content { IsTrue (held self.old).tells → IfOk result (λ store.
+            HandsStore Self.S.content ((held self.old).stores partition) (Self.S.content store)) }
+        ensures out { IsTrue (held self.old).tells → OnOk result
+            (StoreIs partition None (held self.old) (held self.new)) }
+        ensures err { IsTrue (held self.old).tells → OnErr result
+            (Same Self.D.content Self.S.content Self.M.content (held self.old) (held self.new)) };
+
+    /// Hands out a partition's metadata log.
+    fn meta(&mut self, partition: PartitionId) -> Result<Self::M, Trouble>
+        ensures control { Hands (fate_of result) (control self.old) (control self.new) }
+        ensures tells { (held self.new).tells ≡ (held self.old).tells }
+        ensures fresh { IfOk result (λ log. IsFresh (Self.M.control log)) }
+        ensures content { IsTrue (held self.old).tells → IfOk result (λ log.
+            HandsLog Self.M.content ((held self.old).logs partition) (Self.M.content log)) }
+        ensures out { IsTrue (held self.old).tells → OnOk result
+            (LogIs partition None (held self.old) (held self.new)) }
+        ensures err { IsTrue (held self.old).tells → OnErr result
+            (Same Self.D.content Self.S.content Self.M.content (held self.old) (held self.new)) };
+
+    /// Takes a broker's disk back.
+    fn keep_disk(&mut self, partition: PartitionId, broker: BrokerId, disk: Self::D)
+        requires { 1 ≤ (control self.old).out }
+        ensures control { TakesBack (record {
+          faults = (Self.D.control disk).faults;
+          armed = (Self.D.control disk).armed;
+        }) (control self.old) (control self.new) }
+        ensures tells { (held self.new).tells ≡ (held self.old).tells }
+        ensures held { IsTrue (held self.old).tells
+            → DiskIs partition broker (Some disk) (held self.old) (held self.new) };
+
+    /// Takes a partition's store back.
+    fn keep_store(&mut self, partition: PartitionId, store: Self::S)
+        requires { 1 ≤ (control self.old).out }
+        ensures control { TakesBack (record {
+          faults = (Self.S.control store).faults;
+          armed = (Self.S.control store).armed;
+        }) (control self.old) (control self.new) }
+        ensures tells { (held self.new).tells ≡ (held self.old).tells }
+        ensures held { IsTrue (held self.old).tells
+            → StoreIs partition (Some store) (held self.old) (held self.new) };
+
+    /// Takes a partition's metadata log back.
+    fn keep_meta(&mut self, partition: PartitionId, meta: Self::M)
+        requires { 1 ≤ (control self.old).out }
+        ensures control { TakesBack (record {
+          faults = (Self.M.control meta).faults;
+          armed = (Self.M.control meta).armed;
+        }) (control self.old) (control self.new) }
+        ensures tells { (held self.new).tells ≡ (held self.old).tells }
+        ensures held { IsTrue (held self.old).tells
+            → LogIs partition (Some meta) (held self.old) (held self.new) };
+}

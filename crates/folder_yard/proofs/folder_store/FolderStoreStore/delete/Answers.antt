@@ -1,0 +1,8 @@
+use Rattle.object_store.specs.declared.call.StoreCall.TheVariants as call
+use Rattle.device_tally.proofs.Tallies.{quiet}
+use Rattle.folder_yard.proofs.folder_store.FolderStoreStore.delete.Goals as goal
+
+pub returns-clause-control : goal.returns-clause-control
+returns-clause-control g c =
+    let s = c.args.self.now in
+    quiet call.Delete _ s.tally c.note.new.self s.handed c.note.ensures.ran

@@ -1,0 +1,8 @@
+use Rattle.object_store.specs.declared.call.StoreCall.TheVariants as call
+use Rattle.device_tally.proofs.Tallies.{quiet}
+use Rattle.folder_yard.proofs.folder_store.FolderStoreStore.put.Goals as goal
+
+pub returns-clause-control : goal.returns-clause-control
+returns-clause-control g c =
+    let s = c.args.self.now in
+    rw c.give.ensures.fate (quiet call.Put _ s.tally c.note.new.self s.handed c.note.ensures.ran)

@@ -1,0 +1,192 @@
+//! A yard over a folder of the operating system.
+//!
+//! Under the folder `pP/bB` is the disk of broker B of partition P, `pP/store` holds the partition's objects, and `pP/meta`
+//! is the disk of its metadata log. The numbers are decimal.
+
+ghost use Rattle.std.specs.Prelude.{◌≡◌, None, IfOk};
+ghost use Rattle.tier_base.specs.Device.{IsFresh};
+ghost use Rattle.device_yard.specs.Control as control;
+ghost use Rattle.folder_yard.specs.Yard.{nothing_held};
+
+use crate::folder_disk::{FolderDisk, told};
+use crate::folder_store::FolderStore;
+use crate::listing::first_name;
+use device_yard::{Came, Yard, YardCounts};
+use meta_file::{DiskLog, NotesRefusal};
+use std::alloc::{AllocError, Global};
+use std::rt::Files;
+use tier_base::{Blob, BrokerId, PartitionId, Trouble};
+
+/// A yard whose devices stand in a folder. It tells nothing of what it holds, and lets go a device that comes back: what it
+/// held stands in the folder.
+#[derive(Drop)]
+pub struct FolderYard<R: Files + AllocGlobal + Clone + Drop> {
+    rt: R,
+    dir: String,
+    counts: YardCounts,
+}
+
+impl<R: Files + AllocGlobal + Clone + Drop> FolderYard<R> {
+    /// Makes a yard over a folder, and touches no file. The folder is made with the first device.
+    pub fn new(rt: R, dir: &str) -> Result<FolderYard<R>, AllocError>
+        ensures fresh { IfOk result (λ yard. control.IsFresh (⟦<FolderYard<R> as Yard>⟧.control yard)) }
+        ensures named { IfOk result (λ yard. (⟦<FolderYard<R> as Yard>⟧.control yard).named ≡ None) }
+    {
+        let dir = if dir.is_empty() { "." } else { dir };
+        let alloc = rt.alloc();
+        let dir = String::from_str(alloc, dir)?;
+        Ok(FolderYard {
+            rt,
+            dir,
+            counts: YardCounts::new(alloc),
+        })
+    }
+
+    /// Counts the faults of the yard.
+    pub fn faults(&self) -> u64
+        ensures { result ≡ (⟦<FolderYard<R> as Yard>⟧.control self.now).faults }
+    {
+        self.counts.faults()
+    }
+
+    /// Lends how the devices came back.
+    pub fn returned(&self) -> &[Came]
+        ensures { result.now ≡ (⟦<FolderYard<R> as Yard>⟧.control self.now).returned }
+    {
+        self.counts.returned()
+    }
+
+    /// Opens a disk under the folder.
+    fn open_disk(&self, path: &str) -> Result<FolderDisk<R>, Trouble>
+        ensures { IfOk result (λ disk. IsFresh (⟦<FolderDisk<R> as disk_model::Disk>⟧.control disk)) }
+    {
+        FolderDisk::open(self.rt.clone()?, path)
+    }
+}
+
+/// The path of a broker's disk.
+fn disk_path(
+    alloc: Global,
+    dir: &str,
+    partition: PartitionId,
+    broker: BrokerId,
+) -> Result<String, AllocError> {
+    let partition = partition.0;
+    let broker = broker.0;
+    let mut path = String::new(alloc);
+    write!(path, "{dir}/p{partition}/b{broker}")?;
+    Ok(path)
+}
+
+/// The path of a partition's objects, or of its metadata log.
+fn part_path(
+    alloc: Global,
+    dir: &str,
+    partition: PartitionId,
+    part: &str,
+) -> Result<String, AllocError> {
+    let partition = partition.0;
+    let mut path = String::new(alloc);
+    write!(path, "{dir}/p{partition}/{part}")?;
+    Ok(path)
+}
+
+/// Opens the metadata log of a disk. Notes without a reading are a fault.
+fn open_log<R: Files + AllocGlobal + Clone + Drop>(
+    alloc: Global,
+    disk: FolderDisk<R>,
+) -> Result<DiskLog<FolderDisk<R>>, Trouble>
+    ensures { IfOk result (λ log. IsFresh (⟦<DiskLog<FolderDisk<R>> as meta_log::MetaLog>⟧.control log)) }
+{
+    match DiskLog::open(alloc, disk) {
+        Ok(log) => Ok(log),
+        Err((_, NotesRefusal::NoMemory)) => Err(Trouble::NoMemory),
+        Err(_) => Err(Trouble::Failed),
+    }
+}
+
+impl<R: Files + AllocGlobal + Clone + Drop> FolderYard<R> {
+    /// Opens a broker's disk.
+    fn make_disk(&self, partition: PartitionId, broker: BrokerId) -> Result<FolderDisk<R>, Trouble>
+        ensures { IfOk result (λ disk. IsFresh (⟦<FolderDisk<R> as disk_model::Disk>⟧.control disk)) }
+    {
+        let path = disk_path(self.rt.alloc(), self.dir.as_str(), partition, broker)?;
+        self.open_disk(path.as_str())
+    }
+
+    /// Opens a partition's store.
+    fn make_store(&self, partition: PartitionId) -> Result<FolderStore<R>, Trouble>
+        ensures { IfOk result (λ store. IsFresh (⟦<FolderStore<R> as object_store::Store>⟧.control store)) }
+    {
+        let path = part_path(self.rt.alloc(), self.dir.as_str(), partition, "store")?;
+        FolderStore::open(self.rt.clone()?, path.as_str(), partition)
+    }
+
+    /// Opens a partition's metadata log.
+    fn make_log(&self, partition: PartitionId) -> Result<DiskLog<FolderDisk<R>>, Trouble>
+        ensures { IfOk result (λ log. IsFresh (⟦<DiskLog<FolderDisk<R>> as meta_log::MetaLog>⟧.control log)) }
+    {
+        let path = part_path(self.rt.alloc(), self.dir.as_str(), partition, "meta")?;
+        let disk = self.open_disk(path.as_str())?;
+        open_log(self.rt.alloc(), disk)
+    }
+}
+
+impl<R: Files + AllocGlobal + Clone + Drop> Yard for FolderYard<R> {
+    type D = FolderDisk<R>;
+
+    type S = FolderStore<R>;
+
+    type M = DiskLog<FolderDisk<R>>;
+
+    ghost held = { λ y. nothing_held };
+
+    ghost control = { λ y. y.counts };
+
+    fn first_name(&mut self) -> Result<Option<Blob>, Trouble> {
+        let found = told(first_name(&self.rt, self.dir.as_str()));
+        self.counts.name(found)
+    }
+
+    fn disk(&mut self, partition: PartitionId, broker: BrokerId) -> Result<FolderDisk<R>, Trouble> {
+        let made = self.make_disk(partition, broker);
+        self.counts.hand(made)
+    }
+
+    fn store(&mut self, partition: PartitionId) -> Result<FolderStore<R>, Trouble> {
+        let made = self.make_store(partition);
+        self.counts.hand(made)
+    }
+
+    fn meta(&mut self, partition: PartitionId) -> Result<DiskLog<FolderDisk<R>>, Trouble> {
+        let made = self.make_log(partition);
+        self.counts.hand(made)
+    }
+
+    fn keep_disk(&mut self, partition: PartitionId, broker: BrokerId, disk: FolderDisk<R>) {
+        let _ = (partition, broker);
+        let came = Came {
+            faults: disk.faults(),
+            armed: disk.is_armed(),
+        };
+        self.counts.take_back(came);
+    }
+
+    fn keep_store(&mut self, partition: PartitionId, store: FolderStore<R>) {
+        let _ = partition;
+        let came = Came {
+            faults: store.faults(),
+            armed: store.is_armed(),
+        };
+        self.counts.take_back(came);
+    }
+
+    fn keep_meta(&mut self, partition: PartitionId, meta: DiskLog<FolderDisk<R>>) {
+        let _ = partition;
+        let came = Came {
+            faults: meta.faults(),
+            armed: meta.is_armed(),
+        };
+        self.counts.take_back(came);
+    }
+}

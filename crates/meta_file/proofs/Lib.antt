@@ -1,0 +1,15 @@
+pub mod Frames
+pub mod Telling
+pub mod Firsts
+pub mod Walks
+pub mod Moments
+pub mod Lasting
+pub mod Holding
+pub mod Gating
+pub mod Settled
+pub mod Fates
+pub mod Written
+pub mod Putting
+pub mod Chaining
+pub mod Confirmed
+pub mod Spans

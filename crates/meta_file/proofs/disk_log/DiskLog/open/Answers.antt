@@ -1,0 +1,14 @@
+use Rattle.std.proofs.Common.{sym, subst}
+use Rattle.meta_file.specs.Stands.{IsSure}
+use Rattle.meta_file.proofs.Confirmed.{sure_durable, opened_told}
+use Rattle.meta_file.proofs.disk_log.DiskLog.open.Goals as goal
+
+pub returns-in-Ok-clause-opened : goal.returns-in-Ok-clause-opened
+returns-in-Ok-clause-opened g c = λ tells.
+    let o = c.in-Ok.ensures.opened tells in
+    opened_told (g.D.Disk.content c.args.disk) (g.D.Disk.content c.open_log.new.disk) o.0 c.in-Ok.ensures.tells tells o.1 o.2
+
+pub returns-in-Ok-clause-durable : goal.returns-in-Ok-clause-durable
+returns-in-Ok-clause-durable g c =
+    let marks = c.in-Ok.marks in
+    sure_durable (g.D.Disk.content c.open_log.new.disk) (g.met.D.Disk.lawful c.open_log.new.disk) marks.ends.items marks.tail c.in-Ok.ensures.has (subst IsSure (sym c.in-Ok.ensures.sure) tt)

@@ -1,0 +1,75 @@
+use Rattle.std.proofs.Common.{◌∙◌, refl}
+use Rattle.meta_file.proofs.Confirmed.{read_kept, opened_has, open_since, opened_both}
+use Rattle.meta_file.proofs.opening.open_log.Goals as goal
+
+pub returns-in_err-confirm-clause-tells : goal.returns-in_err-confirm-clause-tells
+returns-in_err-confirm-clause-tells g c =
+    let d = g.D.Disk.content c.args.disk.now in
+    let m = g.D.Disk.content c.study.new.disk in
+    let n = g.D.Disk.content c.confirm.new.disk in
+    let gate = c.in_ok-gate.gate in
+    let ends = c.in_ok-gate.ends.items in
+    let keeps = c.study.ensures.content in
+    let read = c.in_ok-gate.ensures.read in
+    let x = c.confirm.ensures.content ends (read_kept d m gate ends keeps read) in
+    x.tells ∙ keeps.tells
+
+pub returns-in_err-confirm-clause-since : goal.returns-in_err-confirm-clause-since
+returns-in_err-confirm-clause-since g c =
+    let d = g.D.Disk.content c.args.disk.now in
+    let m = g.D.Disk.content c.study.new.disk in
+    let n = g.D.Disk.content c.confirm.new.disk in
+    let gate = c.in_ok-gate.gate in
+    let ends = c.in_ok-gate.ends.items in
+    let keeps = c.study.ensures.content in
+    let read = c.in_ok-gate.ensures.read in
+    let x = c.confirm.ensures.content ends (read_kept d m gate ends keeps read) in
+    open_since d m n (g.met.D.Disk.lawful c.study.new.disk) keeps x.since
+
+pub returns-clause-has : goal.returns-clause-has
+returns-clause-has g c =
+    let d = g.D.Disk.content c.args.disk.now in
+    let m = g.D.Disk.content c.study.new.disk in
+    let n = g.D.Disk.content c.confirm.new.disk in
+    let gate = c.in_ok-gate.gate in
+    let ends = c.in_ok-gate.ends.items in
+    let keeps = c.study.ensures.content in
+    let read = c.in_ok-gate.ensures.read in
+    let x = c.in_ok-confirm.ensures.content ends (read_kept d m gate ends keeps read) in
+    opened_has d n gate ends read (x.done refl)
+
+pub returns-clause-tells : goal.returns-clause-tells
+returns-clause-tells g c =
+    let d = g.D.Disk.content c.args.disk.now in
+    let m = g.D.Disk.content c.study.new.disk in
+    let n = g.D.Disk.content c.confirm.new.disk in
+    let gate = c.in_ok-gate.gate in
+    let ends = c.in_ok-gate.ends.items in
+    let keeps = c.study.ensures.content in
+    let read = c.in_ok-gate.ensures.read in
+    let x = c.in_ok-confirm.ensures.content ends (read_kept d m gate ends keeps read) in
+    x.tells ∙ keeps.tells
+
+pub returns-clause-since : goal.returns-clause-since
+returns-clause-since g c =
+    let d = g.D.Disk.content c.args.disk.now in
+    let m = g.D.Disk.content c.study.new.disk in
+    let n = g.D.Disk.content c.confirm.new.disk in
+    let gate = c.in_ok-gate.gate in
+    let ends = c.in_ok-gate.ends.items in
+    let keeps = c.study.ensures.content in
+    let read = c.in_ok-gate.ensures.read in
+    let x = c.in_ok-confirm.ensures.content ends (read_kept d m gate ends keeps read) in
+    open_since d m n (g.met.D.Disk.lawful c.study.new.disk) keeps x.since
+
+pub returns-clause-opened : goal.returns-clause-opened
+returns-clause-opened g c =
+    let d = g.D.Disk.content c.args.disk.now in
+    let m = g.D.Disk.content c.study.new.disk in
+    let n = g.D.Disk.content c.confirm.new.disk in
+    let gate = c.in_ok-gate.gate in
+    let ends = c.in_ok-gate.ends.items in
+    let keeps = c.study.ensures.content in
+    let read = c.in_ok-gate.ensures.read in
+    let x = c.in_ok-confirm.ensures.content ends (read_kept d m gate ends keeps read) in
+    opened_both d n (g.met.D.Disk.lawful c.confirm.new.disk) gate ends read (x.tells ∙ keeps.tells) (x.done refl)

@@ -1,0 +1,12 @@
+pub mod Notes
+pub mod Ends
+pub mod Reading
+pub mod Refusing
+pub mod Crash
+pub mod Stands
+pub mod Opening
+pub mod Writing
+pub mod Runs
+pub mod Told
+pub mod Log
+pub mod Inside
