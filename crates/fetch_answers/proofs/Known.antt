@@ -1,5 +1,5 @@
 -- Each turn keeps what is known of what fetches have found, and nothing is to be known of a fresh world.
-use Rattle.std.proofs.Common.{◌≡◌, ◌∙◌, inl, inr, sym, ap, subst, refl, ℕ, zero, suc, ◌<◌, List, [], ◌∷◌, length, Some, slice_get, slice_set, arith}
+use Rattle.std.proofs.Common.{◌≡◌, ◌∙◌, inl, inr, sym, ap, subst, refl, ℕ, zero, suc, ◌<◌, List, [], length, Some, slice_get, slice_set, arith}
 use Rattle.std.specs.Prelude.{replicate, unwrap_or}
 use Rattle.tier_base.specs.declared.names.PartitionId.{PartitionId}
 use Rattle.disk_model.specs.declared.disk.Disk.{Ghosts as DiskGhosts}
@@ -39,6 +39,7 @@ use Rattle.partition_world.specs.Whole.{Whole}
 use Rattle.partition_world.proofs.Begins.{MayComeTo, row_of, row_may}
 use Rattle.partition_world.proofs.FetchAdvances.{sought_before, fetch_advances}
 use Rattle.partition_world.proofs.Scenes.{Place, place_of, site}
+use Rattle.command_turns.proofs.Progress.{others_stay}
 use Rattle.fetch_answers.specs.Found.{IsFound, SpansKnown}
 use Rattle.fetch_answers.proofs.Grows.{found_grows, paths_later}
 use Rattle.fetch_answers.proofs.Notes.{row_notes}
@@ -49,13 +50,6 @@ rep_get : {A : Type 0} (n i : ℕ) (x y : A) → slice_get (replicate n x) i ≡
 rep_get zero i x y at = absurd cc
 rep_get (suc n) zero x y at = cc
 rep_get (suc n) (suc i) x y at = rep_get n i x y at
-
-get_other : {A : Type 0} (xs : List A) (i j : ℕ) (y : A) → (j ≡ i → ⊥) → slice_get (slice_set xs i y) j ≡ slice_get xs j
-get_other [] i j y ne = refl
-get_other (x ∷ xs) zero zero y ne = absurd (ne refl)
-get_other (x ∷ xs) zero (suc j) y ne = refl
-get_other (x ∷ xs) (suc i) zero y ne = refl
-get_other (x ∷ xs) (suc i) (suc j) y ne = get_other xs i j y (λ e. ne (ap suc e))
 
 -- the last of its turns isn't followed by another
 last_turn : (later : Next) → 3 < sought_before later → ⊥
@@ -69,11 +63,6 @@ number_kept seat (Answers answer) g next is = absurd (cc (is))
 number_kept seat other g next is = refl
 
 module _ {D S M : Type 0} (disk : DiskGhosts D) (store : StoreGhosts S) (meta : MetaGhosts M) where
-  -- a turn leaves the other seats as they were
-  pub others_stay : (w : Whole D S M) (a : ℕ) (outcome : Outcome) (w' : Whole D S M) (t : IsTurn disk store meta w a outcome w') (place : ℕ) → (place ≡ t.place → ⊥)
-      → slice_get w'.desk place ≡ slice_get w.desk place
-  others_stay w a outcome w' t place ne = ap (λ (d : List Seat). slice_get d place) t.desk ∙ get_other w.desk t.place place (seat_after t.seat outcome) ne
-
   module _ (opening : State) (w : Whole D S M) (a : ℕ) (outcome : Outcome) (w' : Whole D S M) (t : IsTurn disk store meta w a outcome w') (c : IsCentral disk store meta opening w)
       (known : SpansKnown meta opening w) (z : Place disk store meta opening w c t.place t.list t.seat t.order) (offset limit : ℕ) (fetches : t.order.command ≡ Fetch offset limit) where
     abbrev b : ℕ
@@ -171,7 +160,7 @@ module _ {D S M : Type 0} (disk : DiskGhosts D) (store : StoreGhosts S) (meta : 
                 at = record {
                   list = ap (λ (k : List ActorList). slice_get k place) (sym t.lists) ∙ nx.at.list;
                   actor = nx.at.actor;
-                  seat_is = sym (others_stay w a outcome w' t place (λ e. other (sym e))) ∙ nx.at.seat_is;
+                  seat_is = sym (others_stay disk store meta w a outcome w' t place (λ e. other (sym e))) ∙ nx.at.seat_is;
                 };
                 next = nx.next;
               } in

@@ -6,7 +6,5 @@ pub mod Places
 pub mod Known
 pub mod Causes
 pub mod Damage
-pub mod Progress
-pub mod Runs
 pub mod Served
 pub mod Schedules

@@ -46,10 +46,12 @@ use Rattle.partition_world.proofs.CalmLaw.{reaches_unfailing}
 use Rattle.partition_world.proofs.CentralLaw.{turn_central}
 use Rattle.fetch_answers.specs.Causes.{IsLogsRun, DiskFailed, StoreFailed, MetaFailed, HasCause, LaterCause, IsCommitted, MayServe}
 use Rattle.fetch_answers.specs.Found.{SpansKnown}
-use Rattle.fetch_answers.specs.Progress.{most_turns, times, IsServed, IsAnswered, Runs, IsFree, IsUnhindered}
+use Rattle.command_turns.specs.Turns.{turns_left}
+use Rattle.command_turns.specs.Runs.{times, IsAnswered, Runs}
+use Rattle.command_turns.proofs.Runs.{entry, run}
+use Rattle.fetch_answers.specs.Unhindered.{IsServed, IsFree, IsUnhindered}
 use Rattle.fetch_answers.proofs.Causes.{have_causes}
 use Rattle.fetch_answers.proofs.Known.{keep_spans}
-use Rattle.fetch_answers.proofs.Runs.{entry, run}
 
 -- the first batch from an offset on begins at it or below
 begins_low : (n offset : ℕ) (bs : List (List ℕ)) (first : List ℕ) (rest : List (List ℕ)) → IsConsecutive n bs → n ≤ offset → from_offset offset bs ≡ first ∷ rest → base_of first ≤ offset
@@ -203,12 +205,12 @@ module _ {D S M : Type 0} (disk : DiskGhosts D) (store : StoreGhosts S) (meta : 
 
   pub are_served : (opening : State) (w : Whole D S M) (a place : ℕ) (l : ActorList) (seat : Seat) (order : Order) (offset limit : ℕ) (actors : List ℕ) (w' : Whole D S M)
       → IsCentral disk store meta opening w → SpansKnown meta opening w → IsNext w a place l seat order → order.command ≡ Fetch offset limit
-      → Runs disk store meta (IsUnhindered disk store meta place seat.number offset) w actors w' → most_turns seat.work ≤ times a actors
+      → Runs disk store meta (IsUnhindered disk store meta place seat.number offset) w actors w' → turns_left (Fetch offset limit) seat.work ≤ times a actors
       → (answer : Answer) × IsServed offset limit answer × IsAnswered w' l.actor seat.number answer
   are_served opening w a place l seat order offset limit actors w' c known next fetches r le =
-      run disk store meta (AllKnown opening) (IsUnhindered disk store meta place seat.number offset) (IsServed offset limit) a place seat.number offset limit l (turn_known opening)
-      (free_served opening place seat.number offset limit) actors w w'
-      (record { rising = c.central.stands.rising; seat = seat; order = order; next = next; number_is = refl; fetches = fetches }) (c, known) r le
+      run disk store meta (AllKnown opening) (IsUnhindered disk store meta place seat.number offset) (λ work. Unit {0}) (IsServed offset limit) (Fetch offset limit) a place seat.number l (turn_known opening)
+      (λ v b outcome answer u t is i p same number fetch works. free_served opening place seat.number offset limit v b outcome answer u t is i p same number fetch) (λ v b outcome u t un works. tt) actors w w'
+      (record { rising = c.central.stands.rising; seat = seat; order = order; next = next; number_is = refl; kind_is = fetches; works = tt }) (c, known) r le
 
   -- over devices of which no call can fail
 
@@ -236,9 +238,10 @@ module _ {D S M : Type 0} (disk : DiskGhosts D) (store : StoreGhosts S) (meta : 
 
   pub calm_served : (opening : State) (w : Whole D S M) (a place : ℕ) (l : ActorList) (seat : Seat) (order : Order) (offset limit : ℕ) (actors : List ℕ) (w' : Whole D S M)
       → IsCentral disk store meta opening w → SpansKnown meta opening w → IsUnfailing disk store meta w → IsNext w a place l seat order → order.command ≡ Fetch offset limit
-      → Runs disk store meta (IsFree disk store meta place seat.number offset) w actors w' → most_turns seat.work ≤ times a actors
+      → Runs disk store meta (IsFree disk store meta place seat.number offset) w actors w' → turns_left (Fetch offset limit) seat.work ≤ times a actors
       → (answer : Answer) × IsServed offset limit answer × IsAnswered w' l.actor seat.number answer
   calm_served opening w a place l seat order offset limit actors w' c known calm next fetches r le =
-      run disk store meta (λ v. AllKnown opening v × IsUnfailing disk store meta v) (IsFree disk store meta place seat.number offset) (IsServed offset limit) a place seat.number offset limit l
-      (λ v b outcome u t i. (turn_known opening v b outcome u t i.0, turn_calm v b outcome u t i.1)) (ends_calm opening place seat.number offset limit) actors w w'
-      (record { rising = c.central.stands.rising; seat = seat; order = order; next = next; number_is = refl; fetches = fetches }) ((c, known), calm) r le
+      run disk store meta (λ v. AllKnown opening v × IsUnfailing disk store meta v) (IsFree disk store meta place seat.number offset) (λ work. Unit {0}) (IsServed offset limit) (Fetch offset limit) a place seat.number l
+      (λ v b outcome u t i. (turn_known opening v b outcome u t i.0, turn_calm v b outcome u t i.1))
+      (λ v b outcome answer u t is i p same number fetch works. ends_calm opening place seat.number offset limit v b outcome answer u t is i p same number fetch) (λ v b outcome u t un works. tt) actors w w'
+      (record { rising = c.central.stands.rising; seat = seat; order = order; next = next; number_is = refl; kind_is = fetches; works = tt }) ((c, known), calm) r le

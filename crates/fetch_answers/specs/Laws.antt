@@ -1,5 +1,5 @@
 -- The laws of what a fetch is answered.
-use Rattle.std.specs.Prelude.{◌≡◌, ◌≤◌, ◌<◌, ℕ, List, Some}
+use Rattle.std.specs.Prelude.{◌≡◌, ◌≤◌, ℕ, List, Some}
 use Rattle.tier_base.specs.declared.names.PartitionId.{PartitionId}
 use Rattle.disk_model.specs.declared.disk.Disk.{Ghosts as DiskGhosts}
 use Rattle.object_store.specs.declared.store.Store.{Ghosts as StoreGhosts}
@@ -16,7 +16,6 @@ use Rattle.plain_log.specs.declared.command.Config.{Config}
 use Rattle.plain_log.specs.declared.command.Order.{Order}
 use Rattle.plain_log.specs.declared.command.Pace.{Pace}
 use Rattle.plain_log.specs.declared.state.State.{State}
-use Rattle.plain_log.specs.Orders.{AreRising}
 use Rattle.plain_log.specs.Safe.{LogSafe, PlainSafe}
 use Rattle.remote_view.specs.Fold.{AreKept, AreDistinct}
 use Rattle.remote_find.specs.declared.piece.Piece.{Piece}
@@ -31,12 +30,13 @@ use Rattle.partition_world.specs.Calm.{IsUnfailing}
 use Rattle.partition_world.specs.Central.{IsCentral}
 use Rattle.partition_world.specs.Fresh.{IsFresh}
 use Rattle.partition_world.specs.Reaches.{Reaches}
-use Rattle.partition_world.specs.Seats.{seat_after, IsUnanswered}
 use Rattle.partition_world.specs.Turn.{IsNext, IsTurn}
 use Rattle.partition_world.specs.Whole.{Whole}
 use Rattle.fetch_answers.specs.Causes.{HasCause}
 use Rattle.fetch_answers.specs.Found.{SpansKnown}
-use Rattle.fetch_answers.specs.Progress.{most_turns, times, turns_in, IsServed, IsAnswered, Runs, IsFree, IsUnhindered}
+use Rattle.command_turns.specs.Turns.{turns_left}
+use Rattle.command_turns.specs.Runs.{times, IsAnswered, Runs}
+use Rattle.fetch_answers.specs.Unhindered.{IsServed, IsFree, IsUnhindered}
 
 -- a piece that is found by a log's line, among entries whose finished copies stand, ends where a batch of the log does
 abbrev pub PiecesEnd : Type 0
@@ -58,26 +58,13 @@ module _ {D S M : Type 0} (disk : DiskGhosts D) (store : StoreGhosts S) (meta : 
       → IsCentral disk store meta opening w → SpansKnown meta opening w
       → (t : IsTurn disk store meta w a (Answers (Damaged place at)) w') → t.order.command ≡ Fetch offset limit → ⊥
 
-  -- a turn of a fetch that isn't answered leaves fewer to come
-  abbrev pub FetchesGoOn : Type 0
-  FetchesGoOn = (w : Whole D S M) (a : ℕ) (outcome : Outcome) (w' : Whole D S M) (t : IsTurn disk store meta w a outcome w')
-      (offset limit : ℕ) → t.order.command ≡ Fetch offset limit → IsUnanswered outcome
-      → most_turns (seat_after t.seat outcome).work < most_turns t.seat.work
-
-  -- a fetch is answered by as many of its actor's turns, whatever the devices, and whatever others come between
-  abbrev pub FetchesAreAnswered : Type 0
-  FetchesAreAnswered = (w : Whole D S M) (a place : ℕ) (l : ActorList) (seat : Seat) (order : Order) (offset limit : ℕ)
-      (actors : List ℕ) (w' : Whole D S M) → AreRising w.lists → IsNext w a place l seat order → order.command ≡ Fetch offset limit
-      → Runs disk store meta (λ v b u. Unit {0}) w actors w' → most_turns seat.work ≤ times a actors
-      → (answer : Answer) × IsAnswered w' l.actor seat.number answer
-
-  -- it is answered by a run where nothing stands in the way of its turns
+  -- a fetch is answered by a run, by as many of its actor's turns as it has left, where nothing stands in the way of them
   abbrev pub UnhinderedAreServed : Type 0
   UnhinderedAreServed = (opening : State) (w : Whole D S M) (a place : ℕ) (l : ActorList) (seat : Seat) (order : Order)
       (offset limit : ℕ) (actors : List ℕ) (w' : Whole D S M) → IsCentral disk store meta opening w → SpansKnown meta opening w
       → IsNext w a place l seat order → order.command ≡ Fetch offset limit
       → Runs disk store meta (IsUnhindered disk store meta place seat.number offset) w actors w'
-      → most_turns seat.work ≤ times a actors
+      → turns_left (Fetch offset limit) seat.work ≤ times a actors
       → (answer : Answer) × IsServed offset limit answer × IsAnswered w' l.actor seat.number answer
 
   -- over devices of which no call can fail that is where its broker leads on and may give the offset
@@ -86,15 +73,8 @@ module _ {D S M : Type 0} (disk : DiskGhosts D) (store : StoreGhosts S) (meta : 
       (offset limit : ℕ) (actors : List ℕ) (w' : Whole D S M) → IsCentral disk store meta opening w → SpansKnown meta opening w
       → IsUnfailing disk store meta w → IsNext w a place l seat order → order.command ≡ Fetch offset limit
       → Runs disk store meta (IsFree disk store meta place seat.number offset) w actors w'
-      → most_turns seat.work ≤ times a actors
+      → turns_left (Fetch offset limit) seat.work ≤ times a actors
       → (answer : Answer) × IsServed offset limit answer × IsAnswered w' l.actor seat.number answer
-
-  -- a schedule that gives its actor as many turns answers a fetch
-  abbrev pub SchedulesAnswerFetches : Type 0
-  SchedulesAnswerFetches = (w : Whole D S M) (a place : ℕ) (l : ActorList) (seat : Seat) (order : Order) (offset limit : ℕ)
-      (schedule : List Pace) (w' : Whole D S M) → AreRising w.lists → IsNext w a place l seat order
-      → order.command ≡ Fetch offset limit → Reaches disk store meta w schedule w' → most_turns seat.work ≤ turns_in a schedule
-      → (answer : Answer) × IsAnswered w' l.actor seat.number answer
 
   -- what a schedule reaches keeps what is known of what fetches have found
   abbrev pub ReachesSpans : Type 0

@@ -1,4 +1,4 @@
 pub mod Found
 pub mod Causes
-pub mod Progress
+pub mod Unhindered
 pub mod Laws

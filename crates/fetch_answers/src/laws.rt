@@ -2,9 +2,7 @@
 //! it cites the law.
 
 ghost use Rattle.fetch_answers.specs.Laws.{PiecesEnd, FetchesHaveCauses, NoFetchIsDamaged};
-ghost use Rattle.fetch_answers.specs.Laws.{FetchesGoOn, FetchesAreAnswered};
-ghost use Rattle.fetch_answers.specs.Laws.{UnhinderedAreServed};
-ghost use Rattle.fetch_answers.specs.Laws.{UnfailingAreServed, SchedulesAnswerFetches};
+ghost use Rattle.fetch_answers.specs.Laws.{UnhinderedAreServed, UnfailingAreServed};
 ghost use Rattle.fetch_answers.specs.Laws.{ReachesSpans, TurnsKeepSpans, FreshHasSpans};
 
 use disk_model::Disk;
@@ -26,17 +24,6 @@ pub fn no_fetch_is_damaged<D: Disk, S: Store, M: MetaLog>()
     ensures { NoFetchIsDamaged D.Disk S.Store M.MetaLog }
 {}
 
-/// A turn of a fetch that isn't answered leaves fewer to come.
-pub fn fetches_go_on<D: Disk, S: Store, M: MetaLog>()
-    ensures { FetchesGoOn D.Disk S.Store M.MetaLog }
-{}
-
-/// A fetch is answered by its fourth turn, whatever the devices do, and whatever turns of other
-/// actors come between.
-pub fn fetches_are_answered<D: Disk, S: Store, M: MetaLog>()
-    ensures { FetchesAreAnswered D.Disk S.Store M.MetaLog }
-{}
-
 /// A fetch whose broker leads on, of an offset that the log start isn't past and the known high
 /// watermark is, and that meets no fault is answered by a run.
 pub fn unhindered_are_served<D: Disk, S: Store, M: MetaLog>()
@@ -47,11 +34,6 @@ pub fn unhindered_are_served<D: Disk, S: Store, M: MetaLog>()
 /// give the offset.
 pub fn unfailing_are_served<D: Disk, S: Store, M: MetaLog>()
     ensures { UnfailingAreServed D.Disk S.Store M.MetaLog }
-{}
-
-/// A schedule that gives its actor four turns answers a fetch.
-pub fn schedules_answer_fetches<D: Disk, S: Store, M: MetaLog>()
-    ensures { SchedulesAnswerFetches D.Disk S.Store M.MetaLog }
 {}
 
 /// What a schedule reaches keeps what is known of what fetches have found, beside the central fact.
@@ -72,8 +54,8 @@ pub fn fresh_has_spans<D: Disk, S: Store, M: MetaLog>()
 #[cfg(test)]
 mod tests {
     use super::{
-        fetches_are_answered, fetches_have_causes, fresh_has_spans, turns_keep_spans,
-        unfailing_are_served, unhindered_are_served,
+        fetches_have_causes, fresh_has_spans, turns_keep_spans, unfailing_are_served,
+        unhindered_are_served,
     };
     use disk_model::MemoryDisk;
     use meta_log::MemoryLog;
@@ -84,7 +66,6 @@ mod tests {
         fresh_has_spans::<MemoryDisk, MemoryStore, MemoryLog>();
         turns_keep_spans::<MemoryDisk, MemoryStore, MemoryLog>();
         fetches_have_causes::<MemoryDisk, MemoryStore, MemoryLog>();
-        fetches_are_answered::<MemoryDisk, MemoryStore, MemoryLog>();
         unhindered_are_served::<MemoryDisk, MemoryStore, MemoryLog>();
         unfailing_are_served::<MemoryDisk, MemoryStore, MemoryLog>();
     }

@@ -37,10 +37,12 @@ use Rattle.partition_world.proofs.CalmLaw.{reaches_unfailing}
 use Rattle.partition_world.proofs.CentralLaw.{turn_central}
 use Rattle.partition_answers.specs.Causes.{DiskFailed, StoreFailed, MetaFailed, HasCause, MayCopy}
 use Rattle.partition_answers.specs.Known.{DeletionsKnown}
-use Rattle.partition_answers.specs.Progress.{most_turns, times, IsAnswered, Runs, IsFree, IsUnhindered}
+use Rattle.command_turns.specs.Turns.{turns_left}
+use Rattle.command_turns.specs.Runs.{times, IsAnswered, Runs}
+use Rattle.command_turns.proofs.Runs.{entry, run}
+use Rattle.partition_answers.specs.Unhindered.{IsFree, IsUnhindered}
 use Rattle.partition_answers.proofs.Causes.{have_causes}
 use Rattle.partition_answers.proofs.Known.{keep_known}
-use Rattle.partition_answers.proofs.Runs.{entry, run}
 
 module _ {D S M : Type 0} (disk : DiskGhosts D) (store : StoreGhosts S) (meta : MetaGhosts M) where
   -- such an answer
@@ -141,11 +143,11 @@ module _ {D S M : Type 0} (disk : DiskGhosts D) (store : StoreGhosts S) (meta : 
 
   pub are_copied : (opening : State) (w : Whole D S M) (a place : ℕ) (l : ActorList) (seat : Seat) (order : Order) (actors : List ℕ) (w' : Whole D S M) → IsCentral disk store meta opening w
       → DeletionsKnown meta w → IsNext w a place l seat order → order.command ≡ Copy → Runs disk store meta (IsUnhindered disk store meta place seat.number) w actors w'
-      → most_turns seat.work ≤ times a actors → (id : SegmentId) × (base : ℕ) × (last : ℕ) × IsAnswered w' l.actor seat.number (CopiedSegment id base last)
+      → turns_left Copy seat.work ≤ times a actors → (id : SegmentId) × (base : ℕ) × (last : ℕ) × IsAnswered w' l.actor seat.number (CopiedSegment id base last)
   are_copied opening w a place l seat order actors w' c known next copies r le =
-      let k = run disk store meta (AllKnown opening) (IsUnhindered disk store meta place seat.number) (λ work. Unit {0}) IsCopiedAnswer a place seat.number l (turn_known opening)
+      let k = run disk store meta (AllKnown opening) (IsUnhindered disk store meta place seat.number) (λ work. Unit {0}) IsCopiedAnswer Copy a place seat.number l (turn_known opening)
       (λ v b outcome answer u t is i p same number copy works. copied_so t.seat.work answer (free_copied opening place seat.number v b outcome answer u t is i p same number copy)) (λ v b outcome u t un works. tt) actors w w'
-      (record { rising = c.central.stands.rising; seat = seat; order = order; next = next; number_is = refl; copies = copies; works = tt }) (c, known) r le in
+      (record { rising = c.central.stands.rising; seat = seat; order = order; next = next; number_is = refl; kind_is = copies; works = tt }) (c, known) r le in
       let is = k.1 in
       (is.0, is.1, is.2, subst (IsAnswered w' l.actor seat.number) is.3 k.2)
 
@@ -171,12 +173,12 @@ module _ {D S M : Type 0} (disk : DiskGhosts D) (store : StoreGhosts S) (meta : 
 
   pub chosen_copied : (opening : State) (w : Whole D S M) (a place : ℕ) (l : ActorList) (seat : Seat) (order : Order) (g : Begun) (copy : Copied) (next : Next) (actors : List ℕ) (w' : Whole D S M)
       → IsCentral disk store meta opening w → DeletionsKnown meta w → IsNext w a place l seat order → order.command ≡ Copy → seat.work ≡ Copies g copy next
-      → Runs disk store meta (IsUnhindered disk store meta place seat.number) w actors w' → most_turns seat.work ≤ times a actors
+      → Runs disk store meta (IsUnhindered disk store meta place seat.number) w actors w' → turns_left Copy seat.work ≤ times a actors
       → IsAnswered w' l.actor seat.number (CopiedSegment copy.id copy.segment.base copy.segment.last)
   chosen_copied opening w a place l seat order g copy next actors w' c known at copies works r le =
-      let k = run disk store meta (AllKnown opening) (IsUnhindered disk store meta place seat.number) (IsOf g copy) (λ answer. answer ≡ CopiedSegment copy.id copy.segment.base copy.segment.last) a place seat.number l (turn_known opening)
+      let k = run disk store meta (AllKnown opening) (IsUnhindered disk store meta place seat.number) (IsOf g copy) (λ answer. answer ≡ CopiedSegment copy.id copy.segment.base copy.segment.last) Copy a place seat.number l (turn_known opening)
       (λ v b outcome answer u t is i p same number copy of. subst (λ (work : Work). CopiedFor work answer) of.1 (free_copied opening place seat.number v b outcome answer u t is i p same number copy)) (still_of g copy) actors w w'
-      (record { rising = c.central.stands.rising; seat = seat; order = order; next = at; number_is = refl; copies = copies; works = (next, works) }) (c, known) r le in
+      (record { rising = c.central.stands.rising; seat = seat; order = order; next = at; number_is = refl; kind_is = copies; works = (next, works) }) (c, known) r le in
       subst (IsAnswered w' l.actor seat.number) k.1 k.2
 
   -- over devices of which no call can fail
@@ -204,10 +206,10 @@ module _ {D S M : Type 0} (disk : DiskGhosts D) (store : StoreGhosts S) (meta : 
 
   pub calm_copied : (opening : State) (w : Whole D S M) (a place : ℕ) (l : ActorList) (seat : Seat) (order : Order) (actors : List ℕ) (w' : Whole D S M) → IsCentral disk store meta opening w
       → DeletionsKnown meta w → IsUnfailing disk store meta w → IsNext w a place l seat order → order.command ≡ Copy → Runs disk store meta (IsFree disk store meta place seat.number) w actors w'
-      → most_turns seat.work ≤ times a actors → (id : SegmentId) × (base : ℕ) × (last : ℕ) × IsAnswered w' l.actor seat.number (CopiedSegment id base last)
+      → turns_left Copy seat.work ≤ times a actors → (id : SegmentId) × (base : ℕ) × (last : ℕ) × IsAnswered w' l.actor seat.number (CopiedSegment id base last)
   calm_copied opening w a place l seat order actors w' c known calm next copies r le =
-      let k = run disk store meta (λ v. AllKnown opening v × IsUnfailing disk store meta v) (IsFree disk store meta place seat.number) (λ work. Unit {0}) IsCopiedAnswer a place seat.number l
+      let k = run disk store meta (λ v. AllKnown opening v × IsUnfailing disk store meta v) (IsFree disk store meta place seat.number) (λ work. Unit {0}) IsCopiedAnswer Copy a place seat.number l
       (λ v b outcome u t i. (turn_known opening v b outcome u t i.0, turn_calm v b outcome u t i.1)) (ends_calm opening place seat.number) (λ v b outcome u t un works. tt) actors w w'
-      (record { rising = c.central.stands.rising; seat = seat; order = order; next = next; number_is = refl; copies = copies; works = tt }) ((c, known), calm) r le in
+      (record { rising = c.central.stands.rising; seat = seat; order = order; next = next; number_is = refl; kind_is = copies; works = tt }) ((c, known), calm) r le in
       let is = k.1 in
       (is.0, is.1, is.2, subst (IsAnswered w' l.actor seat.number) is.3 k.2)

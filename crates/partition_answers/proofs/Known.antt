@@ -62,7 +62,7 @@ use Rattle.partition_world.proofs.CentralLaw.{turn_central}
 use Rattle.partition_world.proofs.Scenes.{place_of, shows_at}
 use Rattle.partition_answers.specs.Known.{DeletedBelow, ShowsDeleted, DeletionsKnown}
 use Rattle.partition_answers.proofs.Notes.{told_below, fed_shows}
-use Rattle.partition_answers.proofs.Progress.{others_stay}
+use Rattle.command_turns.proofs.Progress.{others_stay}
 use Rattle.partition_answers.proofs.Seen.{TierGoes, DoomsBelow, row_goes}
 
 rep_get : {A : Type 0} (n i : ℕ) (x y : A) → slice_get (replicate n x) i ≡ Some y → y ≡ x

@@ -1,8 +1,6 @@
-pub mod Progress
 pub mod Notes
 pub mod Seen
 pub mod Known
 pub mod Causes
-pub mod Runs
 pub mod Copied
 pub mod Schedules

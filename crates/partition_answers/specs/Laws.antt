@@ -1,5 +1,5 @@
 -- The laws of what a copy is answered.
-use Rattle.std.specs.Prelude.{◌≡◌, ◌≢◌, ◌≤◌, ◌<◌, ℕ, List, slice_get}
+use Rattle.std.specs.Prelude.{◌≡◌, ◌≤◌, ℕ, List}
 use Rattle.tier_base.specs.declared.names.PartitionId.{PartitionId}
 use Rattle.tier_base.specs.declared.names.SegmentId.{SegmentId}
 use Rattle.disk_model.specs.declared.disk.Disk.{Ghosts as DiskGhosts}
@@ -15,7 +15,6 @@ use Rattle.plain_log.specs.declared.command.Config.{Config}
 use Rattle.plain_log.specs.declared.command.Order.{Order}
 use Rattle.plain_log.specs.declared.command.Pace.{Pace}
 use Rattle.plain_log.specs.declared.state.State.{State}
-use Rattle.plain_log.specs.Orders.{AreRising}
 use Rattle.partition_seen.specs.declared.begun.Begun.{Begun}
 use Rattle.partition_turns.specs.Held.{AtNode}
 use Rattle.partition_world.specs.declared.seat.Outcome.{Outcome}
@@ -26,13 +25,14 @@ use Rattle.partition_world.specs.Calm.{IsUnfailing}
 use Rattle.partition_world.specs.Central.{IsCentral}
 use Rattle.partition_world.specs.Fresh.{IsFresh, IsSeenEmpty}
 use Rattle.partition_world.specs.Reaches.{Reaches}
-use Rattle.partition_world.specs.Seats.{seat_after, IsUnanswered}
 use Rattle.partition_world.specs.Tier.{AtSide}
 use Rattle.partition_world.specs.Turn.{IsNext, IsTurn}
 use Rattle.partition_world.specs.Whole.{Whole}
 use Rattle.partition_answers.specs.Causes.{HasCause}
 use Rattle.partition_answers.specs.Known.{DeletionsKnown}
-use Rattle.partition_answers.specs.Progress.{most_turns, times, turns_in, IsAnswered, Runs, IsFree, IsUnhindered}
+use Rattle.command_turns.specs.Turns.{turns_left}
+use Rattle.command_turns.specs.Runs.{times, IsAnswered, Runs}
+use Rattle.partition_answers.specs.Unhindered.{IsFree, IsUnhindered}
 
 module _ {D S M : Type 0} (disk : DiskGhosts D) (store : StoreGhosts S) (meta : MetaGhosts M) where
   -- a copy's answer has its cause
@@ -43,30 +43,12 @@ module _ {D S M : Type 0} (disk : DiskGhosts D) (store : StoreGhosts S) (meta : 
       → AtNode w.held t.order.broker.0 (λ x. AtSide w.tier t.order.broker.0 (λ side.
       HasCause disk store meta w t.order.broker.0 x side t.seat.work answer w'))
 
-  -- a turn of a copy that isn't answered leaves fewer to come
-  abbrev pub CopiesGoOn : Type 0
-  CopiesGoOn = (w : Whole D S M) (a : ℕ) (outcome : Outcome) (w' : Whole D S M) (t : IsTurn disk store meta w a outcome w')
-      → t.order.command ≡ Copy → IsUnanswered outcome
-      → most_turns (seat_after t.seat outcome).work < most_turns t.seat.work
-
-  -- a turn leaves the other seats as they were
-  abbrev pub OthersStay : Type 0
-  OthersStay = (w : Whole D S M) (a : ℕ) (outcome : Outcome) (w' : Whole D S M) (t : IsTurn disk store meta w a outcome w')
-      (place : ℕ) → place ≢ t.place → slice_get w'.desk place ≡ slice_get w.desk place
-
-  -- a copy is answered by as many of its actor's turns, whatever the devices, and whatever others come between
-  abbrev pub CopiesAreAnswered : Type 0
-  CopiesAreAnswered = (w : Whole D S M) (a place : ℕ) (l : ActorList) (seat : Seat) (order : Order) (actors : List ℕ)
-      (w' : Whole D S M) → AreRising w.lists → IsNext w a place l seat order → order.command ≡ Copy
-      → Runs disk store meta (λ v b u. Unit {0}) w actors w' → most_turns seat.work ≤ times a actors
-      → (answer : Answer) × IsAnswered w' l.actor seat.number answer
-
-  -- it is answered `Copied` where nothing stands in the way of its turns
+  -- a copy is answered `Copied` by as many of its actor's turns as it has left, where nothing stands in the way of them
   abbrev pub UnhinderedAreCopied : Type 0
   UnhinderedAreCopied = (opening : State) (w : Whole D S M) (a place : ℕ) (l : ActorList) (seat : Seat) (order : Order)
       (actors : List ℕ) (w' : Whole D S M) → IsCentral disk store meta opening w → DeletionsKnown meta w
       → IsNext w a place l seat order → order.command ≡ Copy
-      → Runs disk store meta (IsUnhindered disk store meta place seat.number) w actors w' → most_turns seat.work ≤ times a actors
+      → Runs disk store meta (IsUnhindered disk store meta place seat.number) w actors w' → turns_left Copy seat.work ≤ times a actors
       → (id : SegmentId) × (base : ℕ) × (last : ℕ) × IsAnswered w' l.actor seat.number (CopiedSegment id base last)
 
   -- of the segment that it has chosen, where it has
@@ -74,7 +56,7 @@ module _ {D S M : Type 0} (disk : DiskGhosts D) (store : StoreGhosts S) (meta : 
   ChosenAreCopied = (opening : State) (w : Whole D S M) (a place : ℕ) (l : ActorList) (seat : Seat) (order : Order) (g : Begun)
       (copy : Copied) (next : Next) (actors : List ℕ) (w' : Whole D S M) → IsCentral disk store meta opening w
       → DeletionsKnown meta w → IsNext w a place l seat order → order.command ≡ Copy → seat.work ≡ Copies g copy next
-      → Runs disk store meta (IsUnhindered disk store meta place seat.number) w actors w' → most_turns seat.work ≤ times a actors
+      → Runs disk store meta (IsUnhindered disk store meta place seat.number) w actors w' → turns_left Copy seat.work ≤ times a actors
       → IsAnswered w' l.actor seat.number (CopiedSegment copy.id copy.segment.base copy.segment.last)
 
   -- over devices of which no call can fail that is where it has something to copy, and its broker leads on
@@ -82,15 +64,8 @@ module _ {D S M : Type 0} (disk : DiskGhosts D) (store : StoreGhosts S) (meta : 
   UnfailingAreCopied = (opening : State) (w : Whole D S M) (a place : ℕ) (l : ActorList) (seat : Seat) (order : Order)
       (actors : List ℕ) (w' : Whole D S M) → IsCentral disk store meta opening w → DeletionsKnown meta w
       → IsUnfailing disk store meta w → IsNext w a place l seat order → order.command ≡ Copy
-      → Runs disk store meta (IsFree disk store meta place seat.number) w actors w' → most_turns seat.work ≤ times a actors
+      → Runs disk store meta (IsFree disk store meta place seat.number) w actors w' → turns_left Copy seat.work ≤ times a actors
       → (id : SegmentId) × (base : ℕ) × (last : ℕ) × IsAnswered w' l.actor seat.number (CopiedSegment id base last)
-
-  -- a schedule that gives its actor as many turns answers a copy
-  abbrev pub SchedulesAnswerCopies : Type 0
-  SchedulesAnswerCopies = (w : Whole D S M) (a place : ℕ) (l : ActorList) (seat : Seat) (order : Order) (schedule : List Pace)
-      (w' : Whole D S M) → AreRising w.lists → IsNext w a place l seat order → order.command ≡ Copy
-      → Reaches disk store meta w schedule w' → most_turns seat.work ≤ turns_in a schedule
-      → (answer : Answer) × IsAnswered w' l.actor seat.number answer
 
   -- what a schedule reaches keeps what is known of deletions
   abbrev pub ReachesKnown : Type 0

@@ -1,4 +1,4 @@
 pub mod Known
 pub mod Causes
-pub mod Progress
+pub mod Unhindered
 pub mod Laws

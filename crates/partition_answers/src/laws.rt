@@ -1,11 +1,9 @@
 //! Laws of what a copy is answered. Each is the contract of a function that does nothing: calling
 //! it cites the law.
 
-ghost use Rattle.partition_answers.specs.Laws.{CopiesHaveCauses, CopiesGoOn, OthersStay};
-ghost use Rattle.partition_answers.specs.Laws.{CopiesAreAnswered, UnhinderedAreCopied};
+ghost use Rattle.partition_answers.specs.Laws.{CopiesHaveCauses, UnhinderedAreCopied};
 ghost use Rattle.partition_answers.specs.Laws.{ChosenAreCopied, UnfailingAreCopied};
-ghost use Rattle.partition_answers.specs.Laws.{SchedulesAnswerCopies, ReachesKnown};
-ghost use Rattle.partition_answers.specs.Laws.{TurnsKeepKnown, FreshIsKnown};
+ghost use Rattle.partition_answers.specs.Laws.{ReachesKnown, TurnsKeepKnown, FreshIsKnown};
 
 use disk_model::Disk;
 use meta_log::MetaLog;
@@ -14,22 +12,6 @@ use object_store::Store;
 /// Over devices that tell, each answer of a copy has its cause. None is `Damaged`.
 pub fn copies_have_causes<D: Disk, S: Store, M: MetaLog>()
     ensures { CopiesHaveCauses D.Disk S.Store M.MetaLog }
-{}
-
-/// A turn of a copy that isn't answered leaves fewer to come.
-pub fn copies_go_on<D: Disk, S: Store, M: MetaLog>()
-    ensures { CopiesGoOn D.Disk S.Store M.MetaLog }
-{}
-
-/// A turn leaves the other seats as they were.
-pub fn others_stay<D: Disk, S: Store, M: MetaLog>()
-    ensures { OthersStay D.Disk S.Store M.MetaLog }
-{}
-
-/// A copy is answered by its thirteenth turn, whatever the devices do, and whatever turns of other
-/// actors come between.
-pub fn copies_are_answered<D: Disk, S: Store, M: MetaLog>()
-    ensures { CopiesAreAnswered D.Disk S.Store M.MetaLog }
 {}
 
 /// A copy whose broker leads on, that has a segment to copy which the log start isn't past, and
@@ -47,11 +29,6 @@ pub fn chosen_are_copied<D: Disk, S: Store, M: MetaLog>()
 /// is such a segment.
 pub fn unfailing_are_copied<D: Disk, S: Store, M: MetaLog>()
     ensures { UnfailingAreCopied D.Disk S.Store M.MetaLog }
-{}
-
-/// A schedule that gives its actor thirteen turns answers a copy.
-pub fn schedules_answer_copies<D: Disk, S: Store, M: MetaLog>()
-    ensures { SchedulesAnswerCopies D.Disk S.Store M.MetaLog }
 {}
 
 /// What a schedule reaches keeps what is known of deletions, beside the central fact.

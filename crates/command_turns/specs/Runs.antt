@@ -1,0 +1,38 @@
+-- Turns of several actors, and what a journal says of a command.
+use Rattle.std.specs.Prelude.{◌≡◌, ℕ, ◌+◌, ◌==◌, if◌then◌else◌, List, [], ◌∷◌, ◌++◌}
+use Rattle.tier_base.specs.declared.names.ActorId.{ActorId}
+use Rattle.disk_model.specs.declared.disk.Disk.{Ghosts as DiskGhosts}
+use Rattle.object_store.specs.declared.store.Store.{Ghosts as StoreGhosts}
+use Rattle.meta_log.specs.declared.log.MetaLog.{Ghosts as MetaGhosts}
+use Rattle.plain_log.specs.declared.answer.Answer.{Answer}
+use Rattle.plain_log.specs.declared.command.Pace.{Pace}
+use Rattle.plain_log.specs.declared.command.Pace.TheVariants.{Until, Times}
+use Rattle.plain_log.specs.declared.journal.Event.TheVariants as event
+use Rattle.plain_log.specs.declared.journal.JournalEntry.{JournalEntry}
+use Rattle.partition_world.specs.Reaches.{Goes}
+use Rattle.partition_world.specs.Whole.{Whole}
+
+-- how many of these turns are the actor's
+abbrev pub times : ℕ → List ℕ → ℕ
+times a [] = 0
+times a (b ∷ actors) = if b == a then 1 + times a actors else times a actors
+
+-- how many turns a schedule gives the actor at least
+abbrev pub turns_in : ℕ → List Pace → ℕ
+turns_in a [] = 0
+turns_in a (Until actor number ∷ schedule) = turns_in a schedule
+turns_in a (Times actor turns ∷ schedule) = (if actor.0 == a then turns else 0) + turns_in a schedule
+
+module _ {D S M : Type 0} where
+  -- the journal answers the actor's command of this number so
+  pub record IsAnswered (w : Whole D S M) (actor : ActorId) (number : ℕ) (answer : Answer) : Type 0 where
+    pub before : List JournalEntry
+    pub after : List JournalEntry
+    pub is : w.journal.items
+        ≡ before ++ record { actor = actor; number = number; event = event.Answers answer } ∷ after
+
+module _ {D S M : Type 0} (disk : DiskGhosts D) (store : StoreGhosts S) (meta : MetaGhosts M) where
+  -- turns of these actors, one after another, of each of which this holds
+  abbrev pub Runs : (Whole D S M → ℕ → Whole D S M → Type 0) → Whole D S M → List ℕ → Whole D S M → Type 0
+  Runs P w [] w' = w' ≡ w
+  Runs P w (a ∷ actors) w' = (v : Whole D S M) × Goes disk store meta w a v × P w a v × Runs P v actors w'

@@ -1,0 +1,87 @@
+-- How many turns a command takes at most, and how many are left.
+--
+--   command  turns  turn      comes                                            at most so many are left, with it
+--   copy     13     second    once a broker's view is refreshed                12
+--                   Start     once the segment is chosen                       11
+--                   Put n     once the copy has started, n objects are put     10 - n
+--                   Finish    once all four are put                            6
+--                   Check     once the copy is whole                           5
+--                   Delete n  where it was overtaken, n objects are taken away 4 - n
+--   expire   8      second    once the view is refreshed                       7
+--                   Start     once a segment is taken up                       6
+--                   Delete n  once its deletion has started, n are taken away  5 - n
+--                   Finish    once all four are taken away                     1
+--   fetch    4      Refresh   once the offset is found below the local log     3
+--                   Index     once the piece is chosen                         2
+--                   Log       once the index is there                          1
+--   join     4      second    once the logs have met below the local log       3
+--                   Epochs    once the view is refreshed                       2
+--                   Restart   once the line is read                            1
+--   trim     2      second    once the view is refreshed                       1
+--   follow   2      second    once a run of the leader's log is read           1
+--   others   1
+use Rattle.std.specs.Prelude.{ℕ, ◌+◌, ◌-◌}
+use Rattle.copy_task.specs.declared.turn.Next.{Next as Copying}
+use Rattle.copy_task.specs.declared.turn.Next.TheVariants as copying
+use Rattle.expiry_task.specs.declared.turn.Next.{Next as Deletion}
+use Rattle.expiry_task.specs.declared.turn.Next.TheVariants as deletion
+use Rattle.rebuild_task.specs.declared.turn.Next.{Next as Rebuild}
+use Rattle.rebuild_task.specs.declared.turn.Next.TheVariants.{Epochs, Restart}
+use Rattle.tier_fetch.specs.declared.turn.Next.{Next as Search}
+use Rattle.tier_fetch.specs.declared.turn.Next.TheVariants.{Refresh, Index, Log}
+use Rattle.plain_log.specs.declared.command.Command.{Command}
+use Rattle.plain_log.specs.declared.command.Command.TheVariants.{Copy, Expire, Fetch, Join, Trim, Follow}
+use Rattle.partition_world.specs.declared.seat.Work.{Work}
+use Rattle.partition_world.specs.declared.seat.Work.TheVariants.{Idle, Noted, Copies, Seeks, Expires, Rebuilds}
+
+-- of a command
+abbrev pub turns_of : Command → ℕ
+turns_of Copy = 13
+turns_of Expire = 8
+turns_of (Fetch offset limit) = 4
+turns_of Join = 4
+turns_of Trim = 2
+turns_of (Follow limit) = 2
+turns_of other = 1
+
+-- left of one behind its first turn
+abbrev pub second_left : Command → ℕ
+second_left Copy = 12
+second_left Expire = 7
+second_left (Fetch offset limit) = 3
+second_left Join = 3
+second_left other = 1
+
+-- of a copy that does this next
+abbrev pub copying_left : Copying → ℕ
+copying_left copying.Start = 11
+copying_left (copying.Put n) = 7 + (3 - n)
+copying_left copying.Finish = 6
+copying_left copying.Check = 5
+copying_left (copying.Delete n) = 1 + (3 - n)
+
+-- of an expiry
+abbrev pub deleting_left : Deletion → ℕ
+deleting_left deletion.Start = 6
+deleting_left (deletion.Delete n) = 2 + (3 - n)
+deleting_left deletion.Finish = 1
+
+-- of a fetch
+abbrev pub seeking_left : Search → ℕ
+seeking_left Refresh = 3
+seeking_left (Index piece) = 2
+seeking_left (Log piece span) = 1
+
+-- of a join
+abbrev pub rebuilding_left : Rebuild → ℕ
+rebuilding_left Epochs = 2
+rebuilding_left (Restart line) = 1
+
+-- of a command of which so much is kept
+abbrev pub turns_left : Command → Work → ℕ
+turns_left command Idle = turns_of command
+turns_left command (Noted g) = second_left command
+turns_left command (Copies g copy next) = copying_left next
+turns_left command (Seeks g next) = seeking_left next
+turns_left command (Expires g doomed next) = deleting_left next
+turns_left command (Rebuilds g next) = rebuilding_left next
