@@ -1,3 +1,4 @@
 pub mod Turns
 pub mod Runs
+pub mod Faults
 pub mod Laws

@@ -44,7 +44,8 @@ use Rattle.partition_world.specs.TurnsOfFetch.{AnswersAtOnce, HasStopped}
 use Rattle.partition_world.specs.Whole.{Whole}
 use Rattle.partition_world.proofs.CalmLaw.{reaches_unfailing}
 use Rattle.partition_world.proofs.CentralLaw.{turn_central}
-use Rattle.fetch_answers.specs.Causes.{IsLogsRun, DiskFailed, StoreFailed, MetaFailed, HasCause, LaterCause, IsCommitted, MayServe}
+use Rattle.command_turns.specs.Faults.{DiskFailed, StoreFailed, MetaFailed}
+use Rattle.fetch_answers.specs.Causes.{IsLogsRun, HasCause, LaterCause, IsCommitted, MayServe}
 use Rattle.fetch_answers.specs.Found.{SpansKnown}
 use Rattle.command_turns.specs.Turns.{turns_left}
 use Rattle.command_turns.specs.Runs.{times, IsAnswered, Runs}

@@ -19,7 +19,6 @@
 -- faults, which has risen, or stands at its type's end. A run has one batch at least. No other answer has a cause: so no fetch is
 -- answered `Damaged`, since what it reads is what was written, and its index shows as much of it as a run needs.
 use Rattle.std.specs.Prelude.{◌≡◌, ◌⊎◌, ℕ, ◌<◌, ◌≤◌, true, false, List}
-use Rattle.tier_base.specs.Counts.{Rose}
 use Rattle.tier_base.specs.declared.plain.Stop.{Stop}
 use Rattle.disk_model.specs.declared.disk.Disk.{Ghosts as DiskGhosts}
 use Rattle.object_store.specs.declared.store.Store.{Ghosts as StoreGhosts}
@@ -30,32 +29,18 @@ use Rattle.plain_log.specs.declared.answer.Answer.{Answer}
 use Rattle.plain_log.specs.declared.answer.Answer.TheVariants.{Down, NotLeader, OutOfRange, Empty, DiskFault, MetaFault, StoreFault, Run}
 use Rattle.plain_log.specs.declared.answer.Tier.TheVariants.{Local, Remote}
 use Rattle.plain_log.specs.State.{leads}
-use Rattle.broker_log.specs.Seen.{Shows, Faulted}
+use Rattle.broker_log.specs.Seen.{Shows}
 use Rattle.broker_log.specs.Seen as log
 use Rattle.partition_seen.specs.declared.begun.Begun.{Begun}
 use Rattle.partition_seen.specs.RowsOfLog.{GivesRun}
 use Rattle.partition_turns.specs.declared.held.Node.{Node}
-use Rattle.partition_turns.specs.Held.{is_up, end_of, node_of, AtNode}
+use Rattle.partition_turns.specs.Held.{is_up, end_of, node_of}
 use Rattle.partition_world.specs.declared.seat.Work.{Work}
 use Rattle.partition_world.specs.declared.seat.Work.TheVariants.{Idle, Noted, Seeks}
 use Rattle.partition_world.specs.TurnsOfCopy.{KeepsLead}
 use Rattle.partition_world.specs.TurnsOfFetch.{AnswersAtOnce}
 use Rattle.partition_world.specs.Whole.{Whole}
-
-module _ {D S M : Type 0} (disk : DiskGhosts D) where
-  -- a call of the broker's disk failed
-  abbrev pub DiskFailed : ℕ → Whole D S M → Whole D S M → Type 0
-  DiskFailed b w w' = AtNode w.held b (λ x. AtNode w'.held b (λ y. Faulted disk.control x.log y.log))
-
-module _ {D S M : Type 0} (store : StoreGhosts S) where
-  -- a call of the store failed
-  abbrev pub StoreFailed : Whole D S M → Whole D S M → Type 0
-  StoreFailed w w' = Rose (store.control w.tier.store).faults (store.control w'.tier.store).faults
-
-module _ {D S M : Type 0} (meta : MetaGhosts M) where
-  -- a call of the metadata log failed
-  abbrev pub MetaFailed : Whole D S M → Whole D S M → Type 0
-  MetaFailed w w' = Rose (meta.control w.tier.meta).faults (meta.control w'.tier.meta).faults
+use Rattle.command_turns.specs.Faults.{DiskFailed, StoreFailed, MetaFailed}
 
 module _ {D : Type 0} (disk : DiskGhosts D) where
   -- the bytes are a run at the offset, of the log that the broker's disk shows
@@ -98,12 +83,6 @@ module _ {D S M : Type 0} (disk : DiskGhosts D) (store : StoreGhosts S) (meta : 
   HasCause w b x (Noted g) offset limit answer w' = LaterCause w x g offset limit Refresh answer w'
   HasCause w b x (Seeks g next) offset limit answer w' = LaterCause w x g offset limit next answer w'
   HasCause w b x other offset limit answer w' = ⊥
-
-  -- no call of a device failed that a fetch of this broker makes
-  pub record MeetsNoFault (b : ℕ) (w w' : Whole D S M) : Type 0 where
-    pub disk_well : DiskFailed disk b w w' → ⊥
-    pub store_well : StoreFailed store w w' → ⊥
-    pub meta_well : MetaFailed meta w w' → ⊥
 
 module _ {D S M : Type 0} where
   -- the log start isn't past the offset, and the high watermark that the broker knows is

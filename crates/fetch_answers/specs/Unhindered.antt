@@ -16,7 +16,8 @@ use Rattle.partition_turns.specs.Held.{AtNode}
 use Rattle.partition_world.specs.declared.seat.Seat.{Seat}
 use Rattle.partition_world.specs.Turn.{IsNext}
 use Rattle.partition_world.specs.Whole.{Whole}
-use Rattle.fetch_answers.specs.Causes.{MeetsNoFault, MayServe}
+use Rattle.command_turns.specs.Faults.{MeetsNoFault}
+use Rattle.fetch_answers.specs.Causes.{MayServe}
 
 -- an answer is a run: of one batch, which holds the offset, or of several from that one on, which fit the limit
 pub record IsServed (offset limit : ℕ) (answer : Answer) : Type 0 where

@@ -35,7 +35,8 @@ use Rattle.partition_world.specs.Whole.{Whole}
 use Rattle.partition_world.proofs.Begins.{begins_idle}
 use Rattle.partition_world.proofs.CalmLaw.{reaches_unfailing}
 use Rattle.partition_world.proofs.CentralLaw.{turn_central}
-use Rattle.partition_answers.specs.Causes.{DiskFailed, StoreFailed, MetaFailed, HasCause, MayCopy}
+use Rattle.command_turns.specs.Faults.{DiskFailed, StoreFailed, MetaFailed}
+use Rattle.partition_answers.specs.Causes.{HasCause, MayCopy}
 use Rattle.partition_answers.specs.Known.{DeletionsKnown}
 use Rattle.command_turns.specs.Turns.{turns_left}
 use Rattle.command_turns.specs.Runs.{times, IsAnswered, Runs}

@@ -19,7 +19,6 @@ use Rattle.std.specs.Prelude.{◌≡◌, ◌≢◌, ℕ, ◌<◌, ◌≤◌, tru
 use Rattle.disk_model.specs.declared.disk.Disk.{Ghosts as DiskGhosts}
 use Rattle.object_store.specs.declared.store.Store.{Ghosts as StoreGhosts}
 use Rattle.meta_log.specs.declared.log.MetaLog.{Ghosts as MetaGhosts}
-use Rattle.tier_base.specs.Counts.{Rose}
 use Rattle.tier_base.specs.declared.names.SegmentId.{SegmentId}
 use Rattle.tier_base.specs.declared.plain.State.TheVariants.{CopyFinished}
 use Rattle.remote_view.specs.Fold.{state_of, fold}
@@ -27,32 +26,18 @@ use Rattle.copy_task.specs.Copying.{Copied}
 use Rattle.plain_log.specs.State.{leads}
 use Rattle.plain_log.specs.declared.answer.Answer.{Answer}
 use Rattle.plain_log.specs.declared.answer.Answer.TheVariants.{Down, NotLeader, MetaFault, LostLead, Level, DiskFault, StoreFault, Overtaken, CopiedSegment}
-use Rattle.broker_log.specs.Seen.{Faulted}
 use Rattle.tier_safe.specs.Copies.{is_deleted}
 use Rattle.partition_seen.specs.declared.begun.Begun.{Begun}
 use Rattle.partition_turns.specs.declared.held.Node.{Node}
-use Rattle.partition_turns.specs.Held.{is_up, AtNode}
+use Rattle.partition_turns.specs.Held.{is_up}
 use Rattle.partition_world.specs.declared.seat.Work.{Work}
 use Rattle.partition_world.specs.declared.seat.Work.TheVariants.{Idle, Noted, Copies, Seeks, Expires, Rebuilds}
 use Rattle.partition_world.specs.declared.tier.Side.{Side}
 use Rattle.partition_world.specs.TurnsOfCopy.{KeepsLead, next_segment}
 use Rattle.partition_world.specs.Whole.{Whole}
-
-module _ {D S M : Type 0} (disk : DiskGhosts D) where
-  -- a call of the broker's disk failed
-  abbrev pub DiskFailed : ℕ → Whole D S M → Whole D S M → Type 0
-  DiskFailed b w w' = AtNode w.held b (λ x. AtNode w'.held b (λ y. Faulted disk.control x.log y.log))
-
-module _ {D S M : Type 0} (store : StoreGhosts S) where
-  -- a call of the store failed
-  abbrev pub StoreFailed : Whole D S M → Whole D S M → Type 0
-  StoreFailed w w' = Rose (store.control w.tier.store).faults (store.control w'.tier.store).faults
+use Rattle.command_turns.specs.Faults.{DiskFailed, StoreFailed, MetaFailed}
 
 module _ {D S M : Type 0} (meta : MetaGhosts M) where
-  -- a call of the metadata log failed
-  abbrev pub MetaFailed : Whole D S M → Whole D S M → Type 0
-  MetaFailed w w' = Rose (meta.control w.tier.meta).faults (meta.control w'.tier.meta).faults
-
   -- the copy has this id and these offsets, and is told as finished
   pub record IsToldWhole (copy : Copied) (id : SegmentId) (base last : ℕ) (w' : Whole D S M) : Type 0 where
     pub id_is : id ≡ copy.id
@@ -92,12 +77,6 @@ module _ {D S M : Type 0} (disk : DiskGhosts D) (store : StoreGhosts S) (meta : 
   HasCause w b x side (Seeks g next) answer w' = ⊥
   HasCause w b x side (Expires g doomed next) answer w' = ⊥
   HasCause w b x side (Rebuilds g next) answer w' = ⊥
-
-  -- no call of a device failed that a copy of this broker makes
-  pub record MeetsNoFault (b : ℕ) (w w' : Whole D S M) : Type 0 where
-    pub disk_well : DiskFailed disk b w w' → ⊥
-    pub store_well : StoreFailed store w w' → ⊥
-    pub meta_well : MetaFailed meta w w' → ⊥
 
 module _ {D S M : Type 0} where
   -- the broker leads, and has led on; there is a segment to copy, and the log start isn't past its end

@@ -10,7 +10,8 @@ use Rattle.partition_world.specs.declared.seat.Seat.{Seat}
 use Rattle.partition_world.specs.Tier.{AtSide}
 use Rattle.partition_world.specs.Turn.{IsNext}
 use Rattle.partition_world.specs.Whole.{Whole}
-use Rattle.partition_answers.specs.Causes.{MeetsNoFault, MayCopy}
+use Rattle.command_turns.specs.Faults.{MeetsNoFault}
+use Rattle.partition_answers.specs.Causes.{MayCopy}
 
 module _ {D S M : Type 0} (disk : DiskGhosts D) (store : StoreGhosts S) (meta : MetaGhosts M) where
   -- where the turn is one of the copy at this place, under this number, its broker leads on, and there is something to copy
