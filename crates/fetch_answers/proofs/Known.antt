@@ -1,5 +1,5 @@
 -- Each turn keeps what is known of what fetches have found, and nothing is to be known of a fresh world.
-use Rattle.std.proofs.Common.{◌≡◌, ◌∙◌, inl, inr, sym, ap, subst, refl, ℕ, zero, suc, ◌<◌, List, [], length, Some, slice_get, slice_set, arith}
+use Rattle.std.proofs.Common.{◌≡◌, ◌∙◌, inl, inr, sym, ap, subst, refl, ℕ, zero, suc, ◌<◌, List, length, Some, slice_get, slice_set, arith}
 use Rattle.std.specs.Prelude.{replicate, unwrap_or}
 use Rattle.tier_base.specs.declared.names.PartitionId.{PartitionId}
 use Rattle.disk_model.specs.declared.disk.Disk.{Ghosts as DiskGhosts}
