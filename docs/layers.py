@@ -6,8 +6,10 @@ usage: docs/layers.py            prints the picture, the table, and the list for
        docs/layers.py write      puts the text between the marks
 
 crates.txt is in order where each crate comes after those that it stands on; each use tests that
-first. A part of a document that is made here stands between `<!-- layers: NAME -->` and
-`<!-- end -->`. The exit status is 1 where something disagrees.
+first, and that each crate names those that it lists: before it proves a crate the toolchain sums up
+the sources below it along every path of crates.txt, so a line that nothing needs can double the
+time of all that stands above it. A part of a document that is made here stands between
+`<!-- layers: NAME -->` and `<!-- end -->`. The exit status is 1 where something disagrees.
 """
 import os
 import re
@@ -44,6 +46,26 @@ def disorder(on):
         for at, name in enumerate(names)
         for other in on[name]
         if other in on and names.index(other) >= at
+    ]
+
+
+def words(name):
+    """The words of a crate's files."""
+    found = set()
+    for part in ("src", "specs", "proofs"):
+        for at, _, files in os.walk(os.path.join(TOP, "crates", name, part)):
+            for file in files:
+                with open(os.path.join(at, file), encoding="utf-8") as f:
+                    found |= set(re.findall(r"\w+", f.read()))
+    return found
+
+
+def unnamed(on):
+    """Crates that are listed below one in which nothing names them."""
+    return [
+        f"nothing in {name} names {other}, which it lists"
+        for name in on
+        for other in sorted(set(on[name]) & set(on) - words(name))
     ]
 
 
@@ -131,7 +153,7 @@ PLACES = [("docs/ARCHITECTURE.md", ["picture", "table", "kit"]), ("README.md", [
 
 def main():
     layers, on = crates()
-    wrong = disorder(on)
+    wrong = disorder(on) + unnamed(on)
     word = sys.argv[1] if len(sys.argv) > 1 else "print"
     if word == "print":
         for make in PARTS.values():

@@ -1,0 +1,216 @@
+-- A copy with which nothing interferes is answered `Copied`.
+use Rattle.std.proofs.Common.{◌≡◌, ◌∙◌, inl, sym, ap, subst, refl, ℕ, zero, suc, ◌≤◌, List, [], ◌∷◌, ◌++◌, slice_get, arith}
+use Rattle.tier_base.specs.declared.names.SegmentId.{SegmentId}
+use Rattle.disk_model.specs.declared.disk.Disk.{Ghosts as DiskGhosts}
+use Rattle.object_store.specs.declared.store.Store.{Ghosts as StoreGhosts}
+use Rattle.meta_log.specs.declared.log.MetaLog.{Ghosts as MetaGhosts}
+use Rattle.copy_task.specs.Copying.{Copied}
+use Rattle.copy_task.specs.declared.turn.Next.{Next}
+use Rattle.plain_log.specs.declared.answer.Answer.{Answer}
+use Rattle.plain_log.specs.declared.answer.Answer.TheVariants.{Down, NotLeader, MetaFault, LostLead, Level, DiskFault, StoreFault, Overtaken, CopiedSegment}
+use Rattle.plain_log.specs.declared.command.ActorList.{ActorList}
+use Rattle.plain_log.specs.declared.command.Command.TheVariants.{Copy}
+use Rattle.plain_log.specs.declared.command.Order.{Order}
+use Rattle.plain_log.specs.declared.command.Pace.TheVariants.{Times}
+use Rattle.plain_log.specs.declared.journal.Event.TheVariants as event
+use Rattle.plain_log.specs.declared.journal.JournalEntry.{JournalEntry}
+use Rattle.plain_log.specs.declared.state.State.{State}
+use Rattle.partition_seen.specs.declared.begun.Begun.{Begun}
+use Rattle.partition_seen.proofs.BoolTests.{some_of}
+use Rattle.partition_turns.specs.declared.held.Node.{Node}
+use Rattle.partition_turns.specs.Calm.{HasNoFault, AreFaultless}
+use Rattle.tier_safe.proofs.Basics.{one_some}
+use Rattle.partition_world.specs.declared.tier.Side.{Side}
+use Rattle.partition_world.specs.declared.seat.Outcome.{Outcome}
+use Rattle.partition_world.specs.declared.seat.Outcome.TheVariants.{Answers, Begins, Chose, Goes, Seeks as Sought, Dooms, Deletes, Rebuilds as Rebuilding}
+use Rattle.partition_world.specs.declared.seat.Seat.{Seat}
+use Rattle.partition_world.specs.declared.seat.Work.{Work}
+use Rattle.partition_world.specs.declared.seat.Work.TheVariants.{Idle, Noted, Copies, Seeks, Expires, Rebuilds}
+use Rattle.partition_world.specs.Calm.{IsUnfailing}
+use Rattle.partition_world.specs.Central.{IsCentral}
+use Rattle.partition_world.specs.Seats.{chosen, moved, sought, doomed, deleting, rebuilding, seat_after, IsUnanswered}
+use Rattle.partition_world.specs.Tier.{AtSide}
+use Rattle.partition_world.specs.Turn.{IsNext, IsTurn}
+use Rattle.partition_world.specs.Whole.{Whole}
+use Rattle.partition_world.proofs.Begins.{begins_idle}
+use Rattle.partition_world.proofs.CalmLaw.{reaches_unfailing}
+use Rattle.partition_world.proofs.CentralLaw.{turn_central}
+use Rattle.command_answers.specs.Faults.{DiskFailed, StoreFailed, MetaFailed}
+use Rattle.command_answers.specs.CausesOfCopies.{HasCause, MayCopy}
+use Rattle.command_answers.specs.DeletionsKnown.{DeletionsKnown}
+use Rattle.command_answers.specs.Turns.{turns_left}
+use Rattle.command_answers.specs.Chains.{times, IsAnswered, Runs}
+use Rattle.command_answers.proofs.ChainsOfTurns.{entry, run}
+use Rattle.command_answers.specs.UnhinderedCopies.{IsFree, IsUnhindered}
+use Rattle.command_answers.proofs.CopiesHaveCauses.{have_causes}
+use Rattle.command_answers.proofs.KnownOfCopies.{keep_known}
+
+module _ {D S M : Type 0} (disk : DiskGhosts D) (store : StoreGhosts S) (meta : MetaGhosts M) where
+  -- such an answer
+  abbrev IsCopiedAnswer : Answer → Type 0
+  IsCopiedAnswer answer = (id : SegmentId) × (base : ℕ) × (last : ℕ) × (answer ≡ CopiedSegment id base last)
+
+  -- of the copy that the seat keeps, where it keeps one
+  abbrev CopiedFor : Work → Answer → Type 0
+  CopiedFor (Copies g copy next) answer = answer ≡ CopiedSegment copy.id copy.segment.base copy.segment.last
+  CopiedFor other answer = IsCopiedAnswer answer
+
+  copied_so : (work : Work) (answer : Answer) → CopiedFor work answer → IsCopiedAnswer answer
+  copied_so Idle answer is = is
+  copied_so (Noted g) answer is = is
+  copied_so (Copies g copy next) answer is = (copy.id, copy.segment.base, copy.segment.last, is)
+  copied_so (Seeks g next) answer is = is
+  copied_so (Expires g segment next) answer is = is
+  copied_so (Rebuilds g next) answer is = is
+
+  -- where the turn tells of a fault none was met
+  record Clear (b : ℕ) (answer : Answer) (w w' : Whole D S M) : Type 0 where
+    disk_clear : answer ≡ DiskFault → DiskFailed disk b w w' → ⊥
+    store_clear : answer ≡ StoreFault → StoreFailed store w w' → ⊥
+    meta_clear : answer ≡ MetaFault → MetaFailed meta w w' → ⊥
+
+  first_copied : (w : Whole D S M) (b : ℕ) (x : Node D) (side : Side) (answer : Answer) (w' : Whole D S M) → HasCause disk store meta w b x side Idle answer w' → MayCopy w x side Idle → Clear b answer w w'
+      → IsCopiedAnswer answer
+  first_copied w b x side Down w' cause may clear = let up = may.0 in absurd (cc (cause, up))
+  first_copied w b x side NotLeader w' cause may clear = let leads = may.1 in absurd (cc (cause, leads))
+  first_copied w b x side MetaFault w' cause may clear = absurd (clear.meta_clear refl cause)
+  first_copied w b x side other w' cause may clear = elim cause [ ]
+
+  second_copied : (w : Whole D S M) (b : ℕ) (x : Node D) (side : Side) (g : _) (answer : Answer) (w' : Whole D S M) → HasCause disk store meta w b x side (Noted g) answer w' → MayCopy w x side (Noted g)
+      → Clear b answer w w' → IsCopiedAnswer answer
+  second_copied w b x side g LostLead w' cause may clear = absurd (cause may.0)
+  second_copied w b x side g Level w' cause may clear = absurd (may.1 cause)
+  second_copied w b x side g DiskFault w' cause may clear = absurd (clear.disk_clear refl cause)
+  second_copied w b x side g other w' cause may clear = elim cause [ ]
+
+  later_copied : (w : Whole D S M) (b : ℕ) (x : Node D) (side : Side) (g : _) (copy : _) (next : Next) (answer : Answer) (w' : Whole D S M) → HasCause disk store meta w b x side (Copies g copy next) answer w'
+      → MayCopy w x side (Copies g copy next) → Clear b answer w w' → CopiedFor (Copies g copy next) answer
+  later_copied w b x side g copy next LostLead w' cause may clear = absurd (cause may.0)
+  later_copied w b x side g copy next MetaFault w' cause may clear = absurd (clear.meta_clear refl cause)
+  later_copied w b x side g copy next StoreFault w' cause may clear = absurd (clear.store_clear refl cause)
+  later_copied w b x side g copy next (Overtaken state) w' cause may clear = absurd (let low = cause.1 in let high = may.1 in omega (arith, low, high))
+  later_copied w b x side g copy next (CopiedSegment id base last) w' cause may clear = let one = cause.id_is in let two = cause.base_is in let three = cause.last_is in cc (one, two, three)
+  later_copied w b x side g copy next other w' cause may clear = elim cause [ ]
+
+  any_copied : (w : Whole D S M) (b : ℕ) (x : Node D) (side : Side) (work : Work) (answer : Answer) (w' : Whole D S M) → HasCause disk store meta w b x side work answer w' → MayCopy w x side work
+      → Clear b answer w w' → CopiedFor work answer
+  any_copied w b x side Idle answer w' cause may clear = first_copied w b x side answer w' cause may clear
+  any_copied w b x side (Noted g) answer w' cause may clear = second_copied w b x side g answer w' cause may clear
+  any_copied w b x side (Copies g copy next) answer w' cause may clear = later_copied w b x side g copy next answer w' cause may clear
+  any_copied w b x side (Seeks g next) answer w' cause may clear = absurd cause
+  any_copied w b x side (Expires g segment next) answer w' cause may clear = absurd cause
+  any_copied w b x side (Rebuilds g next) answer w' cause may clear = absurd cause
+
+  -- what is known all along
+  abbrev AllKnown : State → Whole D S M → Type 0
+  AllKnown opening w = IsCentral disk store meta opening w × DeletionsKnown meta w
+
+  turn_known : (opening : State) (v : Whole D S M) (b : ℕ) (outcome : Outcome) (u : Whole D S M) → IsTurn disk store meta v b outcome u → AllKnown opening v → AllKnown opening u
+  turn_known opening v b outcome u t i = (turn_central disk store meta opening v b outcome u t i.0, keep_known disk store meta opening v b outcome u i.0 i.1 t)
+
+  -- the turn is the copy's own
+  own_turn : (place : ℕ) (v : Whole D S M) (b : ℕ) (outcome : Outcome) (u : Whole D S M) (t : IsTurn disk store meta v b outcome u) → t.place ≡ place → IsNext v b place t.list t.seat t.order
+  own_turn place v b outcome u t same = record {
+    at = record {
+      list = ap (λ (n : ℕ). slice_get v.lists n) (sym same) ∙ t.at.list;
+      actor = t.at.actor;
+      seat_is = ap (λ (n : ℕ). slice_get v.desk n) (sym same) ∙ t.at.seat_is;
+    };
+    next = t.next;
+  }
+
+  ends_copied : (opening : State) (place number : ℕ) (v : Whole D S M) (b : ℕ) (answer : Answer) (u : Whole D S M) (t : IsTurn disk store meta v b (Answers answer) u) → AllKnown opening v
+      → IsFree disk store meta place number v b u → t.place ≡ place → t.seat.number ≡ number → t.order.command ≡ Copy → Clear t.order.broker.0 answer v u → CopiedFor t.seat.work answer
+  ends_copied opening place number v b answer u t known free same number_is copies clear =
+      let c = t.order.broker.0 in
+      let h = free t.list t.seat t.order (own_turn place v b (Answers answer) u t same) number_is in
+      let x = some_of (λ x. AtSide v.tier c (λ side. HasCause disk store meta v c x side t.seat.work answer u)) (slice_get v.held.nodes c) (have_causes disk store meta opening v b answer u known.0 known.1 t copies) in
+      let side = some_of (λ side. HasCause disk store meta v c x.0 side t.seat.work answer u) (slice_get v.tier.sides c) x.2 in
+      let y = some_of (λ x. AtSide v.tier c (λ side. MayCopy v x side t.seat.work)) (slice_get v.held.nodes c) h in
+      let z = some_of (λ side. MayCopy v y.0 side t.seat.work) (slice_get v.tier.sides c) y.2 in
+      let may : MayCopy v x.0 side.0 t.seat.work =
+      subst (λ (k : Node D). MayCopy v k side.0 t.seat.work) (one_some (slice_get v.held.nodes c) y.0 x.0 y.1 x.1)
+      (subst (λ (k : Side). MayCopy v y.0 k t.seat.work) (one_some (slice_get v.tier.sides c) z.0 side.0 z.1 side.1) z.2) in
+      any_copied v c x.0 side.0 t.seat.work answer u side.2 may clear
+
+  free_copied : (opening : State) (place number : ℕ) (v : Whole D S M) (b : ℕ) (outcome : Outcome) (answer : Answer) (u : Whole D S M) (t : IsTurn disk store meta v b outcome u) → outcome ≡ Answers answer
+      → AllKnown opening v → IsUnhindered disk store meta place number v b u → t.place ≡ place → t.seat.number ≡ number → t.order.command ≡ Copy → CopiedFor t.seat.work answer
+  free_copied opening place number v b (Answers k) answer u t is known free same number_is copies =
+      let one : k ≡ answer = cc (is) in
+      let well = free.1 t.list t.seat t.order (own_turn place v b (Answers k) u t same) number_is in
+      let clear : Clear t.order.broker.0 k v u = record { disk_clear = λ e. well.disk_well; store_clear = λ e. well.store_well; meta_clear = λ e. well.meta_well } in
+      subst (CopiedFor t.seat.work) one (ends_copied opening place number v b k u t known free.0 same number_is copies clear)
+  free_copied opening place number v b other answer u t is known free same number_is copies = absurd (cc (is))
+
+  pub are_copied : (opening : State) (w : Whole D S M) (a place : ℕ) (l : ActorList) (seat : Seat) (order : Order) (actors : List ℕ) (w' : Whole D S M) → IsCentral disk store meta opening w
+      → DeletionsKnown meta w → IsNext w a place l seat order → order.command ≡ Copy → Runs disk store meta (IsUnhindered disk store meta place seat.number) w actors w'
+      → turns_left Copy seat.work ≤ times a actors → (id : SegmentId) × (base : ℕ) × (last : ℕ) × IsAnswered w' l.actor seat.number (CopiedSegment id base last)
+  are_copied opening w a place l seat order actors w' c known next copies r le =
+      let k = run disk store meta (AllKnown opening) (IsUnhindered disk store meta place seat.number) (λ work. Unit {0}) IsCopiedAnswer Copy a place seat.number l (turn_known opening)
+      (λ v b outcome answer u t is i p same number copy works. copied_so t.seat.work answer (free_copied opening place seat.number v b outcome answer u t is i p same number copy)) (λ v b outcome u t un works. tt) actors w w'
+      (record { rising = c.central.stands.rising; seat = seat; order = order; next = next; number_is = refl; kind_is = copies; works = tt }) (c, known) r le in
+      let is = k.1 in
+      (is.0, is.1, is.2, subst (IsAnswered w' l.actor seat.number) is.3 k.2)
+
+  -- a copy that has chosen its segment
+
+  -- the seat keeps it
+  abbrev IsOf : Begun → Copied → Work → Type 0
+  IsOf g copy work = (next : Next) × (work ≡ Copies g copy next)
+
+  still_of : (g : Begun) (copy : Copied) (v : Whole D S M) (b : ℕ) (outcome : Outcome) (u : Whole D S M) (t : IsTurn disk store meta v b outcome u) → IsUnanswered outcome → IsOf g copy t.seat.work
+      → IsOf g copy (seat_after t.seat outcome).work
+  still_of g copy v b (Answers answer) u t un of = absurd un
+  still_of g copy v b (Begins f) u t un of =
+      let idle = begins_idle disk store meta v.partition v.config v.held v.tier t.order.broker.0 t.seat.work t.order.command f u.held u.tier t.row in
+      let works = of.1 in
+      absurd (cc (idle, works))
+  still_of g copy v b (Chose k) u t un of = (of.0, ap (λ (work : Work). chosen work k) of.1)
+  still_of g copy v b (Goes next) u t un of = (next, ap (λ (work : Work). moved work next) of.1)
+  still_of g copy v b (Sought next) u t un of = (of.0, ap (λ (work : Work). sought work next) of.1)
+  still_of g copy v b (Dooms segment) u t un of = (of.0, ap (λ (work : Work). doomed work segment) of.1)
+  still_of g copy v b (Deletes next) u t un of = (of.0, ap (λ (work : Work). deleting work next) of.1)
+  still_of g copy v b (Rebuilding next) u t un of = (of.0, ap (λ (work : Work). rebuilding work next) of.1)
+
+  pub chosen_copied : (opening : State) (w : Whole D S M) (a place : ℕ) (l : ActorList) (seat : Seat) (order : Order) (g : Begun) (copy : Copied) (next : Next) (actors : List ℕ) (w' : Whole D S M)
+      → IsCentral disk store meta opening w → DeletionsKnown meta w → IsNext w a place l seat order → order.command ≡ Copy → seat.work ≡ Copies g copy next
+      → Runs disk store meta (IsUnhindered disk store meta place seat.number) w actors w' → turns_left Copy seat.work ≤ times a actors
+      → IsAnswered w' l.actor seat.number (CopiedSegment copy.id copy.segment.base copy.segment.last)
+  chosen_copied opening w a place l seat order g copy next actors w' c known at copies works r le =
+      let k = run disk store meta (AllKnown opening) (IsUnhindered disk store meta place seat.number) (IsOf g copy) (λ answer. answer ≡ CopiedSegment copy.id copy.segment.base copy.segment.last) Copy a place seat.number l (turn_known opening)
+      (λ v b outcome answer u t is i p same number copy of. subst (λ (work : Work). CopiedFor work answer) of.1 (free_copied opening place seat.number v b outcome answer u t is i p same number copy)) (still_of g copy) actors w w'
+      (record { rising = c.central.stands.rising; seat = seat; order = order; next = at; number_is = refl; kind_is = copies; works = (next, works) }) (c, known) r le in
+      subst (IsAnswered w' l.actor seat.number) k.1 k.2
+
+  -- over devices of which no call can fail
+
+  turn_calm : (v : Whole D S M) (b : ℕ) (outcome : Outcome) (u : Whole D S M) → IsTurn disk store meta v b outcome u → IsUnfailing disk store meta v → IsUnfailing disk store meta u
+  turn_calm v b outcome u t calm = reaches_unfailing disk store meta v (Times (record { 0 = b }) (suc zero) ∷ []) u (u, (u, inl (outcome, t), refl), refl) calm
+
+  last_calm : (items : List JournalEntry) (last : JournalEntry) → AreFaultless (items ++ last ∷ []) → HasNoFault last.event
+  last_calm [] last f = f.0
+  last_calm (first ∷ items) last f = last_calm items last f.1
+
+  ends_calm : (opening : State) (place number : ℕ) (v : Whole D S M) (b : ℕ) (outcome : Outcome) (answer : Answer) (u : Whole D S M) (t : IsTurn disk store meta v b outcome u) → outcome ≡ Answers answer
+      → AllKnown opening v × IsUnfailing disk store meta v → IsFree disk store meta place number v b u → t.place ≡ place → t.seat.number ≡ number → t.order.command ≡ Copy → Unit {0} → IsCopiedAnswer answer
+  ends_calm opening place number v b (Answers k) answer u t is known free same number_is copies works =
+      let one : k ≡ answer = cc (is) in
+      let after = turn_calm v b (Answers k) u t known.1 in
+      let told : HasNoFault (event.Answers k) = last_calm v.journal.items (entry t.list.actor t.seat.number k) (subst AreFaultless t.entered after.journal) in
+      let clear : Clear t.order.broker.0 k v u = record {
+        disk_clear = λ e f. subst (λ (j : Answer). HasNoFault (event.Answers j)) e told;
+        store_clear = λ e f. subst (λ (j : Answer). HasNoFault (event.Answers j)) e told;
+        meta_clear = λ e f. subst (λ (j : Answer). HasNoFault (event.Answers j)) e told;
+      } in
+      subst IsCopiedAnswer one (copied_so t.seat.work k (ends_copied opening place number v b k u t known.0 free same number_is copies clear))
+  ends_calm opening place number v b other answer u t is known free same number_is copies works = absurd (cc (is))
+
+  pub calm_copied : (opening : State) (w : Whole D S M) (a place : ℕ) (l : ActorList) (seat : Seat) (order : Order) (actors : List ℕ) (w' : Whole D S M) → IsCentral disk store meta opening w
+      → DeletionsKnown meta w → IsUnfailing disk store meta w → IsNext w a place l seat order → order.command ≡ Copy → Runs disk store meta (IsFree disk store meta place seat.number) w actors w'
+      → turns_left Copy seat.work ≤ times a actors → (id : SegmentId) × (base : ℕ) × (last : ℕ) × IsAnswered w' l.actor seat.number (CopiedSegment id base last)
+  calm_copied opening w a place l seat order actors w' c known calm next copies r le =
+      let k = run disk store meta (λ v. AllKnown opening v × IsUnfailing disk store meta v) (IsFree disk store meta place seat.number) (λ work. Unit {0}) IsCopiedAnswer Copy a place seat.number l
+      (λ v b outcome u t i. (turn_known opening v b outcome u t i.0, turn_calm v b outcome u t i.1)) (ends_calm opening place seat.number) (λ v b outcome u t un works. tt) actors w w'
+      (record { rising = c.central.stands.rising; seat = seat; order = order; next = next; number_is = refl; kind_is = copies; works = tt }) ((c, known), calm) r le in
+      let is = k.1 in
+      (is.0, is.1, is.2, subst (IsAnswered w' l.actor seat.number) is.3 k.2)

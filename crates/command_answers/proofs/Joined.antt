@@ -1,0 +1,127 @@
+-- A join that nothing hinders is answered by a cut or a restart.
+use Rattle.std.proofs.Common.{◌≡◌, ◌∙◌, inl, inr, sym, ap, subst, refl, ℕ, ◌≤◌, List, Some, None, Option, slice_get, arith}
+use Rattle.disk_model.specs.declared.disk.Disk.{Ghosts as DiskGhosts}
+use Rattle.object_store.specs.declared.store.Store.{Ghosts as StoreGhosts}
+use Rattle.meta_log.specs.declared.log.MetaLog.{Ghosts as MetaGhosts}
+use Rattle.rebuild_task.specs.declared.turn.Next.TheVariants.{Epochs, Restart}
+use Rattle.plain_log.specs.declared.answer.Answer.{Answer}
+use Rattle.plain_log.specs.declared.answer.Answer.TheVariants.{Down, NotFollower, StaleEpoch, NoLeader, Cut, DiskFaultAt, Stopped, Passed, BelowStart, MetaFault, StoreFault, Rebuilt}
+use Rattle.plain_log.specs.declared.command.ActorList.{ActorList}
+use Rattle.plain_log.specs.declared.command.Command.TheVariants.{Join}
+use Rattle.plain_log.specs.declared.command.Order.{Order}
+use Rattle.plain_log.specs.declared.state.State.{State}
+use Rattle.plain_log.specs.State.{followed}
+use Rattle.partition_seen.specs.declared.begun.Begun.{Begun}
+use Rattle.partition_seen.proofs.BoolTests.{some_of}
+use Rattle.partition_turns.specs.declared.held.Node.{Node}
+use Rattle.partition_turns.specs.declared.held.Held.{Held}
+use Rattle.partition_turns.specs.TurnsOfFollowers.{IsStale, IsCurrent, MayRebuild}
+use Rattle.tier_safe.proofs.Basics.{one_some}
+use Rattle.partition_world.specs.declared.seat.Outcome.{Outcome}
+use Rattle.partition_world.specs.declared.seat.Outcome.TheVariants.{Answers}
+use Rattle.partition_world.specs.declared.seat.Seat.{Seat}
+use Rattle.partition_world.specs.declared.seat.Work.{Work}
+use Rattle.partition_world.specs.declared.seat.Work.TheVariants.{Idle, Noted, Rebuilds}
+use Rattle.partition_world.specs.Central.{IsCentral}
+use Rattle.partition_world.specs.Turn.{IsNext, IsTurn}
+use Rattle.partition_world.specs.TurnsOfFetch.{HasStopped}
+use Rattle.partition_world.specs.TurnsOfRebuild.{AnswersAtOnce}
+use Rattle.partition_world.specs.Whole.{Whole}
+use Rattle.partition_world.proofs.CentralLaw.{turn_central}
+use Rattle.command_answers.specs.Faults.{MeetsNoFault}
+use Rattle.command_answers.specs.Turns.{turns_left}
+use Rattle.command_answers.specs.Chains.{times, IsAnswered, Runs}
+use Rattle.command_answers.proofs.ChainsOfTurns.{run}
+use Rattle.command_answers.specs.CausesOfJoins.{FirstCause, RestartCause, RefreshCause, EpochsCause, HasCause, MayJoin, IsJoined}
+use Rattle.command_answers.specs.UnhinderedJoins.{IsUnhindered}
+use Rattle.command_answers.proofs.JoinsHaveCauses.{have_causes}
+
+-- an epoch isn't both above and not
+stale_never : {D : Type 0} (h : Held D) (e : Option ℕ) → IsStale h e → IsCurrent h e → ⊥
+stale_never h None stale now = stale
+stale_never h (Some e) stale now = omega (arith, stale, now)
+
+-- who follows nobody isn't of the registry's epoch
+none_never : {D : Type 0} (h : Held D) (e : Option ℕ) → e ≡ None → IsCurrent h e → ⊥
+none_never h e is now = subst (IsCurrent h) is now
+
+module _ {D : Type 0} where
+  stopped_never : (h : Held D) (x : Node D) (g : Begun) → HasStopped x g → MayRebuild h x g → ⊥
+  stopped_never h x g (inl differs) may = differs may.0.0
+  stopped_never h x g (inr down) may = let up = may.0.1 in cc (down, up)
+
+  -- a join that may go on isn't answered before it does
+  once_never : (h : Held D) (x : Node D) (g : Begun) (answer : Answer) → AnswersAtOnce h x g answer → MayRebuild h x g → ⊥
+  once_never h x g Stopped is may = stopped_never h x g is may
+  once_never h x g (StaleEpoch n) is may = may.0.2 is.1
+  once_never h x g (Passed n) is may = is.2 may.1
+  once_never h x g (BelowStart start) is may = may.2 (is.3, subst (λ (n : ℕ). g.wanted ≤ n) is.2 is.4)
+  once_never h x g other is may = elim is [ ]
+
+module _ {D S M : Type 0} (disk : DiskGhosts D) (store : StoreGhosts S) (meta : MetaGhosts M) where
+  first_joined : (w : Whole D S M) (b : ℕ) (x : Node D) (answer : Answer) (w' : Whole D S M) → FirstCause disk store meta w b x answer w' → MayJoin w x Idle → MeetsNoFault disk store meta b w w'
+      → IsJoined answer
+  first_joined w b x Down w' cause may well = let up = may.0 in absurd (cc (cause, up))
+  first_joined w b x NotFollower w' cause may well = absurd (none_never w.held (followed x.role) cause may.1)
+  first_joined w b x (StaleEpoch n) w' cause may well = absurd (stale_never w.held (followed x.role) cause.0 may.1)
+  first_joined w b x NoLeader w' cause may well = absurd (may.2 cause)
+  first_joined w b x (Cut n) w' cause may well = (n, inl refl)
+  first_joined w b x (DiskFaultAt n) w' cause may well = absurd (well.disk_well cause)
+  first_joined w b x other w' cause may well = elim cause [ ]
+
+  restart_joined : (w : Whole D S M) (b : ℕ) (x : Node D) (g : Begun) (answer : Answer) (w' : Whole D S M) → RestartCause disk store meta w b x g answer w' → MayRebuild w.held x g
+      → MeetsNoFault disk store meta b w w' → IsJoined answer
+  restart_joined w b x g (DiskFaultAt n) w' cause may well = absurd (well.disk_well cause)
+  restart_joined w b x g (Rebuilt n) w' cause may well = (n, inr refl)
+  restart_joined w b x g other w' cause may well = absurd (once_never w.held x g other cause may)
+
+  refresh_joined : (w : Whole D S M) (b : ℕ) (x : Node D) (g : Begun) (answer : Answer) (w' : Whole D S M) → RefreshCause disk store meta w x g answer w' → MayRebuild w.held x g
+      → MeetsNoFault disk store meta b w w' → IsJoined answer
+  refresh_joined w b x g MetaFault w' cause may well = absurd (well.meta_well cause)
+  refresh_joined w b x g other w' cause may well = absurd (once_never w.held x g other cause may)
+
+  epochs_joined : (w : Whole D S M) (b : ℕ) (x : Node D) (g : Begun) (answer : Answer) (w' : Whole D S M) → EpochsCause disk store meta w x g answer w' → MayRebuild w.held x g
+      → MeetsNoFault disk store meta b w w' → IsJoined answer
+  epochs_joined w b x g StoreFault w' cause may well = absurd (well.store_well cause)
+  epochs_joined w b x g other w' cause may well = absurd (once_never w.held x g other cause may)
+
+  any_joined : (w : Whole D S M) (b : ℕ) (x : Node D) (work : Work) (answer : Answer) (w' : Whole D S M) → HasCause disk store meta w b x work answer w' → MayJoin w x work
+      → MeetsNoFault disk store meta b w w' → IsJoined answer
+  any_joined w b x Idle answer w' cause may well = first_joined w b x answer w' cause may well
+  any_joined w b x (Noted g) answer w' (inl cause) may well = restart_joined w b x g answer w' cause.1 may well
+  any_joined w b x (Noted g) answer w' (inr cause) may well = refresh_joined w b x g answer w' cause.1 may well
+  any_joined w b x (Rebuilds g Epochs) answer w' cause may well = epochs_joined w b x g answer w' cause may well
+  any_joined w b x (Rebuilds g (Restart line)) answer w' cause may well = restart_joined w b x g answer w' cause may well
+  any_joined w b x other answer w' cause may well = absurd cause
+
+  -- the turn is the join's own
+  own_turn : (place : ℕ) (v : Whole D S M) (b : ℕ) (outcome : Outcome) (u : Whole D S M) (t : IsTurn disk store meta v b outcome u) → t.place ≡ place → IsNext v b place t.list t.seat t.order
+  own_turn place v b outcome u t same = record {
+    at = record {
+      list = ap (λ (n : ℕ). slice_get v.lists n) (sym same) ∙ t.at.list;
+      actor = t.at.actor;
+      seat_is = ap (λ (n : ℕ). slice_get v.desk n) (sym same) ∙ t.at.seat_is;
+    };
+    next = t.next;
+  }
+
+  ends_joined : (opening : State) (place number : ℕ) (v : Whole D S M) (b : ℕ) (outcome : Outcome) (answer : Answer) (u : Whole D S M) (t : IsTurn disk store meta v b outcome u) → outcome ≡ Answers answer
+      → IsCentral disk store meta opening v → IsUnhindered disk store meta place number v b u → t.place ≡ place → t.seat.number ≡ number → t.order.command ≡ Join → IsJoined answer
+  ends_joined opening place number v b (Answers k) answer u t is central free same number_is joins =
+      let one : k ≡ answer = cc (is) in
+      let c = t.order.broker.0 in
+      let h = free t.list t.seat t.order (own_turn place v b (Answers k) u t same) number_is in
+      let x = some_of (λ x. HasCause disk store meta v c x t.seat.work k u) (slice_get v.held.nodes c) (have_causes disk store meta opening v b k u central t joins) in
+      let y = some_of (λ x. MayJoin v x t.seat.work) (slice_get v.held.nodes c) h.0 in
+      let may : MayJoin v x.0 t.seat.work = subst (λ (n : Node D). MayJoin v n t.seat.work) (one_some (slice_get v.held.nodes c) y.0 x.0 y.1 x.1) y.2 in
+      subst IsJoined one (any_joined v c x.0 t.seat.work k u x.2 may h.1)
+  ends_joined opening place number v b other answer u t is central free same number_is joins = absurd (cc (is))
+
+  pub are_joined : (opening : State) (w : Whole D S M) (a place : ℕ) (l : ActorList) (seat : Seat) (order : Order) (actors : List ℕ) (w' : Whole D S M) → IsCentral disk store meta opening w
+      → IsNext w a place l seat order → order.command ≡ Join → Runs disk store meta (IsUnhindered disk store meta place seat.number) w actors w' → turns_left Join seat.work ≤ times a actors
+      → (answer : Answer) × IsJoined answer × IsAnswered w' l.actor seat.number answer
+  are_joined opening w a place l seat order actors w' c next joins r le =
+      run disk store meta (IsCentral disk store meta opening) (IsUnhindered disk store meta place seat.number) (λ work. Unit {0}) IsJoined Join a place seat.number l
+      (λ v b outcome u t central. turn_central disk store meta opening v b outcome u t central)
+      (λ v b outcome answer u t is central free same number join works. ends_joined opening place seat.number v b outcome answer u t is central free same number join) (λ v b outcome u t un works. tt) actors w w'
+      (record { rising = c.central.stands.rising; seat = seat; order = order; next = next; number_is = refl; kind_is = joins; works = tt }) c r le

@@ -1,0 +1,322 @@
+-- Each turn keeps what is known of deletions, and it is known of a fresh world.
+use Rattle.std.proofs.Common.{◌≡◌, ◌∙◌, inl, inr, sym, ap, subst, refl, ℕ, zero, suc, ◌+◌, ◌<◌, ◌≤◌, true, List, [], ◌∷◌, ◌++◌, length, Some, None, Option, Ok, slice_get, slice_set, arith}
+use Rattle.std.specs.Prelude.{IsSomeAnd, replicate}
+use Rattle.tier_base.specs.declared.names.PartitionId.{PartitionId}
+use Rattle.tier_base.specs.declared.names.SegmentId.{SegmentId}
+use Rattle.tier_base.specs.declared.plain.State.{State as CopyState}
+use Rattle.tier_base.specs.declared.plain.State.TheVariants.{CopyStarted, CopyFinished, DeleteStarted, DeleteFinished}
+use Rattle.tier_base.specs.declared.object_key.ObjectKey.{ObjectKey}
+use Rattle.disk_model.specs.declared.disk.Disk.{Ghosts as DiskGhosts}
+use Rattle.object_store.specs.declared.store.Store.{Ghosts as StoreGhosts}
+use Rattle.meta_log.specs.declared.log.MetaLog.{Ghosts as MetaGhosts}
+use Rattle.meta_log.specs.declared.teller.Teller.{Teller}
+use Rattle.log_terms.proofs.Lists.{and_then_some, get-set}
+use Rattle.segment_meta.specs.declared.note.Entry.{Entry}
+use Rattle.segment_meta.specs.declared.note.Note.{Note}
+use Rattle.registry.specs.declared.registry.Registry.{Registry}
+use Rattle.remote_view.specs.Fold.{Seen as View, entry_of, state_of, fold}
+use Rattle.view_refresh.specs.Refreshing.{fed_all}
+use Rattle.copy_task.specs.Copying.{Copied, keys}
+use Rattle.copy_task.specs.Turns.{CopyRow, PutRow, put_at, checked}
+use Rattle.copy_task.specs.declared.turn.CopyTurn.{CopyTurn}
+use Rattle.copy_task.specs.declared.turn.CopyTurn.TheVariants.{Goes as GoesOn, Ends}
+use Rattle.copy_task.specs.declared.turn.Next.{Next}
+use Rattle.copy_task.specs.declared.turn.Next.TheVariants.{Start, Put, Finish, Check, Delete}
+use Rattle.expiry_task.specs.declared.turn.Doomed.{Doomed}
+use Rattle.expiry_task.specs.declared.turn.Next.{Next as Deletion}
+use Rattle.rebuild_task.specs.declared.turn.Next.{Next as Rebuild}
+use Rattle.tier_fetch.specs.declared.turn.Next.{Next as Search}
+use Rattle.plain_log.specs.declared.command.ActorList.{ActorList}
+use Rattle.plain_log.specs.declared.command.Command.{Command}
+use Rattle.plain_log.specs.declared.command.Command.TheVariants.{Copy}
+use Rattle.plain_log.specs.declared.command.Config.{Config}
+use Rattle.plain_log.specs.declared.command.Order.{Order}
+use Rattle.plain_log.specs.declared.journal.JournalEntry.{JournalEntry}
+use Rattle.plain_log.specs.declared.state.State.{State}
+use Rattle.plain_log.specs.Runs.{order_of, entry_step, replay}
+use Rattle.plain_log.specs.Safe.{PlainSafe}
+use Rattle.plain_log.specs.Step.{step}
+use Rattle.plain_log.proofs.StepLaw.{step_safe}
+use Rattle.plain_log.proofs.StepsGrow.{steps_grow}
+use Rattle.partition_seen.specs.declared.begun.Begun.{Begun}
+use Rattle.partition_seen.proofs.Standing.{get_put}
+use Rattle.partition_turns.specs.declared.held.Node.{Node}
+use Rattle.tier_safe.specs.Copies.{is_deleted}
+use Rattle.tier_safe.proofs.Basics.{nat_cases, one_some}
+use Rattle.partition_world.specs.declared.tier.Side.{Side}
+use Rattle.partition_world.specs.declared.tier.Tier.{Tier}
+use Rattle.partition_world.specs.declared.seat.Outcome.{Outcome}
+use Rattle.partition_world.specs.declared.seat.Outcome.TheVariants.{Answers, Begins, Chose, Goes, Seeks as Sought, Dooms, Deletes, Rebuilds as Rebuilding}
+use Rattle.partition_world.specs.declared.seat.Seat.{Seat}
+use Rattle.partition_world.specs.declared.seat.Work.{Work}
+use Rattle.partition_world.specs.declared.seat.Work.TheVariants.{Idle, Noted, Copies, Seeks, Expires, Rebuilds}
+use Rattle.partition_world.specs.Central.{IsCentral, work_of}
+use Rattle.partition_world.specs.Fresh.{IsFresh, IsSeenEmpty, fresh_seat}
+use Rattle.partition_world.specs.Seats.{chosen, moved, sought, doomed, deleting, rebuilding, copy_outcome, seat_after, told_of}
+use Rattle.partition_world.specs.Turn.{IsNext, IsTurn}
+use Rattle.partition_world.specs.TurnsOfCopy.{GoesOnCopy, tiers_of, teller_of}
+use Rattle.partition_world.specs.Turns.{CopyingRow, Row}
+use Rattle.partition_world.specs.Whole.{Whole}
+use Rattle.partition_world.proofs.Begins.{row_of}
+use Rattle.partition_world.proofs.CentralLaw.{turn_central}
+use Rattle.partition_world.proofs.Scenes.{place_of, shows_at}
+use Rattle.command_answers.specs.DeletionsKnown.{DeletedBelow, ShowsDeleted, DeletionsKnown}
+use Rattle.command_answers.proofs.NotesOfCopies.{told_below, fed_shows}
+use Rattle.command_answers.proofs.Progress.{others_stay}
+use Rattle.command_answers.proofs.SeenOfCopies.{TierGoes, DoomsBelow, row_goes}
+
+rep_get : {A : Type 0} (n i : ℕ) (x y : A) → slice_get (replicate n x) i ≡ Some y → y ≡ x
+rep_get zero i x y at = absurd cc
+rep_get (suc n) zero x y at = cc
+rep_get (suc n) (suc i) x y at = rep_get n i x y at
+
+-- the log start doesn't fall
+
+replay_from : (lists : List ActorList) (p : State) (journal more : List JournalEntry) (q : State) → replay lists p journal ≡ Some q → replay lists p (journal ++ more) ≡ replay lists q more
+replay_from lists p [] more q e = let is : p ≡ q = cc (e) in ap (λ (k : State). replay lists k more) is
+replay_from lists p (entry ∷ journal) more q e =
+    let m = and_then_some (λ (w : State). replay lists w journal) (entry_step lists p entry) q e in
+    rw m.1 (replay_from lists m.0 journal more q m.2)
+
+start_grows : (lists : List ActorList) (p : State) (more : List JournalEntry) (q : State) → replay lists p more ≡ Some q → PlainSafe p → p.registry.start ≤ q.registry.start
+start_grows lists p [] q e s = let is : p ≡ q = cc (e) in rw is (omega arith)
+start_grows lists p (entry ∷ more) q e s =
+    let m = and_then_some (λ (w : State). replay lists w more) (entry_step lists p entry) q e in
+    let o = and_then_some (λ (w : Order). step p w entry) (order_of lists entry) m.0 m.1 in
+    let one = (steps_grow p o.0 entry m.0 o.2 s).start in
+    let rest = start_grows lists m.0 more q m.2 (step_safe p o.0 entry m.0 o.2 s) in
+    omega (arith, one, rest)
+
+-- what a seat keeps after a turn
+abbrev work_after : Work → Outcome → Work
+work_after work (Answers answer) = Idle
+work_after work (Begins g) = Noted g
+work_after work (Chose copy) = chosen work copy
+work_after work (Goes next) = moved work next
+work_after work (Sought next) = sought work next
+work_after work (Dooms segment) = doomed work segment
+work_after work (Deletes next) = deleting work next
+work_after work (Rebuilding next) = rebuilding work next
+
+work_same : (seat : Seat) (outcome : Outcome) → (seat_after seat outcome).work ≡ work_after seat.work outcome
+work_same seat (Answers answer) = refl
+work_same seat other = refl
+
+idle_never : {A : Type 0} (o : Outcome) (g : Begun) (copy : Copied) (n : ℕ) → work_after Idle o ≡ Copies g copy (Delete n) → A
+idle_never (Answers answer) g copy n is = absurd (cc (is))
+idle_never other g copy n is = absurd (cc (is))
+
+noted_never : {A : Type 0} (f : Begun) (o : Outcome) (g : Begun) (copy : Copied) (n : ℕ) → work_after (Noted f) o ≡ Copies g copy (Delete n) → A
+noted_never f (Answers answer) g copy n is = absurd (cc (is))
+noted_never f other g copy n is = absurd (cc (is))
+
+seeks_never : {A : Type 0} (f : Begun) (next : Search) (o : Outcome) (g : Begun) (copy : Copied) (n : ℕ) → work_after (Seeks f next) o ≡ Copies g copy (Delete n) → A
+seeks_never f next (Answers answer) g copy n is = absurd (cc (is))
+seeks_never f next other g copy n is = absurd (cc (is))
+
+expires_never : {A : Type 0} (f : Begun) (segment : Doomed) (next : Deletion) (o : Outcome) (g : Begun) (copy : Copied) (n : ℕ) → work_after (Expires f segment next) o ≡ Copies g copy (Delete n) → A
+expires_never f segment next (Answers answer) g copy n is = absurd (cc (is))
+expires_never f segment next other g copy n is = absurd (cc (is))
+
+rebuilds_never : {A : Type 0} (f : Begun) (next : Rebuild) (o : Outcome) (g : Begun) (copy : Copied) (n : ℕ) → work_after (Rebuilds f next) o ≡ Copies g copy (Delete n) → A
+rebuilds_never f next (Answers answer) g copy n is = absurd (cc (is))
+rebuilds_never f next other g copy n is = absurd (cc (is))
+
+-- a seat that keeps a copy is at the order that it was at
+number_kept : (seat : Seat) (o : Outcome) (g : Begun) (copy : Copied) (next : Next) → (seat_after seat o).work ≡ Copies g copy next → (seat_after seat o).number ≡ seat.number
+number_kept seat (Answers answer) g copy next is = absurd (cc (is))
+number_kept seat other g copy next is = refl
+
+-- the view after the turn by which a copy comes to take its objects away
+
+shown_by : (copy : Copied) (view : View) (notes n : ℕ) (state : Option CopyState) → state_of copy.id view.entries ≡ state → GoesOn (Delete n) ≡ checked copy notes state → ShowsDeleted view.entries copy.id
+shown_by copy view notes n None at is = absurd (cc (is))
+shown_by copy view notes n (Some CopyStarted) at is = absurd (cc (is))
+shown_by copy view notes n (Some CopyFinished) at is = absurd (cc (is))
+shown_by copy view notes n (Some DeleteStarted) at is = subst (λ (o : Option CopyState). IsSomeAnd o (λ state. is_deleted state ≡ true)) (sym at) refl
+shown_by copy view notes n (Some DeleteFinished) at is = subst (λ (o : Option CopyState). IsSomeAnd o (λ state. is_deleted state ≡ true)) (sym at) refl
+
+put_never : {A : Type 0} (n m : ℕ) (key : Option ObjectKey) → GoesOn (Delete n) ≡ GoesOn (put_at m key) → A
+put_never n m None is = absurd (cc (is))
+put_never n m (Some key) is = absurd (cc (is))
+
+module _ {S : Type 0} (store : StoreGhosts S) where
+  put_row_never : {A : Type 0} (copy : Copied) (n m : ℕ) (key : Option ObjectKey) (old new : S) → PutRow store.content store.control copy m key (Ok (GoesOn (Delete n))) old new → A
+  put_row_never copy n m None old new row = let e = row.0 in absurd (cc (e))
+  put_row_never copy n m (Some key) old new row = put_never n (m + 1) (slice_get (keys copy) (m + 1)) row.0
+
+module _ {S M : Type 0} (store : StoreGhosts S) (meta : MetaGhosts M) where
+  goes_shown : (copy : Copied) (teller : Teller) (before : Next) (n : ℕ) (t : Tier S M) (side : Side) (view : View) (t' : Tier S M)
+      → CopyRow store.content store.control meta.content meta.control copy teller before (Ok (GoesOn (Delete n))) (tiers_of side.view t) (tiers_of view t')
+      → ((m : ℕ) → before ≡ Delete m → ShowsDeleted view.entries copy.id) → ShowsDeleted view.entries copy.id
+  goes_shown copy teller Start n t side view t' row was = let e = row.1.0 in absurd (cc (e))
+  goes_shown copy teller (Put m) n t side view t' row was = put_row_never store copy n m (slice_get (keys copy) m) t.store t'.store row.1
+  goes_shown copy teller Finish n t side view t' row was = let e = row.1.0 in absurd (cc (e))
+  goes_shown copy teller Check n t side view t' row was = shown_by copy view view.notes n (state_of copy.id view.entries) refl row.1.0
+  goes_shown copy teller (Delete m) n t side view t' row was = was m refl
+
+module _ {D S M : Type 0} (disk : DiskGhosts D) (store : StoreGhosts S) (meta : MetaGhosts M) where
+  start_of : (opening : State) (w : Whole D S M) → (c : IsCentral disk store meta opening w) → c.central.plain.registry.start ≡ w.held.registry.start
+  start_of opening w c = ap (λ (r : Registry). r.start) (c.central.stands.held.registry ∙ c.shows.registry)
+
+  start_later : (opening : State) (w : Whole D S M) (a : ℕ) (outcome : Outcome) (w' : Whole D S M) → IsTurn disk store meta w a outcome w' → IsCentral disk store meta opening w
+      → w.held.registry.start ≤ w'.held.registry.start
+  start_later opening w a outcome w' t c =
+      let d = turn_central disk store meta opening w a outcome w' t c in
+      let more = told_of t.list.actor t.seat.number t.order.command outcome in
+      let p = c.central.plain in
+      let q = d.central.plain in
+      let on : replay w.lists p more ≡ Some q =
+      sym (replay_from w.lists opening w.journal.items more p c.central.replays)
+      ∙ (ap (λ (items : List JournalEntry). replay w.lists opening items) (sym t.entered) ∙ (ap (λ (lists : List ActorList). replay lists opening w'.journal.items) (sym t.lists) ∙ d.central.replays)) in
+      let grows = start_grows w.lists p more q on c.central.safe in
+      let before = start_of opening w c in
+      let after = start_of opening w' d in
+      omega (arith, grows, before, after)
+
+  -- the side of a broker after a turn
+  module _ (w : Whole D S M) (a : ℕ) (outcome : Outcome) (w' : Whole D S M) (t : IsTurn disk store meta w a outcome w') (side : Side) (side_at : slice_get w.tier.sides t.order.broker.0 ≡ Some side)
+      (start : ℕ) (goes : TierGoes meta start t.order.broker.0 side w.tier w'.tier) where
+    -- what a side has shown it shows
+    still_shown : (b : ℕ) (new : Side) (id : SegmentId) → slice_get w'.tier.sides b ≡ Some new → ((old : Side) → slice_get w.tier.sides b ≡ Some old → ShowsDeleted old.view.entries id)
+        → ShowsDeleted new.view.entries id
+    still_shown b new id at was = elim (get-set w.tier.sides t.order.broker.0 goes.after b new (ap (λ (k : List Side). slice_get k b) (sym goes.sides) ∙ at)) [
+      | inr other ↦ was new other.1
+      | inl own ↦
+          let old = was side (ap (λ (n : ℕ). slice_get w.tier.sides n) own.0 ∙ side_at) in
+          let now : new.view ≡ fed_all side.view goes.fed = ap (λ (k : Side). k.view) own.1 ∙ goes.view in
+          subst (λ (v : View). ShowsDeleted v.entries id) (sym now) (fed_shows side.view goes.fed id old)
+    ]
+
+  module _ (opening : State) (w : Whole D S M) (a : ℕ) (outcome : Outcome) (w' : Whole D S M) (t : IsTurn disk store meta w a outcome w') (c : IsCentral disk store meta opening w) (known : DeletionsKnown meta w)
+      (x : Node D) (at_node : slice_get w.held.nodes t.order.broker.0 ≡ Some x) (side : Side) (side_at : slice_get w.tier.sides t.order.broker.0 ≡ Some side)
+      (row : Row disk store meta w.partition w.config w.held w.tier t.order.broker.0 x side t.seat.work t.order.command outcome w'.held w'.tier) where
+    abbrev b : ℕ
+    b = t.order.broker.0
+
+    -- an expiry that has taken up its segment
+    dooms : (work : Work) → t.seat.work ≡ work → DoomsBelow (fold (meta.content w.tier.meta).notes) w.held.registry.start work
+    dooms Idle works = tt
+    dooms (Noted g) works = tt
+    dooms (Copies g copy next) works = tt
+    dooms (Seeks g next) works = tt
+    dooms (Rebuilds g next) works = tt
+    dooms (Expires g segment next) works =
+        let z = place_of disk store meta opening w c t.place t.list t.seat t.order t.at.list t.at.seat_is t.next x at_node side side_at in
+        let shows = shows_at disk store meta opening w c t.place t.list t.seat t.order z in
+        let seat = shows.seat ∙ ap (λ (k : Work). Some (work_of (Some t.order) k)) works in
+        let has = c.tier.deletions.each t.place segment next seat in
+        let same : entry_of segment.id (fold (meta.content w.tier.meta).notes) ≡ Some has.entry = ap (λ (ns : List Note). entry_of segment.id (fold ns)) (sym c.shows_tier.notes) ∙ has.there in
+        let low : has.entry.end < w.held.registry.start = subst (λ (n : ℕ). has.entry.end < n) (start_of opening w c) has.below in
+        subst (λ (o : Option Entry). IsSomeAnd o (λ entry. entry.end < w.held.registry.start)) (sym same) low
+
+    goes : TierGoes meta w.held.registry.start b side w.tier w'.tier
+    goes = row_goes disk store meta w.held.registry.start w.partition w.config w.held w.tier b x side t.seat.work t.order.command outcome w'.held w'.tier side_at c.shows_tier.meta_tells (dooms t.seat.work refl) row
+
+    -- a copy that took its objects away before
+    before_shown : (g : Begun) (copy : Copied) (n : ℕ) → t.seat.work ≡ Copies g copy (Delete n) → (new : Side) → slice_get w'.tier.sides b ≡ Some new → ShowsDeleted new.view.entries copy.id
+    before_shown g copy n works new at =
+        still_shown w a outcome w' t side side_at w.held.registry.start goes b new copy.id at
+        (λ old there. known.seen t.list.actor.0 t.place t.list t.seat t.order g copy n old (record { at = record { list = t.at.list; actor = refl; seat_is = t.at.seat_is }; next = t.next }) works there)
+
+    moved_shown : (g : Begun) (copy : Copied) (before : Next) → t.seat.work ≡ Copies g copy before → (further : Next) (n : ℕ) → further ≡ Delete n
+        → GoesOnCopy store meta w.held w.tier b side copy before (GoesOn further) w'.tier → (new : Side) → slice_get w'.tier.sides b ≡ Some new → ShowsDeleted new.view.entries copy.id
+    moved_shown g copy before works further n is on new at =
+        let now : Side = record side { view = on.view } in
+        let there : slice_get w'.tier.sides b ≡ Some now = ap (λ (k : Tier S M). slice_get k.sides b) on.after ∙ get_put w.tier.sides b side now side_at in
+        let shown : ShowsDeleted now.view.entries copy.id =
+        goes_shown store meta copy (teller_of w.held b) before n w.tier side on.view w'.tier
+        (subst (λ (k : Next). CopyRow store.content store.control meta.content meta.control copy (teller_of w.held b) before (Ok (GoesOn k)) (tiers_of side.view w.tier) (tiers_of on.view w'.tier)) is on.row)
+        (λ m e. before_shown g copy m (works ∙ ap (λ (k : Next). Copies g copy k) e) now there) in
+        subst (λ (k : Side). ShowsDeleted k.view.entries copy.id) (one_some (slice_get w'.tier.sides b) now new there at) shown
+
+    turn_shown : (g : Begun) (copy : Copied) (before : Next) → t.seat.work ≡ Copies g copy before → (next : Next) (n : ℕ) → next ≡ Delete n → (turn : CopyTurn) → Goes next ≡ copy_outcome turn
+        → GoesOnCopy store meta w.held w.tier b side copy before turn w'.tier → (new : Side) → slice_get w'.tier.sides b ≡ Some new → ShowsDeleted new.view.entries copy.id
+    turn_shown g copy before works next n is (GoesOn further) one on new at = let same : further ≡ next = cc (one) in moved_shown g copy before works further n (same ∙ is) on new at
+    turn_shown g copy before works next n is (Ends answer) one on new at = absurd (cc (one))
+
+    copying_shown : (g : Begun) (copy : Copied) (before : Next) → t.seat.work ≡ Copies g copy before → (command : Command) (next : Next) (n : ℕ) → next ≡ Delete n
+        → CopyingRow store meta w.held w.tier b x side g copy before command (Goes next) w'.held w'.tier → (new : Side) → slice_get w'.tier.sides b ≡ Some new → ShowsDeleted new.view.entries copy.id
+    copying_shown g copy before works Copy next n is (inl lost, same) new at = let e = lost.1 in absurd (cc (e))
+    copying_shown g copy before works Copy next n is (inr (keeps, (turn, one, on)), same) new at = turn_shown g copy before works next n is turn one on new at
+    copying_shown g copy before works other next n is row new at = elim row [ ]
+
+    own_shown : (work : Work) → t.seat.work ≡ work → (o : Outcome) → Row disk store meta w.partition w.config w.held w.tier b x side work t.order.command o w'.held w'.tier → (g : Begun) (copy : Copied) (n : ℕ)
+        → work_after work o ≡ Copies g copy (Delete n) → (new : Side) → slice_get w'.tier.sides b ≡ Some new → ShowsDeleted new.view.entries copy.id
+    own_shown Idle works o r g copy n is new at = idle_never o g copy n is
+    own_shown (Noted f) works o r g copy n is new at = noted_never f o g copy n is
+    own_shown (Copies f k before) works (Answers answer) r g copy n is new at = absurd (cc (is))
+    own_shown (Copies f k before) works (Begins h) r g copy n is new at = absurd (cc (is))
+    own_shown (Copies f k before) works (Chose j) r g copy n is new at = before_shown g copy n (works ∙ is) new at
+    own_shown (Copies f k before) works (Goes next) r g copy n is new at =
+        let same : k ≡ copy = cc (is) in
+        let deletes : next ≡ Delete n = cc (is) in
+        subst (λ (j : Copied). ShowsDeleted new.view.entries j.id) same (copying_shown f k before works t.order.command next n deletes r new at)
+    own_shown (Copies f k before) works (Sought next) r g copy n is new at = before_shown g copy n (works ∙ is) new at
+    own_shown (Copies f k before) works (Dooms segment) r g copy n is new at = before_shown g copy n (works ∙ is) new at
+    own_shown (Copies f k before) works (Deletes next) r g copy n is new at = before_shown g copy n (works ∙ is) new at
+    own_shown (Copies f k before) works (Rebuilding next) r g copy n is new at = before_shown g copy n (works ∙ is) new at
+    own_shown (Seeks f before) works o r g copy n is new at = seeks_never f before o g copy n is
+    own_shown (Expires f segment before) works o r g copy n is new at = expires_never f segment before o g copy n is
+    own_shown (Rebuilds f before) works o r g copy n is new at = rebuilds_never f before o g copy n is
+
+    told : DeletedBelow (fold (meta.content w'.tier.meta).notes) w.held.registry.start
+    told = elim goes.notes [
+      | inl same ↦ subst (λ (ns : List Note). DeletedBelow (fold ns) w.held.registry.start) (sym same) known.below
+      | inr (note, is, be) ↦ subst (λ (ns : List Note). DeletedBelow (fold ns) w.held.registry.start) (sym is) (told_below (meta.content w.tier.meta).notes note w.held.registry.start be known.below)
+    ]
+
+    still_below : DeletedBelow (fold (meta.content w'.tier.meta).notes) w'.held.registry.start
+    still_below id entry there gone =
+        let low = told id entry there gone in
+        let grows = start_later opening w a outcome w' t c in
+        omega (arith, low, grows)
+
+    -- the seat of the turn
+    at_place : (place : ℕ) → t.place ≡ place → (d : ℕ) (l : ActorList) (seat : Seat) (order : Order) (g : Begun) (copy : Copied) (n : ℕ) (new : Side) → IsNext w' d place l seat order
+        → seat.work ≡ Copies g copy (Delete n) → slice_get w'.tier.sides order.broker.0 ≡ Some new → ShowsDeleted new.view.entries copy.id
+    at_place place same d l seat order g copy n new next works at =
+        let after = seat_after t.seat outcome in
+        let list_is : t.list ≡ l =
+        one_some (slice_get w.lists t.place) t.list l t.at.list (ap (λ (k : ℕ). slice_get w.lists k) same ∙ (ap (λ (k : List ActorList). slice_get k place) (sym t.lists) ∙ next.at.list)) in
+        let there : slice_get w'.desk place ≡ Some after =
+        ap (λ (k : List Seat). slice_get k place) t.desk ∙ (ap (λ (k : ℕ). slice_get (slice_set w.desk t.place after) k) (sym same) ∙ get_put w.desk t.place t.seat after t.at.seat_is) in
+        let seat_is : after ≡ seat = one_some (slice_get w'.desk place) after seat there next.at.seat_is in
+        let is : after.work ≡ Copies g copy (Delete n) = ap (λ (k : Seat). k.work) seat_is ∙ works in
+        let number : t.seat.number ≡ seat.number = sym (number_kept t.seat outcome g copy (Delete n) is) ∙ ap (λ (k : Seat). k.number) seat_is in
+        let order_is : t.order ≡ order =
+        one_some (slice_get t.list.orders t.seat.number) t.order order t.next
+        (ap (λ (k : ActorList). slice_get k.orders t.seat.number) list_is ∙ (ap (λ (k : ℕ). slice_get l.orders k) number ∙ next.next)) in
+        own_shown t.seat.work refl outcome row g copy n (sym (work_same t.seat outcome) ∙ is) new (ap (λ (o : Order). slice_get w'.tier.sides o.broker.0) order_is ∙ at)
+
+    still_seen : (d place : ℕ) (l : ActorList) (seat : Seat) (order : Order) (g : Begun) (copy : Copied) (n : ℕ) (new : Side) → IsNext w' d place l seat order
+        → seat.work ≡ Copies g copy (Delete n) → slice_get w'.tier.sides order.broker.0 ≡ Some new → ShowsDeleted new.view.entries copy.id
+    still_seen d place l seat order g copy n new next works at = elim (nat_cases t.place place) [
+      | inl same ↦ at_place place same d l seat order g copy n new next works at
+      | inr other ↦
+          let before : IsNext w d place l seat order = record {
+            at = record {
+              list = ap (λ (k : List ActorList). slice_get k place) (sym t.lists) ∙ next.at.list;
+              actor = next.at.actor;
+              seat_is = sym (others_stay disk store meta w a outcome w' t place (λ e. other (sym e))) ∙ next.at.seat_is;
+            };
+            next = next.next;
+          } in
+          still_shown w a outcome w' t side side_at w.held.registry.start goes order.broker.0 new copy.id at (λ old there. known.seen d place l seat order g copy n old before works there)
+    ]
+
+  pub keep_known : (opening : State) (w : Whole D S M) (a : ℕ) (outcome : Outcome) (w' : Whole D S M) → IsCentral disk store meta opening w → DeletionsKnown meta w → IsTurn disk store meta w a outcome w'
+      → DeletionsKnown meta w'
+  keep_known opening w a outcome w' c known t =
+      let r = row_of disk store meta w.partition w.config w.held w.tier t.order.broker.0 t.seat.work t.order.command outcome w'.held w'.tier t.row in
+      record { below = still_below opening w a outcome w' t c known r.x r.at r.side r.side_at r.row; seen = still_seen opening w a outcome w' t c known r.x r.at r.side r.side_at r.row }
+
+  pub fresh_known : (partition : PartitionId) (config : Config) (lists : List ActorList) (disks : List D) (s : S) (m : M) (w : Whole D S M) → IsFresh disk store meta partition config lists disks s m w
+      → IsSeenEmpty disk store meta w → DeletionsKnown meta w
+  fresh_known partition config lists disks s m w f e = record {
+    below = λ id entry there gone. absurd (let none = ap (λ (ns : List Note). entry_of id (fold ns)) (e.notes e.meta_tells) in cc (there, none));
+    seen = λ a place l seat order g copy n side next works at.
+        absurd
+        (let is = ap (λ (k : Seat). k.work) (rep_get (length lists) place fresh_seat seat (ap (λ (d : List Seat). slice_get d place) (sym f.desk) ∙ next.at.seat_is)) in
+        cc (works, is));
+  }

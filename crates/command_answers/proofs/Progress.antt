@@ -1,0 +1,318 @@
+-- A turn of a command that isn't answered leaves fewer to come, and a turn leaves the other seats as they were.
+use Rattle.std.proofs.Common.{◌≡◌, ◌≢◌, ◌∙◌, inl, inr, sym, ap, subst, refl, ℕ, zero, suc, ◌+◌, ◌<◌, List, [], ◌∷◌, Some, None, Option, Ok, slice_get, slice_set, arith}
+use Rattle.tier_base.specs.declared.names.PartitionId.{PartitionId}
+use Rattle.tier_base.specs.declared.plain.State.{State as CopyState}
+use Rattle.tier_base.specs.declared.plain.State.TheVariants.{CopyStarted, CopyFinished, DeleteStarted, DeleteFinished}
+use Rattle.tier_base.specs.declared.object_key.ObjectKey.{ObjectKey}
+use Rattle.disk_model.specs.declared.disk.Disk.{Ghosts as DiskGhosts}
+use Rattle.object_store.specs.declared.store.Store.{Ghosts as StoreGhosts}
+use Rattle.meta_log.specs.declared.log.MetaLog.{Ghosts as MetaGhosts}
+use Rattle.meta_log.specs.declared.teller.Teller.{Teller}
+use Rattle.remote_view.specs.Fold.{Seen as View, state_of}
+use Rattle.copy_task.specs.Copying.{Copied, keys}
+use Rattle.copy_task.specs.Turns.{Tiers, PutRow, DeleteRow, CopyRow, put_at, delete_at, checked}
+use Rattle.copy_task.specs.declared.turn.CopyTurn.{CopyTurn}
+use Rattle.copy_task.specs.declared.turn.CopyTurn.TheVariants.{Goes as GoesOn, Ends}
+use Rattle.copy_task.specs.declared.turn.Next.{Next}
+use Rattle.copy_task.specs.declared.turn.Next.TheVariants.{Start, Put, Finish, Check, Delete}
+use Rattle.expiry_task.specs.Turns as expiring
+use Rattle.expiry_task.specs.declared.turn.Doomed.{Doomed}
+use Rattle.expiry_task.specs.declared.turn.ExpiryTurn.{ExpiryTurn}
+use Rattle.expiry_task.specs.declared.turn.ExpiryTurn.TheVariants as expiry
+use Rattle.expiry_task.specs.declared.turn.Next.{Next as Deletion}
+use Rattle.expiry_task.specs.declared.turn.Next.TheVariants as deletion
+use Rattle.rebuild_task.specs.declared.turn.Next.{Next as Rebuild}
+use Rattle.rebuild_task.specs.declared.turn.Next.TheVariants.{Epochs, Restart}
+use Rattle.rebuild_task.specs.declared.turn.RebuildTurn.TheVariants as rebuild
+use Rattle.tier_fetch.specs.declared.turn.FetchTurn.TheVariants as fetch
+use Rattle.tier_fetch.specs.declared.turn.Next.{Next as Search}
+use Rattle.tier_fetch.specs.declared.turn.Next.TheVariants.{Refresh, Index, Log}
+use Rattle.plain_log.specs.declared.answer.Answer.TheVariants.{MetaFault}
+use Rattle.plain_log.specs.declared.command.Command.{Command}
+use Rattle.plain_log.specs.declared.command.Command.TheVariants.{Copy, Trim, Expire, Fetch, Join, Follow}
+use Rattle.plain_log.specs.declared.command.Config.{Config}
+use Rattle.partition_seen.specs.declared.begun.Begun.{Begun}
+use Rattle.partition_seen.specs.declared.begun.Turned.{Turned}
+use Rattle.partition_seen.specs.declared.begun.Turned.TheVariants as turned
+use Rattle.partition_turns.specs.declared.held.Node.{Node}
+use Rattle.partition_turns.specs.declared.held.Held.{Held}
+use Rattle.partition_turns.specs.Held.{line_of}
+use Rattle.partition_turns.specs.Turns.{FirstRow}
+use Rattle.partition_world.specs.declared.tier.Side.{Side}
+use Rattle.partition_world.specs.declared.tier.Tier.{Tier}
+use Rattle.partition_world.specs.declared.seat.Outcome.{Outcome}
+use Rattle.partition_world.specs.declared.seat.Outcome.TheVariants.{Answers, Begins, Chose, Goes, Seeks as Sought, Dooms, Deletes, Rebuilds as Rebuilding}
+use Rattle.partition_world.specs.declared.seat.Seat.{Seat}
+use Rattle.partition_world.specs.declared.seat.Work.{Work}
+use Rattle.partition_world.specs.declared.seat.Work.TheVariants.{Idle, Noted, Copies, Seeks, Expires, Rebuilds}
+use Rattle.partition_world.specs.Seats.{chosen, moved, sought, doomed, deleting, rebuilding, outcome_of, copy_outcome, expiry_outcome, seat_after, IsUnanswered}
+use Rattle.partition_world.specs.Turn.{IsTurn}
+use Rattle.partition_world.specs.TurnsOfCopy.{CopyFirstRow, ReadRow, ChooseRow, CopyOnRow, GoesOnCopy, copied_to, tiers_of, teller_of}
+use Rattle.partition_world.specs.TurnsOfExpiry.{ExpiresBy, ExpireOnRow, DeleteOnRow, GoesOnDeletion, expiry_tiers}
+use Rattle.partition_world.specs.TurnsOfFetch.{FetchOnRow, GoesOnFetch, fetch_tiers, wanted_of}
+use Rattle.partition_world.specs.TurnsOfRebuild.{with_line, RefreshedRow, EpochsOnRow, wanted_of as rebuilt_to}
+use Rattle.partition_world.specs.TurnsOfTrim.{TrimFirstRow, TrimOnRow}
+use Rattle.partition_world.specs.Turns.{OwnRow, OwnOnRow, JoinSecondRow, Row}
+use Rattle.partition_world.specs.Whole.{Whole}
+use Rattle.partition_world.proofs.Begins.{row_of}
+use Rattle.partition_world.proofs.FetchAdvances.{sought_before, fetch_advances}
+use Rattle.partition_world.proofs.RebuildEnds.{MayTurn, rebuild_may_turn}
+use Rattle.command_answers.specs.Turns.{copying_left, deleting_left, seeking_left, rebuilding_left, turns_left}
+
+-- another item than the one that is set
+get_other : {A : Type 0} (xs : List A) (i j : ℕ) (y : A) → j ≢ i → slice_get (slice_set xs i y) j ≡ slice_get xs j
+get_other [] i j y ne = refl
+get_other (x ∷ xs) zero zero y ne = absurd (ne refl)
+get_other (x ∷ xs) zero (suc j) y ne = refl
+get_other (x ∷ xs) (suc i) zero y ne = refl
+get_other (x ∷ xs) (suc i) (suc j) y ne = get_other xs i j y (λ e. ne (ap suc e))
+
+-- a turn leaves fewer to come
+abbrev Less : Command → Work → Outcome → Type 0
+Less command work (Answers answer) = Unit {0}
+Less command work (Begins g) = turns_left command (Noted g) < turns_left command work
+Less command work (Chose copy) = turns_left command (chosen work copy) < turns_left command work
+Less command work (Goes next) = turns_left command (moved work next) < turns_left command work
+Less command work (Sought next) = turns_left command (sought work next) < turns_left command work
+Less command work (Dooms segment) = turns_left command (doomed work segment) < turns_left command work
+Less command work (Deletes next) = turns_left command (deleting work next) < turns_left command work
+Less command work (Rebuilding next) = turns_left command (rebuilding work next) < turns_left command work
+
+-- a copy goes on with this turn
+to : (before next after : Next) → GoesOn next ≡ GoesOn after → copying_left after < copying_left before → copying_left next < copying_left before
+to before next after is lt = let e : next ≡ after = cc in rw e lt
+
+-- a segment has four keys
+key_low : (copy : Copied) (n : ℕ) (key : ObjectKey) → slice_get (keys copy) n ≡ Some key → n < 4
+key_low copy zero key is = omega arith
+key_low copy (suc zero) key is = omega arith
+key_low copy (suc (suc zero)) key is = omega arith
+key_low copy (suc (suc (suc zero))) key is = omega arith
+key_low copy (suc (suc (suc (suc n)))) key is = absurd cc
+
+put_less : (copy : Copied) (n : ℕ) (key : Option ObjectKey) (next : Next) → slice_get (keys copy) (n + 1) ≡ key → GoesOn next ≡ GoesOn (put_at (n + 1) key) → copying_left next < copying_left (Put n)
+put_less copy n None next at is = to (Put n) next Finish is (omega arith)
+put_less copy n (Some key) next at is = let low = key_low copy (n + 1) key at in to (Put n) next (Put (n + 1)) is (omega (arith, low))
+
+delete_less : (copy : Copied) (view : View) (n : ℕ) (key : Option ObjectKey) (next : Next) → slice_get (keys copy) (n + 1) ≡ key → GoesOn next ≡ delete_at copy view (n + 1) key
+    → copying_left next < copying_left (Delete n)
+delete_less copy view n None next at is = absurd cc
+delete_less copy view n (Some key) next at is = let low = key_low copy (n + 1) key at in to (Delete n) next (Delete (n + 1)) is (omega (arith, low))
+
+checked_less : (copy : Copied) (notes : ℕ) (state : Option CopyState) (next : Next) → GoesOn next ≡ checked copy notes state → copying_left next < copying_left Check
+checked_less copy notes (Some CopyFinished) next is = absurd cc
+checked_less copy notes (Some DeleteStarted) next is = to Check next (Delete 0) is (omega arith)
+checked_less copy notes (Some DeleteFinished) next is = to Check next (Delete 0) is (omega arith)
+checked_less copy notes (Some CopyStarted) next is = absurd cc
+checked_less copy notes None next is = absurd cc
+
+module _ {S M : Type 0} (store : StoreGhosts S) (meta : MetaGhosts M) where
+  put_row : (copy : Copied) (n : ℕ) (key : Option ObjectKey) (next : Next) (old new : S) → PutRow store.content store.control copy n key (Ok (GoesOn next)) old new → copying_left next < copying_left (Put n)
+  put_row copy n None next old new w = let e : next ≡ Finish = cc (w.0) in rw e (omega arith)
+  put_row copy n (Some key) next old new w = put_less copy n (slice_get (keys copy) (n + 1)) next refl w.0
+
+  delete_row : (copy : Copied) (view : View) (n : ℕ) (key : Option ObjectKey) (next : Next) (old new : S) → DeleteRow store.content store.control copy view n key (GoesOn next) old new
+      → copying_left next < copying_left (Delete n)
+  delete_row copy view n None next old new w = let e = w.0 in absurd (cc (e))
+  delete_row copy view n (Some key) next old new w = delete_less copy view n (slice_get (keys copy) (n + 1)) next refl w.0
+
+  copy_less : (copy : Copied) (teller : Teller) (before next : Next) (old new : Tiers S M)
+      → CopyRow store.content store.control meta.content meta.control copy teller before (Ok (GoesOn next)) old new → copying_left next < copying_left before
+  copy_less copy teller Start next old new w = to Start next (Put 0) w.1.0 (omega arith)
+  copy_less copy teller (Put n) next old new w = put_row copy n (slice_get (keys copy) n) next old.store new.store w.1
+  copy_less copy teller Finish next old new w = to Finish next Check w.1.0 (omega arith)
+  copy_less copy teller Check next old new w = checked_less copy new.view.notes (state_of copy.id new.view.entries) next w.1.0
+  copy_less copy teller (Delete n) next old new w = delete_row copy old.view n (slice_get (keys copy) n) next old.store new.store w.1
+
+-- an expiry goes on with this turn
+dto : (before next after : Deletion) → expiry.Goes next ≡ expiry.Goes after → deleting_left after < deleting_left before → deleting_left next < deleting_left before
+dto before next after is lt = let e : next ≡ after = cc in rw e lt
+
+doomed_low : (segment : Doomed) (n : ℕ) (key : ObjectKey) → slice_get (expiring.keys segment) n ≡ Some key → n < 4
+doomed_low segment zero key is = omega arith
+doomed_low segment (suc zero) key is = omega arith
+doomed_low segment (suc (suc zero)) key is = omega arith
+doomed_low segment (suc (suc (suc zero))) key is = omega arith
+doomed_low segment (suc (suc (suc (suc n)))) key is = absurd cc
+
+taken_less : (segment : Doomed) (n : ℕ) (key : Option ObjectKey) (next : Deletion) → slice_get (expiring.keys segment) (n + 1) ≡ key → expiry.Goes next ≡ expiry.Goes (expiring.delete_at (n + 1) key)
+    → deleting_left next < deleting_left (deletion.Delete n)
+taken_less segment n None next at is = dto (deletion.Delete n) next deletion.Finish is (omega arith)
+taken_less segment n (Some key) next at is = let low = doomed_low segment (n + 1) key at in dto (deletion.Delete n) next (deletion.Delete (n + 1)) is (omega (arith, low))
+
+module _ {S M : Type 0} (store : StoreGhosts S) (meta : MetaGhosts M) where
+  take_row : (segment : Doomed) (n : ℕ) (key : Option ObjectKey) (next : Deletion) (old new : S) → expiring.DeleteRow store.content store.control segment n key (expiry.Goes next) old new
+      → deleting_left next < deleting_left (deletion.Delete n)
+  take_row segment n None next old new w = dto (deletion.Delete n) next deletion.Finish w.0 (omega arith)
+  take_row segment n (Some key) next old new w = taken_less segment n (slice_get (expiring.keys segment) (n + 1)) next refl w.0
+
+  expiry_less : (segment : Doomed) (teller : Teller) (before next : Deletion) (old new : expiring.Tiers S M)
+      → expiring.ExpiryRow store.content store.control meta.content meta.control segment teller before (Ok (expiry.Goes next)) old new → deleting_left next < deleting_left before
+  expiry_less segment teller deletion.Start next old new w = dto deletion.Start next (deletion.Delete 0) w.1.0 (omega arith)
+  expiry_less segment teller (deletion.Delete n) next old new w = take_row segment n (slice_get (expiring.keys segment) n) next old.store new.store w.1
+  expiry_less segment teller deletion.Finish next old new w = let e = w.1.0 in absurd (cc (e))
+
+-- a fetch takes four turns at most, those before this one among them
+all_turns : (next : Search) → seeking_left next + sought_before next ≡ 4
+all_turns Refresh = omega arith
+all_turns (Index piece) = omega arith
+all_turns (Log piece span) = omega arith
+
+-- behind the line that was read the log is begun anew
+read_less : (next : Rebuild) → MayTurn (rebuild.Goes next) → rebuilding_left next < rebuilding_left Epochs
+read_less (Restart line) may = omega arith
+read_less Epochs may = absurd may
+
+module _ {D S M : Type 0} (disk : DiskGhosts D) (store : StoreGhosts S) (meta : MetaGhosts M) where
+  -- a command's first turn
+  first_less : (h : Held D) (t : Tier S M) (b : ℕ) (x : Node D) (side : Side) (outcome : Outcome) (t' : Tier S M) → CopyFirstRow meta h t b x side outcome t' → Less Copy Idle outcome
+  first_less h t b x side (Answers answer) t' row = tt
+  first_less h t b x side (Begins g) t' row = omega arith
+  first_less h t b x side other t' row = elim row [ ]
+
+  expire_first : (h : Held D) (t : Tier S M) (b : ℕ) (x : Node D) (side : Side) (outcome : Outcome) (t' : Tier S M) → CopyFirstRow meta h t b x side outcome t' → Less Expire Idle outcome
+  expire_first h t b x side (Answers answer) t' row = tt
+  expire_first h t b x side (Begins g) t' row = omega arith
+  expire_first h t b x side other t' row = elim row [ ]
+
+  trim_first : (h : Held D) (t : Tier S M) (b : ℕ) (x : Node D) (side : Side) (outcome : Outcome) (t' : Tier S M) → TrimFirstRow meta h t b x side outcome t' → Less Trim Idle outcome
+  trim_first h t b x side (Answers answer) t' row = tt
+  trim_first h t b x side (Begins g) t' row = omega arith
+  trim_first h t b x side other t' row = elim row [ ]
+
+  begins_less : (h : Held D) (b : ℕ) (x : Node D) (command : Command) (turn : Turned) (h' : Held D) → FirstRow disk.content disk.control h b x command turn h' → Less command Idle (outcome_of turn)
+  begins_less h b x command (turned.Answers answer) h' row = tt
+  begins_less h b x (Follow limit) (turned.Begins g) h' row = omega arith
+  begins_less h b x Join (turned.Begins g) h' row = omega arith
+  begins_less h b x Trim (turned.Begins g) h' row = omega arith
+  begins_less h b x (Fetch offset limit) (turned.Begins g) h' row = omega arith
+  begins_less h b x other (turned.Begins g) h' row = elim row [ ]
+
+  own_less : (h : Held D) (t : Tier S M) (b : ℕ) (x : Node D) (command : Command) (outcome : Outcome) (h' : Held D) (t' : Tier S M) → OwnRow disk h t b x command outcome h' t' → Less command Idle outcome
+  own_less h t b x command outcome h' t' ((turn, is, row), same) = subst (Less command Idle) (sym is) (begins_less h b x command turn h' row)
+
+  -- a last turn
+  last_less : (h : Held D) (t : Tier S M) (b : ℕ) (x : Node D) (g : Begun) (work : Work) (command kind : Command) (outcome : Outcome) (h' : Held D) (t' : Tier S M)
+      → OwnOnRow disk h t b x g command outcome h' t' → Less kind work outcome
+  last_less h t b x g work command kind outcome h' t' ((answer, is, row), same) = subst (Less kind work) (sym is) tt
+
+  -- a copy's later ones
+  choice_less : (p : PartitionId) (b : ℕ) (x y : Node D) (side z : Side) (offset : ℕ) (g : Begun) (outcome : Outcome) → ReadRow disk p b x side offset outcome y z → Less Copy (Noted g) outcome
+  choice_less p b x y side z offset g (Answers answer) row = tt
+  choice_less p b x y side z offset g (Chose copy) row = omega arith
+  choice_less p b x y side z offset g other row = elim row [ ]
+
+  choose_less : (p : PartitionId) (h : Held D) (t : Tier S M) (b : ℕ) (x : Node D) (side : Side) (g : Begun) (outcome : Outcome) (h' : Held D) (t' : Tier S M) → ChooseRow disk p h t b x side g outcome h' t'
+      → Less Copy (Noted g) outcome
+  choose_less p h t b x side g outcome h' t' (inl lost) = subst (Less Copy (Noted g)) (sym lost.1) tt
+  choose_less p h t b x side g outcome h' t' (inr (keeps, inl level)) = subst (Less Copy (Noted g)) (sym level.1) tt
+  choose_less p h t b x side g outcome h' t' (inr (keeps, inr n)) = choice_less p b x n.node side n.side_after (copied_to x side h.registry.start) g outcome n.row
+
+  turn_less : (h : Held D) (t : Tier S M) (b : ℕ) (side : Side) (g : Begun) (copy : Copied) (next : Next) (turn : CopyTurn) (t' : Tier S M) → GoesOnCopy store meta h t b side copy next turn t'
+      → Less Copy (Copies g copy next) (copy_outcome turn)
+  turn_less h t b side g copy next (GoesOn further) t' goes = copy_less store meta copy (teller_of h b) next further (tiers_of side.view t) (tiers_of goes.view t') goes.row
+  turn_less h t b side g copy next (Ends answer) t' goes = tt
+
+  later_less : (h : Held D) (t : Tier S M) (b : ℕ) (x : Node D) (side : Side) (g : Begun) (copy : Copied) (next : Next) (outcome : Outcome) (t' : Tier S M)
+      → CopyOnRow store meta h t b x side g copy next outcome t' → Less Copy (Copies g copy next) outcome
+  later_less h t b x side g copy next outcome t' (inl lost) = subst (Less Copy (Copies g copy next)) (sym lost.1) tt
+  later_less h t b x side g copy next outcome t' (inr (keeps, (turn, is, goes))) = subst (Less Copy (Copies g copy next)) (sym is) (turn_less h t b side g copy next turn t' goes)
+
+  -- an expiry's
+  expires_less : (p : PartitionId) (config : Config) (h : Held D) (x : Node D) (side : Side) (g : Begun) (outcome : Outcome) (h' : Held D) → ExpiresBy p h x side config.keep outcome h' → Less Expire (Noted g) outcome
+  expires_less p config h x side g (Answers answer) h' row = tt
+  expires_less p config h x side g (Dooms segment) h' row = omega arith
+  expires_less p config h x side g other h' row = elim row [ ]
+
+  expire_less : (p : PartitionId) (config : Config) (h : Held D) (x : Node D) (side : Side) (g : Begun) (outcome : Outcome) (h' : Held D) → ExpireOnRow p h x side g config.keep outcome h' → Less Expire (Noted g) outcome
+  expire_less p config h x side g outcome h' (inl lost) = subst (Less Expire (Noted g)) (sym lost.1) tt
+  expire_less p config h x side g outcome h' (inr (keeps, row)) = expires_less p config h x side g outcome h' row
+
+  deletes_less : (h : Held D) (t : Tier S M) (b : ℕ) (g : Begun) (segment : Doomed) (next : Deletion) (turn : ExpiryTurn) (t' : Tier S M) → GoesOnDeletion store meta h t b segment next turn t'
+      → Less Expire (Expires g segment next) (expiry_outcome turn)
+  deletes_less h t b g segment next (expiry.Goes further) t' goes = expiry_less store meta segment (teller_of h b) next further (expiry_tiers t) (expiry_tiers t') goes.row
+  deletes_less h t b g segment next (expiry.Ends answer) t' goes = tt
+
+  deletion_less : (h : Held D) (t : Tier S M) (b : ℕ) (x : Node D) (g : Begun) (segment : Doomed) (next : Deletion) (outcome : Outcome) (t' : Tier S M)
+      → DeleteOnRow store meta h t b x g segment next outcome t' → Less Expire (Expires g segment next) outcome
+  deletion_less h t b x g segment next outcome t' (inl lost) = subst (Less Expire (Expires g segment next)) (sym lost.1) tt
+  deletion_less h t b x g segment next outcome t' (inr (keeps, (turn, is, goes))) = subst (Less Expire (Expires g segment next)) (sym is) (deletes_less h t b g segment next turn t' goes)
+
+  -- a fetch's
+  goes_less : (p : PartitionId) (t : Tier S M) (b : ℕ) (x : Node D) (side : Side) (offset limit : ℕ) (before later : Search) (t' : Tier S M)
+      → GoesOnFetch store meta p t b x side offset limit before (fetch.Goes later) t' → seeking_left later < seeking_left before
+  goes_less p t b x side offset limit before later t' goes =
+      let up = fetch_advances store meta (wanted_of p x offset limit) (line_of x) before later (fetch_tiers side.view side.cache t) (fetch_tiers goes.view goes.cache t') goes.row in
+      let one = all_turns before in
+      let two = all_turns later in
+      omega (arith, up, one, two)
+
+  fetch_less : (p : PartitionId) (h : Held D) (t : Tier S M) (b : ℕ) (x : Node D) (side : Side) (g : Begun) (offset limit : ℕ) (outcome : Outcome) (t' : Tier S M)
+      → FetchOnRow store meta p h t b x side g offset limit Refresh outcome t' → Less (Fetch offset limit) (Noted g) outcome
+  fetch_less p h t b x side g offset limit (Answers answer) t' row = tt
+  fetch_less p h t b x side g offset limit (Sought later) t' row = goes_less p t b x side offset limit Refresh later t' row.1
+  fetch_less p h t b x side g offset limit other t' row = elim row [ ]
+
+  seek_less : (p : PartitionId) (h : Held D) (t : Tier S M) (b : ℕ) (x : Node D) (side : Side) (g : Begun) (offset limit : ℕ) (next : Search) (outcome : Outcome) (t' : Tier S M)
+      → FetchOnRow store meta p h t b x side g offset limit next outcome t' → Less (Fetch offset limit) (Seeks g next) outcome
+  seek_less p h t b x side g offset limit next (Answers answer) t' row = tt
+  seek_less p h t b x side g offset limit next (Sought later) t' row = goes_less p t b x side offset limit next later t' row.1
+  seek_less p h t b x side g offset limit next other t' row = elim row [ ]
+
+  -- a join's
+  refreshed_less : (t : Tier S M) (b : ℕ) (side : Side) (g : Begun) (outcome : Outcome) (t' : Tier S M) → RefreshedRow meta t b side outcome t' → Less Join (Noted g) outcome
+  refreshed_less t b side g (Answers MetaFault) t' row = tt
+  refreshed_less t b side g (Rebuilding Epochs) t' row = omega arith
+  refreshed_less t b side g other t' row = elim row [ ]
+
+  join_less : (h : Held D) (t : Tier S M) (b : ℕ) (x : Node D) (side : Side) (g : Begun) (outcome : Outcome) (h' : Held D) (t' : Tier S M) → JoinSecondRow disk meta h t b x side g outcome h' t'
+      → Less Join (Noted g) outcome
+  join_less h t b x side g outcome h' t' (inl own) = last_less h t b x g (Noted g) Join Join outcome h' t' own.1
+  join_less h t b x side g outcome h' t' (inr (low, inl (answer, is, once, tier), same)) = subst (Less Join (Noted g)) (sym is) tt
+  join_less h t b x side g outcome h' t' (inr (low, inr (may, row), same)) = refreshed_less t b side g outcome t' row
+
+  reads_less : (p : PartitionId) (h : Held D) (t : Tier S M) (b : ℕ) (x : Node D) (side : Side) (g : Begun) (outcome : Outcome) (t' : Tier S M) → EpochsOnRow store p h t x side g outcome t'
+      → Less Join (Rebuilds g Epochs) outcome
+  reads_less p h t b x side g outcome t' (inl (answer, is, once, tier)) = subst (Less Join (Rebuilds g Epochs)) (sym is) tt
+  reads_less p h t b x side g outcome t' (inr (may, (rebuild.Ends answer, is, goes))) = subst (Less Join (Rebuilds g Epochs)) (sym is) tt
+  reads_less p h t b x side g outcome t' (inr (may, (rebuild.Goes next, is, goes))) =
+      subst (Less Join (Rebuilds g Epochs)) (sym is) (read_less next (rebuild_may_turn store (rebuilt_to p g) g.line side.view (rebuild.Goes next) t.store t'.store goes.row))
+
+  -- a trim's
+  trim_less : (h : Held D) (b : ℕ) (x : Node D) (side : Side) (g : Begun) (config : Config) (outcome : Outcome) (h' : Held D) → TrimOnRow disk h b x side g config.local_keep outcome h' → Less Trim (Noted g) outcome
+  trim_less h b x side g config (Answers answer) h' row = tt
+  trim_less h b x side g config other h' row = elim row [ ]
+
+  row_less : (p : PartitionId) (config : Config) (h : Held D) (t : Tier S M) (b : ℕ) (x : Node D) (side : Side) (work : Work) (command : Command) (outcome : Outcome) (h' : Held D) (t' : Tier S M)
+      → Row disk store meta p config h t b x side work command outcome h' t' → Less command work outcome
+  row_less p config h t b x side Idle Copy outcome h' t' row = first_less h t b x side outcome t' row.0
+  row_less p config h t b x side Idle Expire outcome h' t' row = expire_first h t b x side outcome t' row.0
+  row_less p config h t b x side Idle Trim outcome h' t' row = trim_first h t b x side outcome t' row.0
+  row_less p config h t b x side Idle other outcome h' t' row = own_less h t b x other outcome h' t' row
+  row_less p config h t b x side (Noted g) Copy outcome h' t' row = choose_less p h t b x side g outcome h' t' row
+  row_less p config h t b x side (Noted g) Trim outcome h' t' row = trim_less h b x side g config outcome h' row.0
+  row_less p config h t b x side (Noted g) Expire outcome h' t' row = expire_less p config h x side g outcome h' row.0
+  row_less p config h t b x side (Noted g) (Fetch offset limit) outcome h' t' row = fetch_less p h t b x side g offset limit outcome t' row.0
+  row_less p config h t b x side (Noted g) Join outcome h' t' row = join_less h t b x side g outcome h' t' row
+  row_less p config h t b x side (Noted g) other outcome h' t' row = last_less h t b x g (Noted g) other other outcome h' t' row
+  row_less p config h t b x side (Copies g copy next) Copy outcome h' t' row = later_less h t b x side g copy next outcome t' row.0
+  row_less p config h t b x side (Seeks g next) (Fetch offset limit) outcome h' t' row = seek_less p h t b x side g offset limit next outcome t' row.0
+  row_less p config h t b x side (Expires g segment next) Expire outcome h' t' row = deletion_less h t b x g segment next outcome t' row.0
+  row_less p config h t b x side (Rebuilds g Epochs) Join outcome h' t' row = reads_less p h t b x side g outcome t' row.0
+  row_less p config h t b x side (Rebuilds g (Restart line)) Join outcome h' t' row = last_less h t b x (with_line g line) (Rebuilds g (Restart line)) Join Join outcome h' t' row
+  row_less p config h t b x side work command outcome h' t' row = elim row [ ]
+
+  seat_less : (command : Command) (seat : Seat) (outcome : Outcome) → Less command seat.work outcome → IsUnanswered outcome → turns_left command (seat_after seat outcome).work < turns_left command seat.work
+  seat_less command seat (Answers answer) less un = absurd un
+  seat_less command seat other less un = less
+
+  pub go_on : (w : Whole D S M) (a : ℕ) (outcome : Outcome) (w' : Whole D S M) (t : IsTurn disk store meta w a outcome w') → IsUnanswered outcome
+      → turns_left t.order.command (seat_after t.seat outcome).work < turns_left t.order.command t.seat.work
+  go_on w a outcome w' t un =
+      let b = t.order.broker.0 in
+      let r = row_of disk store meta w.partition w.config w.held w.tier b t.seat.work t.order.command outcome w'.held w'.tier t.row in
+      seat_less t.order.command t.seat outcome (row_less w.partition w.config w.held w.tier b r.x r.side t.seat.work t.order.command outcome w'.held w'.tier r.row) un
+
+  pub others_stay : (w : Whole D S M) (a : ℕ) (outcome : Outcome) (w' : Whole D S M) (t : IsTurn disk store meta w a outcome w') (place : ℕ) → place ≢ t.place
+      → slice_get w'.desk place ≡ slice_get w.desk place
+  others_stay w a outcome w' t place ne = ap (λ (d : List Seat). slice_get d place) t.desk ∙ get_other w.desk t.place place (seat_after t.seat outcome) ne

@@ -1,0 +1,89 @@
+-- Why a copy is answered, turn by turn.
+--
+--   turn      answer              its cause
+--   first     Down                the broker isn't up
+--             NotLeader           it doesn't lead
+--             MetaFault           a call of the metadata log failed in this turn
+--   second    LostLead            the broker has stopped since the first turn, or has another role
+--             Level               no closed segment is left to copy
+--             DiskFault           a call of the broker's disk failed in this turn
+--   later     LostLead            as at the second
+--             MetaFault           a call of the metadata log failed in this turn
+--             StoreFault          a call of the store did
+--             Overtaken           the deletion has started, and the segment ends below the log start
+--             Copied              the metadata log says that the copy is whole
+--
+-- A call that failed is told by its device's count of faults, which has risen, or stands at its type's end. No other answer
+-- has a cause: so no copy is answered `Damaged`, since what it reads is what was written.
+use Rattle.std.specs.Prelude.{◌≡◌, ◌≢◌, ℕ, ◌<◌, ◌≤◌, true, false, Some, None}
+use Rattle.disk_model.specs.declared.disk.Disk.{Ghosts as DiskGhosts}
+use Rattle.object_store.specs.declared.store.Store.{Ghosts as StoreGhosts}
+use Rattle.meta_log.specs.declared.log.MetaLog.{Ghosts as MetaGhosts}
+use Rattle.tier_base.specs.declared.names.SegmentId.{SegmentId}
+use Rattle.tier_base.specs.declared.plain.State.TheVariants.{CopyFinished}
+use Rattle.remote_view.specs.Fold.{state_of, fold}
+use Rattle.copy_task.specs.Copying.{Copied}
+use Rattle.plain_log.specs.State.{leads}
+use Rattle.plain_log.specs.declared.answer.Answer.{Answer}
+use Rattle.plain_log.specs.declared.answer.Answer.TheVariants.{Down, NotLeader, MetaFault, LostLead, Level, DiskFault, StoreFault, Overtaken, CopiedSegment}
+use Rattle.tier_safe.specs.Copies.{is_deleted}
+use Rattle.partition_seen.specs.declared.begun.Begun.{Begun}
+use Rattle.partition_turns.specs.declared.held.Node.{Node}
+use Rattle.partition_turns.specs.Held.{is_up}
+use Rattle.partition_world.specs.declared.seat.Work.{Work}
+use Rattle.partition_world.specs.declared.seat.Work.TheVariants.{Idle, Noted, Copies, Seeks, Expires, Rebuilds}
+use Rattle.partition_world.specs.declared.tier.Side.{Side}
+use Rattle.partition_world.specs.TurnsOfCopy.{KeepsLead, next_segment}
+use Rattle.partition_world.specs.Whole.{Whole}
+use Rattle.command_answers.specs.Faults.{DiskFailed, StoreFailed, MetaFailed}
+
+module _ {D S M : Type 0} (meta : MetaGhosts M) where
+  -- the copy has this id and these offsets, and is told as finished
+  pub record IsToldWhole (copy : Copied) (id : SegmentId) (base last : ℕ) (w' : Whole D S M) : Type 0 where
+    pub id_is : id ≡ copy.id
+    pub base_is : base ≡ copy.segment.base
+    pub last_is : last ≡ copy.segment.last
+    pub finished : state_of copy.id (fold (meta.content w'.tier.meta).notes) ≡ Some CopyFinished
+
+module _ {D S M : Type 0} (disk : DiskGhosts D) (store : StoreGhosts S) (meta : MetaGhosts M) where
+  -- the cause of an answer at a copy's first turn
+  abbrev pub FirstCause : Whole D S M → Node D → Answer → Whole D S M → Type 0
+  FirstCause w x Down w' = is_up x ≡ false
+  FirstCause w x NotLeader w' = leads x.role ≡ false
+  FirstCause w x MetaFault w' = MetaFailed meta w w'
+  FirstCause w x other w' = ⊥
+
+  -- at its second turn
+  abbrev pub ChoiceCause : Whole D S M → ℕ → Node D → Side → Begun → Answer → Whole D S M → Type 0
+  ChoiceCause w b x side g LostLead w' = KeepsLead x g → ⊥
+  ChoiceCause w b x side g Level w' = next_segment w.held x side ≡ None
+  ChoiceCause w b x side g DiskFault w' = DiskFailed disk b w w'
+  ChoiceCause w b x side g other w' = ⊥
+
+  -- at a later turn
+  abbrev pub LaterCause : Whole D S M → Node D → Begun → Copied → Answer → Whole D S M → Type 0
+  LaterCause w x g copy LostLead w' = KeepsLead x g → ⊥
+  LaterCause w x g copy MetaFault w' = MetaFailed meta w w'
+  LaterCause w x g copy StoreFault w' = StoreFailed store w w'
+  LaterCause w x g copy (Overtaken state) w' = (is_deleted state ≡ true) × (copy.segment.last < w.held.registry.start)
+  LaterCause w x g copy (CopiedSegment id base last) w' = IsToldWhole meta copy id base last w'
+  LaterCause w x g copy other w' = ⊥
+
+  -- at any turn, by what the seat kept of the copy
+  abbrev pub HasCause : Whole D S M → ℕ → Node D → Side → Work → Answer → Whole D S M → Type 0
+  HasCause w b x side Idle answer w' = FirstCause w x answer w'
+  HasCause w b x side (Noted g) answer w' = ChoiceCause w b x side g answer w'
+  HasCause w b x side (Copies g copy next) answer w' = LaterCause w x g copy answer w'
+  HasCause w b x side (Seeks g next) answer w' = ⊥
+  HasCause w b x side (Expires g doomed next) answer w' = ⊥
+  HasCause w b x side (Rebuilds g next) answer w' = ⊥
+
+module _ {D S M : Type 0} where
+  -- the broker leads, and has led on; there is a segment to copy, and the log start isn't past its end
+  abbrev pub MayCopy : Whole D S M → Node D → Side → Work → Type 0
+  MayCopy w x side Idle = (is_up x ≡ true) × (leads x.role ≡ true)
+  MayCopy w x side (Noted g) = KeepsLead x g × (next_segment w.held x side ≢ None)
+  MayCopy w x side (Copies g copy next) = KeepsLead x g × (w.held.registry.start ≤ copy.segment.last)
+  MayCopy w x side (Seeks g next) = ⊥
+  MayCopy w x side (Expires g doomed next) = ⊥
+  MayCopy w x side (Rebuilds g next) = ⊥

@@ -1,0 +1,85 @@
+-- The laws of what a copy is answered.
+use Rattle.std.specs.Prelude.{◌≡◌, ◌≤◌, ℕ, List}
+use Rattle.tier_base.specs.declared.names.PartitionId.{PartitionId}
+use Rattle.tier_base.specs.declared.names.SegmentId.{SegmentId}
+use Rattle.disk_model.specs.declared.disk.Disk.{Ghosts as DiskGhosts}
+use Rattle.object_store.specs.declared.store.Store.{Ghosts as StoreGhosts}
+use Rattle.meta_log.specs.declared.log.MetaLog.{Ghosts as MetaGhosts}
+use Rattle.copy_task.specs.Copying.{Copied}
+use Rattle.copy_task.specs.declared.turn.Next.{Next}
+use Rattle.plain_log.specs.declared.answer.Answer.{Answer}
+use Rattle.plain_log.specs.declared.answer.Answer.TheVariants.{CopiedSegment}
+use Rattle.plain_log.specs.declared.command.ActorList.{ActorList}
+use Rattle.plain_log.specs.declared.command.Command.TheVariants.{Copy}
+use Rattle.plain_log.specs.declared.command.Config.{Config}
+use Rattle.plain_log.specs.declared.command.Order.{Order}
+use Rattle.plain_log.specs.declared.command.Pace.{Pace}
+use Rattle.plain_log.specs.declared.state.State.{State}
+use Rattle.partition_seen.specs.declared.begun.Begun.{Begun}
+use Rattle.partition_turns.specs.Held.{AtNode}
+use Rattle.partition_world.specs.declared.seat.Outcome.{Outcome}
+use Rattle.partition_world.specs.declared.seat.Outcome.TheVariants.{Answers}
+use Rattle.partition_world.specs.declared.seat.Seat.{Seat}
+use Rattle.partition_world.specs.declared.seat.Work.TheVariants.{Copies}
+use Rattle.partition_world.specs.Calm.{IsUnfailing}
+use Rattle.partition_world.specs.Central.{IsCentral}
+use Rattle.partition_world.specs.Fresh.{IsFresh, IsSeenEmpty}
+use Rattle.partition_world.specs.Reaches.{Reaches}
+use Rattle.partition_world.specs.Tier.{AtSide}
+use Rattle.partition_world.specs.Turn.{IsNext, IsTurn}
+use Rattle.partition_world.specs.Whole.{Whole}
+use Rattle.command_answers.specs.CausesOfCopies.{HasCause}
+use Rattle.command_answers.specs.DeletionsKnown.{DeletionsKnown}
+use Rattle.command_answers.specs.Turns.{turns_left}
+use Rattle.command_answers.specs.Chains.{times, IsAnswered, Runs}
+use Rattle.command_answers.specs.UnhinderedCopies.{IsFree, IsUnhindered}
+
+module _ {D S M : Type 0} (disk : DiskGhosts D) (store : StoreGhosts S) (meta : MetaGhosts M) where
+  -- a copy's answer has its cause
+  abbrev pub CopiesHaveCauses : Type 0
+  CopiesHaveCauses = (opening : State) (w : Whole D S M) (a : ℕ) (answer : Answer) (w' : Whole D S M)
+      → IsCentral disk store meta opening w → DeletionsKnown meta w → (t : IsTurn disk store meta w a (Answers answer) w')
+      → t.order.command ≡ Copy
+      → AtNode w.held t.order.broker.0 (λ x. AtSide w.tier t.order.broker.0 (λ side.
+      HasCause disk store meta w t.order.broker.0 x side t.seat.work answer w'))
+
+  -- a copy is answered `Copied` by as many of its actor's turns as it has left, where nothing stands in the way of them
+  abbrev pub UnhinderedAreCopied : Type 0
+  UnhinderedAreCopied = (opening : State) (w : Whole D S M) (a place : ℕ) (l : ActorList) (seat : Seat) (order : Order)
+      (actors : List ℕ) (w' : Whole D S M) → IsCentral disk store meta opening w → DeletionsKnown meta w
+      → IsNext w a place l seat order → order.command ≡ Copy
+      → Runs disk store meta (IsUnhindered disk store meta place seat.number) w actors w' → turns_left Copy seat.work ≤ times a actors
+      → (id : SegmentId) × (base : ℕ) × (last : ℕ) × IsAnswered w' l.actor seat.number (CopiedSegment id base last)
+
+  -- of the segment that it has chosen, where it has
+  abbrev pub ChosenAreCopied : Type 0
+  ChosenAreCopied = (opening : State) (w : Whole D S M) (a place : ℕ) (l : ActorList) (seat : Seat) (order : Order) (g : Begun)
+      (copy : Copied) (next : Next) (actors : List ℕ) (w' : Whole D S M) → IsCentral disk store meta opening w
+      → DeletionsKnown meta w → IsNext w a place l seat order → order.command ≡ Copy → seat.work ≡ Copies g copy next
+      → Runs disk store meta (IsUnhindered disk store meta place seat.number) w actors w' → turns_left Copy seat.work ≤ times a actors
+      → IsAnswered w' l.actor seat.number (CopiedSegment copy.id copy.segment.base copy.segment.last)
+
+  -- over devices of which no call can fail that is where it has something to copy, and its broker leads on
+  abbrev pub UnfailingAreCopied : Type 0
+  UnfailingAreCopied = (opening : State) (w : Whole D S M) (a place : ℕ) (l : ActorList) (seat : Seat) (order : Order)
+      (actors : List ℕ) (w' : Whole D S M) → IsCentral disk store meta opening w → DeletionsKnown meta w
+      → IsUnfailing disk store meta w → IsNext w a place l seat order → order.command ≡ Copy
+      → Runs disk store meta (IsFree disk store meta place seat.number) w actors w' → turns_left Copy seat.work ≤ times a actors
+      → (id : SegmentId) × (base : ℕ) × (last : ℕ) × IsAnswered w' l.actor seat.number (CopiedSegment id base last)
+
+  -- what a schedule reaches keeps what is known of deletions
+  abbrev pub ReachesKnown : Type 0
+  ReachesKnown = (opening : State) (w : Whole D S M) (schedule : List Pace) (w' : Whole D S M)
+      → IsCentral disk store meta opening w → DeletionsKnown meta w → Reaches disk store meta w schedule w'
+      → IsCentral disk store meta opening w' × DeletionsKnown meta w'
+
+  -- a turn keeps what is known of deletions
+  abbrev pub TurnsKeepKnown : Type 0
+  TurnsKeepKnown = (opening : State) (w : Whole D S M) (a : ℕ) (outcome : Outcome) (w' : Whole D S M)
+      → IsCentral disk store meta opening w → DeletionsKnown meta w → IsTurn disk store meta w a outcome w' → DeletionsKnown meta w'
+
+  -- it is known where nothing has happened yet
+  abbrev pub FreshIsKnown : Type 0
+  FreshIsKnown = (partition : PartitionId) (config : Config) (lists : List ActorList) (disks : List D) (s : S) (m : M)
+      (w : Whole D S M) → IsFresh disk store meta partition config lists disks s m w → IsSeenEmpty disk store meta w
+      → DeletionsKnown meta w

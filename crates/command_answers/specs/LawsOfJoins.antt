@@ -1,0 +1,35 @@
+-- The laws of what a join is answered.
+use Rattle.std.specs.Prelude.{◌≡◌, ◌≤◌, ℕ, List}
+use Rattle.disk_model.specs.declared.disk.Disk.{Ghosts as DiskGhosts}
+use Rattle.object_store.specs.declared.store.Store.{Ghosts as StoreGhosts}
+use Rattle.meta_log.specs.declared.log.MetaLog.{Ghosts as MetaGhosts}
+use Rattle.plain_log.specs.declared.answer.Answer.{Answer}
+use Rattle.plain_log.specs.declared.command.ActorList.{ActorList}
+use Rattle.plain_log.specs.declared.command.Command.TheVariants.{Join}
+use Rattle.plain_log.specs.declared.command.Order.{Order}
+use Rattle.plain_log.specs.declared.state.State.{State}
+use Rattle.partition_turns.specs.Held.{AtNode}
+use Rattle.partition_world.specs.declared.seat.Outcome.TheVariants.{Answers}
+use Rattle.partition_world.specs.declared.seat.Seat.{Seat}
+use Rattle.partition_world.specs.Central.{IsCentral}
+use Rattle.partition_world.specs.Turn.{IsNext, IsTurn}
+use Rattle.partition_world.specs.Whole.{Whole}
+use Rattle.command_answers.specs.Turns.{turns_left}
+use Rattle.command_answers.specs.Chains.{times, IsAnswered, Runs}
+use Rattle.command_answers.specs.CausesOfJoins.{HasCause, IsJoined}
+use Rattle.command_answers.specs.UnhinderedJoins.{IsUnhindered}
+
+module _ {D S M : Type 0} (disk : DiskGhosts D) (store : StoreGhosts S) (meta : MetaGhosts M) where
+  -- a join's answer has its cause
+  abbrev pub JoinsHaveCauses : Type 0
+  JoinsHaveCauses = (opening : State) (w : Whole D S M) (a : ℕ) (answer : Answer) (w' : Whole D S M)
+      → IsCentral disk store meta opening w → (t : IsTurn disk store meta w a (Answers answer) w') → t.order.command ≡ Join
+      → AtNode w.held t.order.broker.0 (λ x. HasCause disk store meta w t.order.broker.0 x t.seat.work answer w')
+
+  -- a join is answered by a cut or a restart, by as many of its actor's turns as it has left, where nothing stands in the way
+  abbrev pub UnhinderedAreJoined : Type 0
+  UnhinderedAreJoined = (opening : State) (w : Whole D S M) (a place : ℕ) (l : ActorList) (seat : Seat) (order : Order)
+      (actors : List ℕ) (w' : Whole D S M) → IsCentral disk store meta opening w → IsNext w a place l seat order
+      → order.command ≡ Join → Runs disk store meta (IsUnhindered disk store meta place seat.number) w actors w'
+      → turns_left Join seat.work ≤ times a actors
+      → (answer : Answer) × IsJoined answer × IsAnswered w' l.actor seat.number answer

@@ -1,0 +1,45 @@
+-- The laws of how many turns a command takes.
+use Rattle.std.specs.Prelude.{◌≡◌, ◌≢◌, ◌≤◌, ◌<◌, ℕ, List, slice_get}
+use Rattle.disk_model.specs.declared.disk.Disk.{Ghosts as DiskGhosts}
+use Rattle.object_store.specs.declared.store.Store.{Ghosts as StoreGhosts}
+use Rattle.meta_log.specs.declared.log.MetaLog.{Ghosts as MetaGhosts}
+use Rattle.plain_log.specs.declared.answer.Answer.{Answer}
+use Rattle.plain_log.specs.declared.command.ActorList.{ActorList}
+use Rattle.plain_log.specs.declared.command.Order.{Order}
+use Rattle.plain_log.specs.declared.command.Pace.{Pace}
+use Rattle.plain_log.specs.Orders.{AreRising}
+use Rattle.partition_world.specs.declared.seat.Outcome.{Outcome}
+use Rattle.partition_world.specs.declared.seat.Seat.{Seat}
+use Rattle.partition_world.specs.Reaches.{Reaches}
+use Rattle.partition_world.specs.Seats.{seat_after, IsUnanswered}
+use Rattle.partition_world.specs.Turn.{IsNext, IsTurn}
+use Rattle.partition_world.specs.Whole.{Whole}
+use Rattle.command_answers.specs.Turns.{turns_left}
+use Rattle.command_answers.specs.Chains.{times, turns_in, IsAnswered, Runs}
+
+module _ {D S M : Type 0} (disk : DiskGhosts D) (store : StoreGhosts S) (meta : MetaGhosts M) where
+  -- a turn that isn't its command's last leaves fewer to come
+  abbrev pub TurnsGoOn : Type 0
+  TurnsGoOn = (w : Whole D S M) (a : ℕ) (outcome : Outcome) (w' : Whole D S M) (t : IsTurn disk store meta w a outcome w')
+      → IsUnanswered outcome
+      → turns_left t.order.command (seat_after t.seat outcome).work < turns_left t.order.command t.seat.work
+
+  -- a turn leaves the other seats as they were
+  abbrev pub OthersStay : Type 0
+  OthersStay = (w : Whole D S M) (a : ℕ) (outcome : Outcome) (w' : Whole D S M) (t : IsTurn disk store meta w a outcome w')
+      (place : ℕ) → place ≢ t.place → slice_get w'.desk place ≡ slice_get w.desk place
+
+  -- a command is answered by as many of its actor's turns, whatever the devices, and whatever others come between
+  abbrev pub CommandsAreAnswered : Type 0
+  CommandsAreAnswered = (w : Whole D S M) (a place : ℕ) (l : ActorList) (seat : Seat) (order : Order) (actors : List ℕ)
+      (w' : Whole D S M) → AreRising w.lists → IsNext w a place l seat order
+      → Runs disk store meta (λ v b u. Unit {0}) w actors w' → turns_left order.command seat.work ≤ times a actors
+      → (answer : Answer) × IsAnswered w' l.actor seat.number answer
+
+  -- a schedule that gives its actor as many turns answers it
+  abbrev pub SchedulesAnswerCommands : Type 0
+  SchedulesAnswerCommands = (w : Whole D S M) (a place : ℕ) (l : ActorList) (seat : Seat) (order : Order)
+      (schedule : List Pace) (w' : Whole D S M) → AreRising w.lists → IsNext w a place l seat order
+      → Reaches disk store meta w schedule w'
+      → turns_left order.command seat.work ≤ turns_in a schedule
+      → (answer : Answer) × IsAnswered w' l.actor seat.number answer

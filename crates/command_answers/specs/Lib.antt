@@ -1,0 +1,17 @@
+pub mod Turns
+pub mod Faults
+pub mod Chains
+pub mod LawsOfTurns
+pub mod CausesOfCopies
+pub mod DeletionsKnown
+pub mod UnhinderedCopies
+pub mod LawsOfCopies
+pub mod CausesOfFetches
+pub mod Found
+pub mod UnhinderedFetches
+pub mod LawsOfFetches
+pub mod CausesOfJoins
+pub mod UnhinderedJoins
+pub mod LawsOfJoins
+pub mod Damage
+pub mod LawsOfDamage

@@ -1,0 +1,18 @@
+//! Laws of what a join is answered. Each is the contract of a function that does nothing: calling it
+//! cites the law.
+
+ghost use Rattle.command_answers.specs.LawsOfJoins.{JoinsHaveCauses, UnhinderedAreJoined};
+
+use disk_model::Disk;
+use meta_log::MetaLog;
+use object_store::Store;
+
+/// Over devices that tell, each answer of a join has its cause. None is `Damaged`.
+pub fn joins_have_causes<D: Disk, S: Store, M: MetaLog>()
+    ensures { JoinsHaveCauses D.Disk S.Store M.MetaLog }
+{}
+
+/// A join that nothing hinders is answered `Cut` or `Rebuilt`.
+pub fn unhindered_are_joined<D: Disk, S: Store, M: MetaLog>()
+    ensures { UnhinderedAreJoined D.Disk S.Store M.MetaLog }
+{}

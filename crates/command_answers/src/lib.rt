@@ -1,0 +1,27 @@
+//! What commands are answered, and in how many turns, as laws over definitions.
+//!
+//! They stand over the rows of a world's turns, and no code calls them but for the last. Over any devices a command is
+//! answered in so many turns of its actor; over devices that tell what they hold, what an answer to a copy, a fetch or a
+//! join says is so, one that nothing hinders is answered by what was asked for, and none is answered `Damaged`.
+//!
+//! `specs/Turns.antt` has how many turns are left of a command; `specs/CausesOfCopies.antt`, `CausesOfFetches.antt` and
+//! `CausesOfJoins.antt` why an answer is given, and `specs/Damage.antt` what a journal tells where nothing is damaged.
+#![tactic(auto)]
+
+mod copy_laws;
+mod damage_laws;
+mod fetch_laws;
+mod join_laws;
+mod turn_laws;
+
+pub use copy_laws::{
+    chosen_are_copied, copies_have_causes, fresh_is_known, reaches_known, turns_keep_known,
+    unfailing_are_copied, unhindered_are_copied,
+};
+pub use damage_laws::{no_answer_is_damaged, runs_meet_no_damage};
+pub use fetch_laws::{
+    fetches_have_causes, fresh_has_spans, no_fetch_is_damaged, pieces_end, reaches_spans,
+    turns_keep_spans, unfailing_are_served, unhindered_are_served,
+};
+pub use join_laws::{joins_have_causes, unhindered_are_joined};
+pub use turn_laws::{commands_are_answered, others_stay, schedules_answer_commands, turns_go_on};

@@ -1,4 +1,0 @@
-pub mod Turns
-pub mod Runs
-pub mod Faults
-pub mod Laws

@@ -1,4 +1,0 @@
-pub mod Found
-pub mod Causes
-pub mod Unhindered
-pub mod Laws

@@ -1,5 +1,0 @@
-use Rattle.no_damage.proofs.Runs.{runs_meet_none}
-use Rattle.no_damage.proofs.laws.runs_meet_no_damage.Goals as goal
-
-pub returns : goal.returns
-returns g c = runs_meet_none g.D.Disk g.S.Store g.M.MetaLog

@@ -1,5 +1,0 @@
-use Rattle.partition_answers.proofs.Causes.{have_causes}
-use Rattle.partition_answers.proofs.laws.copies_have_causes.Goals as goal
-
-pub returns : goal.returns
-returns g c = have_causes g.D.Disk g.S.Store g.M.MetaLog

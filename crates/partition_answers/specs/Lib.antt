@@ -1,4 +1,0 @@
-pub mod Known
-pub mod Causes
-pub mod Unhindered
-pub mod Laws
