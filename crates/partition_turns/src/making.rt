@@ -173,30 +173,29 @@ impl<D: Disk> Node<D> {
 }
 
 impl<D: Disk> Held<D> {
-    /// Makes a partition whose brokers have these disks. The first leads epoch 0, the others have joined it, and all are in
-    /// sync. From then on the disks' planned calls fail.
+    /// Makes a partition whose brokers have these disks, and none is left there. The first leads epoch 0, the others have
+    /// joined it, and all are in sync. From then on the disks' planned calls fail.
     pub fn fresh(
         alloc: Global,
-        mut disks: Vec<D>,
+        disks: &mut Vec<D>,
         settings: Settings,
-    ) -> Result<Held<D>, (Vec<D>, WorldRefusal)>
-        requires some { 1 ≤ length disks.items }
-        requires few { length disks.items ≤ 8 }
+    ) -> Result<Held<D>, WorldRefusal>
+        requires some { 1 ≤ length disks.old.items }
+        requires few { length disks.old.items ≤ 8 }
         requires settings { AreSettings settings }
-        requires disks { AreFreshDisks D.content D.control disks.items }
-        ensures held { IfOk result (IsFreshHeld D.control disks.items) }
+        requires disks { AreFreshDisks D.content D.control disks.old.items }
+        ensures held { IfOk result (IsFreshHeld D.control disks.old.items) }
         ensures laid { IfOk result (λ held. AreLaid settings held.nodes) }
-        ensures seen { IfOk result (λ held. DisksTell D.content disks.items → AllSeen D.content held.nodes) }
-        ensures err { IfErr result (λ e. Refuses D.control disks.items e.0.items e.1) }
+        ensures seen { IfOk result (λ held. DisksTell D.content disks.old.items → AllSeen D.content held.nodes) }
+        ensures none { OnOk result (disks.new.items ≡ []) }
+        ensures err { IfErr result (λ why. Refuses D.control disks.old.items disks.new.items why) }
+        ensures room { vec_capacity disks.new ≡ vec_capacity disks.old }
     {
         let count = disks.len() as u16;
         let Ok(registry) = Registry::fresh(alloc, count) else {
-            return Err((disks, WorldRefusal::NoMemory));
+            return Err(WorldRefusal::NoMemory);
         };
-        let nodes = match brokers(alloc, &mut disks, settings) {
-            Ok(nodes) => nodes,
-            Err(why) => return Err((disks, why)),
-        };
+        let nodes = brokers(alloc, disks, settings)?;
         let mut nodes = Row::from_vec(nodes);
         arm(&mut nodes);
         Ok(Held {
@@ -204,5 +203,16 @@ impl<D: Disk> Held<D> {
             nodes,
             clock: 0,
         })
+    }
+
+    /// Gives the brokers' disks back, in their order, in the room that they came from.
+    pub fn close(self, room: Vec<D>) -> Vec<D>
+        requires none { room.items ≡ [] }
+        requires room { length self.nodes ≤ vec_capacity room }
+        ensures { AreDisksOf self.nodes result.items }
+    {
+        let mut disks = room;
+        give_back(self.nodes.into_vec(), &mut disks);
+        disks
     }
 }

@@ -1,5 +1,5 @@
 -- Over any devices each turn goes on with its actor's next command, and begins none that has begun.
-use Rattle.std.proofs.Common.{◌≡◌, ◌≢◌, inl, inr, ◌⊎◌, ◌∙◌, sym, ap, subst, refl, ℕ, zero, suc, ◌<◌, ◌==◌, Bool, true, false, List, [], ◌∷◌, ◌++◌, length, replicate, Some, Option, IsSomeAnd, is_some, slice_get, slice_set, if◌then◌else◌, arith}
+use Rattle.std.proofs.Common.{◌≡◌, ◌≢◌, inl, inr, ◌⊎◌, ◌∙◌, sym, ap, subst, refl, ℕ, zero, suc, ◌+◌, ◌<◌, ◌≤◌, ◌==◌, Bool, true, false, List, [], ◌∷◌, ◌++◌, length, replicate, Some, Option, IsSomeAnd, is_some, slice_get, slice_set, if◌then◌else◌, arith}
 use Rattle.log_terms.proofs.Lists.{get-set, look, within, length-slice_set}
 use Rattle.tier_base.specs.declared.names.PartitionId.{PartitionId}
 use Rattle.tier_base.specs.declared.names.ActorId.{ActorId}
@@ -15,7 +15,7 @@ use Rattle.plain_log.specs.declared.command.Pace.{Pace}
 use Rattle.plain_log.specs.declared.command.Pace.TheVariants.{Until, Times}
 use Rattle.plain_log.specs.declared.journal.JournalEntry.{JournalEntry}
 use Rattle.plain_log.specs.Orders.{AreRising, AreListsFor}
-use Rattle.plain_log.specs.Runs.{orders_of}
+use Rattle.plain_log.specs.Runs.{orders_of, answered, number_before, numbers_from, IsComplete}
 use Rattle.plain_log.specs.declared.journal.Event.{Event}
 use Rattle.plain_log.specs.declared.journal.Event.TheVariants as event
 use Rattle.partition_seen.specs.declared.begun.Begun.{Begun}
@@ -27,7 +27,7 @@ use Rattle.partition_seen.proofs.Lists.{one_list, orders_at, list_or_none}
 use Rattle.partition_world.specs.Fresh.{IsFresh, fresh_seat}
 use Rattle.partition_world.specs.InTurn.{entries_of, next_after, AreInTurn, IsInTurn}
 use Rattle.partition_world.specs.Reaches.{Goes as GoesOnce, GoesTimes, GoesUntil, Paces, Reaches}
-use Rattle.partition_world.specs.Turn.{IsTurn}
+use Rattle.partition_world.specs.Turn.{IsTurn, IsAtEnd}
 use Rattle.partition_world.specs.Whole.{Whole}
 use Rattle.partition_world.specs.declared.seat.Outcome.{Outcome}
 use Rattle.partition_world.specs.declared.seat.Outcome.TheVariants.{Answers, Begins, Chose, Goes, Seeks, Dooms, Deletes, Rebuilds}
@@ -75,6 +75,34 @@ entries_more a (first ∷ journal) entry is = go (first.actor.0 == a) (entries_m
 entries_same : (a : ℕ) (journal : List JournalEntry) (entry : JournalEntry) → entry.actor.0 ≢ a → entries_of a (journal ++ entry ∷ []) ≡ entries_of a journal
 entries_same a [] entry differs = rw (eq_differs entry.actor.0 a differs) refl
 entries_same a (first ∷ journal) entry differs = ap (λ (l : List JournalEntry). if first.actor.0 == a then first ∷ l else l) (entries_same a journal entry differs)
+
+-- the actor's commands that a journal answers, from the n-th one on to below the m-th
+record AnswersTo (count n m : ℕ) (numbers : List ℕ) : Type 0 where
+  many : ℕ
+  sum : n + many ≡ m
+  low : m ≤ count
+  are : numbers ≡ numbers_from n many
+
+-- entries that lead so far answer the commands before
+lead_answers : (a count n : ℕ) (begun : Bool) (journal : List JournalEntry) (m : ℕ) (going : Bool) → n ≤ count → LeadTo count n begun (entries_of a journal) m going → AnswersTo count n m (answered a journal)
+lead_answers a count n begun [] m going low l = record { many = 0; sum = omega (arith, l.0); low = omega (arith, l.0, low); are = refl }
+lead_answers a count n begun (entry ∷ journal) m going low l = go (entry.actor.0 == a) (λ k left le h. lead_answers a count k left journal m going le h) l
+  where
+    one : (e : Event) (was : Bool) (number : ℕ) → number ≡ n → n < count
+        → ((k : ℕ) (left : Bool) → k ≤ count → LeadTo count k left (entries_of a journal) m going → AnswersTo count k m (answered a journal))
+        → IsSomeAnd (next_after e n was) (λ next. LeadTo count next.0 next.1 (entries_of a journal) m going)
+        → AnswersTo count n m (number_before e number (answered a journal))
+    one (event.Begins cut) false number is lt rest h = rest n true low h
+    one (event.Begins cut) true number is lt rest h = absurd h
+    one (event.Answers answer) was number is lt rest h =
+        let r = rest (n + 1) false (omega (arith, lt)) h in
+        record { many = suc r.many; sum = omega (arith, r.sum); low = r.low; are = ap (λ (k : ℕ). k ∷ answered a journal) is ∙ ap (λ (k : List ℕ). n ∷ k) r.are }
+
+    go : (t : Bool) → ((k : ℕ) (left : Bool) → k ≤ count → LeadTo count k left (entries_of a journal) m going → AnswersTo count k m (answered a journal))
+        → LeadTo count n begun (if t then entry ∷ entries_of a journal else entries_of a journal) m going
+        → AnswersTo count n m (if t then number_before entry.event entry.number (answered a journal) else answered a journal)
+    go true rest h = one entry.event begun entry.number h.0 h.1 rest h.2
+    go false rest h = rest n begun low h
 
 -- the command has begun
 abbrev is_going : Seat → Bool
@@ -251,3 +279,24 @@ module _ {D S M : Type 0} (disk : DiskGhosts D) (store : StoreGhosts S) (meta : 
   pub reaches_in_turn : (partition : PartitionId) (config : Config) (lists : List ActorList) (disks : List D) (s : S) (m : M) (w : Whole D S M) (schedule : List Pace) (w' : Whole D S M) → AreListsFor config lists
       → IsFresh disk store meta partition config lists disks s m w → Reaches disk store meta w schedule w' → IsInTurn w'.lists w'.journal.items
   reaches_in_turn partition config lists disks s m w schedule w' fit f r = orderly_in_turn w' (reaches_orderly w schedule w' r (fresh_orderly partition config lists disks s m w fit f))
+
+  ended_complete : (w : Whole D S M) → IsOrderly w → ((a : ℕ) → IsAtEnd w a) → IsComplete w.lists w.journal.items
+  ended_complete w o ends a = elim (list_or_none w.lists a) [
+    | inl h ↦
+        let seat = look w.desk h.0 (omega (arith, o.seats, within w.lists h.0 h.1 h.2)) in
+        let r = lead_answers h.1.actor.0 (length h.1.orders) 0 false w.journal.items seat.0.number (is_going seat.0) (omega arith) (o.each h.0 h.1 seat.0 h.2 seat.1) in
+        let end = ends a h.0 h.1 seat.0 (record { list = h.2; actor = h.3; seat_is = seat.1 }) in
+        let all : r.many ≡ length h.1.orders = omega (arith, r.sum, r.low, end) in
+        let mine : answered h.1.actor.0 w.journal.items ≡ numbers_from 0 (length (orders_of w.lists h.1.actor.0)) =
+        r.are ∙ (ap (λ (k : ℕ). numbers_from 0 k) all ∙ ap (λ (k : List Order). numbers_from 0 (length k)) (sym (orders_at w.lists h.0 h.1 o.rising h.2))) in
+        subst (λ (k : ℕ). answered k w.journal.items ≡ numbers_from 0 (length (orders_of w.lists k))) h.3 mine
+    | inr empty ↦
+        let none : LeadTo 0 0 false (entries_of a w.journal.items) 0 false = subst (λ (k : List JournalEntry). LeadTo 0 0 false k 0 false) (sym (o.none a empty)) (refl, refl) in
+        let r = lead_answers a 0 0 false w.journal.items 0 false (omega arith) none in
+        let zeros : r.many ≡ 0 = omega (arith, r.sum) in
+        r.are ∙ (ap (λ (k : ℕ). numbers_from 0 k) zeros ∙ ap (λ (k : List Order). numbers_from 0 (length k)) (sym empty))
+  ]
+
+  pub ends_are_answered : (partition : PartitionId) (config : Config) (lists : List ActorList) (disks : List D) (s : S) (m : M) (w : Whole D S M) (schedule : List Pace) (w' : Whole D S M) → AreListsFor config lists
+      → IsFresh disk store meta partition config lists disks s m w → Reaches disk store meta w schedule w' → ((a : ℕ) → IsAtEnd w' a) → IsComplete w'.lists w'.journal.items
+  ends_are_answered partition config lists disks s m w schedule w' fit f r ends = ended_complete w' (reaches_orderly w schedule w' r (fresh_orderly partition config lists disks s m w fit f)) ends

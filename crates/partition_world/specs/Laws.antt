@@ -60,6 +60,13 @@ module _ {D S M : Type 0} (disk : DiskGhosts D) (store : StoreGhosts S) (meta : 
       → IsFresh disk store meta partition config lists disks s m w → Reaches disk store meta w schedule w'
       → IsInTurn w'.lists w'.journal.items
 
+  -- and where each actor is at its end, it answers every command of every list, once and in their order
+  abbrev pub EndsAreAnswered : Type 0
+  EndsAreAnswered = (partition : PartitionId) (config : Config) (lists : List ActorList) (disks : List D) (s : S) (m : M)
+      (w : Whole D S M) (schedule : List Pace) (w' : Whole D S M) → AreListsFor config lists
+      → IsFresh disk store meta partition config lists disks s m w → Reaches disk store meta w schedule w'
+      → ((a : ℕ) → IsAtEnd w' a) → IsComplete w'.lists w'.journal.items
+
   -- a fresh world stands on devices of which no call can fail, where none is planned to
   abbrev pub FreshIsUnfailing : Type 0
   FreshIsUnfailing = (partition : PartitionId) (config : Config) (lists : List ActorList) (disks : List D) (s : S) (m : M)

@@ -6,7 +6,7 @@ ghost use Rattle.std.specs.Prelude.{◌≡◌, ◌<◌, ◌+◌, length, replica
 ghost use Rattle.tier_base.specs.Device.{Lasts};
 ghost use Rattle.plain_log.specs.Fresh.{fresh as fresh_plain};
 ghost use Rattle.plain_log.specs.Orders.{AreListsFor, IsConfig};
-ghost use Rattle.partition_turns.specs.Fresh.{AreFreshDisks, AreCalmDisks, DisksTell, AllSeen, Refuses};
+ghost use Rattle.partition_turns.specs.Fresh.{AreFreshDisks, AreCalmDisks, AreDisksOf, DisksTell, AllSeen, Refuses};
 ghost use Rattle.partition_turns.specs.declared.refusal.WorldRefusal.TheVariants as refusal;
 ghost use Rattle.partition_world.specs.Fresh.{IsFresh, IsSeenEmpty, AreFreshBooks, fresh_side};
 ghost use Rattle.partition_world.specs.Turn.{Steps};
@@ -42,9 +42,12 @@ pub struct World<D: Disk, S: Store, M: MetaLog> {
     tier: Tier<S, M>,
     desk: Row<Seat>,
     journal: Journal,
+    /// Room for the disks, which the brokers have until the world is closed.
+    room: Vec<D>,
 }
 
 impl<D: Disk, S: Store, M: MetaLog> Model for World<D, S, M> {
+    ghost use Rattle.std.specs.Prelude.{◌≡◌, ◌≤◌, [], vec_capacity};
     ghost use Rattle.partition_world.specs.Whole.{Whole};
     ghost use Rattle.partition_world.specs.Sound.{IsSound};
 
@@ -60,7 +63,8 @@ impl<D: Disk, S: Store, M: MetaLog> Model for World<D, S, M> {
       journal = w.journal;
     } };
 
-    ghost invariant = { λ w. IsSound w.config w.lists w.held w.tier.sides w.desk w.journal.room };
+    ghost invariant = { λ w. IsSound w.config w.lists w.held w.tier.sides w.desk w.journal.room
+        × (w.room.items ≡ []) × (w.config.brokers ≤ vec_capacity w.room) };
 }
 
 impl<D: Disk, S: Store, M: MetaLog> World<D, S, M> {
@@ -117,11 +121,15 @@ impl<D: Disk, S: Store, M: MetaLog> World<D, S, M> {
         let Ok(sides) = fresh_sides(alloc, config.brokers) else {
             return Err((devices, WorldRefusal::NoMemory));
         };
-        let Devices { disks, store, meta } = devices;
+        let Devices {
+            mut disks,
+            store,
+            meta,
+        } = devices;
         // The devices' plans are in force once this is done.
-        let held = match Held::fresh(alloc, disks, config.settings) {
+        let held = match Held::fresh(alloc, &mut disks, config.settings) {
             Ok(held) => held,
-            Err((disks, why)) => return Err((Devices { disks, store, meta }, why)),
+            Err(why) => return Err((Devices { disks, store, meta }, why)),
         };
         let mut tier = Tier { store, meta, sides };
         tier.arm();
@@ -133,7 +141,26 @@ impl<D: Disk, S: Store, M: MetaLog> World<D, S, M> {
             tier,
             desk,
             journal,
+            room: disks,
         })
+    }
+
+    /// Gives the devices back, the disks in the list in which they came.
+    pub fn close(self) -> Devices<D, S, M>
+        ensures disks { AreDisksOf self.held.nodes result.disks.items }
+        ensures store { result.store ≡ self.tier.store }
+        ensures meta { result.meta ≡ self.tier.meta }
+        ensures count { length result.disks.items ≡ self.config.brokers }
+    {
+        let World {
+            held,
+            tier,
+            room,
+            ..
+        } = self;
+        let Tier { store, meta, .. } = tier;
+        let disks = held.close(room);
+        Devices { disks, store, meta }
     }
 
     /// Lends what has happened.

@@ -7,7 +7,7 @@ pub returns-then-number-seat : goal.returns-then-number-seat
 returns-then-number-seat g c =
     let actor = some_at (λ l. l.actor.0 ≡ c.args.actor.0) c.self.inside.lists c.in-Some.place c.get-list.result.now (rw c.as_slice.ensures at c.in-Some.ensures.found) c.get-list.ensures in
     rw (← c.self.view_is) (
-    answers_now g.D.Disk g.S.Store g.M.MetaLog _ c.args.actor.0 c.args.number c.in-Some.place c.get-list.result.now c.get-seat.result.now c.self.invariant
+    answers_now g.D.Disk g.S.Store g.M.MetaLog _ c.args.actor.0 c.args.number c.in-Some.place c.get-list.result.now c.get-seat.result.now c.self.invariant.0
     (record { list = c.get-list.ensures; actor = actor; seat_is = c.get-seat.ensures }) c.if-number-seat.true
     )
 
@@ -15,6 +15,6 @@ pub returns-else-number-seat : goal.returns-else-number-seat
 returns-else-number-seat g c =
     let actor = some_at (λ l. l.actor.0 ≡ c.args.actor.0) c.self.inside.lists c.in-Some.place c.get-list.result.now (rw c.as_slice.ensures at c.in-Some.ensures.found) c.get-list.ensures in
     rw (← c.self.view_is, c.len.ensures) (
-    answers_so_far g.D.Disk g.S.Store g.M.MetaLog _ c.args.actor.0 c.args.number c.in-Some.place c.get-list.result.now c.get-seat.result.now c.self.invariant
+    answers_so_far g.D.Disk g.S.Store g.M.MetaLog _ c.args.actor.0 c.args.number c.in-Some.place c.get-list.result.now c.get-seat.result.now c.self.invariant.0
     (record { list = c.get-list.ensures; actor = actor; seat_is = c.get-seat.ensures }) (λ le. absurd (omega (arith, le, c.if-number-seat.false)))
     )

@@ -20,12 +20,16 @@ invariant_of-result g c =
     let books = c.in-Ok.ensures in
     let same = c.as_slice.ensures in
     let count = length c.as_slice.result.now in
-    record {
-      config_fits = c.requires.brokers;
-      fit = c.requires.fit;
-      held = fresh_sound g.D.Disk.control c.args.config.brokers c.args.devices.disks.items c.in-Ok-fresh.held c.requires.count c.in-Ok-fresh.ensures.held;
-      sided = ap (λ (k : List Side). length k) (c.arm.ensures.sides ∙ c.in-Ok-fresh_sides.ensures) ∙ length_replicate c.args.config.brokers fresh_side;
-      seats = fresh_seats c.args.lists count c.in-Ok.desk (ap (λ (k : List ActorList). length k) same) books.desk_is;
-      works = fresh_works c.args.lists count c.in-Ok.desk books.desk_is;
-      room = omega (arith, fresh_left c.args.lists count c.in-Ok.desk books.desk_is, books.room, ap (λ (k : List ActorList). turns_left k []) same);
-    }
+    let disks = c.args.devices.disks.ok in (
+      record {
+        config_fits = c.requires.brokers;
+        fit = c.requires.fit;
+        held = fresh_sound g.D.Disk.control c.args.config.brokers c.args.devices.disks.items c.in-Ok-fresh.held c.requires.count c.in-Ok-fresh.ensures.held;
+        sided = ap (λ (k : List Side). length k) (c.arm.ensures.sides ∙ c.in-Ok-fresh_sides.ensures) ∙ length_replicate c.args.config.brokers fresh_side;
+        seats = fresh_seats c.args.lists count c.in-Ok.desk (ap (λ (k : List ActorList). length k) same) books.desk_is;
+        works = fresh_works c.args.lists count c.in-Ok.desk books.desk_is;
+        room = omega (arith, fresh_left c.args.lists count c.in-Ok.desk books.desk_is, books.room, ap (λ (k : List ActorList). turns_left k []) same);
+      },
+      c.in-Ok-fresh.ensures.none,
+      omega (arith, disks.0, disks.1, c.requires.count, c.fresh.ensures.room),
+    )

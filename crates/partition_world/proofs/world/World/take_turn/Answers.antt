@@ -10,7 +10,7 @@ returns-then-number-len g c =
     let lists = c.self.inside.lists in
     let actor = some_at (λ l. l.actor.0 ≡ c.args.actor.0) lists c.in-Some.place c.get-list.result.now (rw c.as_slice.ensures at c.in-Some.ensures.found) c.get-list.ensures in
     rw (← c.self.view_is) (
-      at_end g.D.Disk g.S.Store g.M.MetaLog _ c.args.actor.0 c.in-Some.place c.get-list.result.now c.get-seat.result.now c.self.invariant.fit.rising
+      at_end g.D.Disk g.S.Store g.M.MetaLog _ c.args.actor.0 c.in-Some.place c.get-list.result.now c.get-seat.result.now c.self.invariant.0.fit.rising
           (record { list = c.get-list.ensures; actor = actor; seat_is = c.get-seat.ensures }) (omega (arith, c.len.ensures, c.if-number-len.true)),
       refl,
     )
@@ -18,41 +18,47 @@ returns-then-number-len g c =
 pub turn-requires-clause-node : goal.turn-requires-clause-node
 turn-requires-clause-node g c =
     let order = order_at g.D.Disk g.S.Store g.M.MetaLog c.self.inside.config c.self.inside.lists c.self.inside.held c.self.inside.tier.sides c.self.inside.desk c.self.inside.journal.room c.in-Some.place c.get-seat.result.now.number
-    c.get-list.result.now c.get-order.result.now c.self.invariant c.get-list.ensures c.get-order.ensures in
-    omega (arith, order.broker, c.self.invariant.held.count)
+    c.get-list.result.now c.get-order.result.now c.self.invariant.0 c.get-list.ensures c.get-order.ensures in
+    omega (arith, order.broker, c.self.invariant.0.held.count)
 
 pub turn-requires-clause-fit : goal.turn-requires-clause-fit
 turn-requires-clause-fit g c =
     (order_at g.D.Disk g.S.Store g.M.MetaLog c.self.inside.config c.self.inside.lists c.self.inside.held c.self.inside.tier.sides c.self.inside.desk c.self.inside.journal.room c.in-Some.place c.get-seat.result.now.number
-    c.get-list.result.now c.get-order.result.now c.self.invariant c.get-list.ensures c.get-order.ensures).command
+    c.get-list.result.now c.get-order.result.now c.self.invariant.0 c.get-list.ensures c.get-order.ensures).command
 
 pub turn-requires-clause-work : goal.turn-requires-clause-work
-turn-requires-clause-work g c = c.self.invariant.works c.in-Some.place c.get-list.result.now c.get-seat.result.now c.get-order.result.now c.get-list.ensures c.get-seat.ensures c.get-order.ensures
+turn-requires-clause-work g c = c.self.invariant.0.works c.in-Some.place c.get-list.result.now c.get-seat.result.now c.get-order.result.now c.get-list.ensures c.get-seat.ensures c.get-order.ensures
 
 pub enter-requires-clause-place : goal.enter-requires-clause-place
 enter-requires-clause-place g c = within c.self.inside.desk _ c.get-seat.result.now c.get-seat.ensures
 
 pub enter-requires-clause-few : goal.enter-requires-clause-few
 enter-requires-clause-few g c =
-    let list = list_at g.D.Disk g.S.Store g.M.MetaLog c.self.inside.config c.self.inside.lists c.self.inside.held c.self.inside.tier.sides c.self.inside.desk c.self.inside.journal.room c.in-Some.place c.get-list.result.now c.self.invariant c.get-list.ensures in
+    let list = list_at g.D.Disk g.S.Store g.M.MetaLog c.self.inside.config c.self.inside.lists c.self.inside.held c.self.inside.tier.sides c.self.inside.desk c.self.inside.journal.room c.in-Some.place c.get-list.result.now c.self.invariant.0 c.get-list.ensures in
     rw c.get-seat.ensures (omega (arith, list.few, c.len.ensures, c.if-number-len.false))
 
 pub enter-requires-clause-room : goal.enter-requires-clause-room
 enter-requires-clause-room g c =
-    room_at g.D.Disk g.S.Store g.M.MetaLog c.self.inside.config c.self.inside.lists c.self.inside.held c.self.inside.tier.sides c.self.inside.desk c.self.inside.journal.room c.in-Some.place c.get-list.result.now c.get-seat.result.now c.self.invariant
+    room_at g.D.Disk g.S.Store g.M.MetaLog c.self.inside.config c.self.inside.lists c.self.inside.held c.self.inside.tier.sides c.self.inside.desk c.self.inside.journal.room c.in-Some.place c.get-list.result.now c.get-seat.result.now c.self.invariant.0
     c.get-list.ensures c.get-seat.ensures (omega (arith, c.len.ensures, c.if-number-len.false))
 
 pub invariant_of-self : goal.invariant_of-self
 invariant_of-self g c =
-    let desk = some_at (λ seat. c.enter.new.desk ≡ slice_set c.self.inside.desk c.in-Some.place (seat_after seat c.in-Ok.outcome)) c.self.inside.desk c.in-Some.place c.get-seat.result.now c.enter.ensures.desk c.get-seat.ensures in
-    sound_after g.D.Disk g.S.Store g.M.MetaLog c.self.inside.config c.self.inside.lists c.self.inside.partition c.self.inside.held c.self.inside.tier c.turn.new.held c.turn.new.self c.self.inside.desk c.enter.new.desk c.self.inside.journal.room _ c.in-Some.place
-    c.get-list.result.now c.get-seat.result.now c.get-order.result.now c.in-Ok.outcome c.self.invariant c.get-list.ensures c.get-seat.ensures c.get-order.ensures (omega (arith, c.len.ensures, c.if-number-len.false))
-    c.in-Ok.ensures.row desk c.enter.ensures.room
+    let desk = some_at (λ seat. c.enter.new.desk ≡ slice_set c.self.inside.desk c.in-Some.place (seat_after seat c.in-Ok.outcome)) c.self.inside.desk c.in-Some.place c.get-seat.result.now c.enter.ensures.desk c.get-seat.ensures in (
+      sound_after g.D.Disk g.S.Store g.M.MetaLog c.self.inside.config c.self.inside.lists c.self.inside.partition c.self.inside.held c.self.inside.tier c.turn.new.held c.turn.new.self c.self.inside.desk c.enter.new.desk c.self.inside.journal.room _ c.in-Some.place
+          c.get-list.result.now c.get-seat.result.now c.get-order.result.now c.in-Ok.outcome c.self.invariant.0 c.get-list.ensures c.get-seat.ensures c.get-order.ensures (omega (arith, c.len.ensures, c.if-number-len.false))
+          c.in-Ok.ensures.row desk c.enter.ensures.room,
+      c.self.invariant.1,
+      c.self.invariant.2,
+    )
 
 pub invariant_of-self-in-Err : goal.invariant_of-self-in-Err
-invariant_of-self-in-Err g c =
-    sound_after_none g.D.Disk g.S.Store g.M.MetaLog c.self.inside.config c.self.inside.lists c.self.inside.held c.self.inside.tier c.get-order.result.now.broker.0 c.turn.new.held c.turn.new.self c.self.inside.desk c.self.inside.journal.room c.self.invariant
-    c.in-Err.ensures.err
+invariant_of-self-in-Err g c = (
+  sound_after_none g.D.Disk g.S.Store g.M.MetaLog c.self.inside.config c.self.inside.lists c.self.inside.held c.self.inside.tier c.get-order.result.now.broker.0 c.turn.new.held c.turn.new.self c.self.inside.desk c.self.inside.journal.room c.self.invariant.0
+      c.in-Err.ensures.err,
+  c.self.invariant.1,
+  c.self.invariant.2,
+)
 
 pub returns-in-Ok : goal.returns-in-Ok
 returns-in-Ok g c =
@@ -78,14 +84,14 @@ pub returns-in-Err : goal.returns-in-Err
 returns-in-Err g c =
     let actor = some_at (λ l. l.actor.0 ≡ c.args.actor.0) c.self.inside.lists c.in-Some.place c.get-list.result.now (rw c.as_slice.ensures at c.in-Some.ensures.found) c.get-list.ensures in
     let order = order_at g.D.Disk g.S.Store g.M.MetaLog c.self.inside.config c.self.inside.lists c.self.inside.held c.self.inside.tier.sides c.self.inside.desk c.self.inside.journal.room c.in-Some.place c.get-seat.result.now.number
-    c.get-list.result.now c.get-order.result.now c.self.invariant c.get-list.ensures c.get-order.ensures in
+    c.get-list.result.now c.get-order.result.now c.self.invariant.0 c.get-list.ensures c.get-order.ensures in
     rw (← c.self.view_is) (record {
       place = c.in-Some.place;
       list = c.get-list.result.now;
       seat = c.get-seat.result.now;
       order = c.get-order.result.now;
       next = record { at = record { list = c.get-list.ensures; actor = actor; seat_is = c.get-seat.ensures }; next = c.get-order.ensures };
-      node = omega (arith, order.broker, c.self.invariant.held.count);
+      node = omega (arith, order.broker, c.self.invariant.0.held.count);
       tier = c.in-Err.ensures.err;
       fields = refl;
     })

@@ -1,0 +1,16 @@
+use Rattle.std.proofs.Common.{◌≡◌, ◌∙◌, ap, refl, ℕ, suc, List, [], ◌∷◌, length}
+use Rattle.partition_turns.specs.declared.held.Node.{Node}
+use Rattle.partition_turns.specs.Fresh.{AreDisksOf}
+use Rattle.partition_world.specs.Whole.{Whole}
+use Rattle.partition_world.proofs.world.World.close.Goals as goal
+
+pub returns-clause-count : goal.returns-clause-count
+returns-clause-count g c =
+    long c.self.inside.held.nodes c.close-disks.result.items c.close-disks.ensures
+    ∙ (c.self.invariant.0.held.count ∙ ap (λ (w : Whole g.row.D.Denot g.row.S.Denot g.row.M.Denot). w.config.brokers) c.self.view_is)
+  where
+    long : (xs : List (Node g.row.D.Denot)) (disks : List g.row.D.Denot) → AreDisksOf xs disks → length disks ≡ length xs
+    long [] [] are = refl
+    long (x ∷ xs) (disk ∷ disks) are = ap suc (long xs disks are.1)
+    long [] (disk ∷ disks) are = absurd are
+    long (x ∷ xs) [] are = absurd are
