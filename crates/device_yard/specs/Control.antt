@@ -7,10 +7,10 @@
 --
 -- Before it is armed a device is opened, and the world that is made over it reads and writes. Of an armed device the faults
 -- are the world's to answer for, and no longer the yard's.
-use Rattle.std.specs.Prelude.{◌≡◌, ℕ, ◌+◌, ◌<◌, ◌≤◌, nat_lt, Bool, not, ◌&&◌, if◌then◌else◌, List, [], ◌∷◌, ◌++◌, Option, Ok, Err}
+use Rattle.std.specs.Prelude.{◌≡◌, ℕ, ◌+◌, nat_lt, Bool, not, ◌&&◌, if◌then◌else◌, List, [], ◌∷◌, ◌++◌, Option, Ok, Err}
 use Rattle.std.specs.declared.result.Result.{Result}
 use Rattle.tier_base.specs.declared.fault.Trouble.{Trouble}
-use Rattle.tier_base.specs.Counts.{counted, Rose}
+use Rattle.tier_base.specs.Counts.{counted}
 use Rattle.tier_base.specs.Device.{Fate, Went, Fault, Dry, fate_of}
 use Rattle.device_yard.specs.declared.came.Came.{Came}
 

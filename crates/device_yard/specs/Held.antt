@@ -1,8 +1,15 @@
 -- What a yard holds, where it tells: the devices that came back, and names of strangers.
 --
+--   form                     says
+--   IsUsed held p            a file, an object or a note of the partition stands
+--   IsFirst Named name       the first of the names, or none
+--   HandsDisk files held c   a disk with this content is handed out where that is held
+--   DiskIs p b now old new   that disk is held now, or none, and the rest stays
+--   Same old new             what a call leaves that hands nothing out
+--
 -- Its names are `p` with the number of each partition that has a file, an object or a note, and the strangers' ones. The
 -- first of them is the least in the order of their bytes.
-use Rattle.std.specs.Prelude.{◌≡◌, ◌≢◌, ◌⊎◌, ℕ, ◌<◌, Bool, List, [], ◌∷◌, ◌++◌, codes, decimal, Option, Some, None, IsTrue, IsSome}
+use Rattle.std.specs.Prelude.{◌≡◌, ◌≢◌, ◌⊎◌, ℕ, ◌<◌, ◌≤◌, Bool, List, [], ◌∷◌, ◌++◌, codes, decimal, Option, Some, None, IsTrue, IsSome}
 use Rattle.tier_base.specs.declared.names.PartitionId.{PartitionId}
 use Rattle.tier_base.specs.declared.names.BrokerId.{BrokerId}
 use Rattle.tier_base.specs.declared.plain.FileName.{FileName}
@@ -79,6 +86,14 @@ module _ {D S M : Type 0} (files : D → disk.Content) (objects : S → store.Co
       ((b : BrokerId) × Has (λ d. (n : FileName) × IsSome ((files d).files n)) (held.disks p b))
       ⊎ (Has (λ s. (k : ObjectKey) × IsSome ((objects s).objects k)) (held.stores p)
       ⊎ Has (λ m. (notes m).notes ≢ []) (held.logs p))
+
+  -- nothing of it stands
+  abbrev pub IsUnused : Held D S M → PartitionId → Type 0
+  IsUnused held p = IsUsed held p → ⊥
+
+  -- nor of any partition from that number on
+  abbrev pub IsUnusedFrom : ℕ → Held D S M → Type 0
+  IsUnusedFrom n held = (p : PartitionId) → n ≤ p.0 → IsUnused held p
 
   -- no name and no content that is held has changed
   pub record Same (old new : Held D S M) : Type 0 where

@@ -1,2 +1,4 @@
 pub mod Control
 pub mod Held
+pub mod Laws
+pub mod Plan

@@ -1,8 +1,8 @@
 //! The counts of a yard: its faults, the last first name, and how devices came back.
 
-ghost use Rattle.std.specs.Prelude.{◌≡◌, ◌+◌, ◌≤◌, if◌then◌else◌, Ok, None, IfOk, OnOk};
+ghost use Rattle.std.specs.Prelude.{◌≡◌, ◌↔◌, ◌+◌, ◌<◌, ◌≤◌, ◌^◌, if◌then◌else◌, Ok, None, IfOk, OnOk};
 ghost use Rattle.tier_base.specs.Counts.{counted};
-ghost use Rattle.tier_base.specs.Device.{fate_of};
+ghost use Rattle.tier_base.specs.Device.{Fault, fate_of};
 ghost use Rattle.device_yard.specs.Control.{IsFresh, Names, Hands, TakesBack};
 
 use crate::came::Came;
@@ -58,6 +58,14 @@ impl YardCounts {
         self.faults
     }
 
+    /// Counts the devices that are out.
+    pub fn out(&self) -> usize
+        ensures is { result ≡ self.now.out }
+        ensures small { result + 1 < 2 ^ 64 }
+    {
+        self.out
+    }
+
     /// Lends how the devices came back.
     pub fn returned(&self) -> &[Came]
         ensures { result.now ≡ self.now.returned }
@@ -69,6 +77,7 @@ impl YardCounts {
     pub fn name(&mut self, found: Result<Option<Blob>, Trouble>) -> Result<Option<Blob>, Trouble>
         ensures names { Names result self.old self.new }
         ensures found { IfOk result (λ name. found ≡ Ok name) }
+        ensures failed { (fate_of result ≡ Fault) ↔ (fate_of found ≡ Fault) }
     {
         match found {
             Ok(name) => {
@@ -87,6 +96,7 @@ impl YardCounts {
     pub fn hand<T: Drop>(&mut self, made: Result<T, Trouble>) -> Result<T, Trouble>
         ensures hands { Hands (fate_of result) self.old self.new }
         ensures made { IfOk result (λ device. made ≡ Ok device) }
+        ensures failed { (fate_of result ≡ Fault) ↔ (fate_of made ≡ Fault) }
     {
         match made {
             Ok(device) => {

@@ -7,10 +7,12 @@
 
 mod came;
 mod counts;
+mod laws;
 #[cfg(test)]
 mod tests;
 mod yard;
 
 pub use came::Came;
 pub use counts::YardCounts;
+pub use laws::{later_stay_unused, nameless_is_unused, same_stays_unused, unused_is_empty};
 pub use yard::Yard;

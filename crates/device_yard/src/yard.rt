@@ -1,12 +1,13 @@
 //! What a yard's calls hand out and take back.
 //!
-//! A device is handed out unarmed and with no fault. What is handed out comes back by one of the three `keep` calls, which
-//! can't be refused: the call that handed the device out made the room.
+//! A device is handed out unarmed and with no fault, and tells what it holds exactly where its yard tells. What is handed out
+//! comes back by one of the three `keep` calls, which can't be refused: the call that handed the device out made the room.
 
 ghost use Rattle.std.specs.Prelude.{◌≡◌, ◌≤◌, Option, Some, None, IfOk, OnOk, OnErr, IsTrue};
 ghost use Rattle.tier_base.specs.Device.{fate_of, IsFresh};
 ghost use Rattle.device_yard.specs.declared.came.Came.{Came};
 ghost use Rattle.device_yard.specs.Control.{Control, Names, Hands, TakesBack};
+ghost use Rattle.device_yard.specs.Plan.{Plan, Counts};
 ghost use Rattle.device_yard.specs.Held.{Held, Same, DiskIs, StoreIs, LogIs, IsName, IsFirst, HandsDisk, HandsStore, HandsLog};
 
 use disk_model::Disk;
@@ -28,9 +29,13 @@ pub trait Yard {
     /// The faults, the last first name, how devices came back, and how many are out.
     ghost control: { Self → Control };
 
+    /// The calls that are to fail, where they are told.
+    ghost plan: { Self → Option Plan };
+
     /// Gives the first of the names in the order of their bytes, if there is one.
     fn first_name(&mut self) -> Result<Option<Blob>, Trouble>
         ensures control { Names result (control self.old) (control self.new) }
+        ensures plan { Counts (fate_of result) (plan self.old) (plan self.new) }
         ensures held { Same Self.D.content Self.S.content Self.M.content
             (held self.old) (held self.new) }
         ensures first { IsTrue (held self.old).tells → IfOk result
@@ -39,8 +44,10 @@ pub trait Yard {
     /// Hands out a broker's disk.
     fn disk(&mut self, partition: PartitionId, broker: BrokerId) -> Result<Self::D, Trouble>
         ensures control { Hands (fate_of result) (control self.old) (control self.new) }
+        ensures plan { Counts (fate_of result) (plan self.old) (plan self.new) }
         ensures tells { (held self.new).tells ≡ (held self.old).tells }
         ensures fresh { IfOk result (λ disk. IsFresh (Self.D.control disk)) }
+        ensures told { IfOk result (λ disk. (Self.D.content disk).tells ≡ (held self.old).tells) }
         ensures content { IsTrue (held self.old).tells → IfOk result (λ disk.
             HandsDisk Self.D.content ((held self.old).disks partition broker) (Self.D.content disk)) }
         ensures out { IsTrue (held self.old).tells → OnOk result
@@ -51,8 +58,10 @@ pub trait Yard {
     /// Hands out a partition's store.
     fn store(&mut self, partition: PartitionId) -> Result<Self::S, Trouble>
         ensures control { Hands (fate_of result) (control self.old) (control self.new) }
+        ensures plan { Counts (fate_of result) (plan self.old) (plan self.new) }
         ensures tells { (held self.new).tells ≡ (held self.old).tells }
         ensures fresh { IfOk result (λ store. IsFresh (Self.S.control store)) }
+        ensures told { IfOk result (λ store. (Self.S.content store).tells ≡ (held self.old).tells) }
         ensures content { IsTrue (held self.old).tells → IfOk result (λ store.
             HandsStore Self.S.content ((held self.old).stores partition) (Self.S.content store)) }
         ensures out { IsTrue (held self.old).tells → OnOk result
@@ -63,8 +72,10 @@ pub trait Yard {
     /// Hands out a partition's metadata log.
     fn meta(&mut self, partition: PartitionId) -> Result<Self::M, Trouble>
         ensures control { Hands (fate_of result) (control self.old) (control self.new) }
+        ensures plan { Counts (fate_of result) (plan self.old) (plan self.new) }
         ensures tells { (held self.new).tells ≡ (held self.old).tells }
         ensures fresh { IfOk result (λ log. IsFresh (Self.M.control log)) }
+        ensures told { IfOk result (λ log. (Self.M.content log).tells ≡ (held self.old).tells) }
         ensures content { IsTrue (held self.old).tells → IfOk result (λ log.
             HandsLog Self.M.content ((held self.old).logs partition) (Self.M.content log)) }
         ensures out { IsTrue (held self.old).tells → OnOk result
@@ -79,6 +90,7 @@ pub trait Yard {
           faults = (Self.D.control disk).faults;
           armed = (Self.D.control disk).armed;
         }) (control self.old) (control self.new) }
+        ensures plan { plan self.new ≡ plan self.old }
         ensures tells { (held self.new).tells ≡ (held self.old).tells }
         ensures held { IsTrue (held self.old).tells
             → DiskIs partition broker (Some disk) (held self.old) (held self.new) };
@@ -90,6 +102,7 @@ pub trait Yard {
           faults = (Self.S.control store).faults;
           armed = (Self.S.control store).armed;
         }) (control self.old) (control self.new) }
+        ensures plan { plan self.new ≡ plan self.old }
         ensures tells { (held self.new).tells ≡ (held self.old).tells }
         ensures held { IsTrue (held self.old).tells
             → StoreIs partition (Some store) (held self.old) (held self.new) };
@@ -101,6 +114,7 @@ pub trait Yard {
           faults = (Self.M.control meta).faults;
           armed = (Self.M.control meta).armed;
         }) (control self.old) (control self.new) }
+        ensures plan { plan self.new ≡ plan self.old }
         ensures tells { (held self.new).tells ≡ (held self.old).tells }
         ensures held { IsTrue (held self.old).tells
             → LogIs partition (Some meta) (held self.old) (held self.new) };

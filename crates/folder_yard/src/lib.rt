@@ -8,6 +8,7 @@
 //! removed.
 #![tactic(auto)]
 
+mod first_name;
 mod folder;
 mod folder_disk;
 mod folder_store;

@@ -10,7 +10,7 @@ use std::alloc::Global;
 use std::fs::{self, DirEntry};
 use std::io::{self, ErrorKind};
 use std::rt::Files;
-use tier_base::{Blob, FileName, ObjectKey, PartitionId, Row};
+use tier_base::{FileName, ObjectKey, PartitionId, Row};
 
 /// How the name of a file ends that is written and not yet put in its place.
 pub const UNFINISHED: &str = ".new";
@@ -32,36 +32,6 @@ pub fn list<R: Files + AllocGlobal + Clone + Drop>(
         }
     }
     Ok(names)
-}
-
-/// The first of the names in a folder in the order of their bytes. An absent folder has none. A name that is no text can't
-/// be told, and is a failure.
-pub fn first_name<R: Files + AllocGlobal + Clone + Drop>(
-    rt: &R,
-    folder: &str,
-) -> io::Result<Option<Blob>> {
-    let entries = match fs::read_dir(rt, folder) {
-        Ok(entries) => entries,
-        Err(error) if error.kind() == ErrorKind::NotFound => return Ok(None),
-        Err(error) => return Err(error),
-    };
-    let mut first = None;
-    for entry in entries {
-        let entry = entry?;
-        let name = entry.file_name().as_bytes();
-        if is_before(name, &first) {
-            first = Some(Blob::from_slice(rt.alloc(), name)?);
-        }
-    }
-    Ok(first)
-}
-
-/// Whether a name stands before the first one so far, if there is one.
-fn is_before(name: &[u8], first: &Option<Blob>) -> bool {
-    match first {
-        Some(first) => name < first.as_slice(),
-        None => true,
-    }
 }
 
 /// Names the objects of a partition in a folder.
@@ -126,7 +96,7 @@ fn is_ours(name: &[u8]) -> bool
 }
 
 /// Passes over a name that is no text, since none of ours is such.
-fn readable<R: Files + Drop>(
+pub fn readable<R: Files + Drop>(
     entry: io::Result<DirEntry<R, Global>>,
 ) -> io::Result<Option<DirEntry<R, Global>>> {
     match entry {

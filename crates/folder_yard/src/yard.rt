@@ -8,9 +8,9 @@ ghost use Rattle.tier_base.specs.Device.{IsFresh};
 ghost use Rattle.device_yard.specs.Control as control;
 ghost use Rattle.folder_yard.specs.Yard.{nothing_held};
 
+use crate::first_name::first_name;
 use crate::folder_disk::{FolderDisk, told};
 use crate::folder_store::FolderStore;
-use crate::listing::first_name;
 use device_yard::{Came, Yard, YardCounts};
 use meta_file::{DiskLog, NotesRefusal};
 use std::alloc::{AllocError, Global};
@@ -142,6 +142,8 @@ impl<R: Files + AllocGlobal + Clone + Drop> Yard for FolderYard<R> {
     ghost held = { λ y. nothing_held };
 
     ghost control = { λ y. y.counts };
+
+    ghost plan = { λ y. None };
 
     fn first_name(&mut self) -> Result<Option<Blob>, Trouble> {
         let found = told(first_name(&self.rt, self.dir.as_str()));

@@ -219,6 +219,67 @@ fn devices_stand_under_the_yards_folder(rt: HostRuntime) -> Result<(), Fail> {
     Ok(())
 }
 
+/// Folders and files that stand in a yard's folder, and the first name there.
+static STANDING: [(&[&str], &[&str], Option<&str>); 8] = [
+    (&[], &[], None),
+    // Of partitions that hold nothing.
+    (
+        &["/p0", "/p7", "/p7/b0", "/p7/store", "/p7/meta"],
+        &[],
+        None,
+    ),
+    (&["/p7", "/p7/b0"], &["/p7/b0/manifest.new"], None),
+    (&["/p7", "/p7/b0"], &["/p7/b0/manifest"], Some("p7")),
+    (
+        &["/p1", "/p10", "/p10/store", "/p2", "/p2/b3"],
+        &["/p10/store/letter", "/p2/b3/gate"],
+        Some("p10"),
+    ),
+    // Of strangers.
+    (&["/p0", "/p00"], &[], Some("p00")),
+    (&["/p3", "/p3/b65536", "/p65536"], &[], Some("p3")),
+    (&["/p0"], &["/p1"], Some("p1")),
+];
+
+/// What stands at a path in the folder.
+fn path_in(alloc: Global, dir: &str, rest: &str) -> Result<String, Fail> {
+    let mut path = String::new(alloc);
+    write!(path, "{dir}{rest}")?;
+    Ok(path)
+}
+
+/// Whether a yard over a folder with these has this first name.
+fn names(
+    rt: HostRuntime,
+    dir: &str,
+    folders: &[&str],
+    files: &[&str],
+    wanted: Option<&str>,
+) -> Result<bool, Fail> {
+    let _ = fs::remove_dir_all(&rt, dir);
+    fs::create_dir(&rt, dir)?;
+    for folder in folders {
+        let path = path_in(rt.alloc(), dir, folder)?;
+        fs::create_dir(&rt, path.as_str())?;
+    }
+    for file in files {
+        let path = path_in(rt.alloc(), dir, file)?;
+        fs::write(&rt, path.as_str(), b"x".as_slice())?;
+    }
+    let mut yard = FolderYard::new(rt, dir)?;
+    let answer = is_named(&mut yard, wanted.map(|name| name.as_bytes()));
+    fs::remove_dir_all(&rt, dir)?;
+    Ok(answer)
+}
+
+#[test]
+fn a_partition_without_files_is_no_name(rt: HostRuntime) -> Result<(), Fail> {
+    for (folders, files, wanted) in &STANDING {
+        assert!(rt; names(rt, "yard_names", folders, files, *wanted)?);
+    }
+    Ok(())
+}
+
 #[test]
 fn a_yard_over_a_file_fails(rt: HostRuntime) -> Result<(), Fail> {
     fs::write(&rt, "yard_file", b"no folder".as_slice())?;

@@ -1,0 +1,20 @@
+-- The calls of a yard that are to fail, where it tells them.
+--
+-- `first_name`, `disk`, `store` and `meta` are counted together, from 1. The three `keep` calls can't fail and aren't counted.
+use Rattle.std.specs.Prelude.{◌≡◌, ◌↔◌, ℕ, ◌+◌, ◌-◌, ◌^◌, min, List, Contains, Option, Some, None}
+use Rattle.tier_base.specs.Device.{Fate, Fault}
+
+pub record Plan : Type 0 where
+  -- how many calls were made
+  pub calls : ℕ
+  -- the numbers of those that fail
+  pub failing : List ℕ
+
+-- the number of the next call, which stands still at its type's end
+abbrev pub next_of : Plan → ℕ
+next_of plan = min (plan.calls + 1) (2 ^ 32 - 1)
+
+-- a call that ended so: where there is a plan, it failed exactly where the plan has its number
+abbrev pub Counts : Fate → Option Plan → Option Plan → Type 0
+Counts fate None new = new ≡ None
+Counts fate (Some plan) new = ((fate ≡ Fault) ↔ Contains plan.failing (next_of plan)) × (new ≡ Some (record plan { calls = next_of plan }))

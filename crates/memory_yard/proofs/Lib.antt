@@ -1,0 +1,5 @@
+pub mod Devices
+pub mod Firsts
+pub mod Loops
+pub mod Named
+pub mod Slots

@@ -1,0 +1,94 @@
+-- A loop over slots that offers the names of those it has passed.
+use Rattle.std.specs.Prelude.{◌≡◌, ◌⊎◌, ℕ, zero, suc, ◌+◌, ◌<◌, ◌≤◌, length, List, [], ◌∷◌, ◌++◌, take, drop, slice_get, slice_set, Option, Some, None, IsSomeAnd, refl}
+use Rattle.std.proofs.Common.{◌∙◌, sym, ap, subst, inl, inr, ⊎_elim, arith}
+use Rattle.std.proofs.lemmas.Bool.Decides.{eqb_tells}
+use Rattle.std.proofs.Math.Seq.{take-append_seam}
+use Rattle.tier_base.specs.declared.names.PartitionId.{PartitionId}
+use Rattle.device_yard.specs.Held.{Has, Both}
+use Rattle.memory_yard.specs.declared.slot.Slot.{Slot}
+use Rattle.memory_yard.specs.First.{IsFirstWith}
+use Rattle.memory_yard.specs.Shelf.{SlotKeeps, AreStill, IsNameOf, IsNameBelow}
+use Rattle.memory_yard.proofs.Firsts.{first_same, first_with_then, first_with_none}
+
+-- what is read after a write
+set_same : {A : Type 0} → (xs : List A) (i : ℕ) (x y : A) → slice_get xs i ≡ Some x → slice_get (slice_set xs i y) i ≡ Some y
+set_same [] i x y e = absurd cc
+set_same (z ∷ xs) zero x y e = refl
+set_same (z ∷ xs) (suc i) x y e = set_same xs i x y e
+
+set_other : {A : Type 0} → (xs : List A) (i k : ℕ) (y : A) → (k ≡ i → ⊥) → slice_get (slice_set xs i y) k ≡ slice_get xs k
+set_other [] i k y n = refl
+set_other (z ∷ xs) zero zero y n = absurd (n refl)
+set_other (z ∷ xs) zero (suc k) y n = refl
+set_other (z ∷ xs) (suc i) zero y n = refl
+set_other (z ∷ xs) (suc i) (suc k) y n = set_other xs i k y (λ e. n (ap suc e))
+
+both_itself : {A : Type 0} → (R : A → A → Type 0) → ((a : A) → R a a) → (o : Option A) → Both R o o
+both_itself R r None = tt
+both_itself R r (Some a) = r a
+
+module _ {K T : Type 0} (keeps : T → T → Type 0) where
+  slot_itself : ((d : T) → keeps d d) → (s : Slot K T) → SlotKeeps keeps s s
+  slot_itself r s = record { place = refl; device = both_itself keeps r s.device }
+
+  pub still_itself : ((d : T) → keeps d d) → (slots : List (Slot K T)) → AreStill keeps slots slots
+  still_itself r slots i = both_itself (SlotKeeps keeps) (slot_itself r) (slice_get slots i)
+
+  -- there are as many as there were
+  pub still_length : (old new : List (Slot K T)) → AreStill keeps old new → length new ≡ length old
+  still_length [] [] h = refl
+  still_length [] (y ∷ new) h = absurd (h 0)
+  still_length (x ∷ old) [] h = absurd (h 0)
+  still_length (x ∷ old) (y ∷ new) h = ap suc (still_length old new (λ i. h (suc i)))
+
+  -- one more slot was passed
+  pub still_set : (old now : List (Slot K T)) (i : ℕ) (s n : Slot K T) → AreStill keeps old now → ((k : ℕ) → i ≤ k → slice_get now k ≡ slice_get old k)
+      → slice_get now i ≡ Some s → SlotKeeps keeps s n → AreStill keeps old (slice_set now i n)
+  still_set old now i s n still rest e h k =
+      ⊎_elim
+      (λ yes.
+      let old_is : slice_get old k ≡ Some s = ap (slice_get old) yes.1 ∙ (sym (rest i (omega arith)) ∙ e) in
+      let new_is : slice_get (slice_set now i n) k ≡ Some n = ap (slice_get (slice_set now i n)) yes.1 ∙ set_same now i s n e in
+      subst (λ o. Both (SlotKeeps keeps) o (slice_get (slice_set now i n) k)) (sym old_is)
+      (subst (λ o. Both (SlotKeeps keeps) (Some s) o) (sym new_is) h))
+      (λ no. subst (λ o. Both (SlotKeeps keeps) (slice_get old k) o) (sym (set_other now i k n no.1)) (still k))
+      (eqb_tells k i)
+
+  pub rest_set : (old now : List (Slot K T)) (i : ℕ) (n : Slot K T) → ((k : ℕ) → i ≤ k → slice_get now k ≡ slice_get old k)
+      → (k : ℕ) → i + 1 ≤ k → slice_get (slice_set now i n) k ≡ slice_get old k
+  rest_set old now i n rest k le = set_other now i k n (λ e. absurd (omega arith)) ∙ rest k (omega arith)
+
+module _ {K T : Type 0} (partition_of : K → PartitionId) (used : T → Type 0) where
+  below_split : (slots : List (Slot K T)) (i : ℕ) (s : Slot K T) (text : List ℕ) → slice_get slots i ≡ Some s
+      → IsNameBelow partition_of used (i + 1) slots text → IsNameBelow partition_of used i slots text ⊎ IsNameOf partition_of used s text
+  below_split slots i s text e h =
+      ⊎_elim
+      (λ yes. inr (subst (λ o. IsSomeAnd o (λ x. IsNameOf partition_of used x text)) (ap (slice_get slots) yes.1 ∙ e) h.2))
+      (λ no. let d : h.0 ≡ i → ⊥ = no.1 in let le : h.0 < i + 1 = h.1 in inl (h.0, omega arith, h.2))
+      (eqb_tells h.0 i)
+
+  below_join : (slots : List (Slot K T)) (i : ℕ) (s : Slot K T) (text : List ℕ) → slice_get slots i ≡ Some s
+      → IsNameBelow partition_of used i slots text ⊎ IsNameOf partition_of used s text → IsNameBelow partition_of used (i + 1) slots text
+  below_join slots i s text e (inl h) = let le : h.0 < i = h.1 in (h.0, omega arith, h.2)
+  below_join slots i s text e (inr h) = (i, omega arith, subst (λ o. IsSomeAnd o (λ x. IsNameOf partition_of used x text)) (sym e) h)
+
+  pub names_more : (slots : List (Slot K T)) (i : ℕ) (s : Slot K T) (o a b : Option (List ℕ)) → slice_get slots i ≡ Some s
+      → IsFirstWith (IsNameBelow partition_of used i slots) o a → IsFirstWith (IsNameOf partition_of used s) a b
+      → IsFirstWith (IsNameBelow partition_of used (i + 1) slots) o b
+  names_more slots i s o a b e h k =
+      first_same _ _ b
+      (λ t. ⊎_elim (λ w. inl w) (λ p. inr (below_join slots i s t e p)))
+      (λ t. ⊎_elim (λ w. inl w) (λ p. inr (below_split slots i s t e p)))
+      (first_with_then (IsNameBelow partition_of used i slots) (IsNameOf partition_of used s) o a b h k)
+
+  pub names_none : (slots : List (Slot K T)) (o : Option (List ℕ)) → IsFirstWith (IsNameBelow partition_of used 0 slots) o o
+  names_none slots o = first_with_none (IsNameBelow partition_of used 0 slots) o (λ t h. let le : h.0 < 0 = h.1 in absurd (omega arith))
+
+  pub names_all : (slots : List (Slot K T)) (i : ℕ) (o a : Option (List ℕ)) → length slots ≤ i → i ≤ length slots
+      → IsFirstWith (IsNameBelow partition_of used i slots) o a → IsFirstWith (IsNameBelow partition_of used (length slots) slots) o a
+  names_all slots i o a le ge h = let e : i ≡ length slots = omega arith in subst (λ n. IsFirstWith (IsNameBelow partition_of used n slots) o a) e h
+
+-- a slice of a whole vector that was written
+pub whole : {A : Type 0} → (items new : List A) (len : ℕ) → len ≡ length items → length new ≡ length items → take len (new ++ drop (length new) items) ≡ new
+whole items new len e f =
+    subst (λ n. take n (new ++ drop (length new) items) ≡ new) (f ∙ sym e) (take-append_seam new (drop (length new) items))

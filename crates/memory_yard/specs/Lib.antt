@@ -1,0 +1,7 @@
+pub mod First
+pub mod Keeping
+pub mod Names
+pub mod Place
+pub mod Places
+pub mod Shelf
+pub mod Yard

@@ -1,0 +1,57 @@
+//! The first of some names, in the order of their bytes.
+
+ghost use Rattle.std.specs.Prelude.{◌≡◌, ◌↔◌, IfOk, OnOk, IsTrue, IsSomeAnd, string_bytes};
+ghost use Rattle.tier_base.specs.Told.{In};
+ghost use Rattle.device_yard.specs.Held.{IsUpTo, IsFirst};
+ghost use Rattle.memory_yard.specs.First.{name_of, IsFirstWith};
+
+use std::alloc::{AllocError, Global};
+use tier_base::{Blob, PartitionId};
+
+/// The name of a partition.
+pub fn name_of(alloc: Global, partition: PartitionId) -> Result<String, AllocError>
+    ensures { IfOk result (λ name. string_bytes name ≡ name_of partition) }
+{
+    let number = partition.0;
+    let mut name = String::new(alloc);
+    write!(name, "p{number}")?;
+    Ok(name)
+}
+
+/// The first of some names.
+pub fn least_of(alloc: Global, names: &[Blob]) -> Result<Option<Blob>, AllocError>
+    ensures { IfOk result (IsFirst (λ text. In text names.now)) }
+{
+    let mut first = None;
+    for name in names {
+        offer(alloc, &mut first, name.as_slice())?;
+    }
+    Ok(first)
+}
+
+/// Makes a name the first, where no earlier one is.
+pub fn offer(alloc: Global, first: &mut Option<Blob>, name: &[u8]) -> Result<(), AllocError>
+    ensures { OnOk result (IsFirstWith (λ text. text ≡ name.now) first.old first.new) }
+{
+    if !is_behind(name, first) {
+        *first = Some(Blob::from_slice(alloc, name)?);
+    }
+    Ok(())
+}
+
+/// Whether a name is the first one so far, or stands behind it.
+fn is_behind(name: &[u8], first: &Option<Blob>) -> bool
+    ensures { IsTrue result ↔ IsSomeAnd first.now (λ before. IsUpTo before name.now) }
+{
+    match first {
+        Some(first) => is_up_to(first.as_slice(), name),
+        None => false,
+    }
+}
+
+/// Whether a text stands before another, or is it.
+fn is_up_to(a: &[u8], b: &[u8]) -> bool
+    ensures { IsTrue result ↔ IsUpTo a.now b.now }
+{
+    a.cmp(b).is_le()
+}

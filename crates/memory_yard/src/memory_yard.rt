@@ -1,0 +1,233 @@
+//! A yard in memory, some of whose calls are to fail.
+
+ghost use Rattle.std.specs.Prelude.{◌≡◌, ◌≤◌, ◌↔◌, Some, None, IfOk, OnOk, Contains};
+ghost use Rattle.std.specs.Option.{option_copied};
+ghost use Rattle.tier_base.specs.Device.{Fault, fate_of, IsFresh};
+ghost use Rattle.tier_base.specs.Told.{In};
+ghost use Rattle.device_yard.specs.Control as control;
+ghost use Rattle.device_yard.specs.Plan.{Plan, Counts, next_of};
+ghost use Rattle.device_yard.specs.Held.{IsFirst, IsName, Same, HandsDisk, HandsStore, HandsLog};
+ghost use Rattle.memory_yard.specs.First.{IsFirstWith};
+ghost use Rattle.memory_yard.specs.Yard.{held_by, IsEmptyYard, HasRoom};
+ghost use Rattle.memory_yard.specs.Names.{SameHeld, IsFirstOf};
+
+use crate::call_plan::CallPlan;
+use crate::first::least_of;
+use crate::handing::{hand_disk, hand_log, hand_store};
+use crate::place::DiskPlace;
+use crate::shelf::Shelf;
+use device_yard::{Came, Yard, YardCounts};
+use disk_model::MemoryDisk;
+use meta_log::MemoryLog;
+use object_store::MemoryStore;
+use std::alloc::{AllocError, Global};
+use tier_base::{Blob, BrokerId, PartitionId, Trouble};
+
+/// A yard whose devices are in memory. A device that came back is handed out with what it held, and an empty one where none
+/// did; the devices' own calls can't fail. Beside the names of its partitions it has those of strangers.
+#[derive(Drop)]
+pub struct MemoryYard {
+    alloc: Global,
+    strays: Vec<Blob>,
+    plan: CallPlan,
+    counts: YardCounts,
+    disks: Shelf<DiskPlace, MemoryDisk>,
+    stores: Shelf<PartitionId, MemoryStore>,
+    logs: Shelf<PartitionId, MemoryLog>,
+    ghost disks_fit: { counts.out ≤ disks.room },
+    ghost stores_fit: { counts.out ≤ stores.room },
+    ghost logs_fit: { counts.out ≤ logs.room },
+}
+
+impl MemoryYard {
+    /// Makes a yard without devices, in which the strays' names stand, and takes no memory. Of the calls `first_name`, `disk`,
+    /// `store` and `meta`, counted together from 1, those fail whose number the plan names.
+    pub fn new(alloc: Global, strays: Vec<Blob>, plan: Vec<u32>) -> MemoryYard
+        ensures fresh { control.IsFresh (⟦<MemoryYard as Yard>⟧.control result) }
+        ensures named { (⟦<MemoryYard as Yard>⟧.control result).named ≡ None }
+        ensures plan { ⟦<MemoryYard as Yard>⟧.plan result ≡ Some (record { calls = 0; failing = plan.items }) }
+        ensures held { IsEmptyYard strays.items (⟦<MemoryYard as Yard>⟧.held result) }
+    {
+        MemoryYard {
+            alloc,
+            strays,
+            plan: CallPlan::new(plan),
+            counts: YardCounts::new(alloc),
+            disks: Shelf::new(alloc),
+            stores: Shelf::new(alloc),
+            logs: Shelf::new(alloc),
+        }
+    }
+
+    /// Counts the faults of the yard.
+    pub fn faults(&self) -> u64
+        ensures { result ≡ (⟦<MemoryYard as Yard>⟧.control self.now).faults }
+    {
+        self.counts.faults()
+    }
+
+    /// Lends how the devices came back.
+    pub fn returned(&self) -> &[Came]
+        ensures { result.now ≡ (⟦<MemoryYard as Yard>⟧.control self.now).returned }
+    {
+        self.counts.returned()
+    }
+
+    /// Lends a disk that came back.
+    pub fn held_disk(&self, partition: PartitionId, broker: BrokerId) -> Option<&MemoryDisk>
+        ensures { option_copied result
+            ≡ (⟦<MemoryYard as Yard>⟧.held self.now).disks partition broker }
+    {
+        self.disks.get(DiskPlace { partition, broker })
+    }
+
+    /// Lends a store that came back.
+    pub fn held_store(&self, partition: PartitionId) -> Option<&MemoryStore>
+        ensures { option_copied result
+            ≡ (⟦<MemoryYard as Yard>⟧.held self.now).stores partition }
+    {
+        self.stores.get(partition)
+    }
+
+    /// Lends a metadata log that came back.
+    pub fn held_log(&self, partition: PartitionId) -> Option<&MemoryLog>
+        ensures { option_copied result
+            ≡ (⟦<MemoryYard as Yard>⟧.held self.now).logs partition }
+    {
+        self.logs.get(partition)
+    }
+
+    /// Makes room for one more device to come back.
+    fn make_room(&mut self) -> Result<(), AllocError>
+        ensures disks { self.new.disks.slots ≡ self.old.disks.slots }
+        ensures stores { self.new.stores.slots ≡ self.old.stores.slots }
+        ensures logs { self.new.logs.slots ≡ self.old.logs.slots }
+        ensures room { OnOk result (HasRoom self.new.counts.out self.new.disks.room self.new.stores.room self.new.logs.room) }
+        ensures strays { self.new.strays ≡ self.old.strays }
+        ensures counts { self.new.counts ≡ self.old.counts }
+        ensures plan { self.new.plan ≡ self.old.plan }
+    {
+        let count = self.counts.out() + 1;
+        self.disks.reserve(count)?;
+        self.stores.reserve(count)?;
+        self.logs.reserve(count)
+    }
+
+    /// Counts a call that hands a device out, where it goes on.
+    fn hand_out(&mut self) -> Result<(), Trouble>
+        ensures control { control.Hands (fate_of result) self.old.counts self.new.counts }
+        ensures plan { Counts (fate_of result) (Some self.old.plan) (Some self.new.plan) }
+        ensures disks { self.new.disks.slots ≡ self.old.disks.slots }
+        ensures stores { self.new.stores.slots ≡ self.old.stores.slots }
+        ensures logs { self.new.logs.slots ≡ self.old.logs.slots }
+        ensures strays { self.new.strays ≡ self.old.strays }
+    {
+        let begun = self.begin();
+        self.counts.hand(begun)
+    }
+
+    /// Counts a call, and makes room for one more device to come back.
+    fn begin(&mut self) -> Result<(), Trouble>
+        ensures fails { (fate_of result ≡ Fault) ↔ Contains self.old.plan.failing (next_of self.old.plan) }
+        ensures plan { self.new.plan ≡ record self.old.plan { calls = next_of self.old.plan } }
+        ensures disks { self.new.disks.slots ≡ self.old.disks.slots }
+        ensures stores { self.new.stores.slots ≡ self.old.stores.slots }
+        ensures logs { self.new.logs.slots ≡ self.old.logs.slots }
+        ensures room { OnOk result (HasRoom self.new.counts.out self.new.disks.room self.new.stores.room self.new.logs.room) }
+        ensures strays { self.new.strays ≡ self.old.strays }
+        ensures counts { self.new.counts ≡ self.old.counts }
+    {
+        self.plan.count()?;
+        self.make_room()?;
+        Ok(())
+    }
+
+    /// Counts a call that finds the first name.
+    fn find_first(&mut self) -> Result<Option<Blob>, Trouble>
+        ensures fails { (fate_of result ≡ Fault) ↔ Contains self.old.plan.failing (next_of self.old.plan) }
+        ensures plan { self.new.plan ≡ record self.old.plan { calls = next_of self.old.plan } }
+        ensures counts { self.new.counts ≡ self.old.counts }
+        ensures held { SameHeld (⟦<MemoryYard as Yard>⟧.held self.old) (⟦<MemoryYard as Yard>⟧.held self.new) }
+        ensures first { IfOk result (IsFirstOf (⟦<MemoryYard as Yard>⟧.held self.old)) }
+    {
+        self.plan.count()?;
+        let first = self.least()?;
+        Ok(first)
+    }
+
+    /// The first of the names.
+    fn least(&mut self) -> Result<Option<Blob>, AllocError>
+        ensures plan { self.new.plan ≡ self.old.plan }
+        ensures counts { self.new.counts ≡ self.old.counts }
+        ensures held { SameHeld (⟦<MemoryYard as Yard>⟧.held self.old) (⟦<MemoryYard as Yard>⟧.held self.new) }
+        ensures first { IfOk result (IsFirstOf (⟦<MemoryYard as Yard>⟧.held self.old)) }
+    {
+        let mut first = least_of(self.alloc, self.strays.as_slice())?;
+        self.disks.offer(self.alloc, &mut first)?;
+        self.stores.offer(self.alloc, &mut first)?;
+        self.logs.offer(self.alloc, &mut first)?;
+        Ok(first)
+    }
+}
+
+impl Yard for MemoryYard {
+    type D = MemoryDisk;
+
+    type S = MemoryStore;
+
+    type M = MemoryLog;
+
+    ghost held = { λ y. held_by y.strays.items y.disks.slots y.stores.slots y.logs.slots };
+
+    ghost control = { λ y. y.counts };
+
+    ghost plan = { λ y. Some y.plan };
+
+    fn first_name(&mut self) -> Result<Option<Blob>, Trouble> {
+        let found = self.find_first();
+        self.counts.name(found)
+    }
+
+    fn disk(&mut self, partition: PartitionId, broker: BrokerId) -> Result<MemoryDisk, Trouble> {
+        self.hand_out()?;
+        let place = DiskPlace { partition, broker };
+        Ok(hand_disk(self.alloc, &mut self.disks, place))
+    }
+
+    fn store(&mut self, partition: PartitionId) -> Result<MemoryStore, Trouble> {
+        self.hand_out()?;
+        Ok(hand_store(self.alloc, &mut self.stores, partition))
+    }
+
+    fn meta(&mut self, partition: PartitionId) -> Result<MemoryLog, Trouble> {
+        self.hand_out()?;
+        Ok(hand_log(self.alloc, &mut self.logs, partition))
+    }
+
+    fn keep_disk(&mut self, partition: PartitionId, broker: BrokerId, disk: MemoryDisk) {
+        let came = Came {
+            faults: disk.faults(),
+            armed: disk.is_armed(),
+        };
+        self.disks.put(DiskPlace { partition, broker }, disk);
+        self.counts.take_back(came);
+    }
+
+    fn keep_store(&mut self, partition: PartitionId, store: MemoryStore) {
+        let came = Came {
+            faults: store.faults(),
+            armed: store.is_armed(),
+        };
+        self.stores.put(partition, store);
+        self.counts.take_back(came);
+    }
+
+    fn keep_meta(&mut self, partition: PartitionId, meta: MemoryLog) {
+        let came = Came {
+            faults: meta.faults(),
+            armed: meta.is_armed(),
+        };
+        self.logs.put(partition, meta);
+        self.counts.take_back(came);
+    }
+}

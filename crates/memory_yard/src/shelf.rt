@@ -1,0 +1,130 @@
+//! Devices by their places, with room for those that are out.
+//!
+//! A place that was used once keeps its slot, so that a device that is out and comes back takes no memory.
+
+ghost use Rattle.std.specs.Prelude.{◌≡◌, ◌+◌, ◌≤◌, [], Option, Some, None, OnOk, length};
+ghost use Rattle.std.specs.Option.{option_copied};
+ghost use Rattle.device_yard.specs.Held.{Both};
+ghost use Rattle.memory_yard.specs.First.{IsFirstWith};
+ghost use Rattle.memory_yard.specs.Shelf.{at, Leaves, AreStill, IsSlotOf, IsNameBelow, IsNameOn};
+
+use crate::device::Device;
+use crate::place::Place;
+use crate::slot::Slot;
+use std::alloc::{AllocError, Global};
+use std::marker::Model;
+use std::mem;
+use tier_base::Blob;
+
+/// Devices by their places.
+#[derive(Drop)]
+pub struct Shelf<K: Place, T: Device> {
+    slots: Vec<Slot<K, T>>,
+}
+
+impl<K: Place, T: Device> Model for Shelf<K, T> {
+    ghost use Rattle.std.specs.Prelude.{◌-◌, vec_len, vec_capacity};
+    ghost use Rattle.memory_yard.specs.Shelf.{Shelved, AreDistinct};
+
+    ghost Value = { Shelved K T };
+
+    ghost view = { λ s. record { slots = s.slots.items; room = vec_capacity s.slots - vec_len s.slots } };
+
+    ghost invariant = { λ s. AreDistinct K.same s.slots.items };
+}
+
+impl<K: Place, T: Device> Shelf<K, T> {
+    /// Has no device and no room yet, and takes no memory.
+    pub fn new(alloc: Global) -> Shelf<K, T>
+        ensures { result.slots ≡ [] }
+    {
+        Shelf {
+            slots: Vec::new(alloc),
+        }
+    }
+
+    /// Makes room for so many further devices.
+    pub fn reserve(&mut self, count: usize) -> Result<(), AllocError>
+        ensures ok { OnOk result (count ≤ self.new.room) }
+        ensures no_less { self.old.room ≤ self.new.room }
+        ensures slots { self.new.slots ≡ self.old.slots }
+    {
+        self.slots.reserve(count)?;
+        Ok(())
+    }
+
+    /// Lends the device at a place.
+    pub fn get(&self, place: K) -> Option<&T>
+        ensures { option_copied result ≡ at K.same place self.now.slots }
+    {
+        match position(self.slots.as_slice(), place) {
+            Some(i) => self.slots[i].device.as_ref(),
+            None => None,
+        }
+    }
+
+    /// Takes the device at a place away.
+    pub fn take(&mut self, place: K) -> Option<T>
+        ensures taken { result ≡ at K.same place self.old.slots }
+        ensures leaves { Leaves K.same place None self.old.slots self.new.slots }
+        ensures room { self.new.room ≡ self.old.room }
+    {
+        match position(self.slots.as_slice(), place) {
+            Some(i) => mem::replace(&mut self.slots[i].device, None),
+            None => None,
+        }
+    }
+
+    /// Puts a device at a place. One that stood there is gone.
+    pub fn put(&mut self, place: K, device: T)
+        requires { 1 ≤ self.old.room }
+        ensures leaves { Leaves K.same place (Some device) self.old.slots self.new.slots }
+        ensures room { self.old.room ≤ self.new.room + 1 }
+    {
+        match position(self.slots.as_slice(), place) {
+            Some(i) => drop(mem::replace(&mut self.slots[i].device, Some(device))),
+            None => self.slots.push_reserved(Slot {
+                place,
+                device: Some(device),
+            }),
+        }
+    }
+
+    /// Makes the first of the names of partitions that have something the first, where no earlier name is.
+    pub fn offer(&mut self, alloc: Global, first: &mut Option<Blob>) -> Result<(), AllocError>
+        ensures keeps { (q : _) → Both T.keeps (at K.same q self.old.slots) (at K.same q self.new.slots) }
+        ensures room { self.new.room ≡ self.old.room }
+        ensures first { OnOk result
+            (IsFirstWith (IsNameOn K.partition_of T.used K.same self.old.slots) first.old first.new) }
+    {
+        offer_all(self.slots.as_mut_slice(), alloc, first)
+    }
+}
+
+/// Makes the first of the names of slots the first, where no earlier name is.
+fn offer_all<K: Place, T: Device>(
+    slots: &mut [Slot<K, T>],
+    alloc: Global,
+    first: &mut Option<Blob>,
+) -> Result<(), AllocError>
+    ensures still { AreStill T.keeps slots.old slots.new }
+    ensures first { OnOk result
+        (IsFirstWith (IsNameBelow K.partition_of T.used (length slots.old) slots.old) first.old first.new) }
+{
+    for slot in slots.iter_mut() {
+        slot.offer(alloc, first)?;
+    }
+    Ok(())
+}
+
+/// Where a place has its slot.
+fn position<K: Place, T: Device>(slots: &[Slot<K, T>], place: K) -> Option<usize>
+    ensures { IsSlotOf K.same place slots.now result }
+{
+    for (i, slot) in slots.iter().enumerate() {
+        if slot.place.is(place) {
+            return Some(i);
+        }
+    }
+    None
+}
