@@ -1,0 +1,4 @@
+pub mod Asked
+pub mod Places
+pub mod Shown
+pub mod Wanted

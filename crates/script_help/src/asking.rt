@@ -1,0 +1,81 @@
+//! Asking the reader of scripts whether a line may go on.
+
+ghost use Rattle.std.specs.Prelude.{◌≡◌, ◌++◌, true, IfOk, IfSome};
+ghost use Rattle.script_help.specs.Asked.{is_later_cause, HasWords, GoesOn, then_word};
+
+use crate::words::TAILS;
+use script_lang::{ScriptRefusal, Why, parse};
+use std::alloc::{AllocError, Global};
+
+/// Whether a cause is none of a line's bytes or words.
+fn is_later_cause(why: Why) -> bool
+    ensures { result ≡ is_later_cause why }
+{
+    !matches!(
+        why,
+        Why::NotText | Why::Word | Why::Number | Why::Field | Why::Hex
+    )
+}
+
+/// Whether the words of a script's lines have a reading. Of 2^31 bytes and more that isn't told.
+pub fn has_words(alloc: Global, script: &[u8]) -> Result<bool, AllocError>
+    ensures { IfOk result (λ yes. yes ≡ true → HasWords script.now) }
+{
+    if script.len() >= 1 << 31 {
+        return Ok(false);
+    }
+    match parse(alloc, script) {
+        Ok(_) => Ok(true),
+        Err(ScriptRefusal::Bad { why, .. }) => Ok(is_later_cause(why)),
+        Err(ScriptRefusal::NoMemory) => Err(AllocError),
+    }
+}
+
+/// A text with another one behind it.
+pub fn with_text(alloc: Global, head: &[u8], text: &str) -> Result<Vec<u8>, AllocError>
+    ensures { IfOk result (λ all. all.items ≡ head.now ++ text.now) }
+{
+    let mut all = Vec::from_slice(alloc, head)?;
+    all.extend_from_slice(text.as_bytes())?;
+    Ok(all)
+}
+
+/// A text with a word behind it.
+pub fn with_word(alloc: Global, head: &[u8], word: &str) -> Result<Vec<u8>, AllocError>
+    ensures { IfOk result (λ all. all.items ≡ then_word head.now word.now) }
+{
+    let mut all = with_text(alloc, head, " ")?;
+    all.extend_from_slice(word.as_bytes())?;
+    Ok(all)
+}
+
+/// One of the tails by which the last line of a script goes on to one that has a reading, if there is one.
+pub fn find_tail(alloc: Global, head: &[u8]) -> Result<Option<&'static str>, AllocError>
+    ensures { IfOk result (λ found. IfSome found (λ tail. HasWords (head.now ++ tail.now))) }
+{
+    for tail in &TAILS {
+        let script = with_text(alloc, head, tail)?;
+        if has_words(alloc, script.as_slice())? {
+            return Ok(Some(*tail));
+        }
+    }
+    Ok(None)
+}
+
+/// Whether the last line of a script can go on to one that has a reading.
+pub fn goes_on(alloc: Global, head: &[u8]) -> Result<bool, AllocError>
+    ensures { IfOk result (λ yes. yes ≡ true → GoesOn head.now) }
+{
+    match find_tail(alloc, head)? {
+        Some(_) => Ok(true),
+        None => Ok(false),
+    }
+}
+
+/// Whether the last line of a script can go on by a word.
+pub fn goes_on_with(alloc: Global, head: &[u8], word: &str) -> Result<bool, AllocError>
+    ensures { IfOk result (λ yes. yes ≡ true → GoesOn (then_word head.now word.now)) }
+{
+    let script = with_word(alloc, head, word)?;
+    goes_on(alloc, script.as_slice())
+}

@@ -1,0 +1,155 @@
+//! The place in a refused line that the caret stands under.
+
+ghost use Rattle.std.specs.Prelude.{◌≡◌, ◌≢◌, ◌≤◌, ◌<◌, ◌-◌, ◌++◌, true, length, All, IfOk};
+ghost use Rattle.std.specs.List.{HoldsAt};
+ghost use Rattle.script_lang.specs.declared.refusal.Why.{Why};
+ghost use Rattle.script_help.specs.Asked.{GoesOn};
+ghost use Rattle.script_help.specs.Places.{IsHead, IsUnder};
+
+use crate::asking::goes_on;
+use crate::line::{first_line, first_word, heads, last_word_at};
+use script_lang::Why;
+use std::alloc::{AllocError, Global};
+
+/// Whether a line that begins with this word gives a count of brokers or of partitions.
+fn gives_count(word: &[u8]) -> bool {
+    word == b"brokers".as_slice() || word == b"partitions".as_slice()
+}
+
+/// The counts of brokers and partitions that the lines give: the ranges of a line's words go by no other option.
+pub fn counts_of(alloc: Global, lines: &[u8]) -> Result<Vec<u8>, AllocError> {
+    let mut counts = Vec::new(alloc);
+    let mut rest = lines;
+    while !rest.is_empty() {
+        let (line, behind) = first_line(rest);
+        if gives_count(first_word(line)) {
+            counts.extend_from_slice(line)?;
+            counts.push(b'\n')?;
+        }
+        rest = behind;
+    }
+    Ok(counts)
+}
+
+/// Where the first byte is that can't stand in a line.
+fn bad_byte_at(text: &[u8]) -> usize
+    ensures { result ≤ length text.now }
+{
+    for (i, byte) in text.iter().enumerate() {
+        if *byte != b'\t' && (*byte < 32 || *byte > 126) {
+            return i;
+        }
+    }
+    text.len()
+}
+
+/// Whether a script can go on behind the lines of these counts and a part of its line.
+fn goes_on_behind(alloc: Global, counts: &[u8], head: &[u8]) -> Result<bool, AllocError>
+    ensures { IfOk result (λ yes. yes ≡ true → GoesOn (counts.now ++ head.now)) }
+{
+    let mut script = Vec::from_slice(alloc, counts)?;
+    script.extend_from_slice(head)?;
+    goes_on(alloc, script.as_slice())
+}
+
+/// How many words of a line have a reading: up to the last one behind which the line can go on.
+fn count_readable(alloc: Global, counts: &[u8], heads: &[&[u8]]) -> Result<usize, AllocError>
+    ensures within { IfOk result (λ count. count ≤ length heads.now) }
+    ensures goes { IfOk result (λ count. 0 < count
+        → HoldsAt (λ head. GoesOn (counts.now ++ head.now)) heads.now (count - 1)) }
+{
+    let mut good = 0;
+    let mut bad = heads.len();
+    while good < bad {
+        let middle = good + (bad - good) / 2;
+        if goes_on_behind(alloc, counts, heads[middle])? {
+            good = middle + 1;
+        } else {
+            bad = middle;
+        }
+    }
+    Ok(good)
+}
+
+/// The number of the word of which a cause speaks that isn't one of the words themselves, from 0 on.
+fn word_of(why: Why, heads: &[&[u8]]) -> usize {
+    let later = match heads {
+        [first, ..] => first_word(first) == b"later".as_slice(),
+        [] => false,
+    };
+    let number = match why {
+        Why::ActorPartition | Why::NoActor => 1,
+        Why::TurnSum => 2,
+        Why::TooMany | Why::BatchTooLarge | Why::FetchSum | Why::CopySum | Why::Unbuilt => 3,
+        _ => 0,
+    };
+    if later { number + 1 } else { number }
+}
+
+/// The place at which a line is refused.
+#[derive(Drop)]
+pub struct Place<'a> {
+    /// The text up to the end of the word before.
+    pub head: &'a [u8],
+    /// Where the caret stands in the text.
+    pub column: usize,
+    /// Whether a word, or a bad byte, stands there.
+    pub is_there: bool,
+}
+
+/// The text up to the end of the word before the one of this number.
+fn head_before<'a>(heads: &[&'a [u8]], number: usize) -> &'a [u8] {
+    if number == 0 || number > heads.len() {
+        return &[];
+    }
+    heads[number - 1]
+}
+
+/// The place of the word of this number in a text, or the text's end.
+fn place_of<'a>(text: &'a [u8], heads: &[&'a [u8]], number: usize) -> Place<'a>
+    requires { All (λ head. IsHead text.now head.now) heads.now }
+    ensures { IsUnder text.now result.column }
+{
+    let head = head_before(heads, number);
+    if number < heads.len() {
+        return Place {
+            head,
+            column: last_word_at(heads[number]),
+            is_there: true,
+        };
+    }
+    Place {
+        head,
+        column: text.len(),
+        is_there: false,
+    }
+}
+
+/// The number of the word of which a cause speaks.
+fn number_of(alloc: Global, counts: &[u8], heads: &[&[u8]], why: Why) -> Result<usize, AllocError> {
+    match why {
+        Why::Word | Why::Number | Why::Field | Why::Hex => count_readable(alloc, counts, heads),
+        _ => Ok(word_of(why, heads)),
+    }
+}
+
+/// Finds the place of a cause in a line's text, behind these counts.
+pub fn find_place<'a>(
+    alloc: Global,
+    counts: &[u8],
+    text: &'a [u8],
+    why: Why,
+) -> Result<Place<'a>, AllocError>
+    ensures { IfOk result (λ place. why ≢ Why.NotText → IsUnder text.now place.column) }
+{
+    if why == Why::NotText {
+        return Ok(Place {
+            head: &[],
+            column: bad_byte_at(text),
+            is_there: true,
+        });
+    }
+    let heads = heads(alloc, text)?;
+    let number = number_of(alloc, counts, heads.as_slice(), why)?;
+    Ok(place_of(text, heads.as_slice(), number))
+}
