@@ -1,5 +1,6 @@
 mod MemoryDevices
-mod OneWord
+mod Numerals
 mod Opening
 mod Planning
 mod Running
+mod Telling

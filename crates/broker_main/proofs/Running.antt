@@ -16,7 +16,7 @@ use Rattle.plain_log.specs.Runs.{IsPlainRun, IsComplete}
 use Rattle.plain_log.specs.Laws.{FreshIsSafe, ReplaysKeepSafe}
 use Rattle.plain_log.specs.Safe.{PlainSafe}
 use Rattle.plain_log.proofs.Grows.{replay_led, replay_runs}
-use Rattle.no_damage.specs.Laws.{RunsMeetNoDamage}
+use Rattle.command_answers.specs.LawsOfDamage.{RunsMeetNoDamage}
 use Rattle.partition_world.specs.Whole.{Whole}
 use Rattle.partition_world.specs.Turn.{IsAtEnd}
 use Rattle.partition_world.specs.Central.{IsCentral}

@@ -1,7 +1,7 @@
--- The headline: whatever the script, the written trace is a run of the plain log.
+-- The headline: whatever the script, the written trace is a run of the plain log, and a load's summary tells of such runs.
 --
 -- The brokers' logs stand on disks, and what they copy in a remote store, with notes in a metadata log.
-use Rattle.std.specs.Prelude.{◌≡◌, ℕ, false, List, [], ◌∷◌, Ok, Err}
+use Rattle.std.specs.Prelude.{◌≡◌, ℕ, false, List, [], ◌∷◌, Some, Ok, Err}
 use Rattle.std.specs.declared.option.Option.{Option}
 use Rattle.std.specs.Io.KnownBytes.{Appends}
 use Rattle.std.specs.List.{AllByRecursion}
@@ -14,7 +14,7 @@ use Rattle.plain_log.specs.declared.command.ActorList.{ActorList}
 use Rattle.plain_log.specs.declared.command.Config.{Config}
 use Rattle.plain_log.specs.declared.journal.JournalEntry.{JournalEntry}
 use Rattle.plain_log.specs.Fresh.{fresh}
-use Rattle.no_damage.specs.Damage.{MeetsNoDamage}
+use Rattle.command_answers.specs.Damage.{MeetsNoDamage}
 use Rattle.plain_log.specs.Runs.{IsPlainRun, IsComplete}
 use Rattle.plain_log.specs.Committed.{IsCommittedRun, IsRunOfPath}
 use Rattle.plain_log.specs.Safe.{PlainSafe}
@@ -30,7 +30,19 @@ use Rattle.script_lang.specs.declared.script.PartScript.{PartScript}
 use Rattle.script_lang.specs.declared.script.Script.{Script}
 use Rattle.script_lang.specs.Script.{script_in}
 use Rattle.trace_text.specs.Trace.{trace_of}
+use Rattle.run_summary.specs.declared.told.Told.{Told}
+use Rattle.run_summary.specs.Told.{told_of, summary_text}
 use Rattle.broker_main.specs.Devices.{HaveFaults}
+
+-- this is what the partition's run comes to
+abbrev pub IsTold : Config → PartScript → ℕ × List JournalEntry → Told → Type 0
+IsTold config part run told = told_of config run.0 part.lists run.1 ≡ Some told
+
+-- and this what the partitions' runs come to
+abbrev pub AreTold : Config → List PartScript → List (ℕ × List JournalEntry) → List Told → Type 0
+AreTold config [] [] [] = Unit {0}
+AreTold config (part ∷ parts) (run ∷ runs) (one ∷ told) = IsTold config part run one × AreTold config parts runs told
+AreTold config parts runs told = ⊥
 
 module _ {D S M : Type 0} (disk : DiskGhosts D) (store : StoreGhosts S) (meta : MetaGhosts M) where
   -- a fresh world whose logs, store and metadata log are empty, on devices of which those calls fail that the faults name
@@ -84,6 +96,16 @@ module _ {D S M : Type 0} (disk : DiskGhosts D) (store : StoreGhosts S) (meta : 
     pub are : AreRunsOf script.config script.parts runs
     pub spelled : text ≡ trace_of runs
 
+  -- the same, but that the text sums the runs up
+  pub record IsSummary (bytes text : List ℕ) : Type 0 where
+    pub script : Script
+    pub read : script_in bytes ≡ Ok script
+    pub runs : List (ℕ × List JournalEntry)
+    pub are : AreRunsOf script.config script.parts runs
+    pub told : List Told
+    pub tell : AreTold script.config script.parts runs told
+    pub spelled : text ≡ summary_text told
+
   -- the source was read to its end, and a trace of what it gave was written
   pub record WritesTrace (left_old left_new written_old written_new : Option (List ℕ)) : Type 0 where
     pub script : List ℕ
@@ -98,6 +120,18 @@ module _ {D S M : Type 0} (disk : DiskGhosts D) (store : StoreGhosts S) (meta : 
     pub read : ReadsWhole left_old left_new script
     pub text : List ℕ
     pub trace : IsTrace script text
+    pub written : AppendsFront written_old written_new text
+
+  -- a summary of the script was written
+  pub record WritesSummary (script : List ℕ) (written_old written_new : Option (List ℕ)) : Type 0 where
+    pub text : List ℕ
+    pub summary : IsSummary script text
+    pub written : Appends written_old written_new text
+
+  -- the same, but that a front of the summary was written, and not all of it
+  pub record WritesSummaryFront (script : List ℕ) (written_old written_new : Option (List ℕ)) : Type 0 where
+    pub text : List ℕ
+    pub summary : IsSummary script text
     pub written : AppendsFront written_old written_new text
 
 -- the source was read to its end, this line of what it gave is the first without a reading, and this is why

@@ -3,4 +3,5 @@ pub mod Plans
 pub mod Devices
 pub mod Headline
 pub mod Running
+pub mod Telling
 pub mod Endings

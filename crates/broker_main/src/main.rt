@@ -1,13 +1,17 @@
-//! The program: runs a script of log commands, and writes what each was answered.
+//! The program: runs a script of log commands, and writes what each was answered, or runs a load and sums it up.
 //!
 //! `top.rt` has the call with the headline. What stands here hands it the words, standard input and standard output,
 //! prints the status's line to standard error, and ends with its number.
 #![tactic(auto)]
 
 mod devices;
+mod load;
+mod partition;
 mod plans;
+mod sim;
 mod status;
 mod top;
+mod words;
 
 pub use script_lang::Why;
 pub use status::Status;
@@ -22,6 +26,8 @@ tiered: a partition's log, run by a script
 
 usage:
   tiered sim      reads a script from standard input, runs it, and writes the trace to standard output
+  tiered gen N    runs the load of number N, from 0 to 4294967295, and writes how often each command was answered
+                  in which way, and where each partition ended
   tiered --help
   tiered --version
 
@@ -39,7 +45,7 @@ exit status:
 const VERSION: &str = "tiered 0.1.0\n";
 
 /// Collects the words behind the program's name. A word that isn't text has no form.
-fn words(rt: &HostRuntime) -> Result<Vec<String>, Status> {
+fn arguments(rt: &HostRuntime) -> Result<Vec<String>, Status> {
     let args = match env::args(rt) {
         Ok(args) => args,
         Err(error) => return Err(refused(&error)),
@@ -74,7 +80,7 @@ fn printed(words: &[String]) -> Option<&'static str> {
 }
 
 fn main(rt: HostRuntime) -> ExitCode {
-    let words = match words(&rt) {
+    let words = match arguments(&rt) {
         Ok(words) => words,
         Err(status) => return told(&rt, status),
     };

@@ -40,7 +40,7 @@ impl Status {
     pub fn line(self, alloc: Global) -> Result<String, AllocError> {
         match self {
             Status::Ok => Ok(String::new(alloc)),
-            Status::Usage => String::from_str(alloc, "tiered: usage: tiered sim\n"),
+            Status::Usage => String::from_str(alloc, "tiered: usage: tiered sim or gen N\n"),
             Status::BadScript { line, why } => format!(in alloc; "tiered: line {line}: {why}\n"),
             Status::ReadFault => String::from_str(alloc, "tiered: read fault\n"),
             Status::WriteFault => String::from_str(alloc, "tiered: write fault\n"),

@@ -3,6 +3,7 @@
 //! The batches' bytes come from a writer of record batches that was made apart from this repository.
 
 use super::*;
+use crate::words::{Form, form_of};
 use std::alloc::Global;
 use std::test::Fail;
 use tier_base::{MemorySink, MemorySource};
@@ -179,7 +180,7 @@ fn scripts_give_their_traces(rt: HostRuntime) -> Result<(), Fail> {
 fn statuses_tell_their_causes(rt: HostRuntime) -> Result<(), Fail> {
     let alloc = rt.alloc();
     let script = ROWS[1].1.as_bytes();
-    let rows: [(&[&str], &[u8], &[u32], Status, &str, u8); 7] = [
+    let rows: [(&[&str], &[u8], &[u32], Status, &str, u8); 6] = [
         (
             &["sim"],
             b"0 0 - pack 1\n",
@@ -226,15 +227,7 @@ fn statuses_tell_their_causes(rt: HostRuntime) -> Result<(), Fail> {
             script,
             &[],
             Status::Usage,
-            "tiered: usage: tiered sim\n",
-            2,
-        ),
-        (
-            &[],
-            script,
-            &[],
-            Status::Usage,
-            "tiered: usage: tiered sim\n",
+            "tiered: usage: tiered sim or gen N\n",
             2,
         ),
         (&["sim"], script, &[], Status::Ok, "", 0),
@@ -260,7 +253,7 @@ fn each_status_has_its_number_and_line(rt: HostRuntime) -> Result<(), Fail> {
     };
     let rows = [
         (Status::Ok, 0, ""),
-        (Status::Usage, 2, "tiered: usage: tiered sim\n"),
+        (Status::Usage, 2, "tiered: usage: tiered sim or gen N\n"),
         (bad, 3, "tiered: line 12: Unbuilt\n"),
         (Status::ReadFault, 4, "tiered: read fault\n"),
         (Status::WriteFault, 5, "tiered: write fault\n"),
@@ -271,6 +264,81 @@ fn each_status_has_its_number_and_line(rt: HostRuntime) -> Result<(), Fail> {
         assert_eq!(rt; status.number(), number);
         assert_eq!(rt; status.line(rt.alloc())?.as_str(), line);
     }
+    Ok(())
+}
+
+/// Words, and the form that they have.
+static FORMS: [(&[&str], Option<Form>); 12] = [
+    (&["sim"], Some(Form::Sim)),
+    (&["gen", "0"], Some(Form::Gen(0))),
+    (&["gen", "4294967295"], Some(Form::Gen(4_294_967_295))),
+    (&["gen", "4294967296"], None),
+    (&["gen", "01"], None),
+    (&["gen", "00"], None),
+    (&["gen", "+1"], None),
+    (&["gen", "-1"], None),
+    (&["gen", "1x"], None),
+    (&["gen", ""], None),
+    (&["gen"], None),
+    (&[], None),
+];
+
+/// Whether words have this form.
+fn have_form(alloc: Global, list: &[&str], want: Option<Form>) -> Result<bool, Fail> {
+    let words = words_of(alloc, list)?;
+    Ok(form_of(words.as_slice()) == want)
+}
+
+#[test]
+fn form_rows(rt: HostRuntime) -> Result<(), Fail> {
+    for (i, (list, form)) in FORMS.iter().enumerate() {
+        let is = have_form(rt.alloc(), list, *form)?;
+        assert!(rt; is, "row {i}");
+    }
+    Ok(())
+}
+
+/// The summary of the script of 1, as a simulator made apart from this repository gives it.
+static SUMMARY: &str = "\
+    append Ok 6012\n\
+    flush Ok 2027\n\
+    ack Ok 2027\n\
+    join Cut 968\n\
+    follow Copied 925\n\
+    follow Level 40\n\
+    copy Copied 241\n\
+    copy Level 1809\n\
+    trim Dropped 704\n\
+    trim Kept 1290\n\
+    expire Deleted 184\n\
+    expire Kept 642\n\
+    expire Raised 177\n\
+    clock Ok 960\n\
+    fetch Empty 139\n\
+    fetch OutOfRange 3074\n\
+    fetch Run 808\n\
+    bytes 1677710\n\
+    partition 0 end 1495 mark 1373 start 1097\n\
+    partition 1 end 1519 mark 1490 start 1110\n\
+    partition 2 end 1505 mark 1487 start 1097\n\
+    partition 3 end 1493 mark 1455 start 1059\n\
+";
+
+/// Whether a load of this number, in pieces of 100 bytes, is summed up so.
+fn sums_up(rt: &HostRuntime, number: &str, want: &str) -> Result<(Status, bool), Fail> {
+    let alloc = rt.alloc();
+    let words = words_of(alloc, &["gen", number])?;
+    let mut source = source_of(alloc, b"0 0 0 flush\n", &[1])?;
+    let mut sink = MemorySink::new(alloc, 10_000, 100, Vec::new(alloc))?;
+    let status = tiered(rt, words.as_slice(), &mut source, &mut sink);
+    Ok((status, sink.written() == want.as_bytes()))
+}
+
+/// It takes longer than `rt try` waits for a test.
+#[test]
+fn a_load_is_summed_up(rt: HostRuntime) -> Result<(), Fail> {
+    let told = sums_up(&rt, "1", SUMMARY)?;
+    assert!(rt; told == (Status::Ok, true));
     Ok(())
 }
 

@@ -1,6 +1,6 @@
 //! The whole script: its options, and the turns one after another.
 
-ghost use Rattle.std.specs.Prelude.{◌≡◌, ◌++◌, IfOk, OnOk, string_bytes};
+ghost use Rattle.std.specs.Prelude.{◌≡◌, ◌≤◌, ◌++◌, length, IfOk, OnOk, string_bytes};
 ghost use Rattle.load_gen.specs.Script.{options, turns as lines_of_turns, script_of as script};
 
 use crate::draws::Draws;
@@ -30,9 +30,10 @@ fn write_turns(text: &mut String, count: u32, number: u32) -> Result<(), AllocEr
 }
 
 /// The script of a number, in about 1.6 million bytes.
-#[tactic(auto, unfolding(crate::specs::Script::script_of, crate::specs::Script::options))]
+#[tactic(auto, using(crate::proofs::Lengths::script_short), unfolding(crate::specs::Script::script_of, crate::specs::Script::options))]
 pub fn script_of(alloc: Global, number: u32) -> Result<Vec<u8>, AllocError>
-    ensures { IfOk result (λ text. text.items ≡ script number) }
+    ensures script { IfOk result (λ text. text.items ≡ script number) }
+    ensures short { IfOk result (λ text. length text.items ≤ 16777216) }
 {
     let mut text = String::from_str(alloc, OPTIONS)?;
     write_turns(&mut text, TURNS, number)?;

@@ -4,7 +4,7 @@ use Rattle.partition_turns.specs.declared.refusal.WorldRefusal.TheVariants.{Disk
 use Rattle.broker_main.proofs.MemoryDevices.{disk, store, meta}
 use Rattle.broker_main.proofs.Opening.{seen_empty}
 use Rattle.broker_main.proofs.Planning.{planned_calm}
-use Rattle.broker_main.proofs.top.fresh_world.Goals as goal
+use Rattle.broker_main.proofs.partition.fresh_world.Goals as goal
 
 pub unreachable-requires : goal.unreachable-requires
 unreachable-requires c =
