@@ -1,0 +1,4 @@
+mod Back
+mod Faults
+mod Out
+mod Ran

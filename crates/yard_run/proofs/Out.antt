@@ -1,0 +1,184 @@
+-- A partition's devices, as they are handed out one after another.
+use Rattle.std.proofs.Common.{◌≡◌, ◌≢◌, inl, inr, ◌∙◌, sym, ap, subst, refl, ℕ, zero, suc, ◌+◌, ◌≤◌, List, [], ◌∷◌, ◌++◌, map, length, Option, Some, None, All, IsTrue, IsSome, arith}
+use Rattle.std.specs.Prelude.{◌⊎◌, IsErrOf, Err}
+use Rattle.std.proofs.lemmas.List.Elements.{All-append}
+use Rattle.tier_base.specs.Counts.{counted, Rose}
+use Rattle.tier_base.specs.Device.{Fate, Went, Fault, Dry, IsFresh, fate_of_trouble}
+use Rattle.tier_base.specs.declared.fault.Trouble.{Trouble}
+use Rattle.tier_base.specs.declared.fault.Trouble.TheVariants.{Failed, NoMemory}
+use Rattle.tier_base.specs.declared.names.BrokerId.{BrokerId}
+use Rattle.tier_base.specs.declared.names.PartitionId.{PartitionId}
+use Rattle.tier_base.specs.declared.object_key.ObjectKey.{ObjectKey}
+use Rattle.tier_base.specs.declared.plain.FileName.{FileName}
+use Rattle.disk_model.specs.declared.disk.Disk.{Ghosts as DiskGhosts}
+use Rattle.disk_model.specs.Content as files
+use Rattle.object_store.specs.declared.store.Store.{Ghosts as StoreGhosts}
+use Rattle.meta_log.specs.declared.log.MetaLog.{Ghosts as MetaGhosts}
+use Rattle.device_yard.specs.declared.came.Came.{Came}
+use Rattle.device_yard.specs.Control.{Control, Hands}
+use Rattle.device_yard.specs.Held.{Held, IsUnused, DiskIs, StoreIs, HandsDisk, HandsStore, HandsLog, Has}
+use Rattle.yard_run.specs.Yard.{came_of, HandedOut, CameBack, Uses, OnlyOf, KeepsRest}
+use Rattle.partition_world.specs.declared.tier.Devices.{Devices}
+use Rattle.yard_run.specs.Handed.{IsHandedDisk, AreHandedDisks, AreHanded}
+use Rattle.yard_run.proofs.Back.{disk_only, only_none, only_then, length_snoc, length_map}
+use Rattle.yard_run.proofs.Faults.{goes_on, rose_before, counts_one, still}
+
+-- what holds of an item holds of the list of it alone
+pub all_one : {A : Type 0} (P : A → Type 0) (x : A) → P x → All P (x ∷ [])
+all_one P x h zero y within = h
+all_one P x h (suc i) y within = absurd (omega (arith, within))
+
+-- a list that has no item is empty
+none_left : {A : Type 0} (xs : List A) → (xs ≢ [] → ⊥) → xs ≡ []
+none_left [] never = refl
+none_left (x ∷ xs) never = absurd (never (λ is. cc))
+
+-- a call that went wrong took no fault away, and handed nothing out
+pub went_wrong : (fate : Fate) (c c' : Control) → (fate ≡ Went → ⊥) → Hands fate c c' → (counted c.faults 0 ≤ c'.faults) × (c'.out ≡ c.out)
+went_wrong Went c c' wrong h = absurd (wrong refl)
+went_wrong Fault c c' wrong h = (let one = h.faults.fault refl in let more = counts_one c.faults in omega (arith, one, more), h.out)
+went_wrong Dry c c' wrong h = (let same = h.faults.dry refl in omega (arith, same), h.out)
+
+-- a call that failed raised the count
+pub raised : (c c' : Control) → Hands Fault c c' → Rose c.faults c'.faults
+raised c c' h = let one = h.faults.fault refl in omega (arith, one)
+
+module _ {D S M : Type 0} (disk : DiskGhosts D) (store : StoreGhosts S) (meta : MetaGhosts M) where
+  -- so many disks are out: those of the brokers from their number on are where they were
+  pub record SoFar (p : PartitionId) (h0 h : Held D S M) (c0 c : Control) (disks : List D) : Type 0 where
+    pub each : All (IsHandedDisk disk store meta p h0) disks
+    pub control : HandedOut (length disks) c0 c
+    pub only : OnlyOf p h0 h
+    pub rest : IsTrue h0.tells → (b : BrokerId) → length disks ≤ b.0 → h.disks p b ≡ h0.disks p b
+    pub stores : IsTrue h0.tells → h.stores p ≡ h0.stores p
+    pub logs : IsTrue h0.tells → h.logs p ≡ h0.logs p
+
+  pub so_far_none : (p : PartitionId) (h : Held D S M) (c : Control) → SoFar p h h c c []
+  so_far_none p h c = record {
+    each = λ i d within. absurd (omega (arith, within));
+    control = record { faults = refl; named = refl; returned = refl; out = omega arith };
+    only = only_none p h;
+    rest = λ t b past. refl;
+    stores = λ t. refl;
+    logs = λ t. refl;
+  }
+
+  -- a disk that was held unused has no file
+  empty_disk : (p : PartitionId) (b : BrokerId) (h : Held D S M) (held : Option D) (d : D) → held ≡ h.disks p b → IsUnused disk.content store.content meta.content h p
+      → HandsDisk disk.content held (disk.content d) → (n : FileName) → (disk.content d).files n ≡ None
+  empty_disk p b h None d is unused gives n = gives.files n
+  empty_disk p b h (Some e) d is unused gives n = gives.files n ∙ nothing ((disk.content e).files n) (λ some. unused (inl (b, subst (Has (λ k. (m : FileName) × IsSome ((disk.content k).files m))) is (n, some))))
+    where
+      nothing : (file : Option (List ℕ)) → (IsSome file → ⊥) → file ≡ None
+      nothing None never = refl
+      nothing (Some bytes) never = absurd (never refl)
+
+  -- a store that was held unused has no object
+  pub empty_store : (p : PartitionId) (h : Held D S M) (held : Option S) (s : S) → held ≡ h.stores p → IsUnused disk.content store.content meta.content h p
+      → HandsStore store.content held (store.content s) → (k : ObjectKey) → (store.content s).objects k ≡ None
+  empty_store p h None s is unused gives k = gives.objects k
+  empty_store p h (Some e) s is unused gives k = gives.objects k ∙ nothing ((store.content e).objects k) (λ some. unused (inr (inl (subst (Has (λ j. (m : ObjectKey) × IsSome ((store.content j).objects m))) is (k, some)))))
+    where
+      nothing : (object : Option (List ℕ)) → (IsSome object → ⊥) → object ≡ None
+      nothing None never = refl
+      nothing (Some bytes) never = absurd (never refl)
+
+  -- a metadata log that was held unused has no note
+  pub empty_log : (p : PartitionId) (h : Held D S M) (held : Option M) (m : M) → held ≡ h.logs p → IsUnused disk.content store.content meta.content h p
+      → HandsLog meta.content held (meta.content m) → (meta.content m).notes ≡ []
+  empty_log p h None m is unused gives = gives.notes
+  empty_log p h (Some e) m is unused gives = gives.notes ∙ none_left (meta.content e).notes (λ some. unused (inr (inr (subst (Has (λ j. (meta.content j).notes ≢ [])) is some))))
+
+  pub so_far_more : (p : PartitionId) (b : BrokerId) (h0 h h' : Held D S M) (c0 c c' : Control) (disks : List D) (d : D) → b.0 ≡ length disks → SoFar p h0 h c0 c disks
+      → Hands Went c c' → h'.tells ≡ h.tells → IsFresh (disk.control d) → (disk.content d).tells ≡ h.tells
+      → (IsTrue h.tells → HandsDisk disk.content (h.disks p b) (disk.content d)) → (IsTrue h.tells → DiskIs p b None h h') → SoFar p h0 h' c0 c' (disks ++ d ∷ [])
+  so_far_more p b h0 h h' c0 c c' disks d at so hands tells fresh kind content is = record {
+    each = All-append (IsHandedDisk disk store meta p h0) disks (d ∷ []) so.each (all_one (IsHandedDisk disk store meta p h0) d this);
+    control = record {
+      faults = hands.faults.went refl ∙ so.control.faults;
+      named = hands.named ∙ so.control.named;
+      returned = hands.returned ∙ so.control.returned;
+      out = (let was = so.control.out in let now = hands.out in let long = length_snoc disks d in omega (arith, was, now, long));
+    };
+    only = only_then p h0 h h' so.only (disk_only p b None h h' tells is);
+    rest = λ t k past. let far = length_snoc disks d in
+        (is (was t)).others p k (inr (λ same. absurd (let no = ap (λ (j : BrokerId). j.0) same in omega (arith, past, far, at, no)))) ∙ so.rest t k (omega (arith, past, far));
+    stores = λ t. (is (was t)).stores p ∙ so.stores t;
+    logs = λ t. (is (was t)).logs p ∙ so.logs t;
+  }
+    where
+      was : IsTrue h0.tells → IsTrue h.tells
+      was t = subst IsTrue (sym so.only.tells) t
+
+      this : IsHandedDisk disk store meta p h0 d
+      this = record {
+        fresh = fresh;
+        tells = kind ∙ so.only.tells;
+        empty = λ t unused. empty_disk p b h0 (h.disks p b) d (so.rest t b (omega (arith, at))) unused (content (was t));
+      }
+
+-- a call for a further device went wrong, and those that were out are back
+pub back_again : (came : List Came) (c0 c c' c'' : Control) (fate : Fate) → HandedOut (length came) c0 c → (fate ≡ Went → ⊥) → Hands fate c c' → CameBack came c' c'' → Uses came c0 c''
+back_again came c0 c c' c'' fate so wrong hands back =
+    let how = went_wrong fate c c' wrong hands in
+    let begun = so.faults in
+    record {
+      never_falls = goes_on c0.faults c'.faults c''.faults (let now = how.0 in omega (arith, begun, now)) (let end = back.faults in let kept = still came c'.faults in omega (arith, end, kept));
+      named = back.named ∙ (hands.named ∙ so.named);
+      returned = back.returned ∙ ap (λ (l : List Came). l ++ came) (hands.returned ∙ so.returned);
+      out = (let a = back.out in let b = how.1 in let e = so.out in omega (arith, a, b, e));
+    }
+
+-- where it was a fault the count of faults rose
+pub back_risen : (came : List Came) (c0 c c' c'' : Control) → HandedOut (length came) c0 c → Hands Fault c c' → CameBack came c' c'' → Rose c0.faults c''.faults
+back_risen came c0 c c' c'' so hands back =
+    let rise = raised c c' hands in
+    let begun = so.faults in
+    rose_before c0.faults c'.faults c''.faults (subst (λ (n : ℕ). Rose n c'.faults) begun rise) (let end = back.faults in let kept = still came c'.faults in omega (arith, end, kept))
+
+-- devices by their counts
+pub as_many : {A : Type 0} (f : A → Came) (xs : List A) (c0 c : Control) → HandedOut (length xs) c0 c → HandedOut (length (map f xs)) c0 c
+as_many f xs c0 c so = subst (λ (n : ℕ). HandedOut n c0 c) (sym (length_map f xs)) so
+
+-- so many devices by their counts
+pub all_so_many : {A : Type 0} (f : A → Came) (xs : List A) (n : ℕ) (c0 c : Control) → length xs ≡ n → HandedOut n c0 c → HandedOut (length (map f xs)) c0 c
+all_so_many f xs n c0 c many so = subst (λ (k : ℕ). HandedOut k c0 c) (sym (length_map f xs ∙ many)) so
+
+-- one device more is out
+pub one_more : (n : ℕ) (c0 c c' : Control) → HandedOut n c0 c → Hands Went c c' → HandedOut (suc n) c0 c'
+one_more n c0 c c' so hands = record {
+  faults = hands.faults.went refl ∙ so.faults;
+  named = hands.named ∙ so.named;
+  returned = hands.returned ∙ so.returned;
+  out = (let was = so.out in let now = hands.out in omega (arith, was, now));
+}
+
+-- the counts of one device behind others
+pub came_more_out : (came : List Came) (one : Came) (c0 c c' : Control) → HandedOut (length came) c0 c → Hands Went c c' → HandedOut (length (came ++ one ∷ [])) c0 c'
+came_more_out came one c0 c c' so hands = subst (λ (n : ℕ). HandedOut n c0 c') (sym (length_snoc came one)) (one_more (length came) c0 c c' so hands)
+
+-- trouble isn't a call that went well
+pub gone_wrong : (trouble : Trouble) → fate_of_trouble trouble ≡ Went → ⊥
+gone_wrong Failed is = cc
+gone_wrong NoMemory is = cc
+
+-- a call that answered `Failed` was a fault
+pub as_fault : {T : Type 0} (trouble : Trouble) (c c' : Control) → IsErrOf {T = T} (Err trouble) Failed → Hands (fate_of_trouble trouble) c c' → Hands Fault c c'
+as_fault trouble c c' is h = subst (λ (t : Trouble). Hands (fate_of_trouble t) c c') (let same : trouble ≡ Failed = cc in same) h
+
+module _ {D S M : Type 0} (disk : DiskGhosts D) (store : StoreGhosts S) (meta : MetaGhosts M) where
+  -- store and metadata log are out behind the disks
+  pub all_out : (p : PartitionId) (count : ℕ) (devices : Devices D S M) (h0 h1 h2 : Held D S M) → AreHandedDisks disk store meta p count devices.disks.items h0
+      → h1.tells ≡ h0.tells → h2.tells ≡ h1.tells → (IsTrue h0.tells → KeepsRest p h0 h1) → (IsTrue h1.tells → StoreIs p None h1 h2)
+      → (store.content devices.store).tells ≡ h1.tells → (IsTrue h1.tells → HandsStore store.content (h1.stores p) (store.content devices.store))
+      → (meta.content devices.meta).tells ≡ h2.tells → (IsTrue h2.tells → HandsLog meta.content (h2.logs p) (meta.content devices.meta))
+      → AreHanded disk store meta p count devices h0
+  all_out p count devices h0 h1 h2 disks same again rest out tells gives says notes = record {
+    disks = disks;
+    store_tells = tells ∙ same;
+    meta_tells = says ∙ (again ∙ same);
+    objects = λ t unused. empty_store disk store meta p h0 (h1.stores p) devices.store (rest t).store unused (gives (subst IsTrue (sym same) t));
+    notes = λ t unused.
+        let t' : IsTrue h1.tells = subst IsTrue (sym same) t in
+        empty_log disk store meta p h0 (h2.logs p) devices.meta ((out t').logs p ∙ (rest t).log) unused (notes (subst IsTrue (sym again) t'));
+  }

@@ -1,0 +1,41 @@
+use Rattle.std.proofs.Common.{◌≡◌, sym, ap, subst, refl, [], ◌∷◌, List, map, length, arith}
+use Rattle.tier_base.specs.Device.{Fate, Went, Fault, Dry, fate_of_trouble}
+use Rattle.tier_base.specs.declared.fault.Trouble.{Trouble}
+use Rattle.tier_base.specs.declared.fault.Trouble.TheVariants.{Failed, NoMemory}
+use Rattle.device_yard.specs.Control.{Control, Hands}
+use Rattle.yard_run.specs.Yard.{came_of}
+use Rattle.yard_run.proofs.Back.{length_snoc}
+use Rattle.yard_run.proofs.Out.{SoFar, so_far_more, back_again, back_risen, as_many, gone_wrong, as_fault}
+use Rattle.yard_run.proofs.handing.hand_disks.Goals as goal
+
+pub returns-in-Err-clause-err : goal.returns-in-Err-clause-err
+returns-in-Err-clause-err g c =
+    let came = map (came_of g.Y.D.Disk.control) c.loop-broker.disks.items in (
+      came,
+      back_again came (g.Y.Yard.control c.args.yard.now) (g.Y.Yard.control c.loop-broker.yard) (g.Y.Yard.control c.disk.new.self) (g.Y.Yard.control c.keep_disks.new.yard)
+          (fate_of_trouble c.in-Err.trouble) (as_many (came_of g.Y.D.Disk.control) c.loop-broker.disks.items _ _ c.loop-broker.invariant.so_far.control) (gone_wrong c.in-Err.trouble)
+          c.in-Err.ensures.control c.keep_disks.ensures.control,
+    )
+
+pub returns-in-Err-clause-cause : goal.returns-in-Err-clause-cause
+returns-in-Err-clause-cause g c = λ failed.
+    let came = map (came_of g.Y.D.Disk.control) c.loop-broker.disks.items in
+    back_risen came (g.Y.Yard.control c.args.yard.now) (g.Y.Yard.control c.loop-broker.yard) (g.Y.Yard.control c.disk.new.self) (g.Y.Yard.control c.keep_disks.new.yard)
+    (as_many (came_of g.Y.D.Disk.control) c.loop-broker.disks.items _ _ c.loop-broker.invariant.so_far.control)
+    (as_fault c.in-Err.trouble (g.Y.Yard.control c.loop-broker.yard) (g.Y.Yard.control c.disk.new.self) failed c.in-Err.ensures.control) c.keep_disks.ensures.control
+
+pub loop-broker-preserved : goal.loop-broker-preserved
+loop-broker-preserved g c =
+    let at = c.loop-broker.invariant in
+    let d = c.in-Ok.disk in
+    let said = c.in-Ok.ensures in
+    let same = c.push_reserved.ensures.items in
+    record {
+      at = (let long = ap (λ (l : List g.row.Y-D.Denot). length l) same in let one = length_snoc c.loop-broker.disks.items d in let was = at.at in omega (arith, long, one, was));
+      most = (let less = c.loop-broker-test.true in omega (arith, less));
+      room = (let kept = c.push_reserved.ensures.capacity in let was = at.room in omega (arith, kept, was));
+      so_far = subst (λ (l : List g.row.Y-D.Denot). SoFar g.Y.D.Disk g.Y.S.Store g.Y.M.MetaLog c.args.partition (g.Y.Yard.held c.args.yard.now) (g.Y.Yard.held c.disk.new.self) (g.Y.Yard.control c.args.yard.now) (g.Y.Yard.control c.disk.new.self) l) (sym same)
+          (so_far_more g.Y.D.Disk g.Y.S.Store g.Y.M.MetaLog c.args.partition (record { 0 = c.loop-broker.broker }) (g.Y.Yard.held c.args.yard.now) (g.Y.Yard.held c.loop-broker.yard) (g.Y.Yard.held c.disk.new.self)
+          (g.Y.Yard.control c.args.yard.now) (g.Y.Yard.control c.loop-broker.yard) (g.Y.Yard.control c.disk.new.self) c.loop-broker.disks.items d at.at at.so_far
+          said.control said.tells said.fresh said.told said.content said.out);
+    }

@@ -1,0 +1,4 @@
+pub mod Handed
+pub mod Refusals
+pub mod Runs
+pub mod Yard
