@@ -52,7 +52,7 @@ def disorder(on):
 def words(name):
     """The words of a crate's files."""
     found = set()
-    for part in ("src", "specs", "proofs"):
+    for part in ("src", "specs", "proofs", "must-fail"):
         for at, _, files in os.walk(os.path.join(TOP, "crates", name, part)):
             for file in files:
                 with open(os.path.join(at, file), encoding="utf-8") as f:

@@ -2,7 +2,7 @@
 """Runs what the documents show.
 
 usage: docs/snippets.py check PROGRAM    tells which snippet isn't what the program gives
-       docs/snippets.py write PROGRAM    writes the answers into the documents
+       docs/snippets.py write PROGRAM    writes the answers into the documents, and the table of the gate
 
 PROGRAM is the path of `tiered`. Four things are run, in README.md and in docs/:
 
@@ -13,6 +13,9 @@ PROGRAM is the path of `tiered`. Four things are run, in README.md and in docs/:
 - A block ```console has commands of a shell behind `$ `, with what they print below them.
 - A block ```bytes has hexadecimal digits at the head of its lines: a batch that was fetched in the
   script block before it.
+
+The gate runs no document. So the refused lines stand once more in a table of the program's crate,
+which is made here, and which a test of that crate goes over. The rest is run here alone.
 """
 import glob
 import os
@@ -25,6 +28,7 @@ TOP = os.path.join(os.path.dirname(os.path.abspath(__file__)), "..")
 sys.path.insert(0, os.path.join(TOP, "examples"))
 from view import beside  # noqa: E402
 
+TABLE = "crates/broker_main/src/shown.rt"
 BLOCK = re.compile(r"^```(script|console|bytes)\n(.*?)^```$", re.S | re.M)
 
 
@@ -35,6 +39,29 @@ def ran(program, script):
 
 def short(line):
     return re.sub(r"( Run \S+ \S+ \S+ \S+ [0-9a-f]{16})[0-9a-f]+$", r"\1..", line)
+
+
+def literal(text):
+    return '"' + text.replace("\\", "\\\\").replace('"', '\\"').replace("\t", "\\t").replace("\n", "\\n") + '"'
+
+
+def static(doc, name, kind, rows):
+    return f"\n/// {doc}\npub(crate) static {name}: [{kind}; {len(rows)}] = [\n" + "".join(f"{row}\n" for row in rows) + "];\n"
+
+
+def as_laid_out(text):
+    """A text without what a layout adds: blanks, and a comma behind the last of a list."""
+    return re.sub(r",([\])])", r"\1", re.sub(r"\s+", "", text))
+
+
+def table(refused):
+    """The table of the gate."""
+    text = "//! What the documents show as refused. Made by docs/snippets.py, which tells where it is another.\n"
+    text += static("The lines of a script, each with how often it stands there, and what is told of it.", "REFUSED",
+                   "(&[(u32, &str)], &str)",
+                   ["    (\n        &[" + ", ".join(f"({n}, {literal(line)})" for n, line in lines) + f"],\n        {literal(told)},\n    ),"
+                    for lines, told in refused])
+    return text
 
 
 def script_block(program, text, wrong):
@@ -78,11 +105,12 @@ def blocks(program, page, wrong):
 
 
 def lines_of(span):
+    """How often a line stands there, and the line."""
     many = re.match(r"([\d,]+) x (.*)$", span)
-    return [many[2]] * int(many[1].replace(",", "")) if many else [span]
+    return (int(many[1].replace(",", "")), many[2]) if many else (1, span)
 
 
-def refusals(program, page, wrong):
+def refusals(program, page, wrong, refused):
     """Runs the rows of each table of refusals."""
     inside, count = False, 0
     for row in page.splitlines():
@@ -92,10 +120,12 @@ def refusals(program, page, wrong):
         elif cells[-1] == "refused":
             inside = True
         elif inside and "`" in cells[-1]:
-            script = [line for span in re.findall(r"`([^`]+)`", cells[-1]) for line in lines_of(span)]
+            spans = [lines_of(span) for span in re.findall(r"`([^`]+)`", cells[-1])]
+            script = [line for many, line in spans for _ in range(many)]
             cause = re.search(r"`(\w+)`", cells[0])[1]
             status, _, said = ran(program, "".join(line + "\n" for line in script))
             count += 1
+            refused.append((spans, f"tiered: line {len(script)}: {cause}\n"))
             if said != f"tiered: line {len(script)}: {cause}":
                 wrong.append(f"{cause}: the program says: {said} ({status})")
     return count
@@ -106,18 +136,26 @@ def main():
         print(__doc__.strip())
         return 2
     word, program = sys.argv[1], os.path.abspath(sys.argv[2])
-    wrong, shown, rows = [], 0, 0
+    wrong, refused, shown, rows = [], [], 0, 0
     for path in [TOP + "/README.md"] + sorted(glob.glob(TOP + "/docs/*.md")):
         with open(path, encoding="utf-8") as f:
             page = f.read()
         new = blocks(program, page, wrong)
         shown += len(BLOCK.findall(page))
-        rows += refusals(program, page, wrong)
+        rows += refusals(program, page, wrong, refused)
         if new != page and word == "check":
             wrong.append(os.path.relpath(path, TOP) + " shows other answers than the program gives")
         if new != page and word == "write":
             with open(path, "w", encoding="utf-8") as f:
                 f.write(new)
+    with open(os.path.join(TOP, TABLE), encoding="utf-8") as f:
+        old = f.read()
+    new = table(refused)
+    if as_laid_out(new) != as_laid_out(old) and word == "check":
+        wrong.append(TABLE + " isn't what the documents show as refused")
+    if word == "write":
+        with open(os.path.join(TOP, TABLE), "w", encoding="utf-8") as f:
+            f.write(new)
     print("\n".join(wrong + [f"{shown} blocks and {rows} rows, {len(wrong)} of them wrong"]))
     return 1 if wrong else 0
 

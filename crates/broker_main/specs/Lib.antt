@@ -5,3 +5,4 @@ pub mod Headline
 pub mod Running
 pub mod Telling
 pub mod Endings
+pub mod Yards

@@ -3,7 +3,7 @@
 //! The batches' bytes come from a writer of record batches that was made apart from this repository.
 
 use super::*;
-use crate::tests::{source_of, words_of};
+use crate::tests::{source_of, status_of, words_of};
 use std::test::Fail;
 use tier_base::MemorySink;
 
@@ -137,8 +137,8 @@ fn scripts_of_several_brokers_give_their_traces(rt: HostRuntime) -> Result<(), F
     for (name, script, trace) in ROWS.iter().chain(FAULTS.iter()) {
         let mut source = source_of(alloc, script.as_bytes(), &[])?;
         let mut sink = MemorySink::new(alloc, 10_000, 7, Vec::new(alloc))?;
-        let status = tiered(&rt, words.as_slice(), &mut source, &mut sink);
-        assert_eq!(rt; status, Status::Ok, "{name}");
+        let status = status_of(rt, words.as_slice(), &mut source, &mut sink)?;
+        assert_eq!(rt; status.number(), 0, "{name}");
         assert_eq!(rt; sink.written(), trace.as_bytes(), "{name}");
     }
     Ok(())
@@ -162,8 +162,8 @@ fn segments_are_counted(rt: HostRuntime) -> Result<(), Fail> {
     }
     let mut source = source_of(alloc, script.as_slice(), &[])?;
     let mut sink = MemorySink::new(alloc, 200_000, 65_536, Vec::new(alloc))?;
-    let status = tiered(&rt, words.as_slice(), &mut source, &mut sink);
-    assert_eq!(rt; status, Status::Ok, "4,098 appends");
+    let status = status_of(rt, words.as_slice(), &mut source, &mut sink)?;
+    assert_eq!(rt; status.number(), 0, "4,098 appends");
     assert!(rt;
         sink.written() == trace.as_slice(),
         "the trace of 4,098 appends"

@@ -1,18 +1,23 @@
 //! The program: runs a script of log commands, and writes what each was answered, or runs a load and sums it up.
 //!
-//! `top.rt` has the call with the headline. What stands here hands it the words, standard input and standard output,
-//! prints the status's line to standard error, and ends with its number.
+//! `top.rt` has the call with the headline. What stands here hands it the words, standard input, a yard over the folder that
+//! the words name, and standard output, prints the status's line to standard error and what explains it behind that, and ends
+//! with the status's number.
 #![tactic(auto)]
 
 mod devices;
+mod explaining;
 mod load;
 mod partition;
 mod plans;
+mod run;
 mod sim;
 mod status;
 mod top;
 mod words;
 
+use explaining::{explained, script_source};
+use folder_yard::FolderYard;
 pub use script_lang::Why;
 pub use status::Status;
 use std::process::ExitCode;
@@ -26,6 +31,8 @@ tiered: a partition's log, run by a script
 
 usage:
   tiered sim      reads a script from standard input, runs it, and writes the trace to standard output
+  tiered run DIR  the same over the folder DIR, in which nothing may stand: the brokers' logs, the remote store and its
+                  metadata log become files of it
   tiered gen N    runs the load of number N, from 0 to 4294967295, and writes how often each command was answered
                   in which way, and where each partition ended
   tiered --help
@@ -39,6 +46,12 @@ exit status:
   5  standard output failed
   6  out of memory
   7  the script has more than 16777216 bytes
+  8  the folder failed
+  9  something stands in the folder
+
+documents:
+  README.md       what the program does, and what is proved of it
+  docs/SCRIPT.md  every form of line, every answer and every status
 ";
 
 /// What `--version` prints.
@@ -82,23 +95,38 @@ fn printed(words: &[String]) -> Option<&'static str> {
 fn main(rt: HostRuntime) -> ExitCode {
     let words = match arguments(&rt) {
         Ok(words) => words,
-        Err(status) => return told(&rt, status),
+        Err(status) => return told(&rt, status, &[]),
     };
     if let Some(text) = printed(words.as_slice()) {
         return match print!(rt; "{text}") {
             Ok(()) => ExitCode::from(0),
-            Err(_) => told(&rt, Status::WriteFault),
+            Err(_) => told(&rt, Status::WriteFault, &[]),
         };
     }
-    let mut script = StdSource::new(rt.reader());
+    let mut script = script_source(&rt, StdSource::new(rt.reader()));
     let mut out = StdSink::new(io::writer(&rt));
-    let status = tiered(&rt, words.as_slice(), &mut script, &mut out);
-    told(&rt, status)
+    let mut yard = match FolderYard::new(rt, folder(words.as_slice())) {
+        Ok(yard) => yard,
+        Err(_) => return told(&rt, Status::NoMemory, &[]),
+    };
+    let status = tiered(&rt, words.as_slice(), &mut script, &mut yard, &mut out);
+    told(&rt, status, script.kept())
 }
 
-/// Prints a status's line to standard error, and gives its number.
-fn told(rt: &HostRuntime, status: Status) -> ExitCode {
+/// The folder that the words name.
+fn folder(words: &[String]) -> &str {
+    match words.get(1) {
+        Some(word) => word.as_str(),
+        None => ".",
+    }
+}
+
+/// Prints a status's line and what explains it to standard error, and gives the status's number.
+fn told(rt: &HostRuntime, status: Status, script: &[u8]) -> ExitCode {
     if let Ok(text) = status.line(rt.alloc()) {
+        let _ = eprint!(rt; "{text}");
+    }
+    if let Ok(text) = explained(rt.alloc(), &status, script) {
         let _ = eprint!(rt; "{text}");
     }
     ExitCode::from(status.number())
@@ -106,5 +134,9 @@ fn told(rt: &HostRuntime, status: Status) -> ExitCode {
 
 #[cfg(test)]
 mod broker_tests;
+#[cfg(test)]
+mod shown;
+#[cfg(test)]
+mod shown_tests;
 #[cfg(test)]
 mod tests;

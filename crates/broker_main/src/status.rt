@@ -2,9 +2,11 @@
 
 use script_lang::Why;
 use std::alloc::{AllocError, Global};
+use std::str;
+use tier_base::Blob;
 
-/// How a call ends. The tests are made in this order: words, source, length, script, sink.
-#[derive(Clone, Copy, Debug, PartialEq, Eq)]
+/// How a call ends. The tests are made in this order: words, source, length, script, yard, sink.
+#[derive(Debug, Drop)]
 pub enum Status {
     /// The script was read to its end, every command was answered, and the whole trace was written.
     Ok,
@@ -20,11 +22,15 @@ pub enum Status {
     NoMemory,
     /// The script has more bytes than a script may have.
     TooLong,
+    /// A call of the yard failed, or one of a disk that it handed out, before its partition's first command.
+    YardFault,
+    /// Something stands in the yard, and this is the first name of it in the order of bytes.
+    NotEmpty { name: Blob },
 }
 
 impl Status {
     /// Answers the number with which the process ends.
-    pub fn number(self) -> u8 {
+    pub fn number(&self) -> u8 {
         match self {
             Status::Ok => 0,
             Status::Usage => 2,
@@ -33,19 +39,32 @@ impl Status {
             Status::WriteFault => 5,
             Status::NoMemory => 6,
             Status::TooLong => 7,
+            Status::YardFault => 8,
+            Status::NotEmpty { .. } => 9,
         }
     }
 
     /// Makes the line for standard error, which is empty where all was done.
-    pub fn line(self, alloc: Global) -> Result<String, AllocError> {
+    pub fn line(&self, alloc: Global) -> Result<String, AllocError> {
         match self {
             Status::Ok => Ok(String::new(alloc)),
-            Status::Usage => String::from_str(alloc, "tiered: usage: tiered sim or gen N\n"),
+            Status::Usage => String::from_str(
+                alloc,
+                "tiered: usage: tiered sim or run DIR or gen N\n",
+            ),
             Status::BadScript { line, why } => format!(in alloc; "tiered: line {line}: {why}\n"),
             Status::ReadFault => String::from_str(alloc, "tiered: read fault\n"),
             Status::WriteFault => String::from_str(alloc, "tiered: write fault\n"),
             Status::NoMemory => String::from_str(alloc, "tiered: out of memory\n"),
             Status::TooLong => String::from_str(alloc, "tiered: script over 16777216 bytes\n"),
+            Status::YardFault => String::from_str(alloc, "tiered: folder fault\n"),
+            Status::NotEmpty { name } => not_empty(alloc, name.as_slice()),
         }
     }
+}
+
+/// The line that tells of what stands in a folder. A name that isn't UTF-8 is left out.
+fn not_empty(alloc: Global, name: &[u8]) -> Result<String, AllocError> {
+    let name = str::from_utf8(name).unwrap_or("");
+    format!(in alloc; "tiered: folder not empty: {name}\n")
 }

@@ -5,8 +5,9 @@
 use super::*;
 use crate::words::{Form, form_of};
 use std::alloc::Global;
+use std::fs;
 use std::test::Fail;
-use tier_base::{MemorySink, MemorySource};
+use tier_base::{Blob, MemorySink, MemorySource};
 
 /// The words of a call.
 pub(crate) fn words_of(alloc: Global, list: &[&str]) -> Result<Vec<String>, Fail> {
@@ -20,6 +21,17 @@ pub(crate) fn words_of(alloc: Global, list: &[&str]) -> Result<Vec<String>, Fail
 /// A source of these bytes, whose calls of the plan fail.
 pub(crate) fn source_of(alloc: Global, bytes: &[u8], plan: &[u32]) -> Result<MemorySource, Fail> {
     Ok(MemorySource::new(bytes.to_vec(alloc)?, plan.to_vec(alloc)?))
+}
+
+/// What a call of the program comes to, as its number, with a yard over the folder that the words name.
+pub(crate) fn status_of(
+    rt: HostRuntime,
+    words: &[String],
+    script: &mut MemorySource,
+    out: &mut MemorySink,
+) -> Result<Status, Fail> {
+    let mut yard = FolderYard::new(rt, folder(words))?;
+    Ok(tiered(&rt, words, script, &mut yard, out))
 }
 
 /// Scripts and the traces that they give.
@@ -168,8 +180,8 @@ fn scripts_give_their_traces(rt: HostRuntime) -> Result<(), Fail> {
         for (name, script, trace) in rows {
             let mut source = source_of(alloc, script.as_bytes(), &[])?;
             let mut sink = MemorySink::new(alloc, 10_000, 7, Vec::new(alloc))?;
-            let status = tiered(&rt, words.as_slice(), &mut source, &mut sink);
-            assert_eq!(rt; status, Status::Ok, "{name}");
+            let status = status_of(rt, words.as_slice(), &mut source, &mut sink)?;
+            assert_eq!(rt; status.number(), 0, "{name}");
             assert_eq!(rt; sink.written(), trace.as_bytes(), "{name}");
         }
     }
@@ -180,15 +192,11 @@ fn scripts_give_their_traces(rt: HostRuntime) -> Result<(), Fail> {
 fn statuses_tell_their_causes(rt: HostRuntime) -> Result<(), Fail> {
     let alloc = rt.alloc();
     let script = ROWS[1].1.as_bytes();
-    let rows: [(&[&str], &[u8], &[u32], Status, &str, u8); 6] = [
+    let rows: [(&[&str], &[u8], &[u32], &str, u8); 7] = [
         (
             &["sim"],
             b"0 0 - pack 1\n",
             &[],
-            Status::BadScript {
-                line: 1,
-                why: Why::Unbuilt,
-            },
             "tiered: line 1: Unbuilt\n",
             3,
         ),
@@ -196,10 +204,6 @@ fn statuses_tell_their_causes(rt: HostRuntime) -> Result<(), Fail> {
             &["sim"],
             b"# c\n0 0 0 frob\n",
             &[],
-            Status::BadScript {
-                line: 2,
-                why: Why::Word,
-            },
             "tiered: line 2: Word\n",
             3,
         ),
@@ -207,37 +211,31 @@ fn statuses_tell_their_causes(rt: HostRuntime) -> Result<(), Fail> {
             &["sim"],
             b"0 0 0 fetch 0 268435457\n",
             &[],
-            Status::BadScript {
-                line: 1,
-                why: Why::FetchSum,
-            },
             "tiered: line 1: FetchSum\n",
             3,
         ),
-        (
-            &["sim"],
-            script,
-            &[1],
-            Status::ReadFault,
-            "tiered: read fault\n",
-            4,
-        ),
+        (&["sim"], script, &[1], "tiered: read fault\n", 4),
         (
             &["sim", "x"],
             script,
             &[],
-            Status::Usage,
-            "tiered: usage: tiered sim or gen N\n",
+            "tiered: usage: tiered sim or run DIR or gen N\n",
             2,
         ),
-        (&["sim"], script, &[], Status::Ok, "", 0),
+        (
+            &["run", "broker_none"],
+            b"frob",
+            &[],
+            "tiered: line 1: Word\n",
+            3,
+        ),
+        (&["sim"], script, &[], "", 0),
     ];
-    for (list, bytes, plan, want, line, number) in rows {
+    for (list, bytes, plan, line, number) in rows {
         let words = words_of(alloc, list)?;
         let mut source = source_of(alloc, bytes, plan)?;
         let mut sink = MemorySink::new(alloc, 10_000, 100, Vec::new(alloc))?;
-        let status = tiered(&rt, words.as_slice(), &mut source, &mut sink);
-        assert_eq!(rt; status, want);
+        let status = status_of(rt, words.as_slice(), &mut source, &mut sink)?;
         assert_eq!(rt; status.line(alloc)?.as_str(), line);
         assert_eq!(rt; status.number(), number);
         assert_eq!(rt; sink.written().is_empty(), number != 0);
@@ -251,14 +249,23 @@ fn each_status_has_its_number_and_line(rt: HostRuntime) -> Result<(), Fail> {
         line: 12,
         why: Why::Unbuilt,
     };
+    let named = Status::NotEmpty {
+        name: Blob::from_slice(rt.alloc(), b"x")?,
+    };
     let rows = [
         (Status::Ok, 0, ""),
-        (Status::Usage, 2, "tiered: usage: tiered sim or gen N\n"),
+        (
+            Status::Usage,
+            2,
+            "tiered: usage: tiered sim or run DIR or gen N\n",
+        ),
         (bad, 3, "tiered: line 12: Unbuilt\n"),
         (Status::ReadFault, 4, "tiered: read fault\n"),
         (Status::WriteFault, 5, "tiered: write fault\n"),
         (Status::NoMemory, 6, "tiered: out of memory\n"),
         (Status::TooLong, 7, "tiered: script over 16777216 bytes\n"),
+        (Status::YardFault, 8, "tiered: folder fault\n"),
+        (named, 9, "tiered: folder not empty: x\n"),
     ];
     for (status, number, line) in rows {
         assert_eq!(rt; status.number(), number);
@@ -267,9 +274,43 @@ fn each_status_has_its_number_and_line(rt: HostRuntime) -> Result<(), Fail> {
     Ok(())
 }
 
+/// The bytes that were kept of a script whose second line has a word without a reading, and what follows the status's line.
+static EXPLAINED: [(&str, &str); 2] = [
+    (
+        "# c\n0 0 0 flush x\n",
+        "    0 0 0 flush x\n                ^\nthis is a word too many\nexpected the line's end\nsee docs/SCRIPT.md, \"flush\"\n",
+    ),
+    ("", ""),
+];
+
+/// Whether this follows a status's line.
+fn follows(alloc: Global, status: Status, script: &str, told: &str) -> Result<bool, Fail> {
+    let text = explained(alloc, &status, script.as_bytes())?;
+    Ok(text.as_str() == told)
+}
+
+#[test]
+fn a_kept_script_is_explained(rt: HostRuntime) -> Result<(), Fail> {
+    let alloc = rt.alloc();
+    for (script, told) in &EXPLAINED {
+        let bad = Status::BadScript {
+            line: 2,
+            why: Why::Word,
+        };
+        assert!(rt; follows(alloc, bad, script, told)?);
+    }
+    let example = "for example: tiered sim < examples/first.script\ntiered --help tells more\n";
+    assert!(rt; follows(alloc, Status::Usage, "", example)?);
+    assert!(rt; follows(alloc, Status::Ok, "0 0 0 up\n", "")?);
+    Ok(())
+}
+
 /// Words, and the form that they have.
-static FORMS: [(&[&str], Option<Form>); 12] = [
+static FORMS: [(&[&str], Option<Form>); 15] = [
     (&["sim"], Some(Form::Sim)),
+    (&["run", "d"], Some(Form::Run)),
+    (&["run"], None),
+    (&["run", "d", "e"], None),
     (&["gen", "0"], Some(Form::Gen(0))),
     (&["gen", "4294967295"], Some(Form::Gen(4_294_967_295))),
     (&["gen", "4294967296"], None),
@@ -325,20 +366,62 @@ static SUMMARY: &str = "\
 ";
 
 /// Whether a load of this number, in pieces of 100 bytes, is summed up so.
-fn sums_up(rt: &HostRuntime, number: &str, want: &str) -> Result<(Status, bool), Fail> {
+fn sums_up(rt: HostRuntime, number: &str, want: &str) -> Result<(u8, bool), Fail> {
     let alloc = rt.alloc();
     let words = words_of(alloc, &["gen", number])?;
     let mut source = source_of(alloc, b"0 0 0 flush\n", &[1])?;
     let mut sink = MemorySink::new(alloc, 10_000, 100, Vec::new(alloc))?;
-    let status = tiered(rt, words.as_slice(), &mut source, &mut sink);
-    Ok((status, sink.written() == want.as_bytes()))
+    let status = status_of(rt, words.as_slice(), &mut source, &mut sink)?;
+    Ok((status.number(), sink.written() == want.as_bytes()))
 }
 
 /// It takes longer than `rt try` waits for a test.
 #[test]
 fn a_load_is_summed_up(rt: HostRuntime) -> Result<(), Fail> {
-    let told = sums_up(&rt, "1", SUMMARY)?;
-    assert!(rt; told == (Status::Ok, true));
+    let told = sums_up(rt, "1", SUMMARY)?;
+    assert!(rt; told == (0, true));
+    Ok(())
+}
+
+/// A script over two brokers, a follower among them, and a copy to the remote tier.
+static FOLDER_SCRIPT: &str =
+    "brokers 2\nsegment_bytes 100\n0 0 0 append 1000,-,:a\n0 0 0 append 1000,-,:b\n0 0 0 flush\n1 0 1 follow 1000\n1 0 1 flush\n1 0 1 ack\n0 0 0 ack\n0 0 0 copy\n";
+
+static FOLDER_TRACE: &str =
+    "0 0 0 = Ok 0 0 0\n0 0 1 = Ok 1 1 0\n0 0 2 = Ok 2\n0 1 0 begin\n0 1 0 = Copied 1\n0 1 1 = Ok 1\n0 1 2 = Ok 0\n0 0 3 = Ok 1\n0 0 4 begin\n0 0 4 = Copied 00000000-0000-0001-0000-000000000000 0 0\n";
+
+/// What a run over a folder comes to, and what it writes.
+fn runs_over(rt: HostRuntime, dir: &str, script: &str) -> Result<(u8, String, Vec<u8>), Fail> {
+    let alloc = rt.alloc();
+    let words = words_of(alloc, &["run", dir])?;
+    let mut source = source_of(alloc, script.as_bytes(), &[])?;
+    let mut sink = MemorySink::new(alloc, 10_000, 100, Vec::new(alloc))?;
+    let status = status_of(rt, words.as_slice(), &mut source, &mut sink)?;
+    Ok((
+        status.number(),
+        status.line(alloc)?,
+        sink.written().to_vec(alloc)?,
+    ))
+}
+
+#[test]
+fn a_folder_is_run_over_once(rt: HostRuntime) -> Result<(), Fail> {
+    let _ = fs::remove_dir_all(&rt, "broker_run");
+    let (number, _, written) = runs_over(rt, "broker_run", FOLDER_SCRIPT)?;
+    assert_eq!(rt; number, 0);
+    assert_eq!(rt; written.as_slice(), FOLDER_TRACE.as_bytes());
+    for path in [
+        "broker_run/p0/b0/manifest",
+        "broker_run/p0/b1/manifest",
+        "broker_run/p0/meta/notes",
+        "broker_run/p0/store/00000000-0000-0001-0000-000000000000.log",
+    ] {
+        assert!(rt; fs::metadata(&rt, path).is_ok(), "{path}");
+    }
+    let (number, line, written) = runs_over(rt, "broker_run", FOLDER_SCRIPT)?;
+    assert_eq!(rt; (number, written.len()), (9, 0));
+    assert_eq!(rt; line.as_str(), "tiered: folder not empty: p0\n");
+    fs::remove_dir_all(&rt, "broker_run")?;
     Ok(())
 }
 
@@ -361,8 +444,7 @@ fn a_failed_write_leaves_a_front(rt: HostRuntime) -> Result<(), Fail> {
     let words = words_of(alloc, &["sim"])?;
     let mut source = source_of(alloc, ROWS[1].1.as_bytes(), &[])?;
     let mut sink = MemorySink::new(alloc, 10_000, 4, [2].as_slice().to_vec(alloc)?)?;
-    let status = tiered(&rt, words.as_slice(), &mut source, &mut sink);
-    assert_eq!(rt; status, Status::WriteFault);
+    let status = status_of(rt, words.as_slice(), &mut source, &mut sink)?;
     assert_eq!(rt; status.number(), 5);
     assert_eq!(rt; sink.written(), b"0 0 ".as_slice());
     Ok(())
@@ -376,8 +458,7 @@ fn a_script_past_the_limit_is_too_long(rt: HostRuntime) -> Result<(), Fail> {
     bytes.resize(16_777_217, b'#')?;
     let mut source = MemorySource::new(bytes, Vec::new(alloc));
     let mut sink = MemorySink::new(alloc, 100, 100, Vec::new(alloc))?;
-    let status = tiered(&rt, words.as_slice(), &mut source, &mut sink);
-    assert_eq!(rt; status, Status::TooLong);
+    let status = status_of(rt, words.as_slice(), &mut source, &mut sink)?;
     assert_eq!(rt; status.number(), 7);
     assert_eq!(rt; sink.written().is_empty(), true);
     Ok(())

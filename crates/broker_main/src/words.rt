@@ -10,6 +10,8 @@ ghost use Rattle.broker_main.specs.Words.{form_of as form_is, number_of as numbe
 pub enum Form {
     /// `sim`: a script is read and run, and its trace is written.
     Sim,
+    /// `run DIR`: a script is read and run over the devices of a folder, and its trace is written.
+    Run,
     /// `gen N`: the script of a number is run, and its summary is written.
     Gen(u32),
 }
@@ -49,6 +51,7 @@ pub fn form_of(words: &[String]) -> Option<Form>
 {
     match words {
         [word] if word.as_str() == "sim" => Some(Form::Sim),
+        [word, _] if word.as_str() == "run" => Some(Form::Run),
         [word, number] if word.as_str() == "gen" => Some(Form::Gen(number_of(number.as_str())?)),
         _ => None,
     }

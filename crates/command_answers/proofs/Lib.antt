@@ -21,3 +21,11 @@ pub mod JoinsHaveCauses
 pub mod Joined
 pub mod RowsWithoutDamage
 pub mod RunsWithoutDamage
+pub mod FaultCounts
+pub mod FaultsOfRows
+pub mod FaultsTold
+pub mod FaultsOfCopies
+pub mod FaultsOfDeletions
+pub mod FaultsOfSearches
+pub mod FaultsOfTurns
+pub mod FaultsOfJournals

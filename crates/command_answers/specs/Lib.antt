@@ -15,3 +15,5 @@ pub mod UnhinderedJoins
 pub mod LawsOfJoins
 pub mod Damage
 pub mod LawsOfDamage
+pub mod Counted
+pub mod LawsOfFaults

@@ -2,14 +2,19 @@
 //!
 //! They stand over the rows of a world's turns, and no code calls them but for the last. Over any devices a command is
 //! answered in so many turns of its actor; over devices that tell what they hold, what an answer to a copy, a fetch or a
-//! join says is so, one that nothing hinders is answered by what was asked for, and none is answered `Damaged`.
+//! join says is so, one that nothing hinders is answered by what was asked for, and none is answered `Damaged`. Each fault of
+//! a device that a journal tells of is one that the device has counted, over any devices, also over those that don't tell what
+//! they hold, and whatever their counts of faults were at the start: no turn lowers a count, and a turn that is answered a
+//! fault of a device raises that device's.
 //!
 //! `specs/Turns.antt` has how many turns are left of a command; `specs/CausesOfCopies.antt`, `CausesOfFetches.antt` and
-//! `CausesOfJoins.antt` why an answer is given, and `specs/Damage.antt` what a journal tells where nothing is damaged.
+//! `CausesOfJoins.antt` why an answer is given, and `specs/Damage.antt` what a journal tells where nothing is damaged;
+//! `specs/Counted.antt` which device each fault is of.
 #![tactic(auto)]
 
 mod copy_laws;
 mod damage_laws;
+mod fault_laws;
 mod fetch_laws;
 mod join_laws;
 mod turn_laws;
@@ -19,6 +24,7 @@ pub use copy_laws::{
     unfailing_are_copied, unhindered_are_copied,
 };
 pub use damage_laws::{no_answer_is_damaged, runs_meet_no_damage};
+pub use fault_laws::reaches_counted;
 pub use fetch_laws::{
     fetches_have_causes, fresh_has_spans, no_fetch_is_damaged, pieces_end, reaches_spans,
     turns_keep_spans, unfailing_are_served, unhindered_are_served,

@@ -13,7 +13,7 @@ use std::alloc::{AllocError, Global};
 /// How many bytes tell a note's length.
 const SIZE_BYTES: usize = 4;
 
-/// Sixteen bytes are an id's.
+/// Sixteen bytes are an id's. Reading each shows that it is below 256: of what a reference lends that isn't known before.
 fn are_sixteen(bytes: &[u8; 16])
     ensures { (length bytes.now ≡ 16) × All (λ b. b < 256) bytes.now }
 {

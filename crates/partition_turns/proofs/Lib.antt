@@ -1,4 +1,3 @@
-pub mod Dispatch
 pub mod Open
 pub mod Staying
 pub mod Putting

@@ -1,9 +1,11 @@
 -- Writes that change nothing, and answers that say more.
-use Rattle.std.proofs.Common.{◌≡◌, ℕ, List, slice_get, slice_set, Some}
+use Rattle.std.proofs.Common.{◌≡◌, ◌<◌, ℕ, zero, suc, List, [], ◌∷◌, length, slice_get, slice_set, Some, arith}
 use Rattle.std.specs.declared.result.Result.{Result}
 use Rattle.std.specs.declared.result.Result.TheVariants.{Ok, Err}
-use Rattle.std.specs.Prelude.{IfOk}
+use Rattle.std.specs.Prelude.{IfOk, IsSomeAnd}
 use Rattle.log_terms.proofs.Lists.{set-same}
+use Rattle.partition_turns.specs.declared.held.Held.{Held}
+use Rattle.partition_turns.specs.Held.{CanStop}
 
 -- a write of what stands there changes nothing
 pub set_same : {A : Type 0} (xs : List A) (i : ℕ) (x : A) → slice_get xs i ≡ Some x → slice_set xs i x ≡ xs
@@ -13,3 +15,13 @@ set_same xs i x e = set-same xs i x e
 pub ok_more : {T E : Type 0} (P Q : T → Type 0) (r : Result T E) → ((x : T) → P x → Q x) → IfOk r P → IfOk r Q
 ok_more P Q (Ok x) f h = f x h
 ok_more P Q (Err e) f h = tt
+
+-- what stands at a place is within the list
+within : {A : Type 0} (P : A → Type 0) (xs : List A) (i : ℕ) → IsSomeAnd (slice_get xs i) P → i < length xs
+within P [] i at = absurd at
+within P (x ∷ xs) zero at = omega arith
+within P (x ∷ xs) (suc i) at = omega (arith, within P xs i at)
+
+-- a broker that can stop is one of the partition's
+pub can_stop : {D : Type 0} (h : Held D) (b : ℕ) → CanStop h b → b < length h.nodes
+can_stop h b can = within (λ x. x.stops < 18446744073709551615) h.nodes b can

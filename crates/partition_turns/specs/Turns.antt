@@ -13,7 +13,7 @@ use Rattle.plain_log.specs.declared.answer.Answer.{Answer}
 use Rattle.plain_log.specs.declared.answer.Answer.TheVariants.{Ok, Down, IsUp, DiskFault, Damaged, LastIncarnation, Up}
 use Rattle.plain_log.specs.declared.answer.Place.TheVariants.{File}
 use Rattle.plain_log.specs.declared.command.Command.{Command}
-use Rattle.plain_log.specs.declared.command.Command.TheVariants.{Append, Raw, Flush, Roll, Elect, Unclean, Learn, Join, Follow, Trim, Ack, Shrink, Expand, Raise, Clock, Stop as StopCommand, Up as UpCommand, Fetch}
+use Rattle.plain_log.specs.declared.command.Command.TheVariants.{Append, Raw, Flush, Roll, Elect, Unclean, Learn, Join, Follow, Copy, Trim, Expire, Ack, Shrink, Expand, Raise, Clock, Stop as StopCommand, Up as UpCommand, Fetch}
 use Rattle.broker_log.specs.Seen.{Kept, Lasting}
 use Rattle.broker_log.specs.Turns.{Stops, ComesUp, Unopened, IsSpent}
 use Rattle.partition_seen.specs.declared.begun.Begun.{Begun}
@@ -26,6 +26,13 @@ use Rattle.partition_turns.specs.TurnsOfLog.{AppendRow, RawRow, FlushRow, RollRo
 use Rattle.partition_turns.specs.TurnsOfFetch.{FetchTurn}
 use Rattle.partition_turns.specs.TurnsOfElections.{ElectRow, UncleanRow, LearnRow, AckRow, ShrinkRow, ExpandRow, RaiseRow}
 use Rattle.partition_turns.specs.TurnsOfFollowers.{JoinRow, JoinOnRow, FollowRow, FollowOnRow}
+
+-- the remote tier has a part in its first turn
+abbrev pub IsOfTier : Command → Type 0
+IsOfTier Copy = Unit {0}
+IsOfTier Trim = Unit {0}
+IsOfTier Expire = Unit {0}
+IsOfTier command = ⊥
 
 module _ {D : Type 0} where
   -- clock

@@ -90,12 +90,7 @@ impl<D: Disk> Held<D> {
     }
 
     /// Goes on with a join: the follower's log is begun anew, where nothing has come between.
-    pub(crate) fn join_on(
-        &mut self,
-        alloc: Global,
-        b: usize,
-        begun: &Begun,
-    ) -> Result<Answer, AllocError>
+    pub fn join_on(&mut self, alloc: Global, b: usize, begun: &Begun) -> Result<Answer, AllocError>
         requires { CanStop self.old b }
         ensures row { IfOk result (λ answer. AtNode self.old b (λ x. JoinOnRow D.content D.control self.old b x begun.now answer self.new)) }
         ensures err { OnErr result (StaysHeld D.content D.control self.old self.new) }
@@ -220,13 +215,14 @@ impl<D: Disk> Held<D> {
             Err(LogRefusal::Damaged { file, at }) => {
                 Ok(Turned::Answers(Answer::Damaged(Place::File(file), at)))
             }
-            Err(_) => Err(AllocError),
+            Err(LogRefusal::NoMemory) => Err(AllocError),
+            Err(_) => unreachable!(),
         }
     }
 
     /// Puts of the run that a follow has read at the end of the follower's log what stands in one segment.
     #[tactic(auto, using(crate::proofs::Writes::set_same))]
-    pub(crate) fn follow_on(&mut self, b: usize, begun: &Begun) -> Result<Answer, AllocError>
+    pub fn follow_on(&mut self, b: usize, begun: &Begun) -> Result<Answer, AllocError>
         requires { CanStop self.old b }
         ensures row { IfOk result (λ answer. AtNode self.old b (λ x. FollowOnRow D.content D.control self.old b x begun.now answer self.new)) }
         ensures err { OnErr result (StaysHeld D.content D.control self.old self.new) }

@@ -3,11 +3,12 @@
 //! Each command has a method of its own, which makes its tests in their order. Where it finds no memory nothing that is
 //! seen has changed. A fault of a broker's disk in a write stops the broker.
 
-ghost use Rattle.std.specs.Prelude.{◌≡◌, ◌<◌, ◌≤◌, ◌+◌, ◌↔◌, length, IfOk, OnErr, IsTrue};
+ghost use Rattle.std.specs.Prelude.{◌≡◌, ◌<◌, ◌≤◌, ◌+◌, ◌↔◌, length, Some, None, IfOk, IfSome, OnErr, IsTrue};
 ghost use Rattle.epoch_line.specs.Line.{last_epoch};
 ghost use Rattle.plain_log.specs.Orders.{IsInRange};
+ghost use Rattle.partition_seen.specs.declared.begun.Turned.TheVariants.{Answers};
 ghost use Rattle.partition_turns.specs.Held.{AtNode, CanStop, StaysHeld, stopped, is_up, end_of, stable_of, line_of};
-ghost use Rattle.partition_turns.specs.Turns.{FirstRow, LaterRow, AnswerRow};
+ghost use Rattle.partition_turns.specs.Turns.{IsOfTier, FirstRow};
 ghost use Rattle.partition_turns.specs.TurnsOfLog.{Notes};
 ghost use Rattle.partition_turns.specs.Sound.{HeldSound};
 
@@ -109,77 +110,47 @@ impl<D: Disk> Held<D> {
         }
     }
 
-    /// Carries out the first turn of a command.
-    pub fn first_turn(&mut self, alloc: Global, order: &Order) -> Result<Turned, AllocError>
+    /// Carries out the first turn of a command, where the remote tier has no part in it.
+    #[tactic(auto, using(crate::proofs::Writes::can_stop))]
+    pub fn first_turn(&mut self, alloc: Global, order: &Order) -> Result<Option<Turned>, AllocError>
         requires node { CanStop self.old order.now.broker.0 }
         requires sound { HeldSound (length self.old.nodes) self.old }
         requires fit { IsInRange order.now.command }
-        ensures row { IfOk result (λ turned.
+        ensures row { IfOk result (λ found. IfSome found (λ turned.
             AtNode self.old order.now.broker.0 (λ x.
-            FirstRow D.content D.control self.old order.now.broker.0 x order.now.command turned self.new)) }
+            FirstRow D.content D.control self.old order.now.broker.0 x order.now.command turned self.new))) }
+        ensures none { IfOk result (λ found. found ≡ None → IsOfTier order.now.command × (self.new ≡ self.old)) }
         ensures err { OnErr result (StaysHeld D.content D.control self.old self.new) }
     {
+        let (broker, b) = (order.broker, order.broker.0 as usize);
         match &order.command {
-            Command::Follow { limit } => self.follow(alloc, order.broker.0 as usize, *limit),
-            Command::Join => self.join(alloc, order.broker.0 as usize),
-            Command::Fetch { offset, limit } => {
-                self.fetch(alloc, order.broker.0 as usize, *offset, *limit)
-            }
-            _ => Ok(Turned::Answers(self.answer(alloc, order)?)),
+            Command::Append(recs) => Ok(at_once(self.append(alloc, b, recs.as_slice())?)),
+            Command::Raw(bytes) => Ok(at_once(self.raw(alloc, b, bytes.as_slice())?)),
+            Command::Flush => Ok(at_once(self.flush(b)?)),
+            Command::Roll => Ok(at_once(self.roll(b)?)),
+            Command::Elect => Ok(at_once(self.elect(broker))),
+            Command::Unclean => Ok(at_once(self.unclean(broker))),
+            Command::Learn => Ok(at_once(self.learn(broker)?)),
+            Command::Ack => Ok(at_once(self.ack(broker))),
+            Command::Shrink => Ok(at_once(self.shrink(broker))),
+            Command::Expand => Ok(at_once(self.expand(broker))),
+            Command::Raise { start } => Ok(at_once(self.raise(b, *start))),
+            Command::Clock { ms } => Ok(at_once(self.set_clock(*ms))),
+            Command::Stop => Ok(at_once(self.stop(b))),
+            Command::Up => Ok(at_once(self.up(b)?)),
+            Command::Join => Ok(Some(self.join(alloc, b)?)),
+            Command::Follow { limit } => Ok(Some(self.follow(alloc, b, *limit)?)),
+            Command::Fetch { offset, limit } => { Ok(Some(self.fetch(alloc, b, *offset, *limit)?)) }
+            Command::Copy | Command::Trim | Command::Expire => Ok(None),
+            // No world runs these yet.
+            Command::Pack(_) | Command::Copying(_) | Command::Offset(_) => unreachable!(),
         }
     }
+}
 
-    /// Carries out the last turn of a command that has begun.
-    pub fn later_turn(
-        &mut self,
-        alloc: Global,
-        order: &Order,
-        begun: &Begun,
-    ) -> Result<Answer, AllocError>
-        requires node { CanStop self.old order.now.broker.0 }
-        requires sound { HeldSound (length self.old.nodes) self.old }
-        ensures row { IfOk result (λ answer.
-            AtNode self.old order.now.broker.0 (λ x.
-            LaterRow D.content D.control self.old order.now.broker.0 x order.now.command begun.now (Turned.Answers answer) self.new)) }
-        ensures err { OnErr result (StaysHeld D.content D.control self.old self.new) }
-    {
-        match &order.command {
-            Command::Follow { .. } => self.follow_on(order.broker.0 as usize, begun),
-            Command::Join => self.join_on(alloc, order.broker.0 as usize, begun),
-            // The others begin over the remote tier, or not at all.
-            _ => Err(AllocError),
-        }
-    }
-
-    /// Carries out a command of one turn.
-    fn answer(&mut self, alloc: Global, order: &Order) -> Result<Answer, AllocError>
-        requires node { CanStop self.old order.now.broker.0 }
-        requires sound { HeldSound (length self.old.nodes) self.old }
-        requires fit { IsInRange order.now.command }
-        ensures row { IfOk result (λ answer.
-            AtNode self.old order.now.broker.0 (λ x.
-            AnswerRow D.content D.control self.old order.now.broker.0 x order.now.command answer self.new)) }
-        ensures err { OnErr result (StaysHeld D.content D.control self.old self.new) }
-    {
-        let broker = order.broker;
-        let b = broker.0 as usize;
-        match &order.command {
-            Command::Append(recs) => self.append(alloc, b, recs.as_slice()),
-            Command::Raw(bytes) => self.raw(alloc, b, bytes.as_slice()),
-            Command::Flush => self.flush(b),
-            Command::Roll => self.roll(b),
-            Command::Elect => Ok(self.elect(broker)),
-            Command::Unclean => Ok(self.unclean(broker)),
-            Command::Learn => self.learn(broker),
-            Command::Ack => Ok(self.ack(broker)),
-            Command::Shrink => Ok(self.shrink(broker)),
-            Command::Expand => Ok(self.expand(broker)),
-            Command::Raise { start } => Ok(self.raise(b, *start)),
-            Command::Clock { ms } => Ok(self.set_clock(*ms)),
-            Command::Stop => Ok(self.stop(b)),
-            Command::Up => self.up(b),
-            // The others have turns of their own, or are carried out over the remote tier too.
-            _ => Err(AllocError),
-        }
-    }
+/// What the first turn of a command came to that has no other.
+fn at_once(answer: Answer) -> Option<Turned>
+    ensures { result ≡ Some (Answers answer) }
+{
+    Some(Turned::Answers(answer))
 }

@@ -167,7 +167,8 @@ impl<D: Disk> Node<D> {
                 Ok(())
             }
             Err(LogRefusal::DiskFault) => Err(WorldRefusal::DiskFault),
-            Err(_) => Err(WorldRefusal::NoMemory),
+            Err(LogRefusal::NoMemory) => Err(WorldRefusal::NoMemory),
+            Err(_) => unreachable!(),
         }
     }
 }

@@ -263,7 +263,8 @@ impl<D: Disk> Held<D> {
             }),
             Err(LogRefusal::Damaged { file, at }) => Ok(Answer::Damaged(Place::File(file), at)),
             Err(LogRefusal::DiskFault) => Ok(Answer::DiskFault),
-            Err(_) => Err(AllocError),
+            Err(LogRefusal::NoMemory) => Err(AllocError),
+            Err(_) => unreachable!(),
         }
     }
 }

@@ -32,8 +32,6 @@ use Rattle.plain_log.specs.declared.command.Command.TheVariants.{Copy, Trim, Exp
 use Rattle.plain_log.specs.declared.command.Config.{Config}
 use Rattle.plain_log.specs.declared.command.Order.{Order}
 use Rattle.partition_seen.specs.declared.begun.Begun.{Begun}
-use Rattle.partition_seen.specs.declared.begun.Turned.{Turned}
-use Rattle.partition_seen.specs.declared.begun.Turned.TheVariants as turned
 use Rattle.partition_turns.specs.declared.held.Node.{Node}
 use Rattle.partition_turns.specs.declared.held.Held.{Held}
 use Rattle.partition_turns.specs.Held.{line_of}

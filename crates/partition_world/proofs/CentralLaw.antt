@@ -39,7 +39,7 @@ use Rattle.partition_seen.proofs.RebuildRows.{on_way}
 use Rattle.partition_seen.proofs.CentralLaw as seen_law
 use Rattle.partition_seen.proofs.CompleteLaw.{ends_complete}
 use Rattle.partition_tier.specs.Laws.{after_turn as after_own}
-use Rattle.partition_tier.specs.Sites.{sites_of, Side as SideSeen}
+use Rattle.partition_tier.specs.Sites.{sites_of}
 use Rattle.partition_tier.specs.Turns.{OwesTier}
 use Rattle.partition_tier.specs.Works.{KeepsWork, work_of as work_seen, begun_after}
 use Rattle.partition_tier.proofs.OwnTurns.{own_turns}

@@ -35,7 +35,6 @@ use Rattle.partition_seen.proofs.Lines.{cut_line}
 use Rattle.partition_seen.proofs.SeatLaw.{going}
 use Rattle.partition_seen.proofs.Standing.{broker_at, map_get}
 use Rattle.partition_tier.specs.Sites.{site_of, sites_of, next_of}
-use Rattle.partition_tier.specs.Works.{work_of as work_seen}
 use Rattle.partition_turns.specs.declared.held.Node.{Node}
 use Rattle.partition_turns.specs.Held.{node_of}
 use Rattle.partition_turns.proofs.Fronts.{come_apart}

@@ -1,5 +1,5 @@
 -- Each turn of a copy keeps the central fact: it makes changes of the tier, and nothing that is seen of the partition changes.
-use Rattle.std.proofs.Common.{◌≡◌, ◌∙◌, inl, inr, sym, ap, subst, refl, ℕ, ◌++◌, List, [], slice_get, slice_set, Some, None, Option, Ok, false, append-nil}
+use Rattle.std.proofs.Common.{◌≡◌, ◌∙◌, inl, inr, sym, ap, subst, refl, ℕ, List, slice_get, slice_set, Some, Option, Ok}
 use Rattle.disk_model.specs.declared.disk.Disk.{Ghosts as DiskGhosts}
 use Rattle.object_store.specs.declared.store.Store.{Ghosts as StoreGhosts}
 use Rattle.object_store.specs.Content.{Objects}
@@ -10,52 +10,43 @@ use Rattle.copy_task.specs.Copying.{Copied}
 use Rattle.copy_task.specs.declared.turn.CopyTurn.{CopyTurn}
 use Rattle.copy_task.specs.declared.turn.CopyTurn.TheVariants.{Goes as GoesOn, Ends}
 use Rattle.copy_task.specs.declared.turn.Next.{Next}
-use Rattle.plain_log.specs.declared.answer.Answer.{Answer}
 use Rattle.plain_log.specs.declared.answer.Answer.TheVariants.{Down, NotLeader, MetaFault, LostLead, Level, DiskFault, Damaged}
 use Rattle.plain_log.specs.declared.answer.Place.TheVariants.{File}
-use Rattle.plain_log.specs.declared.command.Command.{Command}
 use Rattle.plain_log.specs.declared.command.Command.TheVariants.{Copy}
 use Rattle.plain_log.specs.declared.command.Order.{Order}
-use Rattle.plain_log.specs.declared.journal.JournalEntry.{JournalEntry}
 use Rattle.plain_log.specs.declared.state.State.{State}
 use Rattle.partition_seen.specs.declared.begun.Begun.{Begun}
-use Rattle.partition_seen.specs.declared.begun.Turned.{Turned}
 use Rattle.partition_seen.specs.declared.begun.Turned.TheVariants as turned
-use Rattle.partition_seen.specs.Seen as seen
 use Rattle.partition_seen.proofs.BoolTests.{some_of}
 use Rattle.broker_log.specs.Seen.{incarnation_in}
-use Rattle.partition_seen.specs.Rows as seen_rows
-use Rattle.partition_tier.specs.Turns.{may_raise}
-use Rattle.partition_tier.specs.Works.{work_of as work_seen}
 use Rattle.partition_turns.specs.declared.held.Node.{Node}
-use Rattle.partition_turns.specs.declared.held.Held.{Held}
 use Rattle.partition_turns.specs.Held.{node_of, put_node, ShowsHeld, Rests}
 use Rattle.partition_turns.proofs.OwnRefined.{notes_shown}
 use Rattle.partition_turns.proofs.Shown.{some_at, held_stays}
 use Rattle.tier_safe.specs.Scene.{Scene, Site, Work as WorkSeen, Free, Copies as CopiesSeen}
 use Rattle.tier_safe.specs.May.{IsChanged}
 use Rattle.tier_safe.specs.Turns.{Shows, copy_work}
-use Rattle.tier_safe.proofs.Turning.{refreshes, copy_turns}
+use Rattle.tier_safe.proofs.Turning.{copy_turns}
 use Rattle.partition_world.specs.declared.seat.Outcome.{Outcome}
 use Rattle.partition_world.specs.declared.seat.Outcome.TheVariants.{Answers, Begins, Chose}
 use Rattle.partition_world.specs.declared.seat.Work.{Work}
 use Rattle.partition_world.specs.declared.seat.Work.TheVariants.{Idle, Noted, Copies, Seeks, Expires, Rebuilds}
 use Rattle.partition_world.specs.declared.tier.Side.{Side}
 use Rattle.partition_world.specs.declared.tier.Tier.{Tier}
-use Rattle.partition_world.specs.Seats.{noted_in, moved, outcome_of, copy_outcome, seat_after, seat_seen, desk_seen, told_of}
-use Rattle.partition_world.specs.Tier.{counted, put_side, Refreshes}
-use Rattle.partition_world.specs.Central.{IsCentral, ShowsTier, work_of}
+use Rattle.partition_world.specs.Seats.{moved, copy_outcome, seat_after, seat_seen, told_of}
+use Rattle.partition_world.specs.Tier.{counted, put_side}
+use Rattle.partition_world.specs.Central.{IsCentral, work_of}
 use Rattle.partition_world.specs.Turn.{IsTurn}
 use Rattle.partition_world.specs.TurnsOfCopy.{KeepsLead, CopyFirstRow, ReadsLog, ReadRow, ReadsNext, ChooseRow, CopyOnRow, GoesOnCopy, copied_to, tiers_of, teller_of}
 use Rattle.partition_world.specs.Turns.{Row}
 use Rattle.partition_world.specs.Whole.{Whole}
 use Rattle.partition_world.proofs.Choosing.{chosen_scene, chosen_changed, chosen_shown}
-use Rattle.partition_world.proofs.CopyEnds.{TellsOn, copy_ends, copy_tells, keeps_seen, keeps_back, end_row}
-use Rattle.partition_world.proofs.Scenes.{Place, site, scene_after, shows_at, shows_after, work_after, same_sides, left_changed, answered_free, few_now, few_after}
+use Rattle.partition_world.proofs.CopyEnds.{copy_ends, copy_tells, keeps_seen, keeps_back, end_row}
+use Rattle.partition_world.proofs.Scenes.{Place, shows_at, answered_free, few_now}
 use Rattle.partition_world.proofs.Noting.{GoesAsNoted}
 use Rattle.partition_world.proofs.Sides.{set_same}
 use Rattle.partition_world.proofs.TurnCentral.{here, after, seat_shows, shown, entered, rests, stands, held_same, begins, silent, untold, unseen}
-use Rattle.partition_world.proofs.WorldSound.{seen_stays, chosen_seen, moved_seen}
+use Rattle.partition_world.proofs.WorldSound.{chosen_seen, moved_seen}
 
 module _ {D S M : Type 0} (disk : DiskGhosts D) (store : StoreGhosts S) (meta : MetaGhosts M) where
   -- a turn of a copy, in its place

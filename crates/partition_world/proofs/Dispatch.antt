@@ -6,13 +6,10 @@ use Rattle.std.specs.declared.result.Result.TheVariants.{Ok, Err}
 use Rattle.disk_model.specs.declared.disk.Disk.{Ghosts as DiskGhosts}
 use Rattle.object_store.specs.declared.store.Store.{Ghosts as StoreGhosts}
 use Rattle.meta_log.specs.declared.log.MetaLog.{Ghosts as MetaGhosts}
-use Rattle.tier_base.specs.declared.names.PartitionId.{PartitionId}
 use Rattle.plain_log.specs.declared.command.Command.{Command}
-use Rattle.plain_log.specs.declared.command.Command.TheVariants.{Copy, Trim, Expire, Fetch, Join}
+use Rattle.plain_log.specs.declared.command.Command.TheVariants.{Copy, Trim, Expire}
 use Rattle.tier_base.specs.declared.plain.Settings.{Settings}
-use Rattle.plain_log.specs.declared.command.Config.{Config}
 use Rattle.broker_log.specs.Seen.{Kept, Up, Down, Away, is_up, settings_in, WhileUp}
-use Rattle.partition_seen.specs.declared.begun.Begun.{Begun}
 use Rattle.partition_seen.specs.declared.begun.Turned.TheVariants as turned
 use Rattle.partition_turns.specs.declared.held.Node.{Node}
 use Rattle.partition_turns.specs.declared.held.Held.{Held}
@@ -22,7 +19,7 @@ use Rattle.partition_world.specs.declared.tier.Tier.{Tier}
 use Rattle.partition_world.specs.declared.seat.Outcome.{Outcome}
 use Rattle.partition_world.specs.Tier.{AtSide}
 use Rattle.partition_world.specs.TurnsOfCopy.{ReadsLog}
-use Rattle.partition_world.specs.Turns.{OwnRow, OwnOnRow, BeginRow, NotedRow, StaysTier}
+use Rattle.partition_world.specs.Turns.{OwnRow, BeginRow, StaysTier}
 
 -- a fact of what is there implies another
 some_more : {A : Type 0} (P Q : A → Type 0) (o : Option A) → ((x : A) → P x → Q x) → IsSomeAnd o P → IsSomeAnd o Q
@@ -62,22 +59,6 @@ module _ {D S M : Type 0} (disk : DiskGhosts D) (store : StoreGhosts S) (meta : 
   begin_at h t b command outcome h' t' lt not r =
       some_more (λ x. OwnRow disk h t b x command outcome h' t') (λ x. AtSide t b (λ side. BeginRow disk store meta h t b x side command outcome h' t')) (slice_get h.nodes b)
       (λ x row. there (λ side. BeginRow disk store meta h t b x side command outcome h' t') t.sides b lt (λ side. begin_row h t b x side command outcome h' t' not row)) r
-
-  noted_row : (p : PartitionId) (config : Config) (h : Held D) (t : Tier S M) (b : ℕ) (x : Node D) (side : Side) (g : Begun) (command : Command) (outcome : Outcome) (h' : Held D) (t' : Tier S M)
-      → command ≢ Trim → command ≢ Join → OwnOnRow disk h t b x g command outcome h' t' → NotedRow disk store meta p config h t b x side g command outcome h' t'
-  noted_row p config h t b x side g Copy outcome h' t' not two ((answer, is, row), same) = absurd row
-  noted_row p config h t b x side g Trim outcome h' t' not two w = absurd (not refl)
-  noted_row p config h t b x side g Join outcome h' t' not two w = absurd (two refl)
-  noted_row p config h t b x side g Expire outcome h' t' not two ((answer, is, row), same) = absurd row
-  noted_row p config h t b x side g (Fetch offset limit) outcome h' t' not two ((answer, is, row), same) = absurd row
-  noted_row p config h t b x side g other outcome h' t' not two w = w
-
-  -- and its last one
-  pub noted_at : (p : PartitionId) (config : Config) (h : Held D) (t : Tier S M) (b : ℕ) (g : Begun) (command : Command) (outcome : Outcome) (h' : Held D) (t' : Tier S M) → b < length t.sides → command ≢ Trim → command ≢ Join
-      → AtNode h b (λ x. OwnOnRow disk h t b x g command outcome h' t') → AtNode h b (λ x. AtSide t b (λ side. NotedRow disk store meta p config h t b x side g command outcome h' t'))
-  noted_at p config h t b g command outcome h' t' lt not two r =
-      some_more (λ x. OwnOnRow disk h t b x g command outcome h' t') (λ x. AtSide t b (λ side. NotedRow disk store meta p config h t b x side g command outcome h' t')) (slice_get h.nodes b)
-      (λ x row. there (λ side. NotedRow disk store meta p config h t b x side g command outcome h' t') t.sides b lt (λ side. noted_row p config h t b x side g command outcome h' t' not two row)) r
 
   read_rests : (h : Held D) (b : ℕ) (x y : Node D) (h' : Held D) → ReadsLog disk x y → h' ≡ put_node h b y → Rests disk.content disk.control h b x h'
   read_rests h b x y h' r is = (r.kept, r.stays, r.lasts, is ∙ ap (λ (k : Node D). put_node h b k) r.after)

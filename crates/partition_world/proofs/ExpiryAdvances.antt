@@ -5,7 +5,7 @@ use Rattle.tier_base.specs.declared.object_key.ObjectKey.{ObjectKey}
 use Rattle.object_store.specs.declared.store.Store.{Ghosts as StoreGhosts}
 use Rattle.meta_log.specs.declared.log.MetaLog.{Ghosts as MetaGhosts}
 use Rattle.meta_log.specs.declared.teller.Teller.{Teller}
-use Rattle.expiry_task.specs.Turns.{Tiers, StartRow, FinishRow, DeleteRow, ExpiryRow, keys, delete_at}
+use Rattle.expiry_task.specs.Turns.{Tiers, DeleteRow, ExpiryRow, keys, delete_at}
 use Rattle.expiry_task.specs.declared.turn.Doomed.{Doomed}
 use Rattle.expiry_task.specs.declared.turn.ExpiryTurn.TheVariants.{Goes as GoesOn}
 use Rattle.expiry_task.specs.declared.turn.Next.{Next}

@@ -1,5 +1,5 @@
 -- A turn of an expiry over calm devices tells of no fault, and leaves them calm.
-use Rattle.std.proofs.Common.{◌≡◌, sym, ap, subst, ℕ, ◌+◌, slice_get, Some, None, Option, Ok}
+use Rattle.std.proofs.Common.{sym, ap, subst, ℕ, slice_get, Some, None, Option, Ok}
 use Rattle.tier_base.specs.declared.object_key.ObjectKey.{ObjectKey}
 use Rattle.object_store.specs.declared.store.Store.{Ghosts as StoreGhosts}
 use Rattle.meta_log.specs.declared.log.MetaLog.{Ghosts as MetaGhosts}
@@ -7,7 +7,7 @@ use Rattle.meta_log.specs.declared.teller.Teller.{Teller}
 use Rattle.expiry_task.specs.Turns.{Tiers, StartRow, FinishRow, DeleteRow, ExpiryRow, keys}
 use Rattle.expiry_task.specs.declared.turn.Doomed.{Doomed}
 use Rattle.expiry_task.specs.declared.turn.ExpiryTurn.{ExpiryTurn}
-use Rattle.expiry_task.specs.declared.turn.ExpiryTurn.TheVariants.{Goes as GoesOn, Ends}
+use Rattle.expiry_task.specs.declared.turn.ExpiryTurn.TheVariants.{Ends}
 use Rattle.expiry_task.specs.declared.turn.Next.{Next}
 use Rattle.expiry_task.specs.declared.turn.Next.TheVariants.{Start, Delete, Finish}
 use Rattle.plain_log.specs.declared.answer.Answer.TheVariants.{MetaFault, StoreFault}

@@ -1,6 +1,6 @@
 -- Each turn of an expiry keeps the central fact. What it takes up is due, and its deletion makes changes of the tier; of the
 -- partition only a raise of the log start is seen.
-use Rattle.std.proofs.Common.{◌≡◌, ◌∙◌, inl, inr, sym, ap, subst, refl, ℕ, ◌<◌, ◌&&◌, ◌==◌, List, [], ◌∷◌, slice_get, slice_set, Some, None, Option, Ok, Err, Bool, true, false, arith}
+use Rattle.std.proofs.Common.{◌≡◌, ◌∙◌, inl, inr, sym, ap, subst, refl, ℕ, ◌<◌, ◌&&◌, ◌==◌, List, [], ◌∷◌, slice_get, slice_set, Some, Option, Ok, Err, Bool, true, false, arith}
 use Rattle.std.specs.Prelude.{nat_lt, nat_le, not, if◌then◌else◌, IsSomeAnd}
 use Rattle.std.proofs.lemmas.Bool.Decides.{nat_tests}
 use Rattle.disk_model.specs.declared.disk.Disk.{Ghosts as DiskGhosts}
@@ -12,8 +12,7 @@ use Rattle.segment_meta.specs.declared.note.Entry.{Entry}
 use Rattle.registry.specs.declared.registry.Registry.{Registry}
 use Rattle.registry.specs.declared.refusal.RegRefusal.TheVariants as Reg
 use Rattle.registry.specs.Calls.{when, is_stale, after_raise}
-use Rattle.log_terms.specs.Log.{end_of}
-use Rattle.remote_view.specs.Fold.{Seen as View, entry_of, fold, AreDistinct}
+use Rattle.remote_view.specs.Fold.{Seen as View, entry_of, fold}
 use Rattle.remote_view.specs.Lookup.{is_due, due}
 use Rattle.remote_view.proofs.Best.{Among, entry_found}
 use Rattle.expiry_task.specs.declared.turn.Doomed.{Doomed}
@@ -21,12 +20,10 @@ use Rattle.expiry_task.specs.declared.turn.ExpiryTurn.{ExpiryTurn}
 use Rattle.expiry_task.specs.declared.turn.ExpiryTurn.TheVariants.{Goes as GoesOn, Ends}
 use Rattle.expiry_task.specs.declared.turn.Next.{Next}
 use Rattle.expiry_task.specs.declared.turn.Next.TheVariants.{Start}
-use Rattle.plain_log.specs.declared.answer.Answer.{Answer}
 use Rattle.plain_log.specs.declared.answer.Answer.TheVariants.{Down, NotLeader, MetaFault, LostLead, Kept, StaleEpoch, Raised}
 use Rattle.plain_log.specs.declared.command.Command.{Command}
 use Rattle.plain_log.specs.declared.command.Command.TheVariants.{Expire}
 use Rattle.plain_log.specs.declared.command.Order.{Order}
-use Rattle.plain_log.specs.declared.state.Role.{Role}
 use Rattle.plain_log.specs.declared.state.Role.TheVariants.{Leads}
 use Rattle.plain_log.specs.declared.state.State.{State}
 use Rattle.partition_seen.specs.declared.begun.Begun.{Begun}
@@ -35,11 +32,8 @@ use Rattle.plain_log.specs.State.{epoch_in}
 use Rattle.partition_seen.specs.RowsOfTiers as seen_tiers
 use Rattle.partition_seen.specs.Seen as seen
 use Rattle.partition_seen.proofs.BoolTests.{some_of}
-use Rattle.partition_turns.specs.declared.held.Node.{Node}
-use Rattle.partition_turns.specs.declared.held.Held.{Held}
 use Rattle.partition_turns.specs.Held.{node_of, ShowsHeld}
 use Rattle.partition_turns.specs.Shown.{Refines}
-use Rattle.partition_turns.specs.TurnsOfElections.{Leaves}
 use Rattle.partition_turns.proofs.OwnRefined.{notes_shown}
 use Rattle.partition_turns.proofs.Shown.{leaves, some_at}
 use Rattle.tier_safe.specs.Changes.{Moves, Dooms}
@@ -54,22 +48,20 @@ use Rattle.partition_world.specs.declared.seat.Outcome.TheVariants as outcomes
 use Rattle.partition_world.specs.declared.seat.Outcome.TheVariants.{Answers, Begins, Deletes}
 use Rattle.partition_world.specs.declared.seat.Work.{Work}
 use Rattle.partition_world.specs.declared.seat.Work.TheVariants.{Idle, Noted, Expires}
-use Rattle.partition_world.specs.declared.tier.Side.{Side}
 use Rattle.partition_world.specs.declared.tier.Tier.{Tier}
-use Rattle.partition_world.specs.Seats.{noted_in, doomed, deleting, expiry_outcome, seat_after, seat_seen, told_of}
-use Rattle.partition_world.specs.Tier.{Refreshes}
-use Rattle.partition_world.specs.Central.{IsCentral, ShowsTier, begun_of, work_of}
+use Rattle.partition_world.specs.Seats.{doomed, deleting, expiry_outcome, seat_after, seat_seen, told_of}
+use Rattle.partition_world.specs.Central.{IsCentral, begun_of, work_of}
 use Rattle.partition_world.specs.Turn.{IsTurn}
 use Rattle.partition_world.specs.TurnsOfCopy.{KeepsLead, teller_of}
 use Rattle.partition_world.specs.TurnsOfExpiry.{ExpireFirstRow, RaiseRow, TakesUp, GoesOnDeletion, DeleteOnRow, expiry_tiers}
 use Rattle.partition_world.specs.Whole.{Whole}
-use Rattle.partition_world.proofs.CopyEnds.{TellsOn, keeps_seen, keeps_back}
+use Rattle.partition_world.proofs.CopyEnds.{keeps_seen, keeps_back}
 use Rattle.partition_world.proofs.ExpiryEnds.{expiry_ends, expiry_tells, end_row}
 use Rattle.partition_world.proofs.LineTells.{right_view}
-use Rattle.partition_world.proofs.Scenes.{Place, site, site_is, seated, scene_after, shows_at, work_after, same_sides, answered_free}
+use Rattle.partition_world.proofs.Scenes.{Place, site_is, seated, shows_at, work_after, same_sides, answered_free}
 use Rattle.partition_world.proofs.Noting.{GoesAsNoted}
 use Rattle.partition_world.proofs.Sides.{set_same}
-use Rattle.partition_world.proofs.TurnCentral.{here, after, seat_shows, shown, entered, rests, stands, held_same, begins, silent, untold, unseen}
+use Rattle.partition_world.proofs.TurnCentral.{here, after, shown, entered, rests, stands, held_same, begins, silent, untold, unseen}
 use Rattle.partition_world.proofs.WorldSound.{doomed_seen, deleting_seen}
 
 -- the first entry that is due is one of the entries, and is due

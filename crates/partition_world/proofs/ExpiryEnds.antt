@@ -1,5 +1,5 @@
 -- What a turn of an expiry may be answered, that its devices go on to tell, and what one that wanted memory leaves.
-use Rattle.std.proofs.Common.{◌≡◌, ◌∙◌, sym, ap, subst, refl, ℕ, ◌+◌, slice_get, Some, None, Option, Ok, Err, Bool, IsTrue}
+use Rattle.std.proofs.Common.{◌≡◌, ◌∙◌, ap, refl, ℕ, slice_get, Some, None, Option, Ok, Err, Bool, IsTrue}
 use Rattle.std.specs.declared.alloc.AllocError.{AllocError}
 use Rattle.tier_base.specs.Device.{Dry}
 use Rattle.tier_base.specs.declared.object_key.ObjectKey.{ObjectKey}

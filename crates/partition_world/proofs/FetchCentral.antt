@@ -1,25 +1,20 @@
 -- Each turn of a fetch from the remote tier keeps the central fact: it makes changes of the tier, and nothing that is seen of the
 -- partition changes. The run that it gives is the leader's log's.
-use Rattle.std.proofs.Common.{◌≡◌, ◌≢◌, ◌⊎◌, ◌∙◌, inl, inr, sym, ap, subst, refl, ℕ, ◌+◌, ◌<◌, ◌≤◌, List, [], ◌∷◌, slice_get, slice_set, Some, None, Option, Ok, true, false, arith}
+use Rattle.std.proofs.Common.{◌≡◌, ◌∙◌, inl, inr, sym, ap, subst, refl, ℕ, ◌<◌, ◌≤◌, List, slice_get, slice_set, Some, None, Option, Ok, true, false, arith}
 use Rattle.std.specs.Prelude.{unwrap_or}
 use Rattle.disk_model.specs.declared.disk.Disk.{Ghosts as DiskGhosts}
 use Rattle.object_store.specs.declared.store.Store.{Ghosts as StoreGhosts}
 use Rattle.meta_log.specs.declared.log.MetaLog.{Ghosts as MetaGhosts}
 use Rattle.log_terms.specs.Log.{end_of}
-use Rattle.index_cache.specs.Cache.{Cache}
 use Rattle.registry.specs.declared.registry.Registry.{Registry}
-use Rattle.remote_view.specs.Fold.{Seen as View}
 use Rattle.tier_fetch.specs.declared.turn.FetchTurn.{FetchTurn}
 use Rattle.tier_fetch.specs.declared.turn.FetchTurn.TheVariants.{Goes as GoesOn, Ends}
 use Rattle.tier_fetch.specs.declared.turn.Next.{Next}
 use Rattle.tier_fetch.specs.declared.turn.Next.TheVariants.{Refresh}
-use Rattle.tier_fetch.specs.Turns.{FetchRow}
 use Rattle.plain_log.specs.declared.answer.Answer.{Answer}
 use Rattle.plain_log.specs.declared.answer.Answer.TheVariants.{MetaFault, StoreFault, Damaged, Run, Stopped, NotLeader, OutOfRange, Empty}
-use Rattle.plain_log.specs.declared.command.Command.{Command}
 use Rattle.plain_log.specs.declared.command.Command.TheVariants.{Fetch}
 use Rattle.plain_log.specs.declared.command.Order.{Order}
-use Rattle.plain_log.specs.declared.state.Broker.{Broker}
 use Rattle.plain_log.specs.declared.state.Role.{Role}
 use Rattle.plain_log.specs.declared.state.Role.TheVariants.{Leads}
 use Rattle.plain_log.specs.declared.state.State.{State}
@@ -39,7 +34,6 @@ use Rattle.partition_seen.proofs.Standing.{broker_at, map_get}
 use Rattle.partition_tier.specs.Sites.{greatest}
 use Rattle.partition_tier.specs.Turns.{may_raise}
 use Rattle.partition_turns.specs.declared.held.Node.{Node}
-use Rattle.partition_turns.specs.declared.held.Held.{Held}
 use Rattle.partition_turns.specs.Held.{is_up, local_of, line_of, node_of, ShowsHeld}
 use Rattle.partition_turns.specs.Held as disk_held
 use Rattle.partition_turns.specs.TurnsOfFetch.{FetchTurn as FirstTurn}
@@ -60,12 +54,10 @@ use Rattle.partition_world.specs.declared.seat.Outcome.TheVariants.{Answers, Beg
 use Rattle.partition_world.specs.declared.seat.Work.{Work}
 use Rattle.partition_world.specs.declared.seat.Work.TheVariants as works
 use Rattle.partition_world.specs.declared.seat.Work.TheVariants.{Idle, Noted}
-use Rattle.partition_world.specs.declared.tier.Side.{Side}
 use Rattle.partition_world.specs.declared.tier.Tier.{Tier}
-use Rattle.partition_world.specs.Seats.{noted_in, sought, outcome_of, fetch_outcome, seat_after, seat_seen, told_of}
+use Rattle.partition_world.specs.Seats.{noted_in, sought, seat_after, seat_seen, told_of}
 use Rattle.partition_world.specs.Central.{IsCentral, ShowsTier, seeks_of, work_of}
 use Rattle.partition_world.specs.Turn.{IsTurn}
-use Rattle.partition_world.specs.TurnsOfCopy.{KeepsLead}
 use Rattle.partition_world.specs.TurnsOfFetch.{HasStopped, Serves, wanted_of, fetch_tiers, GoesOnFetch, FetchOnRow}
 use Rattle.partition_world.specs.Whole.{Whole}
 use Rattle.partition_world.proofs.CopyEnds.{keeps_seen}

@@ -1,5 +1,5 @@
 -- What a turn of a fetch from the remote tier is answered, and what it leaves of the devices.
-use Rattle.std.proofs.Common.{◌≡◌, ◌⊎◌, inl, inr, ap, refl, sym, subst, ℕ, List, Option, Some, None, Ok, Err}
+use Rattle.std.proofs.Common.{◌≡◌, ◌⊎◌, inl, inr, ap, sym, subst, ℕ, List, Option, Some, None, Ok, Err}
 use Rattle.std.specs.declared.alloc.AllocError.{AllocError}
 use mathlib.Core.Path.{fun_ext}
 use Rattle.tier_base.specs.declared.fault.Trouble.TheVariants.{Failed, NoMemory}
@@ -17,12 +17,12 @@ use Rattle.plain_log.specs.declared.answer.Answer.{Answer}
 use Rattle.plain_log.specs.declared.answer.Place.TheVariants.{Key, Meta}
 use Rattle.plain_log.specs.declared.answer.Answer.TheVariants.{MetaFault, StoreFault, Damaged, Run}
 use Rattle.tier_fetch.specs.declared.turn.FetchTurn.{FetchTurn}
-use Rattle.tier_fetch.specs.declared.turn.FetchTurn.TheVariants.{Goes, Ends}
+use Rattle.tier_fetch.specs.declared.turn.FetchTurn.TheVariants.{Ends}
 use Rattle.tier_fetch.specs.declared.turn.Next.{Next}
 use Rattle.tier_fetch.specs.declared.turn.Next.TheVariants.{Refresh, Index, Log}
 use Rattle.tier_fetch.specs.declared.turn.Span.{Span}
 use Rattle.tier_fetch.specs.declared.turn.Wanted.{Wanted}
-use Rattle.tier_fetch.specs.Turns.{chosen, spot_in, Loads, Cuts, RefreshRow, IndexRow, LoadRow, ReadsIndex, LogRow, ReadsLog, FetchRow, Tiers}
+use Rattle.tier_fetch.specs.Turns.{chosen, spot_in, Loads, Cuts, RefreshRow, IndexRow, LoadRow, LogRow, FetchRow, Tiers}
 use Rattle.partition_world.proofs.CopyEnds.{TellsOn}
 
 -- what it may be answered

@@ -1,11 +1,10 @@
 -- The line of a broker's log says in which epochs the log's offsets are: look-ups in the remote tier go by it.
-use Rattle.std.proofs.Common.{◌≡◌, inl, inr, sym, subst, ℕ, ◌≤◌, List, [], ◌∷◌, ◌++◌, arith}
+use Rattle.std.proofs.Common.{inl, inr, sym, subst, ℕ, ◌≤◌, List, [], ◌∷◌, ◌++◌, arith}
 use Rattle.std.specs.List.{AllByRecursion}
-use mathlib.Core.List.{IsPrefix}
 use Rattle.log_terms.specs.Line.{line_of}
 use Rattle.log_terms.specs.Log.{IsConsecutive, end_of}
 use Rattle.copy_task.proofs.Mapping.{starts_within}
-use Rattle.remote_view.specs.Fold.{Seen, fold}
+use Rattle.remote_view.specs.Fold.{Seen}
 use Rattle.segment_meta.specs.declared.note.Note.{Note}
 use Rattle.tier_safe.specs.Reads.{TellsEpochs, IsRightView}
 use Rattle.tier_safe.specs.Scene.{Work}

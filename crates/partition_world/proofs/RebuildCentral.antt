@@ -1,6 +1,6 @@
 -- The turns of a join that reads a line in the remote tier keep the central fact: they make changes of the tier, nothing that is
 -- seen of the partition changes, and the line that is read is the one that the join noted.
-use Rattle.std.proofs.Common.{◌≡◌, ◌∙◌, inl, inr, sym, ap, subst, refl, ℕ, ◌<◌, ◌≤◌, List, slice_get, slice_set, Some, Option, Ok, Bool, true, false, arith}
+use Rattle.std.proofs.Common.{◌≡◌, ◌∙◌, sym, ap, subst, refl, ℕ, ◌<◌, List, slice_get, Some, Option, Ok, Bool, true, false, arith}
 use Rattle.std.specs.Prelude.{nat_le, unwrap_or, IsSomeAnd}
 use Rattle.std.proofs.lemmas.Bool.Decides.{nat_tests}
 use Rattle.disk_model.specs.declared.disk.Disk.{Ghosts as DiskGhosts}
@@ -10,7 +10,6 @@ use Rattle.object_store.specs.Content.{Objects}
 use Rattle.segment_meta.specs.declared.note.Note.{Note}
 use Rattle.remote_view.specs.Fold.{Seen as View}
 use Rattle.registry.specs.declared.registry.Registry.{Registry}
-use Rattle.rebuild_task.specs.declared.turn.Next.{Next}
 use Rattle.rebuild_task.specs.declared.turn.Next.TheVariants.{Epochs, Restart}
 use Rattle.rebuild_task.specs.declared.turn.RebuildTurn.{RebuildTurn}
 use Rattle.rebuild_task.specs.declared.turn.RebuildTurn.TheVariants.{Goes, Ends}
@@ -19,13 +18,10 @@ use Rattle.plain_log.specs.declared.answer.Answer.TheVariants.{MetaFault, StoreF
 use Rattle.plain_log.specs.declared.command.Command.{Command}
 use Rattle.plain_log.specs.declared.command.Command.TheVariants.{Join}
 use Rattle.plain_log.specs.declared.command.Order.{Order}
-use Rattle.plain_log.specs.declared.state.Broker.{Broker}
 use Rattle.plain_log.specs.declared.state.Role.{Role}
 use Rattle.plain_log.specs.declared.state.State.{State}
 use Rattle.plain_log.specs.State.{path_of, joined, followed}
 use Rattle.partition_seen.specs.declared.begun.Begun.{Begun}
-use Rattle.partition_seen.specs.declared.begun.Turned.{Turned}
-use Rattle.partition_seen.specs.declared.begun.Turned.TheVariants as turned
 use Rattle.partition_seen.specs.Central.{BegunStands, RebuildStands}
 use Rattle.partition_seen.specs.Held.{broker_of}
 use Rattle.partition_seen.specs.RowsOfFollowers as seen_rows
@@ -36,10 +32,8 @@ use Rattle.partition_tier.specs.Works.{rebuild_of}
 use Rattle.partition_turns.specs.declared.held.Node.{Node}
 use Rattle.partition_turns.specs.declared.held.Held.{Held}
 use Rattle.partition_turns.specs.Held.{node_of, ShowsHeld}
-use Rattle.partition_turns.specs.Turns as turns
-use Rattle.partition_turns.specs.TurnsOfFollowers.{IsStale, MayRebuild, JoinOnRow}
+use Rattle.partition_turns.specs.TurnsOfFollowers.{MayRebuild, JoinOnRow}
 use Rattle.partition_turns.proofs.Shown.{end_shown}
-use Rattle.tier_safe.specs.May.{IsChanged}
 use Rattle.tier_safe.specs.Scene.{Scene, Site, Rebuild, Work as WorkSeen, Rebuilds as RebuildsSeen}
 use Rattle.tier_safe.specs.Turns.{Shows}
 use Rattle.tier_rebuilds.specs.Laws.{seen_all}
@@ -51,7 +45,6 @@ use Rattle.partition_world.specs.declared.seat.Outcome.TheVariants as outcomes
 use Rattle.partition_world.specs.declared.seat.Outcome.TheVariants.{Answers}
 use Rattle.partition_world.specs.declared.seat.Work.{Work}
 use Rattle.partition_world.specs.declared.seat.Work.TheVariants.{Noted, Rebuilds}
-use Rattle.partition_world.specs.declared.tier.Side.{Side}
 use Rattle.partition_world.specs.declared.tier.Tier.{Tier}
 use Rattle.partition_world.specs.Seats.{noted_in, rebuilding, rebuild_outcome, seat_after, seat_seen, told_of}
 use Rattle.partition_world.specs.Tier.{Refreshes, FailsToRead}
@@ -62,7 +55,7 @@ use Rattle.partition_world.specs.Whole.{Whole}
 use Rattle.partition_world.proofs.Entered.{both_of}
 use Rattle.partition_world.proofs.Noting.{GoesAsNoted}
 use Rattle.partition_world.proofs.RebuildEnds.{MayTurn, rebuild_may_turn, rebuild_kept}
-use Rattle.partition_world.proofs.Scenes.{Place, site, site_is, seated, scene_after, shows_at, work_after, same_sides, stayed, few_now}
+use Rattle.partition_world.proofs.Scenes.{Place, site_is, seated, scene_after, shows_at, work_after, same_sides, stayed, few_now}
 use Rattle.partition_world.proofs.TurnCentral.{here, shown, rests, held_same, silent, untold, unseen}
 use Rattle.partition_world.proofs.WorldSound.{rebuilding_seen}
 

@@ -1,5 +1,5 @@
 -- What the turn of a rebuild that reads its line may come to, and that the store goes on to tell.
-use Rattle.std.proofs.Common.{◌≡◌, ap, subst, sym, ℕ, ◌<◌, List, Some, None, Option, Ok, Err, true, false}
+use Rattle.std.proofs.Common.{◌≡◌, ap, subst, sym, ℕ, List, Some, None, Option, Ok, Err, true, false}
 use mathlib.Core.Path.{fun_ext}
 use Rattle.std.specs.declared.result.Result.{Result}
 use Rattle.std.specs.declared.alloc.AllocError.{AllocError}
@@ -10,13 +10,11 @@ use Rattle.object_store.specs.declared.call.StoreCall.TheVariants.{Get}
 use Rattle.object_store.specs.declared.placing.Spot.{Spot}
 use Rattle.object_store.specs.declared.store.Store.{Ghosts as StoreGhosts}
 use Rattle.remote_view.specs.Fold.{Seen as View}
-use Rattle.remote_find.specs.Pieces.{piece_at}
-use Rattle.rebuild_task.specs.declared.turn.Next.{Next}
-use Rattle.rebuild_task.specs.declared.turn.Next.TheVariants.{Epochs, Restart}
+use Rattle.rebuild_task.specs.declared.turn.Next.TheVariants.{Restart}
 use Rattle.rebuild_task.specs.declared.turn.RebuildTurn.{RebuildTurn}
 use Rattle.rebuild_task.specs.declared.turn.RebuildTurn.TheVariants.{Goes, Ends}
 use Rattle.rebuild_task.specs.declared.turn.Wanted.{Wanted}
-use Rattle.rebuild_task.specs.Turns.{Takes, EpochsRow, RebuildRow, epochs_of}
+use Rattle.rebuild_task.specs.Turns.{Takes, EpochsRow, RebuildRow}
 use Rattle.plain_log.specs.declared.answer.Answer.{Answer}
 use Rattle.plain_log.specs.declared.answer.Answer.TheVariants.{StoreFault, Damaged}
 use Rattle.partition_world.specs.Calm.{IsCalm}

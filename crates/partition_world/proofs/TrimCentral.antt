@@ -2,7 +2,7 @@
 --
 -- The first turn refreshes the broker's view. The second one drops the first closed segment, or fails to: what the local log
 -- lacks then has a piece in that view, offset by offset, and so it is covered.
-use Rattle.std.proofs.Common.{◌≡◌, ◌≢◌, ◌∙◌, inl, inr, sym, ap, subst, refl, ℕ, zero, suc, ◌⊎◌, ◌+◌, ◌<◌, ◌≤◌, max, List, [], ◌∷◌, slice_get, slice_set, Some, None, Option, true, false, arith, IsSomeAnd}
+use Rattle.std.proofs.Common.{◌≡◌, ◌≢◌, ◌∙◌, inl, inr, ap, subst, refl, ℕ, zero, suc, ◌⊎◌, ◌+◌, ◌≤◌, max, List, [], ◌∷◌, slice_get, Some, None, Option, true, false, arith, IsSomeAnd}
 use Rattle.disk_model.specs.declared.disk.Disk.{Ghosts as DiskGhosts}
 use Rattle.object_store.specs.declared.store.Store.{Ghosts as StoreGhosts}
 use Rattle.meta_log.specs.declared.log.MetaLog.{Ghosts as MetaGhosts}
@@ -21,13 +21,10 @@ use Rattle.broker_log.specs.Seen as log
 use Rattle.broker_log.specs.Seen.{Shows, closed_in}
 use Rattle.broker_log.specs.Turns.{loosened, kept_line}
 use Rattle.partition_seen.specs.declared.begun.Begun.{Begun}
-use Rattle.partition_seen.specs.declared.begun.Turned.{Turned}
-use Rattle.partition_seen.specs.declared.begun.Turned.TheVariants as turned
 use Rattle.partition_seen.specs.Held as seen_held
 use Rattle.partition_seen.specs.RowsOfLog as seen_log
 use Rattle.partition_seen.specs.Seen as seen
 use Rattle.partition_seen.specs.Sound.{NodeSound}
-use Rattle.partition_seen.proofs.BoolTests.{some_of}
 use Rattle.partition_seen.proofs.Standing.{get_put}
 use Rattle.partition_tier.specs.Sites.{Side as SideSeen, start_of, greatest}
 use Rattle.partition_tier.specs.Turns.{IsTrimmed, OwesTier}
@@ -39,7 +36,6 @@ use Rattle.partition_turns.specs.Shown.{Sees, Refines}
 use Rattle.partition_turns.specs.TurnsOfLog.{TrimOnRow as DiskRow}
 use Rattle.partition_turns.proofs.OwnRefined.{notes_shown, open_of, dropped_node}
 use Rattle.partition_turns.proofs.Shown.{breaks_to, broken_node, puts, stays, end_shown, line_shown, local_shown}
-use Rattle.tier_safe.specs.Lineage.{CoversLog}
 use Rattle.tier_safe.specs.Reads.{TellsEpochs, IsRightView}
 use Rattle.tier_safe.proofs.Lookups.{reached_is_covered}
 use Rattle.partition_world.specs.declared.seat.Outcome.{Outcome}

@@ -1,22 +1,15 @@
 -- A turn that changes nothing that is seen of the partition keeps the central fact, where it makes changes of the tier.
 --
 -- It is entered, or it isn't; and it leaves the tier as it was, or the command leaves the desk, or a broker's view takes in notes.
-use Rattle.std.proofs.Common.{◌≡◌, ◌∙◌, inl, inr, sym, ap, subst, refl, ℕ, ◌++◌, List, [], slice_get, slice_set, Some, None, Option, Ok, false, append-nil}
+use Rattle.std.proofs.Common.{◌≡◌, ◌∙◌, sym, ap, subst, ℕ, ◌++◌, List, [], slice_set, Some, None, Option, false, append-nil}
 use Rattle.disk_model.specs.declared.disk.Disk.{Ghosts as DiskGhosts}
 use Rattle.object_store.specs.declared.store.Store.{Ghosts as StoreGhosts}
 use Rattle.object_store.specs.Content.{Objects}
 use Rattle.meta_log.specs.declared.log.MetaLog.{Ghosts as MetaGhosts}
 use Rattle.segment_meta.specs.declared.note.Note.{Note}
 use Rattle.remote_view.specs.Fold.{Seen as View}
-use Rattle.copy_task.specs.Copying.{Copied}
-use Rattle.copy_task.specs.declared.turn.CopyTurn.{CopyTurn}
-use Rattle.copy_task.specs.declared.turn.CopyTurn.TheVariants.{Goes as GoesOn, Ends}
-use Rattle.copy_task.specs.declared.turn.Next.{Next}
 use Rattle.plain_log.specs.declared.answer.Answer.{Answer}
-use Rattle.plain_log.specs.declared.answer.Answer.TheVariants.{Down, NotLeader, MetaFault, LostLead, Level, DiskFault, Damaged}
-use Rattle.plain_log.specs.declared.answer.Place.TheVariants.{File}
 use Rattle.plain_log.specs.declared.command.Command.{Command}
-use Rattle.plain_log.specs.declared.command.Command.TheVariants.{Copy}
 use Rattle.plain_log.specs.declared.command.Order.{Order}
 use Rattle.plain_log.specs.declared.journal.JournalEntry.{JournalEntry}
 use Rattle.plain_log.specs.declared.state.State.{State}
@@ -24,40 +17,29 @@ use Rattle.partition_seen.specs.declared.begun.Begun.{Begun}
 use Rattle.partition_seen.specs.declared.begun.Turned.{Turned}
 use Rattle.partition_seen.specs.declared.begun.Turned.TheVariants as turned
 use Rattle.partition_seen.specs.Seen as seen
-use Rattle.partition_seen.proofs.BoolTests.{some_of}
-use Rattle.broker_log.specs.Seen.{incarnation_in}
 use Rattle.partition_seen.specs.Rows as seen_rows
 use Rattle.partition_tier.specs.Turns.{may_raise}
-use Rattle.partition_tier.specs.Works.{work_of as work_seen}
-use Rattle.partition_turns.specs.declared.held.Node.{Node}
 use Rattle.partition_turns.specs.declared.held.Held.{Held}
-use Rattle.partition_turns.specs.Held.{node_of, put_node, ShowsHeld, Rests}
-use Rattle.partition_turns.proofs.OwnRefined.{notes_shown}
-use Rattle.partition_turns.proofs.Shown.{some_at, held_stays}
-use Rattle.tier_safe.specs.Scene.{Scene, Site, Work as WorkSeen, Free, Copies as CopiesSeen}
+use Rattle.partition_turns.specs.Held.{node_of, ShowsHeld}
+use Rattle.tier_safe.specs.Scene.{Scene, Site, Work as WorkSeen, Free}
 use Rattle.tier_safe.specs.May.{IsChanged}
-use Rattle.tier_safe.specs.Turns.{Shows, copy_work}
-use Rattle.tier_safe.proofs.Turning.{refreshes, copy_turns}
+use Rattle.tier_safe.specs.Turns.{Shows}
+use Rattle.tier_safe.proofs.Turning.{refreshes}
 use Rattle.partition_world.specs.declared.seat.Outcome.{Outcome}
-use Rattle.partition_world.specs.declared.seat.Outcome.TheVariants.{Answers, Begins, Chose}
+use Rattle.partition_world.specs.declared.seat.Outcome.TheVariants.{Answers, Begins}
 use Rattle.partition_world.specs.declared.seat.Work.{Work}
-use Rattle.partition_world.specs.declared.seat.Work.TheVariants.{Idle, Noted, Copies}
-use Rattle.partition_world.specs.declared.tier.Side.{Side}
+use Rattle.partition_world.specs.declared.seat.Work.TheVariants.{Idle, Noted}
 use Rattle.partition_world.specs.declared.tier.Tier.{Tier}
-use Rattle.partition_world.specs.Seats.{noted_in, moved, outcome_of, copy_outcome, seat_after, seat_seen, desk_seen, told_of}
-use Rattle.partition_world.specs.Tier.{counted, put_side, Refreshes}
+use Rattle.partition_world.specs.Seats.{noted_in, outcome_of, seat_after, seat_seen, desk_seen, told_of}
+use Rattle.partition_world.specs.Tier.{Refreshes}
 use Rattle.partition_world.specs.Central.{IsCentral, ShowsTier, work_of, begun_of}
 use Rattle.partition_world.specs.Turn.{IsTurn}
-use Rattle.partition_world.specs.TurnsOfCopy.{KeepsLead, CopyFirstRow, ReadsLog, ReadRow, ReadsNext, ChooseRow, CopyOnRow, GoesOnCopy, copied_to, tiers_of, teller_of}
-use Rattle.partition_world.specs.Turns.{Row}
 use Rattle.partition_world.specs.Whole.{Whole}
-use Rattle.partition_world.proofs.Choosing.{chosen_scene, chosen_changed, chosen_shown}
-use Rattle.partition_world.proofs.CopyEnds.{TellsOn, copy_ends, copy_tells, keeps_seen, keeps_back, end_row}
+use Rattle.partition_world.proofs.CopyEnds.{TellsOn}
 use Rattle.partition_world.proofs.Entered.{enters, entered_central, silent_central}
 use Rattle.partition_world.proofs.Scenes.{Place, site, scene_after, shows_at, shows_after, work_after, same_sides, left_changed, answered_free, few_now, few_after}
 use Rattle.partition_world.proofs.Noting.{GoesAsNoted, own_noted, turn_noted}
-use Rattle.partition_world.proofs.Sides.{set_same}
-use Rattle.partition_world.proofs.WorldSound.{seen_stays, chosen_seen, moved_seen}
+use Rattle.partition_world.proofs.WorldSound.{seen_stays}
 
 module _ {D S M : Type 0} (disk : DiskGhosts D) (store : StoreGhosts S) (meta : MetaGhosts M) where
   -- a turn of a command, in its place

@@ -41,7 +41,7 @@ use Rattle.partition_world.specs.Tier.{AtSide}
 use Rattle.partition_world.specs.TurnsOfCopy.{ReadsLog, ReadRow, ChooseRow, CopyFirstRow}
 use Rattle.partition_world.specs.TurnsOfFetch.{FetchOnRow, GoesOnFetch}
 use Rattle.partition_world.specs.TurnsOfExpiry.{RaiseRow, ExpireOnRow, ExpiresBy}
-use Rattle.partition_world.specs.TurnsOfRebuild.{with_line, RefreshOnRow, RefreshedRow, EpochsOnRow}
+use Rattle.partition_world.specs.TurnsOfRebuild.{with_line, RefreshedRow}
 use Rattle.partition_world.specs.TurnsOfTrim.{TrimFirstRow, TrimOnRow}
 use Rattle.partition_world.specs.Turns.{NotedRow, CopyingRow, SeekingRow, DeletingRow, JoinSecondRow, RebuildingRow, BeginRow, Row, TurnRow, HaltsTier, StaysTier}
 use Rattle.partition_world.proofs.Begins.{row_of}

@@ -1,5 +1,5 @@
 -- What a seat keeps is for its order's next turn, also after a turn.
-use Rattle.std.proofs.Common.{◌≡◌, subst, ℕ, slice_get, Some}
+use Rattle.std.proofs.Common.{◌≡◌, ◌∙◌, ap, inl, inr, refl, subst, ℕ, slice_get, Some}
 use Rattle.disk_model.specs.declared.disk.Disk.{Ghosts as DiskGhosts}
 use Rattle.object_store.specs.declared.store.Store.{Ghosts as StoreGhosts}
 use Rattle.meta_log.specs.declared.log.MetaLog.{Ghosts as MetaGhosts}
@@ -12,10 +12,13 @@ use Rattle.rebuild_task.specs.declared.turn.Next.{Next as Rebuild}
 use Rattle.tier_fetch.specs.declared.turn.Next.{Next as Search}
 use Rattle.plain_log.specs.declared.command.ActorList.{ActorList}
 use Rattle.plain_log.specs.declared.command.Command.{Command}
-use Rattle.plain_log.specs.declared.command.Command.TheVariants.{Fetch}
+use Rattle.plain_log.specs.declared.command.Command.TheVariants.{Join, Follow, Copy, Trim, Expire, Fetch}
 use Rattle.plain_log.specs.declared.command.Config.{Config}
 use Rattle.plain_log.specs.declared.command.Order.{Order}
+use Rattle.plain_log.specs.State.{leads}
 use Rattle.partition_seen.specs.declared.begun.Begun.{Begun}
+use Rattle.partition_seen.specs.declared.begun.Turned.{Turned}
+use Rattle.partition_seen.specs.declared.begun.Turned.TheVariants as turned
 use Rattle.partition_turns.specs.declared.held.Node.{Node}
 use Rattle.partition_turns.specs.declared.held.Held.{Held}
 use Rattle.partition_world.specs.declared.tier.Side.{Side}
@@ -25,103 +28,183 @@ use Rattle.partition_world.specs.declared.seat.Outcome.TheVariants.{Answers, Beg
 use Rattle.partition_world.specs.declared.seat.Seat.{Seat}
 use Rattle.partition_world.specs.declared.seat.Work.{Work}
 use Rattle.partition_world.specs.declared.seat.Work.TheVariants.{Idle, Noted, Copies, Seeks, Expires, Rebuilds}
-use Rattle.partition_world.specs.Seats.{chosen, moved, sought, doomed, deleting, rebuilding, seat_after}
-use Rattle.partition_world.specs.Sound.{IsWorkFor}
-use Rattle.partition_world.specs.Turns.{Row, TurnRow}
-use Rattle.partition_world.proofs.Begins.{row_of}
+use Rattle.partition_turns.specs.Turns.{FirstRow}
+use Rattle.partition_world.specs.Seats.{outcome_of, chosen, moved, sought, doomed, deleting, rebuilding, seat_after}
+use Rattle.partition_world.specs.Sound.{MayGoOn, SeeksBy, IsWorkFor}
+use Rattle.partition_world.specs.Turns.{BeginRow, NotedRow, SeekingRow, Row, TurnRow}
+use Rattle.partition_world.proofs.Begins.{row_of, begins_idle}
 
--- nothing and what was noted are for any order
+-- nothing is for any order
 pub idle_for : (command : Command) → IsWorkFor command Idle
-idle_for (Fetch offset limit) = tt
-idle_for other = tt
+idle_for command = tt
 
-noted_for : (command : Command) (g : Begun) → IsWorkFor command (Noted g)
-noted_for (Fetch offset limit) g = tt
-noted_for other g = tt
-
--- so is what a copy goes on with
-chosen_for : (command : Command) (work : Work) (copy : Copied) → IsWorkFor command work → IsWorkFor command (chosen work copy)
-chosen_for (Fetch offset limit) Idle copy k = tt
-chosen_for (Fetch offset limit) (Noted g) copy k = tt
-chosen_for (Fetch offset limit) (Copies g c next) copy k = tt
-chosen_for (Fetch offset limit) (Seeks g next) copy k = k
-chosen_for (Fetch offset limit) (Expires g segment next) copy k = tt
-chosen_for (Fetch offset limit) (Rebuilds g next) copy k = tt
-chosen_for other work copy k = tt
-
+-- a copy, an expiry and a join go on with what is for them as before
 moved_for : (command : Command) (work : Work) (next : Next) → IsWorkFor command work → IsWorkFor command (moved work next)
-moved_for (Fetch offset limit) Idle next k = tt
-moved_for (Fetch offset limit) (Noted g) next k = tt
-moved_for (Fetch offset limit) (Copies g c before) next k = tt
-moved_for (Fetch offset limit) (Seeks g before) next k = k
-moved_for (Fetch offset limit) (Expires g segment before) next k = tt
-moved_for (Fetch offset limit) (Rebuilds g before) next k = tt
-moved_for other work next k = tt
-
--- and what an expiry does
-doomed_for : (command : Command) (work : Work) (segment : Doomed) → IsWorkFor command work → IsWorkFor command (doomed work segment)
-doomed_for (Fetch offset limit) Idle segment k = tt
-doomed_for (Fetch offset limit) (Noted g) segment k = tt
-doomed_for (Fetch offset limit) (Copies g c next) segment k = tt
-doomed_for (Fetch offset limit) (Seeks g next) segment k = k
-doomed_for (Fetch offset limit) (Expires g before next) segment k = tt
-doomed_for (Fetch offset limit) (Rebuilds g before) segment k = tt
-doomed_for other work segment k = tt
+moved_for command Idle next k = k
+moved_for command (Noted g) next k = k
+moved_for command (Copies g c before) next k = k
+moved_for command (Seeks g before) next k = k
+moved_for command (Expires g segment before) next k = k
+moved_for command (Rebuilds g before) next k = k
 
 deleting_for : (command : Command) (work : Work) (next : Deletion) → IsWorkFor command work → IsWorkFor command (deleting work next)
-deleting_for (Fetch offset limit) Idle next k = tt
-deleting_for (Fetch offset limit) (Noted g) next k = tt
-deleting_for (Fetch offset limit) (Copies g c before) next k = tt
-deleting_for (Fetch offset limit) (Seeks g before) next k = k
-deleting_for (Fetch offset limit) (Expires g segment before) next k = tt
-deleting_for (Fetch offset limit) (Rebuilds g before) next k = tt
-deleting_for other work next k = tt
-
--- and what a join does that begins its log anew
-rebuilding_for : (command : Command) (work : Work) (next : Rebuild) → IsWorkFor command work → IsWorkFor command (rebuilding work next)
-rebuilding_for (Fetch offset limit) Idle next k = tt
-rebuilding_for (Fetch offset limit) (Noted g) next k = tt
-rebuilding_for (Fetch offset limit) (Copies g c before) next k = tt
-rebuilding_for (Fetch offset limit) (Seeks g before) next k = k
-rebuilding_for (Fetch offset limit) (Expires g segment before) next k = tt
-rebuilding_for (Fetch offset limit) (Rebuilds g before) next k = tt
-rebuilding_for other work next k = tt
+deleting_for command Idle next k = k
+deleting_for command (Noted g) next k = k
+deleting_for command (Copies g c before) next k = k
+deleting_for command (Seeks g before) next k = k
+deleting_for command (Expires g segment before) next k = k
+deleting_for command (Rebuilds g before) next k = k
 
 module _ {D S M : Type 0} (disk : DiskGhosts D) (store : StoreGhosts S) (meta : MetaGhosts M) where
-  -- a fetch goes on with what is for its offset
+  own_for : (h : Held D) (b : ℕ) (x : Node D) (command : Command) (turn : Turned) (g : Begun) (h' : Held D) → Begins g ≡ outcome_of turn → FirstRow disk.content disk.control h b x command turn h' → MayGoOn command g
+  own_for h b x command (turned.Answers answer) g h' is row = absurd (cc (is))
+  own_for h b x Join (turned.Begins f) g h' is row = tt
+  own_for h b x (Follow limit) (turned.Begins f) g h' is row = tt
+  own_for h b x Trim (turned.Begins f) g h' is row = tt
+  own_for h b x (Fetch offset limit) (turned.Begins f) g h' is row = tt
+  own_for h b x other (turned.Begins f) g h' is row = absurd row
+
+  -- a command that begins has a second turn
+  begun_for : (h : Held D) (t : Tier S M) (b : ℕ) (x : Node D) (side : Side) (command : Command) (g : Begun) (h' : Held D) (t' : Tier S M)
+      → BeginRow disk store meta h t b x side command (Begins g) h' t' → MayGoOn command g
+  begun_for h t b x side Join g h' t' w = tt
+  begun_for h t b x side (Follow limit) g h' t' w = tt
+  begun_for h t b x side Copy g h' t' w = tt
+  begun_for h t b x side Trim g h' t' w = tt
+  begun_for h t b x side Expire g h' t' w = ap leads w.0.2.role ∙ w.0.1
+  begun_for h t b x side (Fetch offset limit) g h' t' w = tt
+  begun_for h t b x side other g h' t' w = own_for h b x other w.0.0 g h' w.0.1 w.0.2
+
+  -- a copy alone chooses a segment
+  chosen_by : (p : PartitionId) (config : Config) (h : Held D) (t : Tier S M) (b : ℕ) (x : Node D) (side : Side) (g : Begun) (command : Command) (copy : Copied) (h' : Held D) (t' : Tier S M)
+      → NotedRow disk store meta p config h t b x side g command (Chose copy) h' t' → command ≡ Copy
+  chosen_by p config h t b x side g Copy copy h' t' w = refl
+  chosen_by p config h t b x side g Trim copy h' t' w = elim w.0 [ ]
+  chosen_by p config h t b x side g Expire copy h' t' (inl lost, same) = let e = lost.1 in absurd (cc (e))
+  chosen_by p config h t b x side g Expire copy h' t' (inr (keeps, by), same) = elim by [ ]
+  chosen_by p config h t b x side g Join copy h' t' (inl (low, own)) = let e = own.0.1 in absurd (cc (e))
+  chosen_by p config h t b x side g Join copy h' t' (inr (high, inl (answer, is, at, tier), same)) = absurd (cc (is))
+  chosen_by p config h t b x side g Join copy h' t' (inr (high, inr (may, row), same)) = elim row [ ]
+  chosen_by p config h t b x side g (Fetch offset limit) copy h' t' w = elim w.0 [ ]
+  chosen_by p config h t b x side g other copy h' t' w = let e = w.0.1 in absurd (cc (e))
+
+  chosen_for : (p : PartitionId) (config : Config) (h : Held D) (t : Tier S M) (b : ℕ) (x : Node D) (side : Side) (work : Work) (command : Command) (copy : Copied) (h' : Held D) (t' : Tier S M)
+      → Row disk store meta p config h t b x side work command (Chose copy) h' t' → IsWorkFor command work → IsWorkFor command (chosen work copy)
+  chosen_for p config h t b x side (Noted g) command copy h' t' w k = chosen_by p config h t b x side g command copy h' t' w
+  chosen_for p config h t b x side Idle command copy h' t' w k = k
+  chosen_for p config h t b x side (Copies g c next) command copy h' t' w k = k
+  chosen_for p config h t b x side (Seeks g next) command copy h' t' w k = k
+  chosen_for p config h t b x side (Expires g segment next) command copy h' t' w k = k
+  chosen_for p config h t b x side (Rebuilds g next) command copy h' t' w k = k
+
+  -- an expiry alone takes up a segment
+  doomed_by : (p : PartitionId) (config : Config) (h : Held D) (t : Tier S M) (b : ℕ) (x : Node D) (side : Side) (g : Begun) (command : Command) (segment : Doomed) (h' : Held D) (t' : Tier S M)
+      → NotedRow disk store meta p config h t b x side g command (Dooms segment) h' t' → command ≡ Expire
+  doomed_by p config h t b x side g Expire segment h' t' w = refl
+  doomed_by p config h t b x side g Copy segment h' t' (inl lost) = let e = lost.1 in absurd (cc (e))
+  doomed_by p config h t b x side g Copy segment h' t' (inr (keeps, inl level)) = let e = level.1 in absurd (cc (e))
+  doomed_by p config h t b x side g Copy segment h' t' (inr (keeps, inr reads)) = elim reads.row [ ]
+  doomed_by p config h t b x side g Trim segment h' t' w = elim w.0 [ ]
+  doomed_by p config h t b x side g Join segment h' t' (inl (low, own)) = let e = own.0.1 in absurd (cc (e))
+  doomed_by p config h t b x side g Join segment h' t' (inr (high, inl (answer, is, at, tier), same)) = absurd (cc (is))
+  doomed_by p config h t b x side g Join segment h' t' (inr (high, inr (may, row), same)) = elim row [ ]
+  doomed_by p config h t b x side g (Fetch offset limit) segment h' t' w = elim w.0 [ ]
+  doomed_by p config h t b x side g other segment h' t' w = let e = w.0.1 in absurd (cc (e))
+
+  doomed_for : (p : PartitionId) (config : Config) (h : Held D) (t : Tier S M) (b : ℕ) (x : Node D) (side : Side) (work : Work) (command : Command) (segment : Doomed) (h' : Held D) (t' : Tier S M)
+      → Row disk store meta p config h t b x side work command (Dooms segment) h' t' → IsWorkFor command work → IsWorkFor command (doomed work segment)
+  doomed_for p config h t b x side (Noted g) command segment h' t' w k = doomed_by p config h t b x side g command segment h' t' w
+  doomed_for p config h t b x side Idle command segment h' t' w k = k
+  doomed_for p config h t b x side (Copies g c next) command segment h' t' w k = k
+  doomed_for p config h t b x side (Seeks g next) command segment h' t' w k = k
+  doomed_for p config h t b x side (Expires g before next) command segment h' t' w k = k
+  doomed_for p config h t b x side (Rebuilds g next) command segment h' t' w k = k
+
+  -- a join alone begins its log anew
+  rebuilding_by : (p : PartitionId) (config : Config) (h : Held D) (t : Tier S M) (b : ℕ) (x : Node D) (side : Side) (g : Begun) (command : Command) (next : Rebuild) (h' : Held D) (t' : Tier S M)
+      → NotedRow disk store meta p config h t b x side g command (Rebuilding next) h' t' → command ≡ Join
+  rebuilding_by p config h t b x side g Join next h' t' w = refl
+  rebuilding_by p config h t b x side g Copy next h' t' (inl lost) = let e = lost.1 in absurd (cc (e))
+  rebuilding_by p config h t b x side g Copy next h' t' (inr (keeps, inl level)) = let e = level.1 in absurd (cc (e))
+  rebuilding_by p config h t b x side g Copy next h' t' (inr (keeps, inr reads)) = elim reads.row [ ]
+  rebuilding_by p config h t b x side g Trim next h' t' w = elim w.0 [ ]
+  rebuilding_by p config h t b x side g Expire next h' t' (inl lost, same) = let e = lost.1 in absurd (cc (e))
+  rebuilding_by p config h t b x side g Expire next h' t' (inr (keeps, by), same) = elim by [ ]
+  rebuilding_by p config h t b x side g (Fetch offset limit) next h' t' w = elim w.0 [ ]
+  rebuilding_by p config h t b x side g other next h' t' w = let e = w.0.1 in absurd (cc (e))
+
+  rebuilding_for : (p : PartitionId) (config : Config) (h : Held D) (t : Tier S M) (b : ℕ) (x : Node D) (side : Side) (work : Work) (command : Command) (next : Rebuild) (h' : Held D) (t' : Tier S M)
+      → Row disk store meta p config h t b x side work command (Rebuilding next) h' t' → IsWorkFor command work → IsWorkFor command (rebuilding work next)
+  rebuilding_for p config h t b x side (Noted g) command next h' t' w k = rebuilding_by p config h t b x side g command next h' t' w
+  rebuilding_for p config h t b x side Idle command next h' t' w k = k
+  rebuilding_for p config h t b x side (Copies g c before) command next h' t' w k = k
+  rebuilding_for p config h t b x side (Seeks g before) command next h' t' w k = k
+  rebuilding_for p config h t b x side (Expires g segment before) command next h' t' w k = k
+  rebuilding_for p config h t b x side (Rebuilds g before) command next h' t' w k = k
+
+  -- a fetch alone goes on in the remote tier, with what is for its offset
+  sought_by : (p : PartitionId) (config : Config) (h : Held D) (t : Tier S M) (b : ℕ) (x : Node D) (side : Side) (g : Begun) (command : Command) (next : Search) (h' : Held D) (t' : Tier S M)
+      → NotedRow disk store meta p config h t b x side g command (Sought next) h' t' → SeeksBy command next
+  sought_by p config h t b x side g (Fetch offset limit) next h' t' w = w.0.2
+  sought_by p config h t b x side g Copy next h' t' (inl lost) = let e = lost.1 in absurd (cc (e))
+  sought_by p config h t b x side g Copy next h' t' (inr (keeps, inl level)) = let e = level.1 in absurd (cc (e))
+  sought_by p config h t b x side g Copy next h' t' (inr (keeps, inr reads)) = elim reads.row [ ]
+  sought_by p config h t b x side g Trim next h' t' w = elim w.0 [ ]
+  sought_by p config h t b x side g Expire next h' t' (inl lost, same) = let e = lost.1 in absurd (cc (e))
+  sought_by p config h t b x side g Expire next h' t' (inr (keeps, by), same) = elim by [ ]
+  sought_by p config h t b x side g Join next h' t' (inl (low, own)) = let e = own.0.1 in absurd (cc (e))
+  sought_by p config h t b x side g Join next h' t' (inr (high, inl (answer, is, at, tier), same)) = absurd (cc (is))
+  sought_by p config h t b x side g Join next h' t' (inr (high, inr (may, row), same)) = elim row [ ]
+  sought_by p config h t b x side g other next h' t' w = let e = w.0.1 in absurd (cc (e))
+
+  seeking_by : (p : PartitionId) (h : Held D) (t : Tier S M) (b : ℕ) (x : Node D) (side : Side) (g : Begun) (before : Search) (command : Command) (next : Search) (h' : Held D) (t' : Tier S M)
+      → SeekingRow store meta p h t b x side g before command (Sought next) h' t' → SeeksBy command next
+  seeking_by p h t b x side g before (Fetch offset limit) next h' t' w = w.0.2
+  seeking_by p h t b x side g before other next h' t' w = elim w [ ]
+
   sought_for : (p : PartitionId) (config : Config) (h : Held D) (t : Tier S M) (b : ℕ) (x : Node D) (side : Side) (work : Work) (command : Command) (next : Search) (h' : Held D) (t' : Tier S M)
-      → Row disk store meta p config h t b x side work command (Sought next) h' t' → IsWorkFor command (sought work next)
-  sought_for p config h t b x side Idle (Fetch offset limit) next h' t' w = tt
-  sought_for p config h t b x side (Noted g) (Fetch offset limit) next h' t' w = w.0.2
-  sought_for p config h t b x side (Copies g copy before) (Fetch offset limit) next h' t' w = tt
-  sought_for p config h t b x side (Seeks g before) (Fetch offset limit) next h' t' w = w.0.2
-  sought_for p config h t b x side (Expires g segment before) (Fetch offset limit) next h' t' w = tt
-  sought_for p config h t b x side (Rebuilds g before) (Fetch offset limit) next h' t' w = tt
-  sought_for p config h t b x side work other next h' t' w = tt
+      → Row disk store meta p config h t b x side work command (Sought next) h' t' → IsWorkFor command work → IsWorkFor command (sought work next)
+  sought_for p config h t b x side (Noted g) command next h' t' w k = sought_by p config h t b x side g command next h' t' w
+  sought_for p config h t b x side (Seeks g before) command next h' t' w k = seeking_by p h t b x side g before command next h' t' w
+  sought_for p config h t b x side Idle command next h' t' w k = k
+  sought_for p config h t b x side (Copies g copy before) command next h' t' w k = k
+  sought_for p config h t b x side (Expires g segment before) command next h' t' w k = k
+  sought_for p config h t b x side (Rebuilds g before) command next h' t' w k = k
 
   -- the seat keeps what the next turn of its list needs
   pub work_after : (p : PartitionId) (config : Config) (h : Held D) (t : Tier S M) (h' : Held D) (t' : Tier S M) (l : ActorList) (seat : Seat) (order : Order) (outcome : Outcome) (later : Order)
       → slice_get l.orders seat.number ≡ Some order → IsWorkFor order.command seat.work → TurnRow disk store meta p config h t order.broker.0 seat.work order.command outcome h' t'
       → slice_get l.orders (seat_after seat outcome).number ≡ Some later → IsWorkFor later.command (seat_after seat outcome).work
   work_after p config h t h' t' l seat order (Answers answer) later at k row to = idle_for later.command
-  work_after p config h t h' t' l seat order (Begins g) later at k row to = noted_for later.command g
+  work_after p config h t h' t' l seat order (Begins g) later at k row to =
+      let same : order ≡ later = cc (at, to) in
+      let idle = begins_idle disk store meta p config h t order.broker.0 seat.work order.command g h' t' row in
+      let r = row_of disk store meta p config h t order.broker.0 seat.work order.command (Begins g) h' t' row in
+      subst (λ (o : Order). MayGoOn o.command g) same (begun_for h t order.broker.0 r.x r.side order.command g h' t'
+      (subst (λ (w : Work). Row disk store meta p config h t order.broker.0 r.x r.side w order.command (Begins g) h' t') idle r.row))
   work_after p config h t h' t' l seat order (Chose copy) later at k row to =
       let same : order ≡ later = cc (at, to) in
-      subst (λ (o : Order). IsWorkFor o.command (chosen seat.work copy)) same (chosen_for order.command seat.work copy k)
+      let r = row_of disk store meta p config h t order.broker.0 seat.work order.command (Chose copy) h' t' row in
+      subst (λ (o : Order). IsWorkFor o.command (chosen seat.work copy)) same
+      (chosen_for p config h t order.broker.0 r.x r.side seat.work order.command copy h' t' r.row k)
   work_after p config h t h' t' l seat order (Goes next) later at k row to =
       let same : order ≡ later = cc (at, to) in
       subst (λ (o : Order). IsWorkFor o.command (moved seat.work next)) same (moved_for order.command seat.work next k)
   work_after p config h t h' t' l seat order (Dooms segment) later at k row to =
       let same : order ≡ later = cc (at, to) in
-      subst (λ (o : Order). IsWorkFor o.command (doomed seat.work segment)) same (doomed_for order.command seat.work segment k)
+      let r = row_of disk store meta p config h t order.broker.0 seat.work order.command (Dooms segment) h' t' row in
+      subst (λ (o : Order). IsWorkFor o.command (doomed seat.work segment)) same
+      (doomed_for p config h t order.broker.0 r.x r.side seat.work order.command segment h' t' r.row k)
   work_after p config h t h' t' l seat order (Deletes next) later at k row to =
       let same : order ≡ later = cc (at, to) in
       subst (λ (o : Order). IsWorkFor o.command (deleting seat.work next)) same (deleting_for order.command seat.work next k)
   work_after p config h t h' t' l seat order (Rebuilding next) later at k row to =
       let same : order ≡ later = cc (at, to) in
-      subst (λ (o : Order). IsWorkFor o.command (rebuilding seat.work next)) same (rebuilding_for order.command seat.work next k)
+      let r = row_of disk store meta p config h t order.broker.0 seat.work order.command (Rebuilding next) h' t' row in
+      subst (λ (o : Order). IsWorkFor o.command (rebuilding seat.work next)) same
+      (rebuilding_for p config h t order.broker.0 r.x r.side seat.work order.command next h' t' r.row k)
   work_after p config h t h' t' l seat order (Sought next) later at k row to =
       let same : order ≡ later = cc (at, to) in
       let r = row_of disk store meta p config h t order.broker.0 seat.work order.command (Sought next) h' t' row in
       subst (λ (o : Order). IsWorkFor o.command (sought seat.work next)) same
-      (sought_for p config h t order.broker.0 r.x r.side seat.work order.command next h' t' r.row)
+      (sought_for p config h t order.broker.0 r.x r.side seat.work order.command next h' t' r.row k)

@@ -1,25 +1,47 @@
 -- What a world keeps over any devices: what its turns need to be carried out.
-use Rattle.std.specs.Prelude.{◌≡◌, ◌≤◌, ℕ, List, Some, length, slice_get}
+use Rattle.std.specs.Prelude.{◌≡◌, ◌≤◌, ℕ, true, List, Some, length, slice_get}
 use Rattle.plain_log.specs.declared.command.ActorList.{ActorList}
 use Rattle.plain_log.specs.declared.command.Command.{Command}
-use Rattle.plain_log.specs.declared.command.Command.TheVariants.{Fetch}
+use Rattle.plain_log.specs.declared.command.Command.TheVariants.{Join, Follow, Copy, Trim, Expire, Fetch}
 use Rattle.plain_log.specs.declared.command.Config.{Config}
 use Rattle.plain_log.specs.declared.command.Order.{Order}
 use Rattle.plain_log.specs.Orders.{AreListsFor, IsConfig}
+use Rattle.plain_log.specs.State.{leads}
+use Rattle.partition_seen.specs.declared.begun.Begun.{Begun}
 use Rattle.partition_seen.specs.Sound.{turns_left as entries_left}
 use Rattle.partition_turns.specs.declared.held.Held.{Held}
 use Rattle.partition_turns.specs.Sound.{HeldSound}
 use Rattle.tier_fetch.specs.Turns.{IsFor}
+use Rattle.tier_fetch.specs.declared.turn.Next.{Next}
 use Rattle.partition_world.specs.declared.seat.Seat.{Seat}
 use Rattle.partition_world.specs.declared.seat.Work.{Work}
-use Rattle.partition_world.specs.declared.seat.Work.TheVariants.{Seeks}
+use Rattle.partition_world.specs.declared.seat.Work.TheVariants.{Idle, Noted, Copies, Seeks, Expires, Rebuilds}
 use Rattle.partition_world.specs.declared.tier.Side.{Side}
 use Rattle.partition_world.specs.Seats.{desk_seen}
 
--- what a fetch does next is for its offset
+-- a command has a second turn, with what was noted at its first; that of an expiry was a leader's
+abbrev pub MayGoOn : Command → Begun → Type 0
+MayGoOn Join g = Unit {0}
+MayGoOn (Follow limit) g = Unit {0}
+MayGoOn Copy g = Unit {0}
+MayGoOn Trim g = Unit {0}
+MayGoOn Expire g = leads g.role ≡ true
+MayGoOn (Fetch offset limit) g = Unit {0}
+MayGoOn command g = ⊥
+
+-- a fetch does this next, for its offset
+abbrev pub SeeksBy : Command → Next → Type 0
+SeeksBy (Fetch offset limit) next = IsFor offset next
+SeeksBy command next = ⊥
+
+-- what a seat keeps is of a turn that its command has
 abbrev pub IsWorkFor : Command → Work → Type 0
-IsWorkFor (Fetch offset limit) (Seeks g next) = IsFor offset next
-IsWorkFor command work = Unit {0}
+IsWorkFor command Idle = Unit {0}
+IsWorkFor command (Noted g) = MayGoOn command g
+IsWorkFor command (Copies g copy next) = command ≡ Copy
+IsWorkFor command (Seeks g next) = SeeksBy command next
+IsWorkFor command (Expires g segment next) = command ≡ Expire
+IsWorkFor command (Rebuilds g next) = command ≡ Join
 
 -- each seat keeps what its order's next turn needs
 abbrev pub AreWorks : List ActorList → List Seat → Type 0

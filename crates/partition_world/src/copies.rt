@@ -124,8 +124,9 @@ fn read_next<D: Disk>(
         Err(LogRefusal::Damaged { file, at }) => {
             Ok(Outcome::Answers(Answer::Damaged(Place::File(file), at)))
         }
-        // The last attempt, or no memory.
-        Ok(_) | Err(_) => Err(AllocError),
+        // No attempt follows the last one.
+        Ok(Some(_)) | Err(LogRefusal::NoMemory) => Err(AllocError),
+        Ok(None) | Err(_) => unreachable!(),
     }
 }
 

@@ -5,6 +5,7 @@
 //! that has stopped, or has another role, has lost its lead.
 
 ghost use Rattle.std.specs.Prelude.{◌≡◌, ◌<◌, true, length, IfOk, OnErr};
+ghost use Rattle.plain_log.specs.State.{leads};
 ghost use Rattle.partition_turns.specs.Held.{AtNode, is_up};
 ghost use Rattle.partition_world.specs.Tier.{AtSide, Halts};
 ghost use Rattle.partition_world.specs.TurnsOfExpiry.{rises_to, RaiseRow, ExpireFirstRow, ExpireOnRow, DeleteOnRow, WantsForDeletion};
@@ -44,19 +45,19 @@ fn rises_to<D: Disk>(
     raised_to(alloc, &side.view, pieces.as_slice(), rest, held.clock, keep)
 }
 
-/// Raises the log start for a broker of this role.
+/// Raises the log start for a leader.
 fn raise<D: Disk>(held: &mut Held<D>, role: Role, start: u64) -> Result<Answer, AllocError>
+    requires { leads role ≡ true }
     ensures row { IfOk result (λ answer. RaiseRow held.old role start answer held.new) }
     ensures err { OnErr result (held.new ≡ held.old) }
 {
     let Some(epoch) = leading(role) else {
-        // An expiry begins at a leader alone.
-        return Err(AllocError);
+        unreachable!()
     };
     match held.registry.raise(epoch, start) {
         Ok(start) => Ok(Answer::Raised(start)),
         Err(RegRefusal::StaleEpoch { current }) => Ok(Answer::StaleEpoch(current as u64)),
-        // Retention raises it above the log start, and to the known mark at most.
+        // Not reached, which nothing proves: retention raises it above the log start, and to the known mark at most.
         Err(_) => Err(AllocError),
     }
 }
@@ -90,6 +91,7 @@ impl<S: Store, M: MetaLog> Tier<S, M> {
     ) -> Result<Outcome, AllocError>
         requires node { b < length held.old.nodes }
         requires side { b < length self.now.sides }
+        requires leads { leads noted.now.role ≡ true }
         ensures row { IfOk result (λ outcome. AtNode held.old b (λ x. AtSide self.now b (λ side.
             ExpireOnRow partition held.old x side noted.now keep outcome held.new))) }
         ensures err { OnErr result (held.new ≡ held.old) }

@@ -8,7 +8,6 @@
 ghost use Rattle.std.specs.Prelude.{◌≡◌, ◌<◌, length, None, IfOk, IfSome, OnErr};
 ghost use Rattle.plain_log.specs.declared.command.Command.TheVariants.{Join};
 ghost use Rattle.partition_turns.specs.Held.{AtNode, CanStop};
-ghost use Rattle.partition_turns.specs.Sound.{HeldSound};
 ghost use Rattle.partition_turns.specs.TurnsOfFollowers.{MayRebuild};
 ghost use Rattle.partition_world.specs.Tier.{AtSide, Halts};
 ghost use Rattle.partition_world.specs.TurnsOfRebuild.{with_line, AnswersAtOnce, RefreshOnRow, EpochsOnRow, WantsForRebuild};
@@ -23,7 +22,7 @@ use meta_log::MetaLog;
 use object_store::Store;
 use partition_seen::{Begun, LocalStart, Taken};
 use partition_turns::{Held, Node};
-use plain_log::{Answer, Order, Role};
+use plain_log::{Answer, Role};
 use rebuild_task::{Next, Wanted, rebuild_turn};
 use std::alloc::{AllocError, Global};
 use tier_base::{BrokerId, PartitionId, Trouble};
@@ -76,22 +75,20 @@ impl<S: Store, M: MetaLog> Tier<S, M> {
     pub(crate) fn join_on<D: Disk>(
         &mut self,
         alloc: Global,
-        order: &Order,
+        broker: BrokerId,
         noted: &Begun,
         held: &mut Held<D>,
     ) -> Result<Outcome, AllocError>
-        requires join { order.now.command ≡ Join }
-        requires node { CanStop held.old order.now.broker.0 }
-        requires side { order.now.broker.0 < length self.old.sides }
-        requires sound { HeldSound (length held.old.nodes) held.old }
-        ensures row { IfOk result (λ outcome. AtNode held.old order.now.broker.0 (λ x. AtSide self.old order.now.broker.0 (λ side.
-            JoinSecondRow D.Disk M.MetaLog held.old self.old order.now.broker.0 x side noted.now outcome held.new self.new))) }
-        ensures err { OnErr result (StaysTier D.Disk S.Store M.MetaLog held.old self.old order.now.broker.0 held.new self.new) }
+        requires node { CanStop held.old broker.0 }
+        requires side { broker.0 < length self.old.sides }
+        ensures row { IfOk result (λ outcome. AtNode held.old broker.0 (λ x. AtSide self.old broker.0 (λ side.
+            JoinSecondRow D.Disk M.MetaLog held.old self.old broker.0 x side noted.now outcome held.new self.new))) }
+        ensures err { OnErr result (StaysTier D.Disk S.Store M.MetaLog held.old self.old broker.0 held.new self.new) }
     {
         if noted.wanted.offset() <= noted.start {
-            return self.end_own(alloc, order, noted, held);
+            return self.begin_anew(alloc, broker, noted, held);
         }
-        self.refresh_on(order.broker, noted, held)
+        self.refresh_on(broker, noted, held)
     }
 
     /// Lets the follower's view take in what the metadata log has more.
@@ -151,19 +148,34 @@ impl<S: Store, M: MetaLog> Tier<S, M> {
     pub(crate) fn restart<D: Disk>(
         &mut self,
         alloc: Global,
-        order: &Order,
+        broker: BrokerId,
         noted: &Begun,
         line: &Line,
         held: &mut Held<D>,
     ) -> Result<Outcome, AllocError>
-        requires node { CanStop held.old order.now.broker.0 }
-        requires sound { HeldSound (length held.old.nodes) held.old }
-        ensures row { IfOk result (λ outcome. AtNode held.old order.now.broker.0 (λ x.
-            OwnOnRow D.Disk held.old self.old order.now.broker.0 x (with_line noted.now line.now) order.now.command outcome
-            held.new self.new)) }
-        ensures err { OnErr result (StaysTier D.Disk S.Store M.MetaLog held.old self.old order.now.broker.0 held.new self.new) }
+        requires { CanStop held.old broker.0 }
+        ensures row { IfOk result (λ outcome. AtNode held.old broker.0 (λ x.
+            OwnOnRow D.Disk held.old self.old broker.0 x (with_line noted.now line.now) Join outcome held.new self.new)) }
+        ensures err { OnErr result (StaysTier D.Disk S.Store M.MetaLog held.old self.old broker.0 held.new self.new) }
     {
         let noted = with_line(alloc, noted, line)?;
-        self.end_own(alloc, order, &noted, held)
+        self.begin_anew(alloc, broker, &noted, held)
+    }
+
+    /// Begins the follower's log anew, with the line that was noted.
+    fn begin_anew<D: Disk>(
+        &mut self,
+        alloc: Global,
+        broker: BrokerId,
+        noted: &Begun,
+        held: &mut Held<D>,
+    ) -> Result<Outcome, AllocError>
+        requires { CanStop held.old broker.0 }
+        ensures row { IfOk result (λ outcome. AtNode held.old broker.0 (λ x.
+            OwnOnRow D.Disk held.old self.old broker.0 x noted.now Join outcome held.new self.new)) }
+        ensures err { OnErr result (StaysTier D.Disk S.Store M.MetaLog held.old self.old broker.0 held.new self.new) }
+    {
+        let answer = held.join_on(alloc, broker.0 as usize, noted)?;
+        Ok(Outcome::Answers(answer))
     }
 }

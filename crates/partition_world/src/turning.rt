@@ -5,10 +5,10 @@ ghost use Rattle.plain_log.specs.Orders.{IsInRange};
 ghost use Rattle.partition_turns.specs.Held.{AtNode, CanStop};
 ghost use Rattle.partition_turns.specs.Sound.{HeldSound};
 ghost use Rattle.partition_world.specs.Tier.{AtSide};
-ghost use Rattle.partition_world.specs.declared.seat.Work.TheVariants.{Seeks};
-ghost use Rattle.tier_fetch.specs.Turns.{IsFor};
+ghost use Rattle.partition_turns.specs.Turns.{IsOfTier};
+ghost use Rattle.partition_world.specs.declared.seat.Work.TheVariants.{Noted, Copies, Seeks, Expires, Rebuilds};
 ghost use Rattle.partition_world.specs.Sound.{IsWorkFor};
-ghost use Rattle.partition_world.specs.Turns.{OwnRow, OwnOnRow, BeginRow, NotedRow, CopyingRow, SeekingRow, DeletingRow, RebuildingRow, TurnRow, StaysTier};
+ghost use Rattle.partition_world.specs.Turns.{OwnRow, BeginRow, NotedRow, CopyingRow, SeekingRow, DeletingRow, RebuildingRow, TurnRow, StaysTier};
 
 use crate::seat::{Outcome, Work, outcome_of};
 use crate::tier::Tier;
@@ -99,13 +99,14 @@ impl<S: Store, M: MetaLog> Tier<S, M> {
         requires node { CanStop held.old order.now.broker.0 }
         requires sound { HeldSound (length held.old.nodes) held.old }
         requires fit { IsInRange order.now.command }
+        requires own { IsOfTier order.now.command → ⊥ }
         ensures row { IfOk result (λ outcome. AtNode held.old order.now.broker.0 (λ x.
             OwnRow D.Disk held.old self.old order.now.broker.0 x order.now.command outcome held.new self.new)) }
         ensures err { OnErr result (StaysTier D.Disk S.Store M.MetaLog held.old self.old order.now.broker.0 held.new self.new) }
     {
-        match held.first_turn(alloc, order) {
-            Ok(turned) => Ok(outcome_of(turned)),
-            Err(_) => Err(AllocError),
+        match held.first_turn(alloc, order)? {
+            Some(turned) => Ok(outcome_of(turned)),
+            None => unreachable!(),
         }
     }
 
@@ -121,7 +122,7 @@ impl<S: Store, M: MetaLog> Tier<S, M> {
     ) -> Result<Outcome, AllocError>
         requires node { CanStop held.old order.now.broker.0 }
         requires side { order.now.broker.0 < length self.old.sides }
-        requires sound { HeldSound (length held.old.nodes) held.old }
+        requires work { IsWorkFor order.now.command (Noted noted.now) }
         ensures row { IfOk result (λ outcome. AtNode held.old order.now.broker.0 (λ x. AtSide self.old order.now.broker.0 (λ side.
             NotedRow D.Disk S.Store M.MetaLog partition config held.old self.old order.now.broker.0 x side noted.now order.now.command outcome held.new self.new))) }
         ensures err { OnErr result (StaysTier D.Disk S.Store M.MetaLog held.old self.old order.now.broker.0 held.new self.new) }
@@ -141,28 +142,9 @@ impl<S: Store, M: MetaLog> Tier<S, M> {
                 *limit,
                 held,
             ),
-            Command::Join => self.join_on(alloc, order, noted, held),
-            _ => self.end_own(alloc, order, noted, held),
-        }
-    }
-
-    /// Carries out the last turn of a command on a broker's log.
-    pub(crate) fn end_own<D: Disk>(
-        &mut self,
-        alloc: Global,
-        order: &Order,
-        noted: &Begun,
-        held: &mut Held<D>,
-    ) -> Result<Outcome, AllocError>
-        requires node { CanStop held.old order.now.broker.0 }
-        requires sound { HeldSound (length held.old.nodes) held.old }
-        ensures row { IfOk result (λ outcome. AtNode held.old order.now.broker.0 (λ x.
-            OwnOnRow D.Disk held.old self.old order.now.broker.0 x noted.now order.now.command outcome held.new self.new)) }
-        ensures err { OnErr result (StaysTier D.Disk S.Store M.MetaLog held.old self.old order.now.broker.0 held.new self.new) }
-    {
-        match held.later_turn(alloc, order, noted) {
-            Ok(answer) => Ok(Outcome::Answers(answer)),
-            Err(_) => Err(AllocError),
+            Command::Join => self.join_on(alloc, order.broker, noted, held),
+            Command::Follow { .. } => Ok(Outcome::Answers(held.follow_on(b, noted)?)),
+            _ => unreachable!(),
         }
     }
 
@@ -178,15 +160,12 @@ impl<S: Store, M: MetaLog> Tier<S, M> {
     ) -> Result<Outcome, AllocError>
         requires node { order.now.broker.0 < length held.old.nodes }
         requires side { order.now.broker.0 < length self.old.sides }
+        requires work { IsWorkFor order.now.command (Copies noted.now copying.now next) }
         ensures row { IfOk result (λ outcome. AtNode held.old order.now.broker.0 (λ x. AtSide self.old order.now.broker.0 (λ side.
             CopyingRow S.Store M.MetaLog held.old self.old order.now.broker.0 x side noted.now copying.now next order.now.command outcome held.new self.new))) }
         ensures err { OnErr result (StaysTier D.Disk S.Store M.MetaLog held.old self.old order.now.broker.0 held.new self.new) }
     {
-        match &order.command {
-            Command::Copy => self.copy_on(alloc, order.broker, noted, copying, next, held),
-            // No other command has such a turn.
-            _ => Err(AllocError),
-        }
+        self.copy_on(alloc, order.broker, noted, copying, next, held)
     }
 
     /// Carries out a turn of a fetch that goes on in the remote tier.
@@ -218,8 +197,7 @@ impl<S: Store, M: MetaLog> Tier<S, M> {
                 *limit,
                 held,
             ),
-            // No other command has such a turn.
-            _ => Err(AllocError),
+            _ => unreachable!(),
         }
     }
 
@@ -234,16 +212,13 @@ impl<S: Store, M: MetaLog> Tier<S, M> {
     ) -> Result<Outcome, AllocError>
         requires node { order.now.broker.0 < length held.now.nodes }
         requires side { order.now.broker.0 < length self.old.sides }
+        requires work { IsWorkFor order.now.command (Expires noted.now doomed next) }
         ensures row { IfOk result (λ outcome. AtNode held.now order.now.broker.0 (λ x.
             DeletingRow S.Store M.MetaLog held.now self.old order.now.broker.0 x noted.now doomed next order.now.command
             outcome held.now self.new)) }
         ensures err { OnErr result (StaysTier D.Disk S.Store M.MetaLog held.now self.old order.now.broker.0 held.now self.new) }
     {
-        match &order.command {
-            Command::Expire => self.delete_on(order.broker, noted, doomed, next, held),
-            // No other command has such a turn.
-            _ => Err(AllocError),
-        }
+        self.delete_on(order.broker, noted, doomed, next, held)
     }
 
     /// Carries out a turn of a join that begins its log anew.
@@ -258,21 +233,15 @@ impl<S: Store, M: MetaLog> Tier<S, M> {
     ) -> Result<Outcome, AllocError>
         requires node { CanStop held.old order.now.broker.0 }
         requires side { order.now.broker.0 < length self.old.sides }
-        requires sound { HeldSound (length held.old.nodes) held.old }
+        requires work { IsWorkFor order.now.command (Rebuilds noted.now next.now) }
         ensures row { IfOk result (λ outcome. AtNode held.old order.now.broker.0 (λ x. AtSide self.old order.now.broker.0 (λ side.
             RebuildingRow D.Disk S.Store partition held.old self.old order.now.broker.0 x side noted.now next.now order.now.command
             outcome held.new self.new))) }
         ensures err { OnErr result (StaysTier D.Disk S.Store M.MetaLog held.old self.old order.now.broker.0 held.new self.new) }
     {
-        match (&order.command, next) {
-            (Command::Join, Rebuild::Epochs) => {
-                self.read_epochs(alloc, partition, order.broker, noted, held)
-            }
-            (Command::Join, Rebuild::Restart(line)) => {
-                self.restart(alloc, order, noted, line, held)
-            }
-            // No other command has such a turn.
-            _ => Err(AllocError),
+        match next {
+            Rebuild::Epochs => self.read_epochs(alloc, partition, order.broker, noted, held),
+            Rebuild::Restart(line) => self.restart(alloc, order.broker, noted, line, held),
         }
     }
 }

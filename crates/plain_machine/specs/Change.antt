@@ -82,6 +82,14 @@ AtBroker p b P = (x : Broker) (s : Replica) → slice_get p.brokers b ≡ Some x
 abbrev pub AreJoined : State → Type 0
 AreJoined p = (b : ℕ) (x : Broker) (e : ℕ) → slice_get p.brokers b ≡ Some x → x.role ≡ role.Joined e → Has p.paths e x.log
 
+-- where both logs have the same batch at a place, they have the same ones before it
+abbrev pub AreMatching : List (List ℕ) → List (List ℕ) → Type 0
+AreMatching log other = (k : ℕ) (batch : List ℕ) → slice_get log k ≡ Some batch → slice_get other k ≡ Some batch → take k log ≡ take k other
+
+-- the broker's log matches each path
+abbrev pub MatchesPaths : State → Broker → Type 0
+MatchesPaths p x = (e : ℕ) (path : List (List ℕ)) → path_of p.paths e ≡ Some path → AreMatching x.log path
+
 -- each broker can stop once more
 abbrev pub CanStop : State → ℕ → Type 0
 CanStop p b = (x : Broker) → slice_get p.brokers b ≡ Some x → x.stops < 18446744073709551615

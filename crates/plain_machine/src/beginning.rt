@@ -2,7 +2,7 @@
 
 ghost use Rattle.std.specs.Prelude.{◌≡◌, IfOk, IfSome, option_map, true};
 ghost use Rattle.plain_log.specs.Step.{begins, noted_of};
-ghost use Rattle.plain_machine.specs.Change.{begun_at, is_begin};
+ghost use Rattle.plain_machine.specs.Change.{MatchesPaths, begun_at, is_begin};
 
 use crate::change::{Change, given};
 use crate::ends::end;
@@ -20,6 +20,7 @@ pub(crate) fn beginning(
     command: &Command,
     cut: Option<u64>,
 ) -> Option<Change>
+    requires { MatchesPaths p.now x.now }
     ensures is { begins p.now x.now command.now cut ≡ option_map (begun_at x.now) result }
     ensures few { IfSome result (λ change. is_begin change ≡ true) }
 {

@@ -10,7 +10,7 @@ ghost use Rattle.plain_log.specs.Ends.{common};
 ghost use Rattle.plain_log.specs.Fetch.{is_within};
 ghost use Rattle.plain_log.specs.State.{path_of};
 ghost use Rattle.plain_log.specs.RowsOfFollowers.{is_current, may_follow, cut_to, goes_on, extended, was_passed, rebuilt, copied, later_row, join_row, follow_row};
-ghost use Rattle.plain_machine.specs.Change.{changed, cut, path_in};
+ghost use Rattle.plain_machine.specs.Change.{AreMatching, MatchesPaths, changed, cut, path_in};
 
 use crate::change::{Change, given};
 use crate::ends::{count_up_to, end, is_stale_in};
@@ -27,22 +27,22 @@ fn is_on_time(p: &State, x: &Broker, epoch: Option<u32>) -> bool
     x.up && epoch.is_some() && !is_stale_in(p, epoch)
 }
 
-/// How many batches two logs have in common.
+/// How many batches two logs have in common: those up to the last place where both have the same one.
 fn count_common(log: &[Bytes], other: &[Bytes]) -> usize
+    requires { AreMatching log.now other.now }
     ensures within { result ≤ length log.now }
     ensures is { common log.now other.now ≡ take result log.now }
 {
-    let most = log.len().min(other.len());
-    for i in 0..most {
-        if log[i].as_slice() != other[i].as_slice() {
-            return i;
-        }
+    let mut count = log.len().min(other.len());
+    while count > 0 && log[count - 1].as_slice() != other[count - 1].as_slice() {
+        count -= 1;
     }
-    most
+    count
 }
 
 /// Where a join cuts the log that is told to end at n.
 pub(crate) fn cut_at(p: &State, x: &Broker, n: u64) -> Option<(u32, usize)>
+    requires { MatchesPaths p.now x.now }
     ensures { cut_to p.now x.now n ≡ option_map (λ at. cut x.now at.0 at.1 n) result }
 {
     let epoch = followed_in(x.role)?;
@@ -119,6 +119,7 @@ fn rebuilt_to(p: &State, x: &Broker, noted: &Noted, n: u64) -> Option<(u32, usiz
 
 /// What the first turn of a join changes.
 fn join_first(p: &State, b: usize, x: &Broker, answer: &Answer) -> Option<Change>
+    requires { MatchesPaths p.now x.now }
     ensures { (s : Replica) (command : Command)
         → join_row p.now b x.now None answer.now ≡ option_map (changed p.now b x.now s command) result }
 {
@@ -184,7 +185,8 @@ pub(crate) fn join(
     noted: Option<&Noted>,
     answer: &Answer,
 ) -> Option<Change>
-    requires { (e : ℕ) (path : List (List ℕ)) → path_of p.now.paths e ≡ Some path → IsConsecutive 0 path }
+    requires paths { (e : ℕ) (path : List (List ℕ)) → path_of p.now.paths e ≡ Some path → IsConsecutive 0 path }
+    requires matches { MatchesPaths p.now x.now }
     ensures { (s : Replica) (command : Command)
         → join_row p.now b x.now (option_copied noted.entry) answer.now ≡ option_map (changed p.now b x.now s command) result }
 {

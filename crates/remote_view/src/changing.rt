@@ -47,7 +47,7 @@ pub(crate) fn update(entry: &mut Entry, broker: BrokerId, event_ts: i64, state: 
     entry.state = state;
 }
 
-/// Sixteen bytes are an id's.
+/// Sixteen bytes are an id's. Reading each shows that it is below 256: of what a reference lends that isn't known before.
 fn are_sixteen(bytes: &[u8; 16])
     ensures { (length bytes.now ≡ 16) × All (λ b. b < 256) bytes.now }
 {

@@ -17,17 +17,40 @@ fn is_later_cause(why: Why) -> bool
     )
 }
 
+/// What the reader says of the words of a script's lines.
+#[derive(Clone, Copy, PartialEq, Eq)]
+enum Answer {
+    /// They have a reading.
+    Read,
+    /// A word is unknown, missing, or one too many: a further one may be what is missing.
+    Word,
+    /// A word or a byte that is there has no reading, or none was asked for, of 2^31 bytes and more.
+    Never,
+}
+
+/// Asks the reader for the words of a script's lines.
+fn ask_reader(alloc: Global, script: &[u8]) -> Result<Answer, AllocError>
+    ensures { IfOk result (λ answer. answer ≡ Answer.Read → HasWords script.now) }
+{
+    if script.len() >= 1 << 31 {
+        return Ok(Answer::Never);
+    }
+    match parse(alloc, script) {
+        Ok(_) => Ok(Answer::Read),
+        Err(ScriptRefusal::Bad { why, .. }) if is_later_cause(why) => Ok(Answer::Read),
+        Err(ScriptRefusal::Bad { why: Why::Word, .. }) => Ok(Answer::Word),
+        Err(ScriptRefusal::Bad { .. }) => Ok(Answer::Never),
+        Err(ScriptRefusal::NoMemory) => Err(AllocError),
+    }
+}
+
 /// Whether the words of a script's lines have a reading. Of 2^31 bytes and more that isn't told.
 pub fn has_words(alloc: Global, script: &[u8]) -> Result<bool, AllocError>
     ensures { IfOk result (λ yes. yes ≡ true → HasWords script.now) }
 {
-    if script.len() >= 1 << 31 {
-        return Ok(false);
-    }
-    match parse(alloc, script) {
-        Ok(_) => Ok(true),
-        Err(ScriptRefusal::Bad { why, .. }) => Ok(is_later_cause(why)),
-        Err(ScriptRefusal::NoMemory) => Err(AllocError),
+    match ask_reader(alloc, script)? {
+        Answer::Read => Ok(true),
+        _ => Ok(false),
     }
 }
 
@@ -55,8 +78,11 @@ pub fn find_tail(alloc: Global, head: &[u8]) -> Result<Option<&'static str>, All
 {
     for tail in &TAILS {
         let script = with_text(alloc, head, tail)?;
-        if has_words(alloc, script.as_slice())? {
-            return Ok(Some(*tail));
+        match ask_reader(alloc, script.as_slice())? {
+            Answer::Read => return Ok(Some(*tail)),
+            // The head itself has no reading, so no tail gives it one.
+            Answer::Never if tail.is_empty() => return Ok(None),
+            _ => {}
         }
     }
     Ok(None)

@@ -10,6 +10,7 @@ use crate::line::{heads, line_at};
 use crate::place::{Place, counts_of, find_place};
 use crate::shown::write_shown;
 use crate::wanted::{Wanted, ask};
+use crate::words::{COMMANDS, UNBUILT};
 use script_lang::Why;
 use std::alloc::{AllocError, Global};
 use std::fmt::Write;
@@ -40,24 +41,40 @@ fn things(alloc: Global, wanted: &Wanted) -> Result<Vec<String>, AllocError> {
     Ok(things)
 }
 
-/// What stands before the i-th of so many things.
-fn before_thing(i: usize, count: usize) -> &'static str
+/// Whether there are several words, and each is a command.
+fn are_commands(words: &[&'static str]) -> bool {
+    1 < words.len()
+        && words
+            .iter()
+            .all(|word| COMMANDS.contains(word) || UNBUILT.contains(word))
+}
+
+/// What stands before the first thing.
+fn lead(wanted: &Wanted) -> &'static str {
+    if are_commands(wanted.words.as_slice()) {
+        "expected a command, one of "
+    } else {
+        "expected "
+    }
+}
+
+/// What stands before the i-th of so many things, where there are things before it.
+fn between(i: usize, count: usize) -> &'static str
     requires { i < count }
 {
-    if i == 0 {
-        "expected "
-    } else if i + 1 == count {
-        " or "
-    } else {
-        ", "
-    }
+    if i + 1 == count { " or " } else { ", " }
 }
 
 /// Writes what would be right, if anything is known.
 fn write_wanted(alloc: Global, out: &mut String, wanted: &Wanted) -> Result<(), AllocError> {
     let things = things(alloc, wanted)?;
     for (i, thing) in things.as_slice().iter().enumerate() {
-        out.push_str(before_thing(i, things.len()))?;
+        let before = if i == 0 {
+            lead(wanted)
+        } else {
+            between(i, things.len())
+        };
+        out.push_str(before)?;
         out.push_str(thing.as_str())?;
     }
     if !things.is_empty() {

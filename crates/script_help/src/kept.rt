@@ -5,7 +5,8 @@ ghost use Rattle.std.specs.Prelude.{◌≡◌};
 use std::alloc::Global;
 use tier_base::{Failed, Source};
 
-/// A source over another one, which keeps what that one gives. After want of memory it keeps nothing more.
+/// A source over another one, which keeps what that one gives, or passes it on alone. After want of memory it keeps
+/// nothing more.
 #[derive(Drop)]
 pub struct KeptSource<R: Source + Drop> {
     inner: R,
@@ -25,7 +26,16 @@ impl<R: Source + Drop> KeptSource<R> {
         }
     }
 
-    /// What it has given so far, or nothing where there was no memory for it.
+    /// Passes on what a source gives, and keeps nothing.
+    pub fn passing(inner: R) -> KeptSource<R>
+        ensures left { ⟦<KeptSource<R> as Source>⟧.left result ≡ R.left inner }
+        ensures faults { ⟦<KeptSource<R> as Source>⟧.faults result ≡ R.faults inner }
+        ensures given { ⟦<KeptSource<R> as Source>⟧.given result ≡ R.given inner }
+    {
+        KeptSource { inner, kept: None }
+    }
+
+    /// What it has given so far, or nothing where none is kept or there was no memory for it.
     pub fn kept(&self) -> &[u8] {
         match &self.kept {
             Some(bytes) => bytes.as_slice(),

@@ -7,13 +7,27 @@ ghost use Rattle.script_help.specs.Asked.{GoesOn};
 ghost use Rattle.script_help.specs.Places.{IsHead, IsUnder};
 
 use crate::asking::goes_on;
-use crate::line::{first_line, first_word, heads, last_word_at};
+use crate::line::{first_line, first_word, heads, last_word, last_word_at};
 use script_lang::Why;
 use std::alloc::{AllocError, Global};
+
+/// No line but an append has so many words.
+const FEW: usize = 8;
 
 /// Whether a line that begins with this word gives a count of brokers or of partitions.
 fn gives_count(word: &[u8]) -> bool {
     word == b"brokers".as_slice() || word == b"partitions".as_slice()
+}
+
+/// Adds a line's first two words, with one blank behind each, however many the line has there.
+fn push_count(alloc: Global, counts: &mut Vec<u8>, line: &[u8]) -> Result<(), AllocError> {
+    let heads = heads(alloc, line)?;
+    for head in heads.split_at(heads.len().min(2)).0 {
+        counts.extend_from_slice(last_word(head))?;
+        counts.push(b' ')?;
+    }
+    counts.push(b'\n')?;
+    Ok(())
 }
 
 /// The counts of brokers and partitions that the lines give: the ranges of a line's words go by no other option.
@@ -23,8 +37,7 @@ pub fn counts_of(alloc: Global, lines: &[u8]) -> Result<Vec<u8>, AllocError> {
     while !rest.is_empty() {
         let (line, behind) = first_line(rest);
         if gives_count(first_word(line)) {
-            counts.extend_from_slice(line)?;
-            counts.push(b'\n')?;
+            push_count(alloc, &mut counts, line)?;
         }
         rest = behind;
     }
@@ -52,14 +65,20 @@ fn goes_on_behind(alloc: Global, counts: &[u8], head: &[u8]) -> Result<bool, All
     goes_on(alloc, script.as_slice())
 }
 
-/// How many words of a line have a reading: up to the last one behind which the line can go on.
-fn count_readable(alloc: Global, counts: &[u8], heads: &[&[u8]]) -> Result<usize, AllocError>
-    ensures within { IfOk result (λ count. count ≤ length heads.now) }
+/// How many of a line's first words have a reading, `most` at most: up to the last one behind which the line can go on.
+fn count_first(
+    alloc: Global,
+    counts: &[u8],
+    heads: &[&[u8]],
+    most: usize,
+) -> Result<usize, AllocError>
+    requires { most ≤ length heads.now }
+    ensures within { IfOk result (λ count. count ≤ most) }
     ensures goes { IfOk result (λ count. 0 < count
         → HoldsAt (λ head. GoesOn (counts.now ++ head.now)) heads.now (count - 1)) }
 {
     let mut good = 0;
-    let mut bad = heads.len();
+    let mut bad = most;
     while good < bad {
         let middle = good + (bad - good) / 2;
         if goes_on_behind(alloc, counts, heads[middle])? {
@@ -69,6 +88,69 @@ fn count_readable(alloc: Global, counts: &[u8], heads: &[&[u8]]) -> Result<usize
         }
     }
     Ok(good)
+}
+
+/// What stands in a text behind as many bytes as another one has.
+fn behind<'a>(text: &'a [u8], front: &[u8]) -> &'a [u8] {
+    text.split_at(front.len().min(text.len())).1
+}
+
+/// Whether a line's first words can go on by others of its words alone.
+fn goes_on_by(
+    alloc: Global,
+    counts: &[u8],
+    front: &[u8],
+    words: &[u8],
+) -> Result<bool, AllocError> {
+    let mut head = Vec::from_slice(alloc, front)?;
+    head.extend_from_slice(words)?;
+    goes_on_behind(alloc, counts, head.as_slice())
+}
+
+/// How many words of a line have a reading where its first ones, so many, have and each further one is read by itself.
+/// What was read isn't asked for again, so this takes no longer than the line is read once.
+fn count_further(
+    alloc: Global,
+    counts: &[u8],
+    heads: &[&[u8]],
+    first: usize,
+) -> Result<usize, AllocError>
+    requires some { 0 < first }
+    requires within { first ≤ length heads.now }
+    ensures some { IfOk result (λ count. 0 < count) }
+    ensures within { IfOk result (λ count. count ≤ length heads.now) }
+{
+    let front = heads[first - 1];
+    let mut good = first;
+    let mut bad = heads.len();
+    while good < bad {
+        let middle = good + (bad - good) / 2;
+        if goes_on_by(alloc, counts, front, behind(heads[middle], heads[good - 1]))? {
+            good = middle + 1;
+        } else {
+            bad = middle;
+        }
+    }
+    Ok(good)
+}
+
+/// How many words of a line have a reading: up to the last one behind which the line can go on. A line that has one with
+/// more than a few words is an append, and each further word a record.
+fn count_readable(alloc: Global, counts: &[u8], heads: &[&[u8]]) -> Result<usize, AllocError>
+    ensures within { IfOk result (λ count. count ≤ length heads.now) }
+    ensures goes { IfOk result (λ count. 0 < count
+        → HoldsAt (λ head. GoesOn (counts.now ++ head.now)) heads.now (count - 1)) }
+{
+    let first = count_first(alloc, counts, heads, heads.len().min(FEW))?;
+    if first < FEW {
+        return Ok(first);
+    }
+    let all = count_further(alloc, counts, heads, first)?;
+    if goes_on_behind(alloc, counts, heads[all - 1])? {
+        Ok(all)
+    } else {
+        Ok(first)
+    }
 }
 
 /// The number of the word of which a cause speaks that isn't one of the words themselves, from 0 on.

@@ -7,16 +7,16 @@ use std::test::Fail;
 use tier_base::{MemorySource, Source};
 
 /// Scripts without a reading, and what is told of them.
-static ROWS: [(&str, &str, &str); 32] = [
+static ROWS: [(&str, &str, &str); 34] = [
     (
         "an unknown command",
         "# c\n0 0 0 frob\n",
-        "    0 0 0 frob\n          ^\nno such word can stand here\nexpected append, raw, flush, roll, fetch, elect, unclean, learn, join, follow, ack, shrink, expand, copy, trim, expire, raise, stop, up or offset\nsee docs/SCRIPT.md, \"Actors and the schedule\"\n",
+        "    0 0 0 frob\n          ^\nno such word can stand here\nexpected a command, one of append, raw, flush, roll, fetch, elect, unclean, learn, join, follow, ack, shrink, expand, copy, trim, expire, raise, stop, up or offset\nsee docs/SCRIPT.md, \"Actors and the schedule\"\n",
     ),
     (
         "a broker's command for the partition",
         "0\t0 - flush\r\n",
-        "    0 0 - flush\n          ^\nno such word can stand here\nexpected clock, pack or copying\nsee docs/SCRIPT.md, \"Actors and the schedule\"\n",
+        "    0 0 - flush\n          ^\nno such word can stand here\nexpected a command, one of clock, pack or copying\nsee docs/SCRIPT.md, \"Actors and the schedule\"\n",
     ),
     (
         "an unknown first word",
@@ -164,6 +164,16 @@ static ROWS: [(&str, &str, &str); 32] = [
         "    later 0 0 - pack 1\n                ^\nno program runs this command yet\nsee docs/SCRIPT.md, \"What isn't built yet\"\n",
     ),
     (
+        "the seventh record",
+        "0 0 0 append 1,-,:a 2,-,:b 3,-,:c 4,-,:d 5,-,:e 6,-,:f 7 8,-,:h\n",
+        "    ppend 1,-,:a 2,-,:b 3,-,:c 4,-,:d 5,-,:e 6,-,:f 7 8,-,:h\n                                                    ^\nthis record, or its key, its value or a header, has no reading\nexpected a record, as 1000,:key,:value or the line's end\nsee docs/SCRIPT.md, \"Records\"\n",
+    ),
+    (
+        "a count behind many blanks",
+        "\tbrokers    08 \n0 0 8 flush\n",
+        "    0 0 8 flush\n        ^\nthis isn't a number in decimal digits, or it is out of its range\nexpected - or a number from 0 to 7\nsee docs/SCRIPT.md, \"Actors and the schedule\"\n",
+    ),
+    (
         "a long line",
         "0 0 0 append 1,-,:vvvvvvvvvvvvvvvvvvvvvvvvvvvvvvvvvvvvvvvvvvvvvvvvvvvvvvvvvvvvvvvvvvvvvvvvvvvvvvvvvvvvvvvvvvvvvvvvvvvv 1 2\n",
         "    vvvvvvvvvvvvvvvvvvvvvvvvvvvvvvvvvvvvvvvvvvvvvvv 1 2\n                                                    ^\nthis record, or its key, its value or a header, has no reading\nexpected a record, as 1000,:key,:value or the line's end\nsee docs/SCRIPT.md, \"Records\"\n",
@@ -238,8 +248,19 @@ fn keeps(alloc: Global, wanted: &[u8]) -> Result<(usize, usize, bool), AllocErro
     Ok((first, failed, source.kept() == wanted))
 }
 
+/// How many bytes a source gives at its first read of three bytes, where it only passes them on, and whether it has kept
+/// none of them.
+fn passes(alloc: Global) -> Result<(usize, bool), AllocError> {
+    let bytes = Vec::from_slice(alloc, b"0 0 0 up".as_slice())?;
+    let mut source = KeptSource::passing(MemorySource::new(bytes, Vec::new(alloc)));
+    let mut room = [0; 3];
+    let given = source.read(&mut room).unwrap_or(9);
+    Ok((given, source.kept().is_empty()))
+}
+
 #[test]
 fn what_is_given_is_kept(rt: HostRuntime) -> Result<(), Fail> {
     assert_eq!(rt; keeps(rt.alloc(), b"0 0 0 ".as_slice())?, (3, 9, true));
+    assert_eq!(rt; passes(rt.alloc())?, (3, true));
     Ok(())
 }

@@ -1,3 +1,4 @@
+mod Ended
 mod Back
 mod Faults
 mod Out

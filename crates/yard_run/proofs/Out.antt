@@ -1,6 +1,6 @@
 -- A partition's devices, as they are handed out one after another.
-use Rattle.std.proofs.Common.{◌≡◌, ◌≢◌, inl, inr, ◌∙◌, sym, ap, subst, refl, ℕ, zero, suc, ◌+◌, ◌≤◌, List, [], ◌∷◌, ◌++◌, map, length, Option, Some, None, All, IsTrue, IsSome, arith}
-use Rattle.std.specs.Prelude.{◌⊎◌, IsErrOf, Err}
+use Rattle.std.proofs.Common.{◌≡◌, ◌≢◌, inl, inr, ◌∙◌, sym, ap, subst, refl, ℕ, zero, suc, ◌≤◌, List, [], ◌∷◌, ◌++◌, map, length, Option, Some, None, All, IsTrue, IsSome, arith}
+use Rattle.std.specs.Prelude.{IsErrOf, Err}
 use Rattle.std.proofs.lemmas.List.Elements.{All-append}
 use Rattle.tier_base.specs.Counts.{counted, Rose}
 use Rattle.tier_base.specs.Device.{Fate, Went, Fault, Dry, IsFresh, fate_of_trouble}
@@ -11,13 +11,12 @@ use Rattle.tier_base.specs.declared.names.PartitionId.{PartitionId}
 use Rattle.tier_base.specs.declared.object_key.ObjectKey.{ObjectKey}
 use Rattle.tier_base.specs.declared.plain.FileName.{FileName}
 use Rattle.disk_model.specs.declared.disk.Disk.{Ghosts as DiskGhosts}
-use Rattle.disk_model.specs.Content as files
 use Rattle.object_store.specs.declared.store.Store.{Ghosts as StoreGhosts}
 use Rattle.meta_log.specs.declared.log.MetaLog.{Ghosts as MetaGhosts}
 use Rattle.device_yard.specs.declared.came.Came.{Came}
 use Rattle.device_yard.specs.Control.{Control, Hands}
 use Rattle.device_yard.specs.Held.{Held, IsUnused, DiskIs, StoreIs, HandsDisk, HandsStore, HandsLog, Has}
-use Rattle.yard_run.specs.Yard.{came_of, HandedOut, CameBack, Uses, OnlyOf, KeepsRest}
+use Rattle.yard_run.specs.Yard.{HandedOut, CameBack, Uses, OnlyOf, KeepsRest}
 use Rattle.partition_world.specs.declared.tier.Devices.{Devices}
 use Rattle.yard_run.specs.Handed.{IsHandedDisk, AreHandedDisks, AreHanded}
 use Rattle.yard_run.proofs.Back.{disk_only, only_none, only_then, length_snoc, length_map}

@@ -1,9 +1,8 @@
 -- The run of a partition over its devices in a yard, and of one partition behind others.
-use Rattle.std.proofs.Common.{◌≡◌, ◌≢◌, inl, inr, ◌∙◌, sym, ap, subst, refl, ℕ, zero, suc, ◌+◌, ◌≤◌, ◌<◌, Bool, true, false, List, [], ◌∷◌, ◌++◌, map, length, Option, Some, None, All, IsTrue, slice_get, nat_lt, if◌then◌else◌, arith, append_assoc, append-nil}
-use Rattle.std.specs.Prelude.{◌⊎◌, Result, Ok, Err, IfOk, IfErr, IsErrOf}
+use Rattle.std.proofs.Common.{◌≡◌, ◌≢◌, inl, inr, ◌∙◌, sym, ap, subst, refl, ℕ, suc, ◌+◌, ◌≤◌, Bool, true, false, List, [], ◌∷◌, ◌++◌, map, length, All, IsTrue, nat_lt, if◌then◌else◌, arith, append_assoc, append-nil}
+use Rattle.std.specs.Prelude.{Result, Ok, Err, IfOk, IsErrOf}
 use Rattle.std.proofs.lemmas.Bool.{lt-ltb}
 use Rattle.tier_base.specs.Counts.{counted, Rose}
-use Rattle.tier_base.specs.declared.names.BrokerId.{BrokerId}
 use Rattle.tier_base.specs.declared.names.PartitionId.{PartitionId}
 use Rattle.disk_model.specs.declared.disk.Disk.{Ghosts as DiskGhosts}
 use Rattle.object_store.specs.declared.store.Store.{Ghosts as StoreGhosts}
@@ -20,13 +19,13 @@ use Rattle.plain_log.specs.Orders.{AreListsFor}
 use Rattle.script_lang.specs.Fit.{AreNumbered, StepsToEnds}
 use Rattle.script_lang.specs.declared.script.PartScript.{PartScript}
 use Rattle.trace_text.specs.Trace.{journal_text, trace_of}
-use Rattle.part_run.specs.declared.refusal.RunRefusal.{RunRefusal}
-use Rattle.part_run.specs.declared.refusal.RunRefusal.TheVariants as run
+use Rattle.yard_run.specs.declared.refusal.RunRefusal.{RunRefusal}
+use Rattle.yard_run.specs.declared.refusal.RunRefusal.TheVariants as run
 use Rattle.yard_run.specs.declared.refusal.YardRefusal.{YardRefusal}
 use Rattle.yard_run.specs.declared.refusal.YardRefusal.TheVariants.{Fault, NoMemory}
 use Rattle.yard_run.specs.Refusals.{of_run}
-use Rattle.part_run.specs.Blank.{AreBlank}
-use Rattle.part_run.specs.Run.{IsRunText as IsTextOf}
+use Rattle.yard_run.specs.Blank.{AreBlank}
+use Rattle.yard_run.specs.Run.{IsRunText as IsTextOf}
 use Rattle.yard_run.specs.Handed.{IsHandedDisk, AreHandedDisks, AreHanded}
 use Rattle.yard_run.specs.Runs.{cames_of, IsRunIn, RunsIn, AreRunsIn, IsRunText}
 use Rattle.yard_run.specs.Yard.{came_of, faults_with, HandedOut, CameBack, Uses, IsUsed, SameOf, OnlyOf, Holds, KeepsDevices}

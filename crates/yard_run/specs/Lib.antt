@@ -1,3 +1,5 @@
+pub mod Blank
+pub mod Run
 pub mod Handed
 pub mod Refusals
 pub mod Runs

@@ -1,8 +1,8 @@
 -- Which refusal of a run over a yard stands for another.
 use Rattle.tier_base.specs.declared.fault.Trouble.{Trouble}
 use Rattle.tier_base.specs.declared.fault.Trouble.TheVariants as trouble
-use Rattle.part_run.specs.declared.refusal.RunRefusal.{RunRefusal}
-use Rattle.part_run.specs.declared.refusal.RunRefusal.TheVariants as run
+use Rattle.yard_run.specs.declared.refusal.RunRefusal.{RunRefusal}
+use Rattle.yard_run.specs.declared.refusal.RunRefusal.TheVariants as run
 use Rattle.yard_run.specs.declared.refusal.YardRefusal.{YardRefusal}
 use Rattle.yard_run.specs.declared.refusal.YardRefusal.TheVariants.{Fault, NoMemory}
 

@@ -1,5 +1,5 @@
 -- What came of the run of a script over a yard.
-use Rattle.std.specs.Prelude.{◌≡◌, ℕ, List, [], ◌∷◌, ◌++◌, map, All, IsTrue}
+use Rattle.std.specs.Prelude.{◌≡◌, ℕ, List, [], ◌∷◌, ◌++◌, map, IsTrue}
 use Rattle.disk_model.specs.declared.disk.Disk.{Ghosts as DiskGhosts}
 use Rattle.object_store.specs.declared.store.Store.{Ghosts as StoreGhosts}
 use Rattle.meta_log.specs.declared.log.MetaLog.{Ghosts as MetaGhosts}
@@ -11,8 +11,8 @@ use Rattle.device_yard.specs.Held.{Held}
 use Rattle.partition_world.specs.declared.tier.Devices.{Devices}
 use Rattle.script_lang.specs.declared.script.PartScript.{PartScript}
 use Rattle.trace_text.specs.Trace.{journal_text, trace_of}
-use Rattle.part_run.specs.Blank.{AreBlank}
-use Rattle.part_run.specs.Run.{IsRun}
+use Rattle.yard_run.specs.Blank.{AreBlank}
+use Rattle.yard_run.specs.Run.{IsRun}
 use Rattle.yard_run.specs.Yard.{came_of, Holds, Uses}
 
 module _ {D S M : Type 0} (disk : DiskGhosts D) (store : StoreGhosts S) (meta : MetaGhosts M) where

@@ -6,7 +6,7 @@
 --   HandedOut n old new         so many devices went out
 --   CameBack came old new       devices came back with these counts
 --   Uses came old new           devices went out, and all are back with these counts
-use Rattle.std.specs.Prelude.{◌≡◌, ◌≢◌, ℕ, ◌+◌, ◌≤◌, if◌then◌else◌, List, [], ◌∷◌, ◌++◌, map, length, Option, Some, slice_get, IsTrue}
+use Rattle.std.specs.Prelude.{◌≡◌, ◌≢◌, ℕ, ◌+◌, ◌≤◌, if◌then◌else◌, List, [], ◌∷◌, ◌++◌, length, Some, slice_get, IsTrue}
 use Rattle.tier_base.specs.Counts.{counted}
 use Rattle.tier_base.specs.Device.{Control as DeviceControl}
 use Rattle.tier_base.specs.declared.names.BrokerId.{BrokerId}

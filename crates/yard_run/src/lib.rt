@@ -1,14 +1,22 @@
-//! The run of a script over a yard's devices: each partition's are handed out, run on, and given back.
+//! Runs of a script over devices of any kind, and over a yard's.
 //!
-//! Whatever happens each device is given back. Over any yard each command is answered once and in order; over one that tells
-//! what it holds, and of which no partition is used, each journal is a run of the plain log, and the yard holds the devices
-//! with what the run left on them.
+//! A partition's run is that of its lists on a fresh world, by its schedule; whatever happens its devices come back. Over any
+//! devices each command is answered once and in order; over devices that tell what they hold, and hold nothing at the
+//! beginning, the journal is a run of the plain log (`specs/Run.antt`).
+//!
+//! Over a yard each partition's devices are handed out, run on, and given back. Where it tells what it holds, and no partition
+//! of it is used, each journal is a run of the plain log, and the yard holds the devices with what the run left on them
+//! (`specs/Runs.antt`).
 #![tactic(auto)]
 
 mod handing;
 mod keeping;
 mod refusal;
+mod running;
 mod runs;
+#[cfg(test)]
+mod tests;
 
-pub use refusal::YardRefusal;
+pub use refusal::{RunRefusal, YardRefusal};
+pub use running::run_on;
 pub use runs::run_in_yard;

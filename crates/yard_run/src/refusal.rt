@@ -1,10 +1,18 @@
-//! Why a script could not be run over a yard.
+//! Why a partition could not be run to its end, and why a script could not be run over a yard.
 
 ghost use Rattle.std.specs.Prelude.{◌≡◌};
 ghost use Rattle.yard_run.specs.Refusals.{of_trouble, of_run};
 
-use part_run::RunRefusal;
 use tier_base::Trouble;
+
+/// Why a partition could not be run to its end. Its devices come back.
+#[derive(Clone, Copy, Debug, PartialEq, Eq)]
+pub enum RunRefusal {
+    /// A disk failed before the first command. No device's plan of faults was in force yet.
+    DiskFault,
+    /// There was no memory.
+    NoMemory,
+}
 
 /// Why a script could not be run over a yard. Each device that was handed out is back.
 #[derive(Clone, Copy, Debug, PartialEq, Eq)]

@@ -1,6 +1,8 @@
 use Rattle.std.proofs.Common.{ap, sym}
+use Rattle.log_terms.proofs.Lists.{within}
 use Rattle.record_batch.specs.Build.{built}
 use Rattle.plain_log.specs.declared.command.Command.TheVariants as command
+use Rattle.plain_machine.proofs.Safety.{matches_paths}
 use Rattle.plain_machine.proofs.deciding.decide.Goals as goal
 
 pub returns-in-Append : goal.returns-in-Append
@@ -24,11 +26,17 @@ returns-in-Unclean c = rw c.in-Unclean.is (c.unclean.ensures c.args.b c.args.s.n
 pub returns-in-Learn : goal.returns-in-Learn
 returns-in-Learn c = rw c.in-Learn.is (c.learn.ensures c.args.s.now command.Learn)
 
+pub join-requires-clause-matches : goal.join-requires-clause-matches
+join-requires-clause-matches c = matches_paths c.args.p.now c.args.b c.args.x.now c.requires.safe c.requires.broker
+
 pub returns-in-Join : goal.returns-in-Join
 returns-in-Join c = rw c.in-Join.is (c.join.ensures c.args.s.now command.Join)
 
 pub returns-in-Follow : goal.returns-in-Follow
 returns-in-Follow c = rw c.in-Follow.is (c.follow.ensures c.args.b c.args.s.now (command.Follow c.in-Follow.limit))
+
+pub ack-requires-clause-within : goal.ack-requires-clause-within
+ack-requires-clause-within c = within c.args.p.now.registry.replicas c.args.b c.args.s.now c.requires.replica
 
 pub returns-in-Ack : goal.returns-in-Ack
 returns-in-Ack c = rw c.in-Ack.is (c.ack.ensures c.args.s.now command.Ack c.requires.replica)

@@ -5,9 +5,12 @@ use Rattle.plain_log.specs.declared.state.Broker.{Broker}
 use Rattle.plain_log.specs.State.{actor_at}
 use Rattle.plain_log.specs.Step.{event_step}
 use Rattle.plain_machine.specs.Change.{begun_at}
-use Rattle.plain_machine.proofs.Safety.{are_joined}
+use Rattle.plain_machine.proofs.Safety.{are_joined, matches_paths}
 use Rattle.plain_machine.proofs.Taken.{begun_step, none_is}
 use Rattle.plain_machine.proofs.stepping.begin.Goals as goal
+
+pub beginning-requires : goal.beginning-requires
+beginning-requires c = matches_paths c.args.p.now c.args.order.now.broker.0 c.get-x.result.now c.requires.safe c.get-x.ensures
 
 pub commit-requires-clause-joined : goal.commit-requires-clause-joined
 commit-requires-clause-joined c = are_joined c.args.p.now c.requires.safe

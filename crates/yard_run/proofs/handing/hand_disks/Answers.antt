@@ -1,8 +1,5 @@
-use Rattle.std.proofs.Common.{◌≡◌, sym, ap, subst, refl, [], ◌∷◌, List, map, length, arith}
-use Rattle.tier_base.specs.Device.{Fate, Went, Fault, Dry, fate_of_trouble}
-use Rattle.tier_base.specs.declared.fault.Trouble.{Trouble}
-use Rattle.tier_base.specs.declared.fault.Trouble.TheVariants.{Failed, NoMemory}
-use Rattle.device_yard.specs.Control.{Control, Hands}
+use Rattle.std.proofs.Common.{sym, ap, subst, List, map, length, arith}
+use Rattle.tier_base.specs.Device.{fate_of_trouble}
 use Rattle.yard_run.specs.Yard.{came_of}
 use Rattle.yard_run.proofs.Back.{length_snoc}
 use Rattle.yard_run.proofs.Out.{SoFar, so_far_more, back_again, back_risen, as_many, gone_wrong, as_fault}

@@ -1,9 +1,8 @@
-use Rattle.std.proofs.Common.{◌≡◌, ◌∙◌, sym, ap, subst, refl, ℕ, suc, ◌+◌, [], ◌∷◌, ◌++◌, List, map, length, arith, None}
+use Rattle.std.proofs.Common.{[], ◌∷◌, ◌++◌, map, None}
 use Rattle.tier_base.specs.Device.{fate_of_trouble}
-use Rattle.device_yard.specs.declared.came.Came.{Came}
-use Rattle.yard_run.specs.Yard.{came_of, HandedOut}
-use Rattle.yard_run.proofs.Back.{came_then, came_one, length_snoc, only_then, store_only, log_only}
-use Rattle.yard_run.proofs.Out.{all_out, all_so_many, back_again, back_risen, as_many, gone_wrong, as_fault, came_more_out}
+use Rattle.yard_run.specs.Yard.{came_of}
+use Rattle.yard_run.proofs.Back.{came_then, came_one, only_then, store_only, log_only}
+use Rattle.yard_run.proofs.Out.{all_out, all_so_many, back_again, back_risen, gone_wrong, as_fault, came_more_out}
 use Rattle.yard_run.proofs.handing.hand_out.Goals as goal
 
 pub returns-in-Err-clause-err : goal.returns-in-Err-clause-err

@@ -1,7 +1,6 @@
-use Rattle.std.proofs.Common.{◌≡◌, ◌∙◌, sym, ap, subst, refl, ℕ, [], ◌∷◌, ◌++◌, List, map, length, arith, append_assoc, append-nil, IsTrue}
+use Rattle.std.proofs.Common.{◌≡◌, ◌∙◌, sym, ap, refl, [], ◌∷◌, ◌++◌, List, length, arith, append_assoc}
 use Rattle.std.specs.Vec.Iter.{into_iter_items}
-use Rattle.device_yard.specs.declared.came.Came.{Came}
-use Rattle.yard_run.specs.Yard.{came_of, CameBack, KeepsDisks}
+use Rattle.yard_run.specs.Yard.{came_of}
 use Rattle.yard_run.proofs.Back.{came_none, control_more, keeps_none, keeps_more, left_of, places_left, length_snoc, nothing_left, control_all, keeps_all}
 use Rattle.yard_run.proofs.keeping.keep_disks.Goals as goal
 

@@ -1,5 +1,4 @@
-use Rattle.std.proofs.Common.{◌≡◌, ◌∙◌, sym, subst, List}
-use Rattle.script_lang.specs.declared.script.PartScript.{PartScript}
+use Rattle.std.proofs.Common.{◌≡◌}
 use Rattle.yard_run.proofs.Ran.{begins, next_unused, goes_behind}
 use Rattle.yard_run.proofs.runs.run_in_yard.Goals as goal
 

@@ -1,4 +1,4 @@
-use Rattle.std.proofs.Common.{◌≡◌, ◌+◌, ◌++◌, [], ◌∷◌, map}
+use Rattle.std.proofs.Common.{◌+◌}
 use Rattle.yard_run.specs.Runs.{cames_of}
 use Rattle.yard_run.proofs.Back.{only_then}
 use Rattle.yard_run.proofs.Ran.{fresh_disks, ran, uses_all, cames_many, ok_is, run_failed, is_fault}

@@ -21,11 +21,9 @@ returns-in-Ok-clause-row g c =
       stop_is = refl;
     })
 
-pub returns-in-Err : goal.returns-in-Err
-returns-in-Err g c = record {
-  row = tt;
-  err = stays_at g.D.Disk.content g.D.Disk.control c.args.self.now c.args.b c.at_mut-node.result.now c.read_run.new.self _ c.at_mut-node.ensures.value c.read_run.ensures.stays c.read_run.ensures.control refl;
-}
+pub returns-in-Err-NoMemory-clause-err : goal.returns-in-Err-NoMemory-clause-err
+returns-in-Err-NoMemory-clause-err g c =
+    stays_at g.D.Disk.content g.D.Disk.control c.args.self.now c.args.b c.at_mut-node.result.now c.read_run.new.self _ c.at_mut-node.ensures.value c.read_run.ensures.stays c.read_run.ensures.control refl
 
 pub returns-in-Err-Damaged-clause-row : goal.returns-in-Err-Damaged-clause-row
 returns-in-Err-Damaged-clause-row g c =

@@ -1,0 +1,286 @@
+-- The turns of commands on brokers' logs: no disk's count of faults falls, and one rises where a fault is told.
+use Rattle.std.proofs.Common.{◌≡◌, refl, ℕ, ◌<◌, List, length, slice_get, Some, None, Option, Ok as Done}
+use Rattle.std.specs.Prelude.{min, ℤ}
+use Rattle.tier_base.specs.Device.{Control}
+use Rattle.disk_model.specs.Call.{call_code}
+use Rattle.disk_model.specs.Content.{Content}
+use Rattle.log_terms.proofs.Lists.{within}
+use Rattle.registry.specs.Calls.{after_ack}
+use Rattle.record_batch.specs.Build.{built}
+use Rattle.plain_log.specs.declared.answer.Answer.{Answer}
+use Rattle.plain_log.specs.declared.answer.Answer.TheVariants.{Ok, OkAt, OkSpan, Down, NotLeader, Refused, LastOffset, TooManySegments, EmptySegment, DiskFault, DiskFaultAt, Damaged, OutOfRange, Empty, Run, LastEpoch, NotInSync, DownBroker, BehindStart, Known, Follows, NeedsElection, Leads, NotJoined, StaleEpoch, IsLeader, Behind, NotAbove, AboveMark, NotFollower, NoLeader, Cut, Level, Stopped, Passed, Copied, IsUp, LastIncarnation, Up as IsOpen, Moved, BelowStart, Rebuilt, Kept as Remains, Dropped}
+use Rattle.plain_log.specs.declared.answer.Place.TheVariants.{File}
+use Rattle.plain_log.specs.declared.command.Command.{Command}
+use Rattle.plain_log.specs.declared.command.Command.TheVariants.{Append, Raw, Flush, Roll, Elect, Unclean, Learn, Join, Follow, Trim, Ack, Shrink, Expand, Raise, Clock, Stop as StopCommand, Up as UpCommand, Fetch}
+use Rattle.plain_log.specs.State.{acking}
+use Rattle.broker_log.specs.Seen.{Kept, Up, Down as Closed, Away, OnDisk, Lasting, Faulted}
+use Rattle.broker_log.specs.Seen as log
+use Rattle.partition_seen.specs.declared.begun.Begun.{Begun}
+use Rattle.partition_seen.specs.declared.begun.Turned.{Turned}
+use Rattle.partition_seen.specs.declared.begun.Turned.TheVariants.{Answers, Begins}
+use Rattle.partition_seen.proofs.BoolTests.{some_of}
+use Rattle.partition_turns.specs.declared.held.Node.{Node}
+use Rattle.partition_turns.specs.declared.held.Held.{Held}
+use Rattle.partition_turns.specs.Held.{put_node, end_of, stable_of, stopped, the_leader, Fails, Breaks, BreaksBy}
+use Rattle.partition_turns.specs.Turns.{ClockRow, StopRow, UpRow, AnswerRow, FirstRow, LaterRow, Row}
+use Rattle.partition_turns.specs.TurnsOfLog.{Gains, AppendRow, RawRow, FlushRow, RollRow, TrimRow, TrimOnRow}
+use Rattle.partition_turns.specs.TurnsOfFetch.{FetchRow, FetchTurn}
+use Rattle.partition_turns.specs.TurnsOfElections.{ElectRow, UncleanRow, LearnRow, AckRow, ShrinkRow, ExpandRow, RaiseRow}
+use Rattle.partition_turns.specs.TurnsOfFollowers.{JoinRow, JoinOnRow, FollowRow, FollowOnRow}
+use Rattle.partition_turns.proofs.SoundLaw.{leader_at}
+use Rattle.command_answers.proofs.FaultCounts.{Told, told_map, Keeps, Rises, RisesAlone, RisesFor, keeps_same, keeps_put, keeps_log, keeps_leaves, rises_put}
+
+module _ {D : Type 0} (content : D → Content) (control : D → Control call_code) where
+  -- what a turn of the broker leaves that works on its own log, where it is answered so
+  abbrev Counts : Held D → ℕ → Held D → Answer → Type 0
+  Counts h b h' answer = Keeps control h h' × Told (Rises control h b h') (Rises control h b h') ⊥ ⊥ answer
+
+  -- what a turn of the command leaves
+  abbrev pub CountsFor : Command → Held D → ℕ → Held D → Turned → Type 0
+  CountsFor command h b h' (Answers answer) = Keeps control h h' × Told (RisesFor control command h b h') (Rises control h b h') ⊥ ⊥ answer
+  CountsFor command h b h' (Begins g) = Keeps control h h' × Unit {0}
+
+  of_follow : (h : Held D) (b : ℕ) (h' : Held D) (limit : ℕ) (answer : Answer) → b < length h.nodes → Counts h b h' answer → CountsFor (Follow limit) h b h' (Answers answer)
+  of_follow h b h' limit answer low k = (
+    k.0,
+    told_map (Rises control h b h') (Rises control h b h') ⊥ ⊥ (RisesFor control (Follow limit) h b h') (Rises control h b h') ⊥ ⊥ answer
+        (λ rises. (b, low, rises)) (λ rises. rises) (λ no. no) (λ no. no) k.1,
+  )
+
+  fails_counts : (h : Held D) (b : ℕ) (x : Node D) (h' : Held D) → slice_get h.nodes b ≡ Some x → Fails content control h b x h' → RisesAlone control h b h'
+  fails_counts h b x h' at k = rises_put control h b x (record x { log = k.0 }) h' at k.2 k.3 k.4
+
+  breaks_counts : (h : Held D) (b : ℕ) (x : Node D) (makes : log.Seen → log.Seen) (h' : Held D) → slice_get h.nodes b ≡ Some x → Breaks content control h b x makes h' → RisesAlone control h b h'
+  breaks_counts h b x makes h' at k = rises_put control h b x (record (stopped x) { log = k.kept }) h' at k.lasts k.cause k.after
+
+  -- whatever the write that failed makes of the log
+  broken_counts : (h : Held D) (b : ℕ) (x : Node D) (B : Kept D → Kept D → Type 0) (h' : Held D) → slice_get h.nodes b ≡ Some x → BreaksBy content control h b x B h' → RisesAlone control h b h'
+  broken_counts h b x B h' at k = rises_put control h b x (record (stopped x) { log = k.kept }) h' at k.lasts k.cause k.after
+
+  gains_counts : (h : Held D) (b : ℕ) (x : Node D) (batch : List ℕ) (h' : Held D) → slice_get h.nodes b ≡ Some x → Gains content control h b x batch h' → Keeps control h h'
+  gains_counts h b x batch h' at k = keeps_put control h b x (record x { log = k.0 }) h' at k.4 k.5
+
+  append_counts : (h : Held D) (b : ℕ) (x : Node D) (batch : List ℕ) (answer : Answer) (h' : Held D) → slice_get h.nodes b ≡ Some x → AppendRow content control h b x batch answer h' → Counts h b h' answer
+  append_counts h b x batch Down h' at w = (keeps_same control h h' w.1, tt)
+  append_counts h b x batch NotLeader h' at w = (keeps_same control h h' w.2, tt)
+  append_counts h b x batch LastOffset h' at w = (keeps_same control h h' w.3, tt)
+  append_counts h b x batch TooManySegments h' at w = (keeps_same control h h' w.4, tt)
+  append_counts h b x batch DiskFault h' at w = breaks_counts h b x _ h' at w.4
+  append_counts h b x batch (OkSpan base last e) h' at w = (gains_counts h b x _ h' at w.6, tt)
+  append_counts h b x batch other h' at w = elim w [ ]
+
+  raw_counts : (h : Held D) (b : ℕ) (x : Node D) (bytes : List ℕ) (answer : Answer) (h' : Held D) → slice_get h.nodes b ≡ Some x → RawRow content control h b x bytes answer h' → Counts h b h' answer
+  raw_counts h b x bytes Down h' at w = append_counts h b x bytes Down h' at w
+  raw_counts h b x bytes NotLeader h' at w = append_counts h b x bytes NotLeader h' at w
+  raw_counts h b x bytes (Refused cause) h' at w = (keeps_same control h h' w.3, tt)
+  raw_counts h b x bytes LastOffset h' at w = append_counts h b x bytes LastOffset h' at w.1
+  raw_counts h b x bytes TooManySegments h' at w = append_counts h b x bytes TooManySegments h' at w.1
+  raw_counts h b x bytes DiskFault h' at w = append_counts h b x bytes DiskFault h' at w.1
+  raw_counts h b x bytes (OkSpan base last e) h' at w = append_counts h b x bytes (OkSpan base last e) h' at w.1
+  raw_counts h b x bytes other h' at w = elim w [ ]
+
+  flush_counts : (h : Held D) (b : ℕ) (x : Node D) (answer : Answer) (h' : Held D) → slice_get h.nodes b ≡ Some x → FlushRow content control h b x answer h' → Counts h b h' answer
+  flush_counts h b x Down h' at w = (keeps_same control h h' w.1, tt)
+  flush_counts h b x DiskFault h' at w = breaks_counts h b x _ h' at w.1
+  flush_counts h b x (OkAt n) h' at w = (keeps_put control h b x (record x { log = w.1.0 }) h' at w.1.2 w.1.3, tt)
+  flush_counts h b x other h' at w = elim w [ ]
+
+  roll_counts : (h : Held D) (b : ℕ) (x : Node D) (answer : Answer) (h' : Held D) → slice_get h.nodes b ≡ Some x → RollRow content control h b x answer h' → Counts h b h' answer
+  roll_counts h b x Down h' at w = (keeps_same control h h' w.1, tt)
+  roll_counts h b x EmptySegment h' at w = (keeps_same control h h' w.2, tt)
+  roll_counts h b x TooManySegments h' at w = (keeps_same control h h' w.2, tt)
+  roll_counts h b x DiskFault h' at w = breaks_counts h b x _ h' at w.2
+  roll_counts h b x (OkAt n) h' at w = (keeps_put control h b x (record x { log = w.3.0 }) h' at w.3.2 w.3.3, tt)
+  roll_counts h b x other h' at w = elim w [ ]
+
+  fetch_counts : (h : Held D) (b : ℕ) (x : Node D) (offset limit : ℕ) (answer : Answer) (h' : Held D) → slice_get h.nodes b ≡ Some x
+      → FetchRow content control h b x offset limit answer h' → Counts h b h' answer
+  fetch_counts h b x offset limit Down h' at w = (keeps_same control h h' w.1, tt)
+  fetch_counts h b x offset limit NotLeader h' at w = (keeps_same control h h' w.2, tt)
+  fetch_counts h b x offset limit (OutOfRange start end) h' at w = (keeps_same control h h' w.5, tt)
+  fetch_counts h b x offset limit Empty h' at w = (keeps_same control h h' w.4, tt)
+  fetch_counts h b x offset limit (Run tier size stop bytes) h' at w = (keeps_put control h b x (record x { log = w.4.kept }) h' at w.4.lasts w.4.after, tt)
+  fetch_counts h b x offset limit DiskFault h' at w = fails_counts h b x h' at w.4
+  fetch_counts h b x offset limit (Damaged (File name) from) h' at w = (keeps_put control h b x (record x { log = w.4.kept }) h' at w.4.lasts w.4.after, tt)
+  fetch_counts h b x offset limit other h' at w = elim w [ ]
+
+  elect_counts : (h : Held D) (b : ℕ) (x : Node D) (answer : Answer) (h' : Held D) → ElectRow h b x answer h' → Counts h b h' answer
+  elect_counts h b x LastEpoch h' w = let t = some_of _ (slice_get h.registry.replicas b) w in (keeps_leaves control h _ h' t.2, tt)
+  elect_counts h b x NotInSync h' w = let t = some_of _ (slice_get h.registry.replicas b) w in (keeps_leaves control h _ h' t.2, tt)
+  elect_counts h b x DownBroker h' w = let t = some_of _ (slice_get h.registry.replicas b) w in (keeps_leaves control h _ h' t.2, tt)
+  elect_counts h b x (OkAt n) h' w = let t = some_of _ (slice_get h.registry.replicas b) w in (keeps_leaves control h _ h' t.2, tt)
+  elect_counts h b x other h' w = elim w [ ]
+
+  unclean_counts : (h : Held D) (b : ℕ) (x : Node D) (answer : Answer) (h' : Held D) → UncleanRow h b x answer h' → Counts h b h' answer
+  unclean_counts h b x LastEpoch h' w = (keeps_leaves control h _ h' w, tt)
+  unclean_counts h b x DownBroker h' w = (keeps_leaves control h _ h' w, tt)
+  unclean_counts h b x (BehindStart end start) h' w = (keeps_leaves control h _ h' w, tt)
+  unclean_counts h b x (OkAt n) h' w = (keeps_leaves control h _ h' w, tt)
+  unclean_counts h b x other h' w = elim w [ ]
+
+  learn_counts : (h : Held D) (b : ℕ) (x : Node D) (answer : Answer) (h' : Held D) → slice_get h.nodes b ≡ Some x → LearnRow content control h b x answer h' → Counts h b h' answer
+  learn_counts h b x Down h' at w = (keeps_same control h h' w.1, tt)
+  learn_counts h b x Known h' at w = (keeps_same control h h' w.2, tt)
+  learn_counts h b x (Follows n) h' at w = (keeps_log control h b x _ h' at refl w.4, tt)
+  learn_counts h b x (NeedsElection n) h' at w = (keeps_same control h h' w.5, tt)
+  learn_counts h b x (Leads n) h' at w = let g = w.4.1 in (keeps_put control h b x _ h' at g.lasts g.after, tt)
+  learn_counts h b x DiskFault h' at w = breaks_counts h b x _ h' at w.4
+  learn_counts h b x other h' at w = elim w [ ]
+
+  ack_counts : (h : Held D) (b : ℕ) (x : Node D) (answer : Answer) (h' : Held D) → slice_get h.nodes b ≡ Some x → AckRow h b x answer h' → Counts h b h' answer
+  ack_counts h b x Down h' at w = (keeps_same control h h' w.1, tt)
+  ack_counts h b x NotJoined h' at w = (keeps_same control h h' w.2, tt)
+  ack_counts h b x (StaleEpoch e) h' at w =
+      let o = some_of _ (acking x.role) w.1 in
+      let t = some_of _ (slice_get h.registry.replicas b) o.2 in
+      (keeps_leaves control h _ h' t.2, tt)
+  ack_counts h b x (OkAt mark) h' at w =
+      let o = some_of _ (acking x.role) w.1 in
+      let t = some_of _ (slice_get h.registry.replicas b) o.2 in
+      let r = some_of _ (after_ack h.registry b t.0 o.0 (stable_of x) (Done mark)) t.2 in
+      let y = record x { known = min r.0.mark (end_of x) } in
+      let put = keeps_log control h b x y (put_node h b y) at refl refl in
+      (λ i n has. keeps_same control (record (put_node h b y) { registry = r.0 }) h' r.2 i n (put i n has), tt)
+  ack_counts h b x other h' at w = elim w [ ]
+
+  shrink_counts : (h : Held D) (b : ℕ) (answer : Answer) (h' : Held D) → ShrinkRow h b answer h' → Counts h b h' answer
+  shrink_counts h b NotInSync h' w = let t = some_of _ (slice_get h.registry.replicas b) w in (keeps_leaves control h _ h' t.2, tt)
+  shrink_counts h b IsLeader h' w = let t = some_of _ (slice_get h.registry.replicas b) w in (keeps_leaves control h _ h' t.2, tt)
+  shrink_counts h b Ok h' w = let t = some_of _ (slice_get h.registry.replicas b) w in (keeps_leaves control h _ h' t.2, tt)
+  shrink_counts h b other h' w = elim w [ ]
+
+  expand_counts : (h : Held D) (b : ℕ) (x : Node D) (answer : Answer) (h' : Held D) → ExpandRow h b x answer h' → Counts h b h' answer
+  expand_counts h b x DownBroker h' w = let t = some_of _ (slice_get h.registry.replicas b) w in (keeps_leaves control h _ h' t.2, tt)
+  expand_counts h b x (Behind ack mark) h' w = let t = some_of _ (slice_get h.registry.replicas b) w in (keeps_leaves control h _ h' t.2, tt)
+  expand_counts h b x Ok h' w = let t = some_of _ (slice_get h.registry.replicas b) w in (keeps_leaves control h _ h' t.2, tt)
+  expand_counts h b x other h' w = elim w [ ]
+
+  raise_counts : (h : Held D) (b : ℕ) (x : Node D) (wanted : ℕ) (answer : Answer) (h' : Held D) → RaiseRow h b x wanted answer h' → Counts h b h' answer
+  raise_counts h b x wanted Down h' w = (keeps_same control h h' w.1, tt)
+  raise_counts h b x wanted NotLeader h' w = (keeps_same control h h' w.2, tt)
+  raise_counts h b x wanted (StaleEpoch e) h' w = (keeps_leaves control h _ h' w.1.2, tt)
+  raise_counts h b x wanted (NotAbove start) h' w = (keeps_leaves control h _ h' w.1.2, tt)
+  raise_counts h b x wanted (AboveMark mark) h' w = (keeps_leaves control h _ h' w.1.2, tt)
+  raise_counts h b x wanted (OkAt start) h' w = (keeps_leaves control h _ h' w.1.2, tt)
+  raise_counts h b x wanted other h' w = elim w [ ]
+
+  stop_counts : (h : Held D) (b : ℕ) (x : Node D) (answer : Answer) (h' : Held D) → slice_get h.nodes b ≡ Some x → StopRow content control h b x answer h' → Counts h b h' answer
+  stop_counts h b x Down h' at w = (keeps_same control h h' w.1, tt)
+  stop_counts h b x Ok h' at w = (keeps_put control h b x _ h' at w.1.2 w.1.3, tt)
+  stop_counts h b x other h' at w = elim w [ ]
+
+  up_counts : (h : Held D) (b : ℕ) (x : Node D) (answer : Answer) (h' : Held D) → slice_get h.nodes b ≡ Some x → UpRow content control h b x answer h' → Counts h b h' answer
+  up_counts h b x IsUp h' at w = (keeps_same control h h' w.1, tt)
+  up_counts h b x (IsOpen n) h' at w = (keeps_put control h b x _ h' at w.1.2 w.1.3, tt)
+  up_counts h b x DiskFault h' at w = fails_counts h b x h' at w.1
+  up_counts h b x (Damaged (File name) from) h' at w = (keeps_put control h b x _ h' at w.1.2 w.1.3, tt)
+  up_counts h b x LastIncarnation h' at w = (keeps_put control h b x _ h' at w.1.2 w.1.3, tt)
+  up_counts h b x other h' at w = elim w [ ]
+
+  clock_counts : (h : Held D) (b : ℕ) (ms : ℤ) (answer : Answer) (h' : Held D) → ClockRow h ms answer h' → Counts h b h' answer
+  clock_counts h b ms Ok h' w = (keeps_same control (record h { clock = ms }) h' w, tt)
+  clock_counts h b ms other h' w = elim w [ ]
+
+  answer_counts : (h : Held D) (b : ℕ) (x : Node D) (command : Command) (answer : Answer) (h' : Held D) → slice_get h.nodes b ≡ Some x
+      → AnswerRow content control h b x command answer h' → CountsFor command h b h' (Answers answer)
+  answer_counts h b x (Append recs) answer h' at w = append_counts h b x (built recs) answer h' at w
+  answer_counts h b x (Raw bytes) answer h' at w = raw_counts h b x bytes answer h' at w
+  answer_counts h b x Flush answer h' at w = flush_counts h b x answer h' at w
+  answer_counts h b x Roll answer h' at w = roll_counts h b x answer h' at w
+  answer_counts h b x Elect answer h' at w = elect_counts h b x answer h' w
+  answer_counts h b x Unclean answer h' at w = unclean_counts h b x answer h' w
+  answer_counts h b x Learn answer h' at w = learn_counts h b x answer h' at w
+  answer_counts h b x Ack answer h' at w = ack_counts h b x answer h' at w
+  answer_counts h b x Shrink answer h' at w = shrink_counts h b answer h' w
+  answer_counts h b x Expand answer h' at w = expand_counts h b x answer h' w
+  answer_counts h b x (Raise start) answer h' at w = raise_counts h b x start answer h' w
+  answer_counts h b x (Clock ms) answer h' at w = clock_counts h b ms answer h' w
+  answer_counts h b x StopCommand answer h' at w = stop_counts h b x answer h' at w
+  answer_counts h b x UpCommand answer h' at w = up_counts h b x answer h' at w
+  answer_counts h b x other answer h' at w = elim w [ ]
+
+  fetch_turn_counts : (h : Held D) (b : ℕ) (x : Node D) (offset limit : ℕ) (turned : Turned) (h' : Held D) → slice_get h.nodes b ≡ Some x
+      → FetchTurn content control h b x offset limit turned h' → CountsFor (Fetch offset limit) h b h' turned
+  fetch_turn_counts h b x offset limit (Answers answer) h' at w = fetch_counts h b x offset limit answer h' at w
+  fetch_turn_counts h b x offset limit (Begins g) h' at w = (keeps_same control h h' w.6, tt)
+
+  join_counts : (h : Held D) (b : ℕ) (x : Node D) (turned : Turned) (h' : Held D) → slice_get h.nodes b ≡ Some x → JoinRow content control h b x turned h' → CountsFor Join h b h' turned
+  join_counts h b x (Answers Down) h' at w = (keeps_same control h h' w.1, tt)
+  join_counts h b x (Answers NotFollower) h' at w = (keeps_same control h h' w.2, tt)
+  join_counts h b x (Answers (StaleEpoch e)) h' at w = (keeps_same control h h' w.3, tt)
+  join_counts h b x (Answers NoLeader) h' at w = (keeps_same control h h' w.3, tt)
+  join_counts h b x (Answers (Cut n)) h' at w = let g = (some_of _ (the_leader h) w.2).2.5 in (keeps_put control h b x _ h' at g.lasts g.after, tt)
+  join_counts h b x (Answers (DiskFaultAt n)) h' at w = broken_counts h b x _ h' at (some_of _ (the_leader h) w.2).2.4.1
+  join_counts h b x (Begins g) h' at w = let k = (some_of _ (the_leader h) w.2).2.4.cuts in (keeps_put control h b x _ h' at k.lasts k.after, tt)
+  join_counts h b x other h' at w = elim w [ ]
+
+  join_on_counts : (h : Held D) (b : ℕ) (x : Node D) (g : Begun) (answer : Answer) (h' : Held D) → slice_get h.nodes b ≡ Some x → JoinOnRow content control h b x g answer h' → Counts h b h' answer
+  join_on_counts h b x g Stopped h' at w = (keeps_same control h h' w.1, tt)
+  join_on_counts h b x g (StaleEpoch e) h' at w = (keeps_same control h h' w.3, tt)
+  join_on_counts h b x g (Passed n) h' at w = (keeps_same control h h' w.3, tt)
+  join_on_counts h b x g (BelowStart start) h' at w = (keeps_same control h h' w.5, tt)
+  join_on_counts h b x g (DiskFaultAt n) h' at w = broken_counts h b x _ h' at w.2
+  join_on_counts h b x g (Rebuilt n) h' at w = (keeps_put control h b x (record x { log = w.2.kept }) h' at w.2.lasts w.2.after, tt)
+  join_on_counts h b x g other h' at w = elim w [ ]
+
+  trim_counts : (h : Held D) (b : ℕ) (x : Node D) (turned : Turned) (h' : Held D) → TrimRow content control h x turned h' → CountsFor Trim h b h' turned
+  trim_counts h b x (Answers Down) h' w = (keeps_same control h h' w.1, tt)
+  trim_counts h b x (Begins g) h' w = (keeps_same control h h' w.2, tt)
+  trim_counts h b x other h' w = elim w [ ]
+
+  trim_on_counts : (h : Held D) (b : ℕ) (x : Node D) (g : Begun) (answer : Answer) (h' : Held D) → slice_get h.nodes b ≡ Some x → TrimOnRow content control h b x g answer h' → Counts h b h' answer
+  trim_on_counts h b x g Stopped h' at w = (keeps_same control h h' w.1, tt)
+  trim_on_counts h b x g Remains h' at w = (keeps_same control h h' w.1, tt)
+  trim_on_counts h b x g DiskFault h' at w = broken_counts h b x _ h' at w.2
+  trim_on_counts h b x g (Dropped base last) h' at w = (keeps_put control h b x (record x { log = w.2.0 }) h' at w.2.2 w.2.3, tt)
+  trim_on_counts h b x g other h' at w = elim w [ ]
+
+  follow_counts : (h : Held D) (b : ℕ) (x : Node D) (limit : ℕ) (turned : Turned) (h' : Held D) → FollowRow content control h b x limit turned h' → CountsFor (Follow limit) h b h' turned
+  follow_counts h b x limit (Answers Down) h' w = (keeps_same control h h' w.1, tt)
+  follow_counts h b x limit (Answers NotJoined) h' w = (keeps_same control h h' w.2, tt)
+  follow_counts h b x limit (Answers (StaleEpoch e)) h' w = (keeps_same control h h' w.3, tt)
+  follow_counts h b x limit (Answers NoLeader) h' w = (keeps_same control h h' w.3, tt)
+  follow_counts h b x limit (Answers Level) h' w = (keeps_same control h h' w.3, tt)
+  follow_counts h b x limit (Answers DiskFault) h' w =
+      let y = some_of _ (the_leader h) w.2 in
+      let k = fails_counts h h.registry.leader.0 y.0 h' (leader_at h y.0 y.1) y.2.2 in
+      (k.0, (h.registry.leader.0, within h.nodes h.registry.leader.0 y.0 (leader_at h y.0 y.1), k.1))
+  follow_counts h b x limit (Answers (Moved n)) h' w = (keeps_same control h h' w.3, tt)
+  follow_counts h b x limit (Answers (Damaged (File name) from)) h' w =
+      let y = some_of _ (the_leader h) w.2 in
+      (keeps_put control h h.registry.leader.0 y.0 (record y.0 { log = y.2.2.kept }) h' (leader_at h y.0 y.1) y.2.2.lasts y.2.2.after, tt)
+  follow_counts h b x limit (Begins g) h' w =
+      let y = some_of _ (the_leader h) w.2 in
+      (keeps_put control h h.registry.leader.0 y.0 (record y.0 { log = y.2.2.kept }) h' (leader_at h y.0 y.1) y.2.2.lasts y.2.2.after, tt)
+  follow_counts h b x limit other h' w = elim w [ ]
+
+  follow_on_counts : (h : Held D) (b : ℕ) (x : Node D) (g : Begun) (answer : Answer) (h' : Held D) → slice_get h.nodes b ≡ Some x
+      → FollowOnRow content control h b x g answer h' → Counts h b h' answer
+  follow_on_counts h b x g Stopped h' at w = (keeps_same control h h' w.1, tt)
+  follow_on_counts h b x g (StaleEpoch e) h' at w = (keeps_same control h h' w.3, tt)
+  follow_on_counts h b x g (Passed n) h' at w = (keeps_same control h h' w.3, tt)
+  follow_on_counts h b x g TooManySegments h' at w = (keeps_same control h h' w.3, tt)
+  follow_on_counts h b x g DiskFault h' at w = breaks_counts h b x _ h' at w.3
+  follow_on_counts h b x g (Copied n) h' at w = (keeps_put control h b x (record x { log = w.3.kept }) h' at w.3.lasts w.3.after, tt)
+  follow_on_counts h b x g other h' at w = elim w [ ]
+
+  first_counts : (h : Held D) (b : ℕ) (x : Node D) (command : Command) (turned : Turned) (h' : Held D) → slice_get h.nodes b ≡ Some x
+      → FirstRow content control h b x command turned h' → CountsFor command h b h' turned
+  first_counts h b x (Follow limit) turned h' at w = follow_counts h b x limit turned h' w
+  first_counts h b x Join turned h' at w = join_counts h b x turned h' at w
+  first_counts h b x Trim turned h' at w = trim_counts h b x turned h' w
+  first_counts h b x (Fetch offset limit) turned h' at w = fetch_turn_counts h b x offset limit turned h' at w
+  first_counts h b x command (Answers answer) h' at w = answer_counts h b x command answer h' at w
+  first_counts h b x command (Begins g) h' at w = elim w [ ]
+
+  later_counts : (h : Held D) (b : ℕ) (x : Node D) (command : Command) (g : Begun) (turned : Turned) (h' : Held D) → slice_get h.nodes b ≡ Some x
+      → LaterRow content control h b x command g turned h' → CountsFor command h b h' turned
+  later_counts h b x (Follow limit) g (Answers answer) h' at w = of_follow h b h' limit answer (within h.nodes b x at) (follow_on_counts h b x g answer h' at w)
+  later_counts h b x Join g (Answers answer) h' at w = join_on_counts h b x g answer h' at w
+  later_counts h b x Trim g (Answers answer) h' at w = trim_on_counts h b x g answer h' at w
+  later_counts h b x command g turned h' at w = elim w [ ]
+
+  pub row_counts : (h : Held D) (b : ℕ) (x : Node D) (begun : Option Begun) (command : Command) (turned : Turned) (h' : Held D) → slice_get h.nodes b ≡ Some x
+      → Row content control h b x begun command turned h' → CountsFor command h b h' turned
+  row_counts h b x None command turned h' at w = first_counts h b x command turned h' at w
+  row_counts h b x (Some g) command turned h' at w = later_counts h b x command g turned h' at w

@@ -1,0 +1,279 @@
+-- The turns of commands of any kind: no device's count of faults falls, and one rises where a fault is told.
+use Rattle.std.proofs.Common.{◌≡◌, inl, inr, sym, ap, subst, refl, ℕ, slice_get, Some, None, true}
+use Rattle.tier_base.specs.declared.names.PartitionId.{PartitionId}
+use Rattle.tier_base.specs.declared.plain.Keep.{Keep}
+use Rattle.disk_model.specs.declared.disk.Disk.{Ghosts as DiskGhosts}
+use Rattle.object_store.specs.declared.store.Store.{Ghosts as StoreGhosts}
+use Rattle.meta_log.specs.declared.log.MetaLog.{Ghosts as MetaGhosts}
+use Rattle.copy_task.specs.Copying.{Copied}
+use Rattle.copy_task.specs.declared.turn.Next.{Next}
+use Rattle.tier_fetch.specs.declared.turn.FetchTurn.{FetchTurn}
+use Rattle.tier_fetch.specs.declared.turn.FetchTurn.TheVariants as fetch
+use Rattle.tier_fetch.specs.declared.turn.Next.{Next as Search}
+use Rattle.tier_fetch.specs.declared.turn.Next.TheVariants.{Refresh}
+use Rattle.expiry_task.specs.declared.turn.Doomed.{Doomed}
+use Rattle.expiry_task.specs.declared.turn.Next.{Next as Deletion}
+use Rattle.rebuild_task.specs.declared.turn.Next.{Next as Rebuild}
+use Rattle.rebuild_task.specs.declared.turn.Next.TheVariants.{Epochs, Restart}
+use Rattle.plain_log.specs.declared.answer.Answer.{Answer}
+use Rattle.plain_log.specs.declared.answer.Answer.TheVariants.{Down, NotLeader, MetaFault, DiskFault, Damaged, Stopped, OutOfRange, Empty, Kept as Remains, StaleEpoch, Raised, OkAt, Passed, BelowStart}
+use Rattle.plain_log.specs.declared.answer.Place.TheVariants.{File}
+use Rattle.plain_log.specs.declared.command.Command.{Command}
+use Rattle.plain_log.specs.declared.command.Command.TheVariants.{Join, Copy, Trim, Expire, Fetch, Raise}
+use Rattle.plain_log.specs.declared.command.Config.{Config}
+use Rattle.broker_log.specs.Seen.{Lasting, Faulted}
+use Rattle.partition_seen.specs.declared.begun.Begun.{Begun}
+use Rattle.partition_seen.specs.declared.begun.Turned.{Turned}
+use Rattle.partition_seen.specs.declared.begun.Turned.TheVariants as turned
+use Rattle.partition_turns.specs.declared.held.Node.{Node}
+use Rattle.partition_turns.specs.declared.held.Held.{Held}
+use Rattle.partition_turns.specs.Held.{is_up, line_of, put_node}
+use Rattle.partition_world.specs.declared.tier.Side.{Side}
+use Rattle.partition_world.specs.declared.tier.Tier.{Tier}
+use Rattle.partition_world.specs.declared.seat.Outcome.{Outcome}
+use Rattle.partition_world.specs.declared.seat.Outcome.TheVariants.{Answers, Begins, Chose, Seeks as Sought, Dooms, Rebuilds as Rebuilding}
+use Rattle.partition_world.specs.declared.seat.Work.{Work}
+use Rattle.partition_world.specs.declared.seat.Work.TheVariants.{Idle, Noted, Copies, Seeks, Expires, Rebuilds}
+use Rattle.partition_world.specs.Seats.{outcome_of, fetch_outcome}
+use Rattle.partition_world.specs.Tier.{Refreshes, FailsToRead, put_side}
+use Rattle.partition_world.specs.TurnsOfCopy.{ReadsLog, ReadRow, CopyFirstRow, ChooseRow, tiers_of, teller_of}
+use Rattle.partition_world.specs.TurnsOfFetch.{FetchOnRow, GoesOnFetch, fetch_tiers, wanted_of}
+use Rattle.partition_world.specs.TurnsOfExpiry.{RaiseRow, ExpireOnRow, ExpiresBy, expiry_tiers}
+use Rattle.partition_world.specs.TurnsOfRebuild.{AnswersAtOnce, RefreshedRow, with_line, wanted_of as rebuilt_to}
+use Rattle.partition_world.specs.TurnsOfTrim.{TrimFirstRow, TrimOnRow}
+use Rattle.partition_world.specs.Turns.{OwnOnRow, BeginRow, NotedRow, CopyingRow, SeekingRow, DeletingRow, JoinSecondRow, RebuildingRow, Row}
+use Rattle.command_answers.proofs.FaultCounts.{told_map, Keeps, Rises, RisesFor, keeps_same, keeps_put, rises_put}
+use Rattle.command_answers.proofs.FaultsOfRows.{CountsFor, row_counts}
+use Rattle.command_answers.proofs.FaultsTold.{TurnTold, StoreKeeps, StoreRose, MetaKeeps, MetaRose, store_same, meta_same}
+use Rattle.command_answers.proofs.FaultsOfCopies.{copy_counts}
+use Rattle.command_answers.proofs.FaultsOfDeletions.{expiry_counts}
+use Rattle.command_answers.proofs.FaultsOfSearches.{fetch_counts, rebuild_counts}
+
+module _ {D S M : Type 0} (disk : DiskGhosts D) (store : StoreGhosts S) (meta : MetaGhosts M) where
+  -- no count falls
+  pub record AllKeep (h : Held D) (t : Tier S M) (h' : Held D) (t' : Tier S M) : Type 0 where
+    pub held : Keeps disk.control h h'
+    pub stores : StoreKeeps store t.store t'.store
+    pub metas : MetaKeeps meta t.meta t'.meta
+
+  -- and one rises where a fault is told; this holds where it is one of a disk
+  abbrev pub Counts : Type 0 → Held D → ℕ → Tier S M → Outcome → Held D → Tier S M → Type 0
+  Counts A h b t outcome h' t' =
+      AllKeep h t h' t' × TurnTold A (Rises disk.control h b h') (StoreRose store t.store t'.store) (MetaRose meta t.meta t'.meta) outcome
+
+  kept_by : (h : Held D) (t : Tier S M) (h' : Held D) (t' : Tier S M) → Keeps disk.control h h' → t'.store ≡ t.store → t'.meta ≡ t.meta → AllKeep h t h' t'
+  kept_by h t h' t' held one two = record { held = held; stores = store_same store t.store t'.store one; metas = meta_same meta t.meta t'.meta two }
+
+  same_tier : (h : Held D) (t : Tier S M) (h' : Held D) (t' : Tier S M) → Keeps disk.control h h' → t' ≡ t → AllKeep h t h' t'
+  same_tier h t h' t' held same = kept_by h t h' t' held (ap (λ (k : Tier S M). k.store) same) (ap (λ (k : Tier S M). k.meta) same)
+
+  all_same : (h : Held D) (t : Tier S M) (h' : Held D) (t' : Tier S M) → h' ≡ h → t' ≡ t → AllKeep h t h' t'
+  all_same h t h' t' one two = same_tier h t h' t' (keeps_same disk.control h h' one) two
+
+  -- what is told of an outcome is told of one that is the same
+  told_as : (A : Type 0) (h : Held D) (b : ℕ) (t : Tier S M) (h' : Held D) (t' : Tier S M) (outcome after : Outcome) → outcome ≡ after → Counts A h b t after h' t' → Counts A h b t outcome h' t'
+  told_as A h b t h' t' outcome after is k = subst (λ (o : Outcome). Counts A h b t o h' t') (sym is) k
+
+  -- a turn that the remote tier has no part in
+  own_counts : (command : Command) (h : Held D) (b : ℕ) (t : Tier S M) (turn : Turned) (h' : Held D) (t' : Tier S M) → CountsFor disk.content disk.control command h b h' turn → t' ≡ t
+      → Counts (RisesFor disk.control command h b h') h b t (outcome_of turn) h' t'
+  own_counts command h b t (turned.Answers answer) h' t' k same = (
+    same_tier h t h' t' k.0 same,
+    told_map (RisesFor disk.control command h b h') (Rises disk.control h b h') ⊥ ⊥ (RisesFor disk.control command h b h') (Rises disk.control h b h') (StoreRose store t.store t'.store) (MetaRose meta t.meta t'.meta) answer
+        (λ rises. rises) (λ rises. rises) (λ no. absurd no) (λ no. absurd no) k.1,
+  )
+  own_counts command h b t (turned.Begins g) h' t' k same = (same_tier h t h' t' k.0 same, tt)
+
+  -- the metadata log is read for a view
+
+  unread_counts : (h : Held D) (t : Tier S M) (side : Side) (h' : Held D) (t' : Tier S M) → h' ≡ h → FailsToRead meta t side t' → AllKeep h t h' t' × MetaRose meta t.meta t'.meta
+  unread_counts h t side h' t' same w = (
+    record {
+      held = keeps_same disk.control h h' same;
+      stores = store_same store t.store t'.store (ap (λ (k : Tier S M). k.store) w.after);
+      metas = w.reads.control.ran.never_falls;
+    },
+    w.reads.control.ran.cause refl,
+  )
+
+  refresh_keeps : (h : Held D) (t : Tier S M) (b : ℕ) (side : Side) (h' : Held D) (t' : Tier S M) → h' ≡ h → Refreshes meta t b side t' → AllKeep h t h' t'
+  refresh_keeps h t b side h' t' same w = record {
+    held = keeps_same disk.control h h' same;
+    stores = store_same store t.store t'.store (ap (λ (k : Tier S M). k.store) w.after);
+    metas = w.reads.control.ran.never_falls;
+  }
+
+  first_counts : (A : Type 0) (h : Held D) (t : Tier S M) (b : ℕ) (x : Node D) (side : Side) (outcome : Outcome) (h' : Held D) (t' : Tier S M) → h' ≡ h
+      → CopyFirstRow meta h t b x side outcome t' → Counts A h b t outcome h' t'
+  first_counts A h t b x side (Answers Down) h' t' same w = (all_same h t h' t' same w.1, tt)
+  first_counts A h t b x side (Answers NotLeader) h' t' same w = (all_same h t h' t' same w.2, tt)
+  first_counts A h t b x side (Answers MetaFault) h' t' same w = unread_counts h t side h' t' same w.2
+  first_counts A h t b x side (Begins g) h' t' same w = (refresh_keeps h t b side h' t' same w.3, tt)
+  first_counts A h t b x side other h' t' same w = elim w [ ]
+
+  trim_counts : (A : Type 0) (h : Held D) (t : Tier S M) (b : ℕ) (x : Node D) (side : Side) (outcome : Outcome) (h' : Held D) (t' : Tier S M) → h' ≡ h
+      → TrimFirstRow meta h t b x side outcome t' → Counts A h b t outcome h' t'
+  trim_counts A h t b x side (Answers Down) h' t' same w = (all_same h t h' t' same w.1, tt)
+  trim_counts A h t b x side (Answers MetaFault) h' t' same w = unread_counts h t side h' t' same w.1
+  trim_counts A h t b x side (Begins g) h' t' same w = (refresh_keeps h t b side h' t' same w.2, tt)
+  trim_counts A h t b x side other h' t' same w = elim w [ ]
+
+  begin_counts : (h : Held D) (t : Tier S M) (b : ℕ) (x : Node D) (side : Side) (command : Command) (outcome : Outcome) (h' : Held D) (t' : Tier S M) → slice_get h.nodes b ≡ Some x
+      → BeginRow disk store meta h t b x side command outcome h' t' → Counts (RisesFor disk.control command h b h') h b t outcome h' t'
+  begin_counts h t b x side Copy outcome h' t' at w = first_counts (Rises disk.control h b h') h t b x side outcome h' t' w.1 w.0
+  begin_counts h t b x side Trim outcome h' t' at w = trim_counts (Rises disk.control h b h') h t b x side outcome h' t' w.1 w.0
+  begin_counts h t b x side Expire outcome h' t' at w = first_counts (Rises disk.control h b h') h t b x side outcome h' t' w.1 w.0
+  begin_counts h t b x side other outcome h' t' at w =
+      told_as (RisesFor disk.control other h b h') h b t h' t' outcome (outcome_of w.0.0) w.0.1
+      (own_counts other h b t w.0.0 h' t' (row_counts disk.content disk.control h b x None other w.0.0 h' at w.0.2) w.1)
+
+  -- a log is read for a copy
+
+  next_counts : (p : PartitionId) (h : Held D) (t : Tier S M) (b : ℕ) (x y : Node D) (side z : Side) (offset : ℕ) (outcome : Outcome) (h' : Held D) (t' : Tier S M) → slice_get h.nodes b ≡ Some x
+      → ReadRow disk p b x side offset outcome y z → h' ≡ put_node h b y → t' ≡ put_side t b z → Counts (Rises disk.control h b h') h b t outcome h' t'
+  next_counts p h t b x y side z offset outcome h' t' at w held tier = go outcome w
+    where
+      all : ReadsLog disk x y → AllKeep h t h' t'
+      all r =
+          let lasts : Lasting disk.control x.log y.log = rw r.after r.lasts in
+          kept_by h t h' t' (keeps_put disk.control h b x y h' at lasts held) (ap (λ (k : Tier S M). k.store) tier) (ap (λ (k : Tier S M). k.meta) tier)
+
+      go : (o : Outcome) → ReadRow disk p b x side offset o y z → Counts (Rises disk.control h b h') h b t o h' t'
+      go (Answers DiskFault) w =
+          let lasts : Lasting disk.control x.log y.log = rw w.0.reads.after w.0.reads.lasts in
+          let rose : Faulted disk.control x.log y.log = rw w.0.reads.after w.0.cause in
+          (all w.0.reads, (rises_put disk.control h b x y h' at lasts rose held).1)
+      go (Answers (Damaged (File name) place)) w = (all w.0.reads, tt)
+      go (Chose copy) w = (all w.0.reads, tt)
+      go other w = elim w [ ]
+
+  choose_counts : (p : PartitionId) (h : Held D) (t : Tier S M) (b : ℕ) (x : Node D) (side : Side) (g : Begun) (outcome : Outcome) (h' : Held D) (t' : Tier S M) → slice_get h.nodes b ≡ Some x
+      → ChooseRow disk p h t b x side g outcome h' t' → Counts (Rises disk.control h b h') h b t outcome h' t'
+  choose_counts p h t b x side g outcome h' t' at (inl lost) = told_as (Rises disk.control h b h') h b t h' t' outcome _ lost.1 (all_same h t h' t' lost.2 lost.3, tt)
+  choose_counts p h t b x side g outcome h' t' at (inr (keeps, inl level)) = told_as (Rises disk.control h b h') h b t h' t' outcome _ level.1 (all_same h t h' t' level.2 level.3, tt)
+  choose_counts p h t b x side g outcome h' t' at (inr (keeps, inr r)) = next_counts p h t b x r.node side r.side_after _ outcome h' t' at r.row r.held r.tier
+
+  -- a later turn of a trim, and of a fetch
+
+  trims_counts : (h : Held D) (t : Tier S M) (b : ℕ) (x : Node D) (side : Side) (g : Begun) (keep : Keep) (outcome : Outcome) (h' : Held D) (t' : Tier S M) → slice_get h.nodes b ≡ Some x
+      → TrimOnRow disk h b x side g keep outcome h' → t' ≡ t → Counts (Rises disk.control h b h') h b t outcome h' t'
+  trims_counts h t b x side g keep (Answers answer) h' t' at w same =
+      own_counts Trim h b t (turned.Answers answer) h' t' (row_counts disk.content disk.control h b x (Some g) Trim (turned.Answers answer) h' at w.0) same
+  trims_counts h t b x side g keep other h' t' at w same = elim w [ ]
+
+  goes_counts : (A : Type 0) (p : PartitionId) (h : Held D) (t : Tier S M) (b : ℕ) (x : Node D) (side : Side) (offset limit : ℕ) (next : Search) (turn : FetchTurn) (h' : Held D) (t' : Tier S M) → h' ≡ h
+      → GoesOnFetch store meta p t b x side offset limit next turn t' → Counts A h b t (fetch_outcome turn) h' t'
+  goes_counts A p h t b x side offset limit next turn h' t' same w =
+      let k = fetch_counts A (Rises disk.control h b h') store meta (wanted_of p x offset limit) (line_of x) next turn (fetch_tiers side.view side.cache t) (fetch_tiers w.view w.cache t') w.row in
+      (record { held = keeps_same disk.control h h' same; stores = k.0; metas = k.1 }, k.2)
+
+  seek_counts : (A : Type 0) (p : PartitionId) (h : Held D) (t : Tier S M) (b : ℕ) (x : Node D) (side : Side) (g : Begun) (offset limit : ℕ) (next : Search) (outcome : Outcome) (h' : Held D) (t' : Tier S M)
+      → h' ≡ h → FetchOnRow store meta p h t b x side g offset limit next outcome t' → Counts A h b t outcome h' t'
+  seek_counts A p h t b x side g offset limit next (Answers Stopped) h' t' same w = (all_same h t h' t' same w.1, tt)
+  seek_counts A p h t b x side g offset limit next (Answers NotLeader) h' t' same w = (all_same h t h' t' same w.3, tt)
+  seek_counts A p h t b x side g offset limit next (Answers (OutOfRange start end)) h' t' same w = (all_same h t h' t' same w.4, tt)
+  seek_counts A p h t b x side g offset limit next (Answers Empty) h' t' same w = (all_same h t h' t' same w.3, tt)
+  seek_counts A p h t b x side g offset limit next (Answers answer) h' t' same w = goes_counts A p h t b x side offset limit next (fetch.Ends answer) h' t' same w.1
+  seek_counts A p h t b x side g offset limit next (Sought later) h' t' same w = goes_counts A p h t b x side offset limit next (fetch.Goes later) h' t' same w.1
+  seek_counts A p h t b x side g offset limit next other h' t' same w = elim w [ ]
+
+  -- and of an expiry, which raises the log start as the command does
+
+  raise_counts : (A : Type 0) (h : Held D) (t : Tier S M) (b : ℕ) (x : Node D) (start : ℕ) (answer : Answer) (h' : Held D) (t' : Tier S M) → slice_get h.nodes b ≡ Some x → is_up x ≡ true → t' ≡ t
+      → RaiseRow h x.role start answer h' → Counts A h b t (Answers answer) h' t'
+  raise_counts A h t b x start (StaleEpoch e) h' t' at up same w =
+      (same_tier h t h' t' (row_counts disk.content disk.control h b x None (Raise start) (turned.Answers (StaleEpoch e)) h' at (up, w)).0 same, tt)
+  raise_counts A h t b x start (Raised to) h' t' at up same w =
+      (same_tier h t h' t' (row_counts disk.content disk.control h b x None (Raise start) (turned.Answers (OkAt to)) h' at (up, w)).0 same, tt)
+  raise_counts A h t b x start other h' t' at up same w = elim w [ ]
+
+  expires_counts : (A : Type 0) (p : PartitionId) (h : Held D) (t : Tier S M) (b : ℕ) (x : Node D) (side : Side) (keep : Keep) (outcome : Outcome) (h' : Held D) (t' : Tier S M) → slice_get h.nodes b ≡ Some x
+      → is_up x ≡ true → t' ≡ t → ExpiresBy p h x side keep outcome h' → Counts A h b t outcome h' t'
+  expires_counts A p h t b x side keep (Dooms segment) h' t' at up same w = (all_same h t h' t' w.stays same, tt)
+  expires_counts A p h t b x side keep (Answers Remains) h' t' at up same w = (all_same h t h' t' w.2 same, tt)
+  expires_counts A p h t b x side keep (Answers answer) h' t' at up same w = raise_counts A h t b x w.0 answer h' t' at up same w.2
+  expires_counts A p h t b x side keep other h' t' at up same w = elim w [ ]
+
+  expire_counts : (A : Type 0) (p : PartitionId) (h : Held D) (t : Tier S M) (b : ℕ) (x : Node D) (side : Side) (g : Begun) (keep : Keep) (outcome : Outcome) (h' : Held D) (t' : Tier S M)
+      → slice_get h.nodes b ≡ Some x → t' ≡ t → ExpireOnRow p h x side g keep outcome h' → Counts A h b t outcome h' t'
+  expire_counts A p h t b x side g keep outcome h' t' at same (inl lost) = told_as A h b t h' t' outcome _ lost.1 (all_same h t h' t' lost.2 same, tt)
+  expire_counts A p h t b x side g keep outcome h' t' at same (inr k) = expires_counts A p h t b x side keep outcome h' t' at k.0.up same k.1
+
+  -- and of a join
+
+  at_once_counts : (A : Type 0) (h : Held D) (b : ℕ) (t : Tier S M) (x : Node D) (g : Begun) (answer : Answer) (h' : Held D) (t' : Tier S M) → AllKeep h t h' t' → AnswersAtOnce h x g answer
+      → Counts A h b t (Answers answer) h' t'
+  at_once_counts A h b t x g Stopped h' t' k w = (k, tt)
+  at_once_counts A h b t x g (StaleEpoch n) h' t' k w = (k, tt)
+  at_once_counts A h b t x g (Passed n) h' t' k w = (k, tt)
+  at_once_counts A h b t x g (BelowStart start) h' t' k w = (k, tt)
+  at_once_counts A h b t x g other h' t' k w = elim w [ ]
+
+  refreshed_counts : (A : Type 0) (h : Held D) (t : Tier S M) (b : ℕ) (side : Side) (outcome : Outcome) (h' : Held D) (t' : Tier S M) → h' ≡ h → RefreshedRow meta t b side outcome t' → Counts A h b t outcome h' t'
+  refreshed_counts A h t b side (Answers MetaFault) h' t' same w = unread_counts h t side h' t' same w
+  refreshed_counts A h t b side (Rebuilding Epochs) h' t' same w = (refresh_keeps h t b side h' t' same w, tt)
+  refreshed_counts A h t b side other h' t' same w = elim w [ ]
+
+  -- the last turn of a command that the remote tier has no part in
+  joined_counts : (h : Held D) (t : Tier S M) (b : ℕ) (x : Node D) (g : Begun) (command : Command) (outcome : Outcome) (h' : Held D) (t' : Tier S M) → slice_get h.nodes b ≡ Some x
+      → OwnOnRow disk h t b x g command outcome h' t' → Counts (RisesFor disk.control command h b h') h b t outcome h' t'
+  joined_counts h t b x g command outcome h' t' at w =
+      told_as (RisesFor disk.control command h b h') h b t h' t' outcome _ w.0.1
+      (own_counts command h b t (turned.Answers w.0.0) h' t' (row_counts disk.content disk.control h b x (Some g) command (turned.Answers w.0.0) h' at w.0.2) w.1)
+
+  join_counts : (h : Held D) (t : Tier S M) (b : ℕ) (x : Node D) (side : Side) (g : Begun) (outcome : Outcome) (h' : Held D) (t' : Tier S M) → slice_get h.nodes b ≡ Some x
+      → JoinSecondRow disk meta h t b x side g outcome h' t' → Counts (Rises disk.control h b h') h b t outcome h' t'
+  join_counts h t b x side g outcome h' t' at (inl (low, own)) = joined_counts h t b x g Join outcome h' t' at own
+  join_counts h t b x side g outcome h' t' at (inr (high, inl (answer, is, once, tier), same)) =
+      told_as (Rises disk.control h b h') h b t h' t' outcome _ is (at_once_counts (Rises disk.control h b h') h b t x g answer h' t' (all_same h t h' t' same tier) once)
+  join_counts h t b x side g outcome h' t' at (inr (high, inr (may, row), same)) = refreshed_counts (Rises disk.control h b h') h t b side outcome h' t' same row
+
+  noted_counts : (p : PartitionId) (config : Config) (h : Held D) (t : Tier S M) (b : ℕ) (x : Node D) (side : Side) (g : Begun) (command : Command) (outcome : Outcome) (h' : Held D) (t' : Tier S M)
+      → slice_get h.nodes b ≡ Some x → NotedRow disk store meta p config h t b x side g command outcome h' t' → Counts (RisesFor disk.control command h b h') h b t outcome h' t'
+  noted_counts p config h t b x side g Copy outcome h' t' at w = choose_counts p h t b x side g outcome h' t' at w
+  noted_counts p config h t b x side g Trim outcome h' t' at w = trims_counts h t b x side g config.local_keep outcome h' t' at w.0 w.1
+  noted_counts p config h t b x side g Join outcome h' t' at w = join_counts h t b x side g outcome h' t' at w
+  noted_counts p config h t b x side g Expire outcome h' t' at w = expire_counts (Rises disk.control h b h') p h t b x side g config.keep outcome h' t' at w.1 w.0
+  noted_counts p config h t b x side g (Fetch offset limit) outcome h' t' at w = seek_counts (Rises disk.control h b h') p h t b x side g offset limit Refresh outcome h' t' w.1 w.0
+  noted_counts p config h t b x side g other outcome h' t' at w = joined_counts h t b x g other outcome h' t' at w
+
+  copying_counts : (A : Type 0) (h : Held D) (t : Tier S M) (b : ℕ) (x : Node D) (side : Side) (g : Begun) (copy : Copied) (next : Next) (command : Command) (outcome : Outcome) (h' : Held D) (t' : Tier S M)
+      → CopyingRow store meta h t b x side g copy next command outcome h' t' → Counts A h b t outcome h' t'
+  copying_counts A h t b x side g copy next Copy outcome h' t' (inl lost, same) = told_as A h b t h' t' outcome _ lost.1 (all_same h t h' t' same lost.2, tt)
+  copying_counts A h t b x side g copy next Copy outcome h' t' (inr (keeps, (turn, is, goes)), same) =
+      let k = copy_counts A (Rises disk.control h b h') store meta copy (teller_of h b) next turn (tiers_of side.view t) (tiers_of goes.view t') goes.row in
+      told_as A h b t h' t' outcome _ is (record { held = keeps_same disk.control h h' same; stores = k.0; metas = k.1 }, k.2)
+  copying_counts A h t b x side g copy next other outcome h' t' w = elim w [ ]
+
+  seeking_counts : (A : Type 0) (p : PartitionId) (h : Held D) (t : Tier S M) (b : ℕ) (x : Node D) (side : Side) (g : Begun) (next : Search) (command : Command) (outcome : Outcome) (h' : Held D) (t' : Tier S M)
+      → SeekingRow store meta p h t b x side g next command outcome h' t' → Counts A h b t outcome h' t'
+  seeking_counts A p h t b x side g next (Fetch offset limit) outcome h' t' w = seek_counts A p h t b x side g offset limit next outcome h' t' w.1 w.0
+  seeking_counts A p h t b x side g next other outcome h' t' w = elim w [ ]
+
+  deleting_counts : (A : Type 0) (h : Held D) (t : Tier S M) (b : ℕ) (x : Node D) (g : Begun) (segment : Doomed) (next : Deletion) (command : Command) (outcome : Outcome) (h' : Held D) (t' : Tier S M)
+      → DeletingRow store meta h t b x g segment next command outcome h' t' → Counts A h b t outcome h' t'
+  deleting_counts A h t b x g segment next Expire outcome h' t' (inl lost, same) = told_as A h b t h' t' outcome _ lost.1 (all_same h t h' t' same lost.2, tt)
+  deleting_counts A h t b x g segment next Expire outcome h' t' (inr (keeps, (turn, is, goes)), same) =
+      let k = expiry_counts A (Rises disk.control h b h') store meta segment (teller_of h b) next turn (expiry_tiers t) (expiry_tiers t') goes.row in
+      told_as A h b t h' t' outcome _ is (record { held = keeps_same disk.control h h' same; stores = k.0; metas = k.1 }, k.2)
+  deleting_counts A h t b x g segment next other outcome h' t' w = elim w [ ]
+
+  rebuilding_counts : (p : PartitionId) (h : Held D) (t : Tier S M) (b : ℕ) (x : Node D) (side : Side) (g : Begun) (next : Rebuild) (command : Command) (outcome : Outcome) (h' : Held D) (t' : Tier S M)
+      → slice_get h.nodes b ≡ Some x → RebuildingRow disk store p h t b x side g next command outcome h' t' → Counts (RisesFor disk.control command h b h') h b t outcome h' t'
+  rebuilding_counts p h t b x side g Epochs Join outcome h' t' at (inl (answer, is, once, tier), same) =
+      told_as (Rises disk.control h b h') h b t h' t' outcome _ is (at_once_counts (Rises disk.control h b h') h b t x g answer h' t' (all_same h t h' t' same tier) once)
+  rebuilding_counts p h t b x side g Epochs Join outcome h' t' at (inr (may, (turn, is, goes)), same) =
+      let k = rebuild_counts (Rises disk.control h b h') (Rises disk.control h b h') (MetaRose meta t.meta t'.meta) store (rebuilt_to p g) g.line side.view turn t.store t'.store goes.row in
+      told_as (Rises disk.control h b h') h b t h' t' outcome _ is
+      (record { held = keeps_same disk.control h h' same; stores = k.0; metas = meta_same meta t.meta t'.meta (ap (λ (u : Tier S M). u.meta) goes.after) }, k.1)
+  rebuilding_counts p h t b x side g (Restart line) Join outcome h' t' at w = joined_counts h t b x (with_line g line) Join outcome h' t' at w
+  rebuilding_counts p h t b x side g next other outcome h' t' at w = elim w [ ]
+
+  pub turn_counts : (p : PartitionId) (config : Config) (h : Held D) (t : Tier S M) (b : ℕ) (x : Node D) (side : Side) (work : Work) (command : Command) (outcome : Outcome) (h' : Held D) (t' : Tier S M)
+      → slice_get h.nodes b ≡ Some x → Row disk store meta p config h t b x side work command outcome h' t' → Counts (RisesFor disk.control command h b h') h b t outcome h' t'
+  turn_counts p config h t b x side Idle command outcome h' t' at w = begin_counts h t b x side command outcome h' t' at w
+  turn_counts p config h t b x side (Noted g) command outcome h' t' at w = noted_counts p config h t b x side g command outcome h' t' at w
+  turn_counts p config h t b x side (Copies g copy next) command outcome h' t' at w = copying_counts (RisesFor disk.control command h b h') h t b x side g copy next command outcome h' t' w
+  turn_counts p config h t b x side (Seeks g next) command outcome h' t' at w = seeking_counts (RisesFor disk.control command h b h') p h t b x side g next command outcome h' t' w
+  turn_counts p config h t b x side (Expires g segment next) command outcome h' t' at w = deleting_counts (RisesFor disk.control command h b h') h t b x g segment next command outcome h' t' w
+  turn_counts p config h t b x side (Rebuilds g next) command outcome h' t' at w = rebuilding_counts p h t b x side g next command outcome h' t' at w

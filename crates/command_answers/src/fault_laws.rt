@@ -1,0 +1,14 @@
+//! The law of faults that a journal tells of, as the contract of a function that does nothing:
+//! calling it cites the law.
+
+ghost use Rattle.command_answers.specs.LawsOfFaults.{ReachesCounted};
+
+use disk_model::Disk;
+use meta_log::MetaLog;
+use object_store::Store;
+
+/// In the journal of a world that a schedule reaches from a fresh one, each fault of a device is
+/// one that the device has counted since then.
+pub fn reaches_counted<D: Disk, S: Store, M: MetaLog>()
+    ensures { ReachesCounted D.Disk S.Store M.MetaLog }
+{}
