@@ -6,16 +6,16 @@ use Rattle.disk_model.specs.declared.history.Event.{Event}
 use Rattle.disk_model.specs.Content.{Files}
 use Rattle.disk_model.specs.Shelf.{Becomes}
 use Rattle.disk_model.specs.Steps.{Step, same_name, changed}
-use Rattle.disk_model.specs.History.{step_of, crashed_if, newest_first, past_of}
+use Rattle.disk_model.specs.History.{step_of, noted, newest_first, past_of}
 use Rattle.disk_model.proofs.Names.{becomes_changed, cases_name, same_name_refl, same_name_other}
 
-newest_first-push : (past : List Step) (es : List Event) (e : Event) → newest_first past (es ++ e ∷ []) ≡ step_of e.op ∷ crashed_if e.crashed (newest_first past es)
+newest_first-push : (past : List Step) (es : List Event) (e : Event) → newest_first past (es ++ e ∷ []) ≡ noted (newest_first past es) e
 newest_first-push past [] e = refl
-newest_first-push past (x ∷ es) e = newest_first-push (step_of x.op ∷ crashed_if x.crashed past) es e
+newest_first-push past (x ∷ es) e = newest_first-push (noted past x) es e
 
 -- one event more is one step more
 pub pushed : (events events' : List Event) (crashed crashed' : Bool) (op : Op) → events' ≡ events ++ (record { op = op; crashed = crashed }) ∷ [] → crashed' ≡ false
-    → past_of events' crashed' ≡ step_of op ∷ past_of events crashed
+    → past_of events' crashed' ≡ step_of (past_of events crashed) op ∷ past_of events crashed
 pushed events events' crashed crashed' op is not_crashed =
     ap (λ (b : Bool). past_of events' b) not_crashed ∙ ap (newest_first []) is ∙ newest_first-push [] events (record { op = op; crashed = crashed })
 

@@ -5,26 +5,32 @@ use Rattle.disk_model.specs.declared.history.Op.{Op}
 use Rattle.disk_model.specs.declared.history.Op.TheVariants as op
 use Rattle.disk_model.specs.declared.history.Event.{Event}
 use Rattle.disk_model.specs.declared.history.History.TheInside.{Inside}
+use Rattle.tier_base.specs.Told.{bytes_in}
+use Rattle.disk_model.specs.Patch.{patched}
 use Rattle.disk_model.specs.Shelf.{files_on, safe_on}
 use Rattle.disk_model.specs.Steps.{Step, Append, Sync, Cut, Replace, Remove, Crash, reads, safe}
 use Rattle.disk_model.specs.Kept.{Kept}
 
--- what was done, as a step
-abbrev pub step_of : Op → Step
-step_of (op.Append name bytes) = Append name bytes
-step_of (op.Sync name) = Sync name
-step_of (op.Cut name len) = Cut name len
-step_of (op.Replace name bytes sure) = Replace name bytes sure
-step_of (op.Remove name) = Remove name
+-- what was done after these steps, as a step
+abbrev pub step_of : List Step → Op → Step
+step_of past (op.Append name bytes) = Append name bytes
+step_of past (op.Sync name) = Sync name
+step_of past (op.Cut name len) = Cut name len
+step_of past (op.Replace name patch sure) = Replace name (patched patch (bytes_in (reads past name))) sure
+step_of past (op.Remove name) = Remove name
 
 -- these steps, and then a crash where there was one
 abbrev pub crashed_if : Bool → List Step → List Step
 crashed_if crashed past = if crashed then Crash ∷ past else past
 
+-- an event after these steps, and what was earlier
+abbrev pub noted : List Step → Event → List Step
+noted past e = step_of (crashed_if e.crashed past) e.op ∷ crashed_if e.crashed past
+
 -- all events, the newest first, before those that were earlier
 abbrev pub newest_first : List Step → List Event → List Step
 newest_first past [] = past
-newest_first past (e ∷ es) = newest_first (step_of e.op ∷ crashed_if e.crashed past) es
+newest_first past (e ∷ es) = newest_first (noted past e) es
 
 -- all that was done
 abbrev pub past_of : List Event → Bool → List Step

@@ -2,6 +2,7 @@ pub mod Call
 pub mod Content
 pub mod Deaf
 pub mod Held
+pub mod Patch
 pub mod History
 pub mod Kept
 pub mod Laws

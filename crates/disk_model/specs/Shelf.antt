@@ -32,6 +32,10 @@ safe_on shelf Gate = safe_at shelf.gate
 abbrev pub Becomes : FileName → (Option (List ℕ) → Option (List ℕ)) → Files → Files → Type 0
 Becomes name make old new = OnlyAt name (λ before after. after ≡ make before) old new
 
+-- the file begins with these bytes; an absent one has none
+abbrev pub IsFront : List ℕ → Option (List ℕ) → Type 0
+IsFront front file = (rest : List ℕ) × (bytes_in file ≡ front ++ rest)
+
 -- the name of a file that is there
 abbrev pub if_there : FileName → Option Held → List FileName
 if_there name None = []

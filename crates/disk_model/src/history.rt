@@ -9,19 +9,20 @@ ghost use Rattle.tier_base.specs.Told.{Names};
 ghost use Rattle.disk_model.specs.Steps.{Append, Sync, Cut, Replace, Remove, reads};
 ghost use Rattle.disk_model.specs.Kept.{does, Drops};
 
+use crate::patch::{Patch, patch_of};
 use crate::shelf::Shelf;
 use bytes::Bytes;
 use std::alloc::{AllocError, Global};
 use std::marker::Model;
 use tier_base::{FileName, Row};
 
-/// What was done to a file. A replacement is sure where it answered `Ok`.
+/// What was done to a file. A replacement is kept as what differs from the file of before, and is sure where it answered `Ok`.
 #[derive(Drop)]
 pub enum Op {
     Append(FileName, Bytes),
     Sync(FileName),
     Cut(FileName, u64),
-    Replace(FileName, Bytes, bool),
+    Replace(FileName, Patch, bool),
     Remove(FileName),
 }
 
@@ -101,14 +102,14 @@ impl History {
         ensures err { OnErr result (self.new ≡ self.old) }
     {
         let alloc = self.alloc;
-        let kept = Bytes::copy_from_slice(alloc, bytes)?;
-        let shared = kept.clone()?;
+        let patch = patch_of(alloc, self.shelf.front(name), bytes)?;
+        let file = Bytes::copy_from_slice(alloc, bytes)?;
         make_room(&mut self.events, self.spare)?;
-        self.shelf.put(alloc, name, shared)?;
+        self.shelf.put(alloc, name, file)?;
         note(
             &mut self.events,
             &mut self.crashed,
-            Op::Replace(name, kept, sure),
+            Op::Replace(name, patch, sure),
         );
         Ok(())
     }

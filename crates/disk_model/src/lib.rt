@@ -15,6 +15,7 @@ mod file;
 mod held;
 mod history;
 mod memory_disk;
+mod patch;
 mod shelf;
 #[cfg(test)]
 mod tests;

@@ -8,7 +8,7 @@ ghost use Rattle.tier_base.specs.declared.plain.FileName.TheVariants.{Log};
 ghost use Rattle.tier_base.specs.Told.{replaced, removed};
 ghost use Rattle.disk_model.specs.Content.{appended, cut_to};
 ghost use Rattle.disk_model.specs.Held.{all_of, safe_of, bytes_at, safe_at};
-ghost use Rattle.disk_model.specs.Shelf.{made, files_on, names_on, safe_on, Becomes};
+ghost use Rattle.disk_model.specs.Shelf.{made, files_on, names_on, safe_on, Becomes, IsFront};
 
 use crate::file::{drop_unsynced, extend, settle, share_from, shorten};
 use crate::held::Held;
@@ -86,6 +86,19 @@ impl Shelf {
             FileName::Gate => self.gate = Some(held),
         }
         Ok(())
+    }
+
+    /// Lends bytes with which a file begins: those that were read or put at once. Of a log segment none are lent, which is
+    /// never replaced.
+    pub fn front(&self, name: FileName) -> &[u8]
+        ensures { IsFront result.now (files_on self.now name) }
+    {
+        match name {
+            FileName::Manifest => front_in(&self.manifest),
+            FileName::Log(_) => &[],
+            FileName::Notes => front_in(&self.notes),
+            FileName::Gate => front_in(&self.gate),
+        }
     }
 
     /// Counts all bytes of a file as synced.
@@ -223,6 +236,15 @@ fn cut_at(logs: &mut BTreeMap<u64, Held>, base: u64, len: usize)
 {
     if let Some(held) = logs.get_mut(&base) {
         shorten(held, len);
+    }
+}
+
+fn front_in(slot: &Option<Held>) -> &[u8]
+    ensures { IsFront result.now (bytes_at slot.now) }
+{
+    match slot {
+        Some(held) => held.bytes.as_slice(),
+        None => &[],
     }
 }
 
