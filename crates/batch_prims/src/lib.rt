@@ -25,6 +25,3 @@ pub use laws::{
 pub use refusal::VarRefusal;
 pub use sliced::crc32c;
 pub use varints::{read_varint, read_varlong, write_varint, write_varlong};
-
-#[cfg(test)]
-mod tests;

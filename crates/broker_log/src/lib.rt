@@ -8,8 +8,6 @@
 
 mod broker;
 mod place;
-#[cfg(test)]
-mod tests;
 
 pub use broker::BrokerLog;
 pub use local_log::{CreateRefusal, LogRefusal, OpenRefusal, RunOut};

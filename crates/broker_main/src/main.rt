@@ -135,8 +135,12 @@ fn told(rt: &HostRuntime, status: Status, script: &[u8]) -> ExitCode {
 #[cfg(test)]
 mod broker_tests;
 #[cfg(test)]
+mod law_tests;
+#[cfg(test)]
 mod shown;
 #[cfg(test)]
 mod shown_tests;
 #[cfg(test)]
 mod tests;
+#[cfg(test)]
+mod yard_tests;

@@ -7,8 +7,6 @@
 
 mod choosing;
 mod copying;
-#[cfg(test)]
-mod tests;
 mod turn;
 mod turns;
 

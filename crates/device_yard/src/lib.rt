@@ -8,8 +8,6 @@
 mod came;
 mod counts;
 mod laws;
-#[cfg(test)]
-mod tests;
 mod yard;
 
 pub use came::Came;

@@ -17,8 +17,6 @@ mod history;
 mod memory_disk;
 mod patch;
 mod shelf;
-#[cfg(test)]
-mod tests;
 
 pub use call::{DiskCall, Planned};
 pub use deaf_disk::DeafDisk;

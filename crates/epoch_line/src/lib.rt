@@ -9,8 +9,6 @@ mod entries;
 mod line;
 mod meeting;
 mod refusal;
-#[cfg(test)]
-mod tests;
 mod text;
 
 pub use line::Line;

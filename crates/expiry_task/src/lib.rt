@@ -6,8 +6,6 @@
 
 mod laws;
 mod rule;
-#[cfg(test)]
-mod tests;
 mod turn;
 mod turns;
 

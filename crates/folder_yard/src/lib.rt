@@ -20,11 +20,7 @@ mod object_name;
 mod objects;
 mod open_file;
 mod path_text;
-#[cfg(test)]
-mod tests;
 mod yard;
-#[cfg(test)]
-mod yard_tests;
 
 pub use folder_disk::FolderDisk;
 pub use folder_store::FolderStore;

@@ -6,7 +6,5 @@
 #![tactic(auto)]
 
 mod cache;
-#[cfg(test)]
-mod tests;
 
 pub use cache::IndexCache;

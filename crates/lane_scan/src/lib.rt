@@ -6,7 +6,5 @@
 
 mod lanes;
 mod plain;
-#[cfg(test)]
-mod tests;
 
 pub use lanes::{count_le_u32, count_lt_i64};

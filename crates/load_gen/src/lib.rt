@@ -11,6 +11,3 @@ mod script;
 mod turn;
 
 pub use script::script_of;
-
-#[cfg(test)]
-mod tests;

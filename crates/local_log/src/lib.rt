@@ -9,8 +9,6 @@
 
 mod admitting;
 mod cuts;
-#[cfg(test)]
-mod damage_tests;
 mod dropping;
 mod laws;
 mod listing;
@@ -23,13 +21,7 @@ mod refusal;
 mod restarting;
 mod run;
 mod seeking;
-#[cfg(test)]
-mod tests;
-#[cfg(test)]
-mod trial;
 mod trimming;
-#[cfg(test)]
-mod vectors;
 
 pub use laws::an_image_opens_in_one_way;
 pub use log::LocalLog;

@@ -9,8 +9,6 @@ mod laws;
 mod manifest;
 mod reading;
 mod refusal;
-#[cfg(test)]
-mod tests;
 mod writing;
 
 pub use laws::{a_manifest_has_one_spelling, a_written_manifest_is_read_again};

@@ -12,7 +12,5 @@ mod memory_yard;
 mod place;
 mod shelf;
 mod slot;
-#[cfg(test)]
-mod tests;
 
 pub use memory_yard::MemoryYard;

@@ -17,8 +17,6 @@ mod opening;
 mod reading;
 mod refusal;
 mod settling;
-#[cfg(test)]
-mod tests;
 mod walking;
 mod writing;
 

@@ -11,8 +11,6 @@ mod log;
 mod memory_log;
 mod notes;
 mod teller;
-#[cfg(test)]
-mod tests;
 
 pub use call::{MetaCall, Planned};
 pub use log::MetaLog;

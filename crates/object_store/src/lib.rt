@@ -15,8 +15,6 @@ mod placing;
 mod shelf;
 mod slot;
 mod store;
-#[cfg(test)]
-mod tests;
 
 pub use call::{Planned, StoreCall};
 pub use deaf_store::DeafStore;

@@ -32,8 +32,6 @@ mod reads;
 mod replicas;
 mod roles;
 mod stepping;
-#[cfg(test)]
-mod tests;
 mod tiers;
 mod trace;
 

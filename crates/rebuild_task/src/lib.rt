@@ -10,8 +10,6 @@
 //! that the log start hasn't come up to the wanted offset. The turn tests none of it again.
 #![tactic(auto)]
 
-#[cfg(test)]
-mod tests;
 mod turn;
 mod turns;
 

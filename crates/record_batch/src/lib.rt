@@ -34,10 +34,3 @@ pub use rec::{Header, HeaderList, Rec};
 pub use refusal::{BatchRefusal, BuildRefusal, HeadRefusal};
 pub use sizes::built_size;
 pub use stamping::stamp;
-
-#[cfg(test)]
-mod check_tests;
-#[cfg(test)]
-mod tests;
-#[cfg(test)]
-mod vectors;

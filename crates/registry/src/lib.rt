@@ -9,8 +9,6 @@
 mod refusal;
 mod registry;
 mod replicas;
-#[cfg(test)]
-mod tests;
 
 pub use refusal::RegRefusal;
 pub use registry::{Registry, Replica};

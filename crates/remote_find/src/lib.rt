@@ -7,8 +7,6 @@
 mod laws;
 mod piece;
 mod pieces;
-#[cfg(test)]
-mod tests;
 
 pub use laws::{
     a_chain_is_the_longest, a_piece_lies_in_one_copy_and_epoch, what_is_covered_has_pieces,

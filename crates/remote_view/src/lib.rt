@@ -5,7 +5,7 @@
 //!
 //! Beside its entries a view keeps a stair for each epoch: which copy is the best at an offset, by ranges of offsets. So a
 //! look-up is a search by halving, and a copy that finishes, or whose deletion starts, changes the stairs of its epochs.
-//! The module Stairs of specs/ says what a stair is; the file plain.rt has the look-ups by one pass, as the reference.
+//! The module Stairs of specs/ says what a stair is.
 #![tactic(auto)]
 
 mod changing;
@@ -13,13 +13,10 @@ mod known;
 mod laws;
 mod laying;
 mod lookup;
-mod plain;
 mod seeking;
 mod spans;
 mod stairs;
 mod stepping;
-#[cfg(test)]
-mod tests;
 mod tread;
 mod view;
 

@@ -6,7 +6,5 @@
 #![tactic(auto)]
 
 mod due;
-#[cfg(test)]
-mod tests;
 
 pub use due::{local_due, start_due};

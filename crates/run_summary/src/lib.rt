@@ -8,8 +8,6 @@
 mod given;
 mod lines;
 mod names;
-#[cfg(test)]
-mod tests;
 mod text;
 mod told;
 mod words;

@@ -15,8 +15,6 @@ mod line;
 mod numbers;
 mod place;
 mod shown;
-#[cfg(test)]
-mod tests;
 mod wanted;
 mod words;
 

@@ -33,10 +33,3 @@ pub use laws::lines_are_read_back;
 pub use reading::parse;
 pub use refusal::{ScriptRefusal, Why};
 pub use script::{PartScript, Script};
-
-#[cfg(test)]
-mod form_tests;
-#[cfg(test)]
-mod refusal_tests;
-#[cfg(test)]
-mod tests;

@@ -5,7 +5,5 @@
 #![tactic(auto)]
 
 mod bundle;
-#[cfg(test)]
-mod tests;
 
 pub use bundle::Bundle;

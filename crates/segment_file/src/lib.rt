@@ -14,8 +14,6 @@ mod placed;
 mod reaching;
 mod refusal;
 mod taking;
-#[cfg(test)]
-mod tests;
 mod walking;
 
 pub use closed::Closed;

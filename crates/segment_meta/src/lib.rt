@@ -10,8 +10,6 @@ mod note;
 mod reading;
 mod refusal;
 mod state;
-#[cfg(test)]
-mod tests;
 mod writing;
 
 pub use laws::{a_note_has_one_spelling, a_written_note_is_read_again};

@@ -8,11 +8,7 @@
 mod columns;
 mod halving;
 mod offset_index;
-#[cfg(test)]
-mod plain;
 mod refusal;
-#[cfg(test)]
-mod tests;
 mod time_index;
 
 pub use offset_index::OffsetIndex;

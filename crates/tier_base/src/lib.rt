@@ -13,8 +13,6 @@ mod blob;
 mod ending;
 mod fault;
 mod fault_plan;
-#[cfg(test)]
-mod key_tests;
 mod laws;
 mod memory_sink;
 mod memory_source;
@@ -23,8 +21,6 @@ mod nexts;
 mod numeral;
 mod object_key;
 mod plain;
-#[cfg(test)]
-mod plan_tests;
 mod planned;
 mod reading;
 mod roll;
@@ -32,8 +28,6 @@ mod row;
 mod std_sink;
 mod std_source;
 mod stream;
-#[cfg(test)]
-mod tests;
 mod writing;
 
 pub use blob::Blob;

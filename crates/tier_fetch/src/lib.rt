@@ -10,10 +10,9 @@
 #![tactic(auto)]
 
 mod spanning;
-#[cfg(test)]
-mod tests;
 mod turn;
 mod turns;
 
+pub use spanning::span_of;
 pub use turn::{FetchTurn, Next, Span, Wanted};
 pub use turns::fetch_turn;

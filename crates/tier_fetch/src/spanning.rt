@@ -12,7 +12,7 @@ use sparse_index::OffsetIndex;
 const HEAD_BYTES: u64 = 61;
 
 /// The bytes that are needed of an offset, in a piece that ends there.
-pub(crate) fn span_of(index: &OffsetIndex, offset: u64, limit: u32, end: u64) -> Span
+pub fn span_of(index: &OffsetIndex, offset: u64, limit: u32, end: u64) -> Span
     requires { offset < end }
     ensures { result ≡ span_of index.now offset limit end }
 {

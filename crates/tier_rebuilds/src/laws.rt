@@ -22,17 +22,3 @@ pub fn a_rebuild_reads_its_path<S: Store>()
 pub fn a_rebuild_finds_all<S: Store>()
     ensures { NothingIsDamaged S.content S.control }
 {}
-
-#[cfg(test)]
-mod tests {
-    use super::{a_rebuild_finds_all, a_rebuild_reads_its_path, a_rebuild_refreshes};
-    use meta_log::MemoryLog;
-    use object_store::MemoryStore;
-
-    #[test]
-    fn turns_over_devices_in_memory_read_paths() {
-        a_rebuild_refreshes::<MemoryStore, MemoryLog>();
-        a_rebuild_reads_its_path::<MemoryStore>();
-        a_rebuild_finds_all::<MemoryStore>();
-    }
-}

@@ -97,16 +97,3 @@ pub fn fetches_are_served()
 pub fn rebuilds_are_served()
     ensures { RebuildsAreServed }
 {}
-
-#[cfg(test)]
-mod tests {
-    use super::{copy_turns_change, expiry_turns_change};
-    use meta_log::MemoryLog;
-    use object_store::MemoryStore;
-
-    #[test]
-    fn turns_over_devices_in_memory_are_changes() {
-        copy_turns_change::<MemoryStore, MemoryLog>();
-        expiry_turns_change::<MemoryStore, MemoryLog>();
-    }
-}

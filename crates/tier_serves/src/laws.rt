@@ -36,17 +36,3 @@ pub fn damage_is_of_logs<S: Store, M: MetaLog>()
 pub fn spans_hold_runs()
     ensures { SpansHoldRuns }
 {}
-
-#[cfg(test)]
-mod tests {
-    use super::{damage_is_of_logs, fetch_runs_are_logs, fetch_turns_change};
-    use meta_log::MemoryLog;
-    use object_store::MemoryStore;
-
-    #[test]
-    fn turns_over_devices_in_memory_are_changes() {
-        fetch_turns_change::<MemoryStore, MemoryLog>();
-        fetch_runs_are_logs::<MemoryStore, MemoryLog>();
-        damage_is_of_logs::<MemoryStore, MemoryLog>();
-    }
-}

@@ -28,6 +28,3 @@ pub use line::PartJournal;
 pub use lines::read;
 pub use refusal::TraceRefusal;
 pub use trace::print;
-
-#[cfg(test)]
-mod tests;

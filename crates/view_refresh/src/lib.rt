@@ -6,8 +6,6 @@
 
 mod laws;
 mod refreshing;
-#[cfg(test)]
-mod tests;
 
 pub use laws::a_refreshed_view_is_the_fold;
 pub use refreshing::refresh;

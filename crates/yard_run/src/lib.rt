@@ -14,8 +14,6 @@ mod keeping;
 mod refusal;
 mod running;
 mod runs;
-#[cfg(test)]
-mod tests;
 
 pub use refusal::{RunRefusal, YardRefusal};
 pub use running::run_on;

@@ -1,0 +1,34 @@
+//! Tests of the primitives: words, checksums, streams, plans of faults, indexes, lines of leader epochs,
+//! retention, the registry, notes, manifests and loads.
+//!
+//! They stand apart from the crates that they test, since a crate is proved anew where its tests are built.
+#![tactic(auto)]
+
+#[cfg(test)]
+mod caches;
+#[cfg(test)]
+mod indexes;
+#[cfg(test)]
+mod keys;
+#[cfg(test)]
+mod lanes;
+#[cfg(test)]
+mod lines;
+#[cfg(test)]
+mod loads;
+#[cfg(test)]
+mod manifests;
+#[cfg(test)]
+mod notes;
+#[cfg(test)]
+mod plain;
+#[cfg(test)]
+mod plans;
+#[cfg(test)]
+mod prims;
+#[cfg(test)]
+mod registries;
+#[cfg(test)]
+mod retention;
+#[cfg(test)]
+mod streams;

@@ -1,0 +1,139 @@
+//! Worked rows, by hand. Each call is made once with ample memory.
+
+use epoch_line::{Line, TextRefusal};
+use std::alloc::{AllocError, Global};
+
+/// Epoch 0 from offset 0 on, epoch 1 from offset 5 on.
+static OWN: &str = "0\n2\n0 0\n1 5\n";
+
+/// Another log's line, which differs from offset 3 on.
+static OTHER: &str = "0\n2\n0 0\n2 3\n";
+
+/// The line that a text spells.
+fn line_of(alloc: Global, text: &str) -> Option<Line> {
+    Line::from_text(alloc, text.as_bytes()).ok()
+}
+
+/// Whether a line is spelled so.
+fn is_spelled(alloc: Global, line: &Line, text: &str) -> bool {
+    match line.to_text(alloc) {
+        Ok(bytes) => bytes.as_slice() == text.as_bytes(),
+        Err(_) => false,
+    }
+}
+
+/// Where a log that ends there meets another one that ends at 8.
+fn met(alloc: Global, end: u64) -> Option<u64> {
+    let own = line_of(alloc, OWN)?;
+    let other = line_of(alloc, OTHER)?;
+    Some(own.meet(end, &other, 8))
+}
+
+/// The epochs of the offsets 4 and 5.
+fn epochs(alloc: Global) -> Option<(Option<u32>, Option<u32>)> {
+    let own = line_of(alloc, OWN)?;
+    Some((own.epoch_at(4), own.epoch_at(5)))
+}
+
+/// Where an epoch ends in a log that ends at 9.
+fn end_of(alloc: Global, epoch: u32) -> Option<u64> {
+    line_of(alloc, OWN)?.end_of(epoch, 9)
+}
+
+/// The last entry, once the log is cut at an offset.
+fn last_below(alloc: Global, end: u64) -> Option<(u32, u64)> {
+    let mut own = line_of(alloc, OWN)?;
+    own.cut_end(end);
+    own.last()
+}
+
+/// Whether the part of a segment of the offsets 3 to 5 is spelled so.
+fn is_part(alloc: Global, text: &str) -> bool {
+    let Some(own) = line_of(alloc, OWN) else {
+        return false;
+    };
+    match own.within(alloc, 3, 5) {
+        Ok(part) => is_spelled(alloc, &part, text),
+        Err(_) => false,
+    }
+}
+
+/// A line to which epochs are assigned, the last two at one offset, and then an entry is pushed.
+fn assigned(alloc: Global) -> Result<Line, AllocError> {
+    let mut own = Line::new(alloc);
+    own.assign(0, 0)?;
+    own.assign(1, 5)?;
+    own.assign(3, 5)?;
+    own.push(4, 9)?;
+    Ok(own)
+}
+
+/// Whether that line and its copy are spelled so.
+fn is_assigned(alloc: Global, text: &str) -> bool {
+    let Ok(own) = assigned(alloc) else {
+        return false;
+    };
+    match own.copy(alloc) {
+        Ok(copy) => is_spelled(alloc, &own, text) & is_spelled(alloc, &copy, text),
+        Err(_) => false,
+    }
+}
+
+#[test]
+fn calls_answer_as_the_rows_say(rt: HostRuntime) {
+    let alloc = rt.alloc();
+    assert_eq!(rt; met(alloc, 9), Some(3), "the epochs differ from 3 on");
+    assert_eq!(rt; met(alloc, 2), Some(2), "one log ends first");
+    assert_eq!(rt;
+        epochs(alloc),
+        Some((Some(0), Some(1))),
+        "of the last of epoch 0, and behind it"
+    );
+    assert_eq!(rt; end_of(alloc, 0), Some(5), "where the next epoch starts");
+    assert_eq!(rt; end_of(alloc, 1), Some(9), "the log's end");
+    assert_eq!(rt; end_of(alloc, 2), None, "no such epoch");
+    assert_eq!(rt; last_below(alloc, 5), Some((0, 0)), "the cut");
+    assert!(rt; is_part(alloc, "0\n2\n0 3\n1 5\n"), "a segment's part");
+    assert!(rt;
+        is_assigned(alloc, "0\n3\n0 0\n3 5\n4 9\n"),
+        "epoch 1 has no offset"
+    );
+}
+
+/// Texts that spell no line, and the first line that is bad.
+static BAD: [(&str, u32); 12] = [
+    ("0\n2\n0 0\n", 4),
+    ("1\n", 1),
+    ("", 1),
+    ("0\n", 2),
+    ("0\n01\n0 0\n", 2),
+    ("0\n2147483649\n", 2),
+    ("0\n1\n0 00\n", 3),
+    ("0\n1\n0  0\n", 3),
+    ("0\n1\n2147483648 0\n", 3),
+    ("0\n2\n1 0\n2 0\n", 4),
+    ("0\n1\n0 0", 3),
+    ("0\n1\n0 0\n\n", 4),
+];
+
+/// Whether the line that a text spells is spelled so again.
+fn is_spelled_again(alloc: Global, text: &str) -> bool {
+    match line_of(alloc, text) {
+        Some(line) => is_spelled(alloc, &line, text),
+        None => false,
+    }
+}
+
+#[test]
+fn a_text_tells_its_first_bad_line(rt: HostRuntime) {
+    for (text, line) in &BAD {
+        let refusal = Line::from_text(rt.alloc(), text.as_bytes()).err();
+        let wanted = TextRefusal::BadText { line: *line };
+        assert_eq!(rt; refusal, Some(wanted), "at line {line}");
+    }
+    let greatest = "0\n2\n0 0\n2147483647 4611686018427387904\n";
+    assert!(rt;
+        is_spelled_again(rt.alloc(), greatest),
+        "what is written is read again"
+    );
+}

@@ -1,0 +1,224 @@
+//! Worked rows, by hand. Each call is made once with ample memory.
+
+use segment_meta::{Entry, Note, NoteRefusal, decode, encode, next_state};
+use std::alloc::{AllocError, Global};
+use std::test::Fail;
+use tier_base::{BrokerId, PartitionId, State, segment_id};
+
+/// The first copy of a leader: two records of epoch 0.
+static STARTED: [u8; 75] = [
+    0, 0, // version, kind
+    0, 0, 0, 0, 0, 0, 0, 1, 0, 0, 0, 0, 0, 0, 0, 0, // id
+    0, 0, // partition
+    0, 0, 0, 0, 0, 0, 0, 0, // start
+    0, 0, 0, 0, 0, 0, 0, 1, // end
+    0, 0, 0, 0, 0, 0, 3, 0xe8, // max_ts
+    0, 0, // broker
+    0, 0, 0, 0, 0, 0, 0, 0, // event_ts
+    0, 0, 0, 0x8a, // size
+    0, // state
+    0, 0, 0, 1, // count
+    0, 0, 0, 0, // epoch
+    0, 0, 0, 0, 0, 0, 0, 0, // its start
+];
+
+/// Its end, told by broker 2 a millisecond before the epoch.
+static FINISHED: [u8; 29] = [
+    0, 1, // version, kind
+    0, 0, 0, 0, 0, 0, 0, 1, 0, 0, 0, 0, 0, 0, 0, 0, // id
+    0, 2, // broker
+    0xff, 0xff, 0xff, 0xff, 0xff, 0xff, 0xff, 0xff, // event_ts
+    1, // state
+];
+
+/// Two epochs, from offset 5 to 9: the first starts at 5, the second at 7.
+static TWO_EPOCHS: [u8; 87] = [
+    0, 0, // version, kind
+    0, 3, 0, 2, 0, 0, 0, 5, 0, 0, 0, 0, 0, 0, 1, 2, // id
+    0, 3, // partition
+    0, 0, 0, 0, 0, 0, 0, 5, // start
+    0, 0, 0, 0, 0, 0, 0, 9, // end
+    0, 0, 0, 0, 0, 0, 0, 0, // max_ts
+    0, 2, // broker
+    0, 0, 0, 0, 0, 0, 0, 7, // event_ts
+    0, 0, 1, 0, // size
+    0, // state
+    0, 0, 0, 2, // count
+    0, 0, 0, 3, // epoch
+    0, 0, 0, 0, 0, 0, 0, 5, // its start
+    0, 0, 0, 4, // epoch
+    0, 0, 0, 0, 0, 0, 0, 7, // its start
+];
+
+/// Whether bytes are read as a note that is written so.
+fn is_written_again(alloc: Global, bytes: &[u8]) -> bool {
+    match decode(alloc, bytes) {
+        Ok(note) => match encode(alloc, &note) {
+            Ok(written) => written.as_slice() == bytes,
+            Err(_) => false,
+        },
+        Err(_) => false,
+    }
+}
+
+/// Whether the end of the copy is written as the second row.
+fn writes_finished(alloc: Global) -> bool {
+    let finished = Note::Update {
+        id: segment_id(PartitionId(0), BrokerId(0), 1, 0),
+        broker: BrokerId(2),
+        event_ts: -1,
+        state: State::CopyFinished,
+        custom: None,
+    };
+    match encode(alloc, &finished) {
+        Ok(bytes) => bytes.as_slice() == FINISHED.as_slice(),
+        Err(_) => false,
+    }
+}
+
+/// Whether an entry says what the first row spells.
+fn is_first(entry: &Entry) -> bool {
+    let names = (entry.id, entry.partition, entry.broker)
+        == (
+            segment_id(PartitionId(0), BrokerId(0), 1, 0),
+            PartitionId(0),
+            BrokerId(0),
+        );
+    let span = (entry.start, entry.end, entry.max_ts, entry.event_ts) == (0, 1, 1000, 0);
+    let rest = (entry.size, entry.state, entry.packed) == (138, State::CopyStarted, false);
+    let map = entry.map.entries() == [(0, 0)].as_slice();
+    names & span & rest & map & entry.custom.is_none()
+}
+
+/// Whether the first row is read field by field.
+fn reads_first(alloc: Global) -> bool {
+    match decode(alloc, STARTED.as_slice()) {
+        Ok(Note::Add(entry)) => is_first(&entry),
+        _ => false,
+    }
+}
+
+#[test]
+fn notes_are_spelled_field_by_field(rt: HostRuntime) {
+    let alloc = rt.alloc();
+    assert!(rt; writes_finished(alloc), "it has finished");
+    assert!(rt; reads_first(alloc), "each field");
+    assert!(rt; is_written_again(alloc, STARTED.as_slice()), "the first");
+    assert!(rt; is_written_again(alloc, FINISHED.as_slice()), "the second");
+    assert!(rt; is_written_again(alloc, TWO_EPOCHS.as_slice()), "the third");
+}
+
+#[test]
+fn a_note_cut_anywhere_is_short(rt: HostRuntime) {
+    for len in 0..FINISHED.len() {
+        let refusal = decode(rt.alloc(), &FINISHED[..len]).err();
+        assert_eq!(rt; refusal, Some(NoteRefusal::Short), "cut at {len}");
+    }
+    for len in 0..TWO_EPOCHS.len() {
+        let refusal = decode(rt.alloc(), &TWO_EPOCHS[..len]).err();
+        assert_eq!(rt; refusal, Some(NoteRefusal::Short), "cut at {len}");
+    }
+}
+
+/// Reads a note with bytes of its own at a place.
+fn with(
+    alloc: Global,
+    note: &[u8],
+    at: usize,
+    field: &[u8],
+) -> Result<Option<NoteRefusal>, AllocError> {
+    let mut bytes = Vec::new(alloc);
+    for (i, byte) in note.iter().enumerate() {
+        bytes.push(*field.get(i.wrapping_sub(at)).unwrap_or(byte))?;
+    }
+    Ok(decode(alloc, bytes.as_slice()).err())
+}
+
+/// Bytes of their own at a place of the third row, and what is told.
+static BAD: [(usize, &[u8], NoteRefusal); 16] = [
+    (0, &[2], NoteRefusal::BadVersion),
+    (1, &[2], NoteRefusal::Bad { at: 1 }),
+    (35, &[4], NoteRefusal::Bad { at: 28 }),
+    (28, &[0x40], NoteRefusal::Bad { at: 28 }),
+    (20, &[0x40], NoteRefusal::Bad { at: 28 }),
+    (58, &[1], NoteRefusal::BadState),
+    (62, &[0], NoteRefusal::Bad { at: 59 }),
+    (59, &[4, 0, 0, 1], NoteRefusal::Bad { at: 59 }),
+    (59, &[4, 0, 0, 0], NoteRefusal::Short),
+    (62, &[1], NoteRefusal::Bad { at: 75 }),
+    (63, &[0x80], NoteRefusal::Bad { at: 63 }),
+    (74, &[6], NoteRefusal::Bad { at: 67 }),
+    (78, &[3], NoteRefusal::Bad { at: 75 }),
+    (75, &[0x80], NoteRefusal::Bad { at: 75 }),
+    (86, &[5], NoteRefusal::Bad { at: 79 }),
+    (86, &[10], NoteRefusal::Bad { at: 79 }),
+];
+
+/// The state that the second row tells, and what is told of it.
+static STATES: [(u8, Option<NoteRefusal>); 5] = [
+    (0, Some(NoteRefusal::BadState)),
+    (1, None),
+    (2, None),
+    (3, None),
+    (4, Some(NoteRefusal::BadState)),
+];
+
+/// First bytes, and what is told.
+static FRONTS: [(&[u8], NoteRefusal); 4] = [
+    (&[], NoteRefusal::Short),
+    (&[2], NoteRefusal::BadVersion),
+    (&[0], NoteRefusal::Short),
+    (&[0, 2], NoteRefusal::Bad { at: 1 }),
+];
+
+/// What is told of a note with a byte more.
+fn with_more(alloc: Global) -> Result<Option<NoteRefusal>, AllocError> {
+    let mut bytes = Vec::from_slice(alloc, FINISHED.as_slice())?;
+    bytes.push(0)?;
+    Ok(decode(alloc, bytes.as_slice()).err())
+}
+
+#[test]
+fn each_broken_rule_is_told_at_its_place(rt: HostRuntime) -> Result<(), Fail> {
+    let alloc = rt.alloc();
+    for (at, field, refusal) in &BAD {
+        let told = with(alloc, TWO_EPOCHS.as_slice(), *at, field)?;
+        assert_eq!(rt; told, Some(*refusal), "changed at {at}");
+    }
+    for (code, refusal) in &STATES {
+        let told = with(alloc, FINISHED.as_slice(), 28, [*code].as_slice())?;
+        assert_eq!(rt; told, *refusal, "an update to {code}");
+    }
+    for (bytes, refusal) in &FRONTS {
+        let told = decode(alloc, bytes).err();
+        assert_eq!(rt; told, Some(*refusal), "by the first bytes");
+    }
+    let told = with_more(alloc)?;
+    assert_eq!(rt; told, Some(NoteRefusal::Bad { at: 29 }), "a byte more");
+    Ok(())
+}
+
+#[test]
+fn states_go_by_the_steps(rt: HostRuntime) -> Result<(), Fail> {
+    let states = [
+        State::CopyStarted,
+        State::CopyFinished,
+        State::DeleteStarted,
+        State::DeleteFinished,
+    ];
+    let mut steps: u8 = 0;
+    for new in states {
+        if next_state(None, new).is_some() {
+            steps = steps.saturating_add(1);
+        }
+        for old in states {
+            if next_state(Some(old), new) == Some(new) {
+                steps = steps.saturating_add(1);
+            }
+        }
+    }
+    assert_eq!(rt; steps, 5, "no other step");
+    let late = next_state(Some(State::DeleteStarted), State::CopyFinished);
+    assert_eq!(rt; late, None, "a late end of a copy revives nothing");
+    Ok(())
+}

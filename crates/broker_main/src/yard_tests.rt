@@ -1,0 +1,151 @@
+//! Runs over a yard and over devices in memory. The traces are worked by hand from the language's page.
+
+ghost use Rattle.std.specs.Prelude.{All, IfSome};
+ghost use Rattle.plain_log.specs.Orders.{AreListsFor, IsConfig};
+ghost use Rattle.script_lang.specs.Fit.{StepsToEnds, AreNumbered, IsFit};
+
+use disk_model::{DiskCall, MemoryDisk};
+use memory_yard::MemoryYard;
+use meta_log::MemoryLog;
+use object_store::MemoryStore;
+use partition_world::Devices;
+use plain_log::Config;
+use script_lang::{PartScript, Script, parse};
+use std::alloc::Global;
+use tier_base::{Planned, Row};
+use yard_run::{RunRefusal, YardRefusal, run_in_yard, run_on};
+
+/// How a run ends.
+#[derive(Clone, Copy, Debug, PartialEq, Eq)]
+enum End {
+    /// With the trace that is wanted, or with another one.
+    Traced(bool),
+    Fault,
+    NoMemory,
+    /// It doesn't begin.
+    Unread,
+}
+
+/// Reads a script.
+fn read(alloc: Global, text: &str) -> Option<Script>
+    ensures { IfSome result IsFit }
+{
+    let bytes = text.as_bytes();
+    if bytes.len() > 1000 {
+        return None;
+    }
+    match parse(alloc, bytes) {
+        Ok(script) => Some(script),
+        Err(_) => None,
+    }
+}
+
+/// Runs the partitions of a script over a new yard, and tells how that ends, how many faults the yard counts, and how many
+/// devices come back.
+fn over_a_yard(
+    alloc: Global,
+    failing: Vec<u32>,
+    config: Config,
+    parts: Row<PartScript>,
+    trace: &str,
+) -> (End, u64, usize)
+    requires config { IsConfig config }
+    requires fit { All (λ part. AreListsFor config part.lists) parts }
+    requires ends { All StepsToEnds parts }
+    requires numbered { AreNumbered 0 parts }
+{
+    let mut yard = MemoryYard::new(alloc, Vec::new(alloc), failing);
+    let end = match run_in_yard(alloc, &mut yard, config, parts) {
+        Ok(text) => End::Traced(text.as_slice() == trace.as_bytes()),
+        Err(YardRefusal::Fault) => End::Fault,
+        Err(YardRefusal::NoMemory) => End::NoMemory,
+    };
+    (end, yard.faults(), yard.returned().len())
+}
+
+/// Reads a script, and runs it over a yard, whose calls with these numbers fail.
+fn run(alloc: Global, script: &str, failing: &[u32], trace: &str) -> (End, u64, usize) {
+    match (read(alloc, script), Vec::from_slice(alloc, failing)) {
+        (Some(script), Ok(failing)) => {
+            over_a_yard(alloc, failing, script.config, script.parts, trace)
+        }
+        _ => (End::Unread, 0, 0),
+    }
+}
+
+/// Two partitions of two brokers. A follow goes on when its actor's turn comes; the line of a fault is for other devices.
+static TWO: &str =
+    "brokers 2\npartitions 2\nfault 0 disk 0 append 1 before\n0 0 0 append 1000,-,:a\nlater 2 0 1 follow 1\nturn 2 1\n1 1 1 append 1000,-,:b\n0 0 0 flush\nturn 2 1\n1 1 0 append 1000,-,:c\n";
+
+static TRACE: &str =
+    "0 0 0 = Ok 0 0 0\n0 2 0 begin\n0 0 1 = Ok 1\n0 2 0 = Copied 1\n1 1 0 = NotLeader\n1 1 1 = Ok 0 0 0\n";
+
+#[test]
+fn each_partition_is_run_by_its_schedule(rt: HostRuntime) {
+    assert_eq!(rt; run(rt.alloc(), TWO, &[], TRACE), (End::Traced(true), 0, 8));
+}
+
+/// For each partition two disks are handed out, a store and a metadata log.
+#[test]
+fn what_was_handed_out_is_back_after_a_fault(rt: HostRuntime) {
+    for before in 0..8u32 {
+        let ran = run(rt.alloc(), TWO, &[before + 1], TRACE);
+        assert_eq!(rt;
+            ran,
+            (End::Fault, 1, before as usize),
+            "{before} calls before it"
+        );
+    }
+}
+
+/// Runs a part over devices in memory, of whose disk the first append fails, and tells how that ends.
+fn over_devices(alloc: Global, config: Config, part: PartScript, trace: &str) -> End
+    requires config { IsConfig config }
+    requires fit { AreListsFor config part.lists }
+    requires ends { StepsToEnds part }
+{
+    let failing = Planned {
+        call: DiskCall::Append,
+        number: 1,
+        after: false,
+    };
+    if config.brokers != 1 {
+        return End::Unread;
+    }
+    let Ok(plan) = vec![in alloc; failing] else {
+        return End::Unread;
+    };
+    let Ok(disks) = vec![in alloc; MemoryDisk::new(alloc, plan)] else {
+        return End::Unread;
+    };
+    let store = MemoryStore::new(alloc, Vec::new(alloc));
+    let meta = MemoryLog::new(alloc, Vec::new(alloc));
+    let (_devices, ran) = run_on(alloc, config, part, Devices { disks, store, meta });
+    match ran {
+        Ok(text) => End::Traced(text.as_slice() == trace.as_bytes()),
+        Err(RunRefusal::DiskFault) => End::Fault,
+        Err(RunRefusal::NoMemory) => End::NoMemory,
+    }
+}
+
+/// Reads a script, and runs its last partition over devices.
+fn run_last(alloc: Global, script: &str, trace: &str) -> End {
+    let Some(script) = read(alloc, script) else {
+        return End::Unread;
+    };
+    let mut parts = script.parts;
+    match parts.pop() {
+        Some(part) => over_devices(alloc, script.config, part, trace),
+        None => End::Unread,
+    }
+}
+
+#[test]
+fn a_fault_of_a_device_is_an_answer(rt: HostRuntime) {
+    let end = run_last(
+        rt.alloc(),
+        "0 0 0 append 1000,-,:a\n0 0 0 up\n",
+        "0 0 0 = DiskFault\n0 0 1 = Up 0\n",
+    );
+    assert_eq!(rt; end, End::Traced(true));
+}

@@ -1,0 +1,474 @@
+//! Disks on trial: lists of calls, each with what it is to give. Values worked by hand.
+//!
+//! Each kind of call is a function of its own, without a contract, that tells how the call ended. A
+//! test is a table of such lists and never holds a disk.
+
+use bytes::Bytes;
+use disk_model::{DeafDisk, Disk, DiskCall, FileName, MemoryDisk, Planned};
+use std::alloc::{AllocError, Global};
+use tier_base::{Failed, Trouble};
+
+const LOG: FileName = FileName::Log(7);
+
+/// A call of a disk.
+#[derive(Clone, Copy)]
+enum Step<'a> {
+    Append(FileName, &'a [u8]),
+    Sync(FileName),
+    Cut(FileName, u64),
+    Replace(FileName, &'a [u8]),
+    Remove(FileName),
+    /// A read from a place on, and the bytes that it gives.
+    Read(FileName, u64, &'a [u8]),
+    /// A read of at most so many bytes from a place on, and those that it gives.
+    Part(FileName, u64, u64, &'a [u8]),
+    /// A read of a file that isn't there.
+    Miss(FileName),
+    /// The names that are listed.
+    List(&'a [FileName]),
+    Arm,
+}
+
+/// How a call ended.
+#[derive(Clone, Copy, Debug, PartialEq, Eq)]
+enum End {
+    Well,
+    Fault,
+    NoMemory,
+    /// It gave something else.
+    Other,
+}
+
+/// How a call that gives this ended.
+fn right(given: bool) -> End {
+    if given { End::Well } else { End::Other }
+}
+
+/// How a call with this trouble ended.
+fn troubled(trouble: Trouble) -> End {
+    match trouble {
+        Trouble::Failed => End::Fault,
+        Trouble::NoMemory => End::NoMemory,
+    }
+}
+
+/// How a call that gives nothing ended.
+fn ended(answer: Result<(), Trouble>) -> End {
+    match answer {
+        Ok(()) => End::Well,
+        Err(trouble) => troubled(trouble),
+    }
+}
+
+/// How a call that takes no memory ended.
+fn done(answer: Result<(), Failed>) -> End {
+    match answer {
+        Ok(()) => End::Well,
+        Err(_) => End::Fault,
+    }
+}
+
+fn sync<D: Disk>(disk: &mut D, name: FileName) -> End {
+    match disk.reserve(1) {
+        Ok(()) => done(disk.sync(name)),
+        Err(_) => End::NoMemory,
+    }
+}
+
+fn cut<D: Disk>(disk: &mut D, name: FileName, len: u64) -> End {
+    match disk.reserve(1) {
+        Ok(()) => done(disk.cut(name, len)),
+        Err(_) => End::NoMemory,
+    }
+}
+
+fn remove<D: Disk>(disk: &mut D, name: FileName) -> End {
+    match disk.reserve(1) {
+        Ok(()) => done(disk.remove(name)),
+        Err(_) => End::NoMemory,
+    }
+}
+
+/// Whether a read gave these bytes.
+fn is_given(given: Option<Bytes>, wanted: Option<&[u8]>) -> bool {
+    match (given, wanted) {
+        (Some(bytes), Some(wanted)) => bytes.as_slice() == wanted,
+        (None, None) => true,
+        _ => false,
+    }
+}
+
+fn read<D: Disk>(disk: &mut D, name: FileName, at: u64, wanted: Option<&[u8]>) -> End {
+    match disk.read(name, at) {
+        Ok(given) => right(is_given(given, wanted)),
+        Err(trouble) => troubled(trouble),
+    }
+}
+
+fn read_part<D: Disk>(disk: &mut D, name: FileName, at: u64, most: u64, wanted: &[u8]) -> End {
+    match disk.read_part(name, at, most) {
+        Ok(given) => right(is_given(given, Some(wanted))),
+        Err(trouble) => troubled(trouble),
+    }
+}
+
+fn list<D: Disk>(disk: &mut D, wanted: &[FileName]) -> End {
+    match disk.list() {
+        Ok(names) => right(names.as_slice() == wanted),
+        Err(trouble) => troubled(trouble),
+    }
+}
+
+fn arm<D: Disk>(disk: &mut D) -> End {
+    disk.arm();
+    End::Well
+}
+
+/// Makes a call.
+fn call<D: Disk>(disk: &mut D, step: Step) -> End {
+    match step {
+        Step::Append(name, bytes) => ended(disk.append(name, bytes)),
+        Step::Sync(name) => sync(disk, name),
+        Step::Cut(name, len) => cut(disk, name, len),
+        Step::Replace(name, bytes) => ended(disk.replace(name, bytes)),
+        Step::Remove(name) => remove(disk, name),
+        Step::Read(name, at, bytes) => read(disk, name, at, Some(bytes)),
+        Step::Part(name, at, most, bytes) => read_part(disk, name, at, most, bytes),
+        Step::Miss(name) => read(disk, name, 0, None),
+        Step::List(names) => list(disk, names),
+        Step::Arm => arm(disk),
+    }
+}
+
+/// Makes calls, and tells how many end well at first, and how the next one ends.
+fn run<D: Disk>(disk: &mut D, steps: &[Step]) -> (usize, End) {
+    for (i, step) in steps.iter().enumerate() {
+        let end = call(disk, *step);
+        if end != End::Well {
+            return (i, end);
+        }
+    }
+    (steps.len(), End::Well)
+}
+
+/// The work of a disk: each call, with each kind of file.
+static WORK: [Step<'static>; 24] = [
+    Step::Append(FileName::Notes, b"given"),
+    Step::Append(LOG, b"abc"),
+    Step::Append(LOG, b"def"),
+    Step::Sync(LOG),
+    Step::Cut(LOG, 4),
+    Step::Replace(FileName::Manifest, b"m1"),
+    Step::Replace(FileName::Manifest, b"m2"),
+    Step::Append(FileName::Log(10), b"x"),
+    Step::Append(FileName::Gate, b"g"),
+    Step::Arm,
+    Step::Read(LOG, 0, b"abcd"),
+    Step::Read(LOG, 3, b"d"),
+    Step::Read(LOG, 9, b""),
+    Step::Part(LOG, 1, 2, b"bc"),
+    Step::Part(LOG, 3, 9, b"d"),
+    Step::Read(FileName::Manifest, 0, b"m2"),
+    Step::Read(FileName::Notes, 1, b"iven"),
+    Step::Miss(FileName::Log(2)),
+    Step::Remove(FileName::Gate),
+    Step::Remove(FileName::Gate),
+    Step::Miss(FileName::Gate),
+    Step::Remove(FileName::Log(10)),
+    Step::Cut(LOG, 9),
+    Step::Read(LOG, 0, b"abcd"),
+];
+
+/// A disk that tells nothing at work, with a file that it is given.
+fn work_deaf(alloc: Global) -> Result<(usize, End), AllocError> {
+    let mut files = Vec::new(alloc);
+    files.push((FileName::Notes, Bytes::new()))?;
+    let mut disk = DeafDisk::new(alloc, files);
+    Ok(run(&mut disk, WORK.as_slice()))
+}
+
+#[test]
+fn a_deaf_disk_does_its_work(rt: HostRuntime) {
+    assert_eq!(rt; work_deaf(rt.alloc()), Ok((24, End::Well)));
+}
+
+/// What a disk in memory goes through.
+#[derive(Clone, Copy)]
+enum Turn<'a> {
+    /// The work of a disk, which ends well.
+    Work,
+    /// Calls that end well.
+    Do(&'a [Step<'a>]),
+    /// A call that fails.
+    Fail(Step<'a>),
+    Fuse(u64),
+    Crash,
+    Renew,
+    /// It tells how many calls failed and how many are planned, and whether it is armed and fused.
+    Tell(u64, usize, bool, bool),
+}
+
+/// What a disk in memory tells.
+fn told(disk: &MemoryDisk) -> (u64, usize, bool, bool) {
+    (
+        disk.faults(),
+        disk.plan().len(),
+        disk.is_armed(),
+        disk.fused(),
+    )
+}
+
+fn fuse(disk: &mut MemoryDisk, calls: u64) -> bool {
+    disk.fuse(calls);
+    true
+}
+
+fn crash(disk: &mut MemoryDisk) -> bool {
+    disk.crash();
+    true
+}
+
+fn renew(alloc: Global, disk: &mut MemoryDisk) -> bool {
+    disk.renew(Vec::new(alloc));
+    true
+}
+
+/// Whether a turn goes as it should.
+fn goes(alloc: Global, disk: &mut MemoryDisk, turn: Turn) -> bool {
+    match turn {
+        Turn::Work => run(disk, WORK.as_slice()) == (24, End::Well),
+        Turn::Do(steps) => run(disk, steps) == (steps.len(), End::Well),
+        Turn::Fail(step) => call(disk, step) == End::Fault,
+        Turn::Fuse(calls) => fuse(disk, calls),
+        Turn::Crash => crash(disk),
+        Turn::Renew => renew(alloc, disk),
+        Turn::Tell(faults, planned, armed, fused) => {
+            told(disk) == (faults, planned, armed, fused)
+        }
+    }
+}
+
+/// The number of the first turn that doesn't go as it should.
+fn first_wrong(
+    alloc: Global,
+    plan: &[Planned],
+    turns: &[Turn],
+) -> Result<Option<usize>, AllocError> {
+    let mut disk = MemoryDisk::new(alloc, plan.to_vec(alloc)?);
+    for (i, turn) in turns.iter().enumerate() {
+        if !goes(alloc, &mut disk, *turn) {
+            return Ok(Some(i));
+        }
+    }
+    Ok(None)
+}
+
+/// What disks in memory go through, with the calls that are planned to fail.
+static STORIES: [(&str, &[Planned], &[Turn<'static>]); 14] = [
+    (
+        "work",
+        &[],
+        &[
+            Turn::Work,
+            Turn::Do(&[Step::List(&[LOG, FileName::Manifest, FileName::Notes])]),
+            Turn::Tell(0, 0, true, false),
+        ],
+    ),
+    (
+        "a crash drops what isn't synced",
+        &[],
+        &[
+            Turn::Do(&[
+                Step::Append(LOG, b"abc"),
+                Step::Sync(LOG),
+                Step::Append(LOG, b"def"),
+                Step::Append(FileName::Notes, b"n"),
+                Step::Replace(FileName::Gate, b"g"),
+            ]),
+            Turn::Crash,
+            Turn::Do(&[
+                Step::Read(LOG, 0, b"abc"),
+                Step::Read(FileName::Notes, 0, b""),
+                Step::Read(FileName::Gate, 0, b"g"),
+                Step::Append(LOG, b"gh"),
+                Step::Cut(LOG, 2),
+                Step::Append(LOG, b"i"),
+                Step::Read(LOG, 0, b"abi"),
+            ]),
+            Turn::Crash,
+            Turn::Do(&[Step::Read(LOG, 0, b"ab")]),
+        ],
+    ),
+    (
+        "a fuse fails every call until a crash",
+        &[],
+        &[
+            Turn::Fuse(2),
+            Turn::Do(&[Step::Append(LOG, b"a"), Step::Sync(LOG)]),
+            Turn::Fail(Step::Append(LOG, b"b")),
+            Turn::Fail(Step::Sync(LOG)),
+            Turn::Fail(Step::List(&[])),
+            Turn::Tell(3, 0, false, true),
+            Turn::Crash,
+            Turn::Do(&[Step::Read(LOG, 0, b"a")]),
+            Turn::Tell(3, 0, false, false),
+        ],
+    ),
+    (
+        "append fails",
+        &[Planned {
+            call: DiskCall::Append,
+            number: 1,
+            after: false,
+        }],
+        &[
+            Turn::Do(&[Step::Arm]),
+            Turn::Fail(Step::Append(LOG, b"a")),
+            Turn::Do(&[Step::Miss(LOG)]),
+            Turn::Tell(1, 1, true, false),
+            Turn::Renew,
+            Turn::Tell(0, 0, false, false),
+        ],
+    ),
+    (
+        "append fails, done",
+        &[Planned {
+            call: DiskCall::Append,
+            number: 1,
+            after: true,
+        }],
+        &[
+            Turn::Do(&[Step::Arm]),
+            Turn::Fail(Step::Append(LOG, b"a")),
+            Turn::Do(&[Step::Read(LOG, 0, b"a")]),
+            Turn::Tell(1, 1, true, false),
+            Turn::Renew,
+            Turn::Tell(0, 0, false, false),
+        ],
+    ),
+    (
+        "sync fails",
+        &[Planned {
+            call: DiskCall::Sync,
+            number: 1,
+            after: false,
+        }],
+        &[
+            Turn::Do(&[Step::Arm, Step::Append(LOG, b"a")]),
+            Turn::Fail(Step::Sync(LOG)),
+            Turn::Do(&[Step::Read(LOG, 0, b"a")]),
+        ],
+    ),
+    (
+        "read fails",
+        &[Planned {
+            call: DiskCall::Read,
+            number: 1,
+            after: false,
+        }],
+        &[
+            Turn::Do(&[Step::Arm, Step::Append(LOG, b"a")]),
+            Turn::Fail(Step::Read(LOG, 0, b"a")),
+            Turn::Do(&[Step::Read(LOG, 0, b"a")]),
+        ],
+    ),
+    (
+        "cut fails",
+        &[Planned {
+            call: DiskCall::Cut,
+            number: 1,
+            after: false,
+        }],
+        &[
+            Turn::Do(&[Step::Arm, Step::Append(LOG, b"a")]),
+            Turn::Fail(Step::Cut(LOG, 0)),
+            Turn::Do(&[Step::Read(LOG, 0, b"a")]),
+        ],
+    ),
+    (
+        "cut fails, done",
+        &[Planned {
+            call: DiskCall::Cut,
+            number: 1,
+            after: true,
+        }],
+        &[
+            Turn::Do(&[Step::Arm, Step::Append(LOG, b"a")]),
+            Turn::Fail(Step::Cut(LOG, 0)),
+            Turn::Do(&[Step::Read(LOG, 0, b"")]),
+        ],
+    ),
+    (
+        "replace fails",
+        &[Planned {
+            call: DiskCall::Replace,
+            number: 1,
+            after: false,
+        }],
+        &[
+            Turn::Do(&[Step::Arm, Step::Append(LOG, b"a")]),
+            Turn::Fail(Step::Replace(LOG, b"r")),
+            Turn::Do(&[Step::Read(LOG, 0, b"a")]),
+        ],
+    ),
+    (
+        "replace fails, done",
+        &[Planned {
+            call: DiskCall::Replace,
+            number: 1,
+            after: true,
+        }],
+        &[
+            Turn::Do(&[Step::Arm, Step::Append(LOG, b"a")]),
+            Turn::Fail(Step::Replace(LOG, b"r")),
+            Turn::Do(&[Step::Read(LOG, 0, b"r")]),
+        ],
+    ),
+    (
+        "remove fails",
+        &[Planned {
+            call: DiskCall::Remove,
+            number: 1,
+            after: false,
+        }],
+        &[
+            Turn::Do(&[Step::Arm, Step::Append(LOG, b"a")]),
+            Turn::Fail(Step::Remove(LOG)),
+            Turn::Do(&[Step::Read(LOG, 0, b"a")]),
+        ],
+    ),
+    (
+        "remove fails, done",
+        &[Planned {
+            call: DiskCall::Remove,
+            number: 1,
+            after: true,
+        }],
+        &[
+            Turn::Do(&[Step::Arm, Step::Append(LOG, b"a")]),
+            Turn::Fail(Step::Remove(LOG)),
+            Turn::Do(&[Step::Miss(LOG)]),
+        ],
+    ),
+    (
+        "list fails",
+        &[Planned {
+            call: DiskCall::List,
+            number: 1,
+            after: false,
+        }],
+        &[
+            Turn::Do(&[Step::Arm, Step::Append(LOG, b"a")]),
+            Turn::Fail(Step::List(&[LOG])),
+            Turn::Do(&[Step::List(&[LOG])]),
+        ],
+    ),
+];
+
+#[test]
+fn disks_in_memory_go_through_their_stories(rt: HostRuntime) {
+    for (story, plan, turns) in &STORIES {
+        let wrong = first_wrong(rt.alloc(), plan, turns);
+        assert_eq!(rt; wrong, Ok(None), "{story}");
+    }
+}

@@ -1,0 +1,23 @@
+//! Tests of the devices: disks, stores, metadata logs, and the yards that hand them out.
+//!
+//! They stand apart from the crates that they test, since a crate is proved anew where its tests are built.
+#![tactic(auto)]
+
+#[cfg(test)]
+mod counts;
+#[cfg(test)]
+mod disk_logs;
+#[cfg(test)]
+mod disks;
+#[cfg(test)]
+mod folder_disks;
+#[cfg(test)]
+mod folder_yards;
+#[cfg(test)]
+mod memory_logs;
+#[cfg(test)]
+mod memory_yards;
+#[cfg(test)]
+mod stores;
+#[cfg(test)]
+mod tallies;

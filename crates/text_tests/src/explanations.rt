@@ -1,0 +1,266 @@
+//! Refused lines, and what is told of them. The places and the ranges are worked by hand from the language's page.
+
+use script_help::{KeptSource, explanation};
+use script_lang::{ScriptRefusal, Why, parse};
+use std::alloc::{AllocError, Global};
+use std::test::Fail;
+use tier_base::{MemorySource, Source};
+
+/// Scripts without a reading, and what is told of them.
+static ROWS: [(&str, &str, &str); 34] = [
+    (
+        "an unknown command",
+        "# c\n0 0 0 frob\n",
+        "    0 0 0 frob\n          ^\nno such word can stand here\nexpected a command, one of append, raw, flush, roll, fetch, elect, unclean, learn, join, follow, ack, shrink, expand, copy, trim, expire, raise, stop, up or offset\nsee docs/SCRIPT.md, \"Actors and the schedule\"\n",
+    ),
+    (
+        "a broker's command for the partition",
+        "0\t0 - flush\r\n",
+        "    0 0 - flush\n          ^\nno such word can stand here\nexpected a command, one of clock, pack or copying\nsee docs/SCRIPT.md, \"Actors and the schedule\"\n",
+    ),
+    (
+        "an unknown first word",
+        "x 0 0 flush",
+        "    x 0 0 flush\n    ^\nno such word can stand here\nexpected brokers, partitions, segment_bytes, index_interval_bytes, retention_ms, retention_bytes, local_retention_ms, local_retention_bytes, later, turn, fault or a number from 0 to 63\nsee docs/SCRIPT.md, \"Actors and the schedule\"\n",
+    ),
+    (
+        "no partition",
+        "partitions 3\n63\n",
+        "    63\n      ^\na word is missing here\nexpected a number from 0 to 2\nsee docs/SCRIPT.md, \"Actors and the schedule\"\n",
+    ),
+    (
+        "no broker",
+        " 0 0  \n",
+        "     0 0  \n          ^\na word is missing here\nexpected - or the number 0\nsee docs/SCRIPT.md, \"Actors and the schedule\"\n",
+    ),
+    (
+        "no record",
+        "0 0 0 append\n",
+        "    0 0 0 append\n                ^\na word is missing here\nexpected a record, as 1000,:key,:value\nsee docs/SCRIPT.md, \"append\"\n",
+    ),
+    (
+        "no digits",
+        "0 0 0 raw\n",
+        "    0 0 0 raw\n             ^\na word is missing here\nexpected hexadecimal digits, two for a byte\nsee docs/SCRIPT.md, \"raw\"\n",
+    ),
+    (
+        "a word too many",
+        "0 0 0 flush # c\n",
+        "    0 0 0 flush # c\n                ^\nthis is a word too many\nexpected the line's end\nsee docs/SCRIPT.md, \"flush\"\n",
+    ),
+    (
+        "no limit",
+        "later 5 0 0 fetch 0\n",
+        "    later 5 0 0 fetch 0\n                       ^\na word is missing here\nexpected a number from 0 to 2147483647\nsee docs/SCRIPT.md, \"fetch\"\n",
+    ),
+    (
+        "an unknown offset",
+        "0 0 0 offset now\n",
+        "    0 0 0 offset now\n                 ^\nno such word can stand here\nexpected earliest, latest, earliest_local, latest_tiered or at\nsee docs/SCRIPT.md, \"What isn't built yet\"\n",
+    ),
+    (
+        "a call that the device lacks",
+        "fault 0 store sync 1 after\n",
+        "    fault 0 store sync 1 after\n                  ^\nno such word can stand here\nexpected put, get or delete\nsee docs/SCRIPT.md, \"Faults\"\n",
+    ),
+    (
+        "an unknown device",
+        "fault 0 tape read 1 before\n",
+        "    fault 0 tape read 1 before\n            ^\nno such word can stand here\nexpected disk, store or meta\nsee docs/SCRIPT.md, \"Faults\"\n",
+    ),
+    (
+        "an unknown side",
+        "fault 0 meta append 1 during\n",
+        "    fault 0 meta append 1 during\n                          ^\nno such word can stand here\nexpected before or after\nsee docs/SCRIPT.md, \"Faults\"\n",
+    ),
+    (
+        "brokers out of range",
+        "brokers 9\n",
+        "    brokers 9\n            ^\nthis isn't a number in decimal digits, or it is out of its range\nexpected a number from 1 to 8\nsee docs/SCRIPT.md, \"Options\"\n",
+    ),
+    (
+        "a size out of range",
+        "segment_bytes 99\n",
+        "    segment_bytes 99\n                  ^\nthis isn't a number in decimal digits, or it is out of its range\nexpected a number from 100 to 16777216\nsee docs/SCRIPT.md, \"Options\"\n",
+    ),
+    (
+        "no bound to take over",
+        "retention_bytes -2\n",
+        "    retention_bytes -2\n                    ^\nthis isn't a number in decimal digits, or it is out of its range\nexpected a number from -1 to 9223372036854775807\nsee docs/SCRIPT.md, \"Options\"\n",
+    ),
+    (
+        "the greatest range",
+        "local_retention_ms -3\n",
+        "    local_retention_ms -3\n                       ^\nthis isn't a number in decimal digits, or it is out of its range\nexpected a number from -2 to 9223372036854775807\nsee docs/SCRIPT.md, \"Options\"\n",
+    ),
+    (
+        "a broker out of range",
+        "brokers 2\n# c\n0 0 2 flush\n",
+        "    0 0 2 flush\n        ^\nthis isn't a number in decimal digits, or it is out of its range\nexpected - or a number from 0 to 1\nsee docs/SCRIPT.md, \"Actors and the schedule\"\n",
+    ),
+    (
+        "turns out of range",
+        "turn 0 1048577\n",
+        "    turn 0 1048577\n           ^\nthis isn't a number in decimal digits, or it is out of its range\nexpected a number from 1 to 1048576\nsee docs/SCRIPT.md, \"Actors and the schedule\"\n",
+    ),
+    (
+        "a disk's broker out of range",
+        "brokers 8\nfault 0 disk 8 read 1 after\n",
+        "    fault 0 disk 8 read 1 after\n                 ^\nthis isn't a number in decimal digits, or it is out of its range\nexpected a number from 0 to 7\nsee docs/SCRIPT.md, \"Faults\"\n",
+    ),
+    (
+        "a flag",
+        "0 0 - pack 2\n",
+        "    0 0 - pack 2\n               ^\nthis isn't a number in decimal digits, or it is out of its range\nexpected a number from 0 to 1\nsee docs/SCRIPT.md, \"What isn't built yet\"\n",
+    ),
+    (
+        "the second record",
+        "0 0 0 append 1,-,: 1,-\n",
+        "    0 0 0 append 1,-,: 1,-\n                       ^\nthis record, or its key, its value or a header, has no reading\nexpected a record, as 1000,:key,:value or the line's end\nsee docs/SCRIPT.md, \"Records\"\n",
+    ),
+    (
+        "odd digits",
+        "0 0 0 raw 123\n",
+        "    0 0 0 raw 123\n              ^\nthese aren't an even number of hexadecimal digits\nexpected hexadecimal digits, two for a byte\nsee docs/SCRIPT.md, \"raw\"\n",
+    ),
+    (
+        "a byte that isn't text",
+        "0 0 0 flush \u{e9}\n",
+        "    0 0 0 flush ??\n                ^\nthis byte can't stand in a line, which has printable ASCII, spaces and tabs\nsee docs/SCRIPT.md, \"Lines and words\"\n",
+    ),
+    (
+        "an option behind a command",
+        "0 0 0 flush\nbrokers 2\n",
+        "    brokers 2\n    ^\nan option stands before each command, later, turn and fault line\nsee docs/SCRIPT.md, \"Options\"\n",
+    ),
+    (
+        "an option again",
+        "brokers 2\nbrokers 2\n",
+        "    brokers 2\n    ^\nthis option was given before\nsee docs/SCRIPT.md, \"Options\"\n",
+    ),
+    (
+        "an actor of two partitions",
+        "partitions 2\nlater 0 0 0 up\nlater 0 1 0 up\n",
+        "    later 0 1 0 up\n            ^\nthis actor has commands of another partition\nsee docs/SCRIPT.md, \"Actors and the schedule\"\n",
+    ),
+    (
+        "an actor without commands",
+        "turn 1 1\n",
+        "    turn 1 1\n         ^\nthis actor has no command before this line\nsee docs/SCRIPT.md, \"Actors and the schedule\"\n",
+    ),
+    (
+        "fetches past their sum",
+        "0 0 0 fetch 0 268435457\n",
+        "    0 0 0 fetch 0 268435457\n          ^\nwith this line the fetches pass their sum, 268435456 bytes\nsee docs/SCRIPT.md, \"Limits\"\n",
+    ),
+    (
+        "turns past their sum",
+        "0 0 0 up\nturn 0 1048576\nturn 0 1\n",
+        "    turn 0 1\n           ^\nwith this line the turns are more than 1048576\nsee docs/SCRIPT.md, \"Limits\"\n",
+    ),
+    (
+        "a command that isn't built",
+        "later 0 0 - pack 1\n",
+        "    later 0 0 - pack 1\n                ^\nno program runs this command yet\nsee docs/SCRIPT.md, \"What isn't built yet\"\n",
+    ),
+    (
+        "the seventh record",
+        "0 0 0 append 1,-,:a 2,-,:b 3,-,:c 4,-,:d 5,-,:e 6,-,:f 7 8,-,:h\n",
+        "    ppend 1,-,:a 2,-,:b 3,-,:c 4,-,:d 5,-,:e 6,-,:f 7 8,-,:h\n                                                    ^\nthis record, or its key, its value or a header, has no reading\nexpected a record, as 1000,:key,:value or the line's end\nsee docs/SCRIPT.md, \"Records\"\n",
+    ),
+    (
+        "a count behind many blanks",
+        "\tbrokers    08 \n0 0 8 flush\n",
+        "    0 0 8 flush\n        ^\nthis isn't a number in decimal digits, or it is out of its range\nexpected - or a number from 0 to 7\nsee docs/SCRIPT.md, \"Actors and the schedule\"\n",
+    ),
+    (
+        "a long line",
+        "0 0 0 append 1,-,:vvvvvvvvvvvvvvvvvvvvvvvvvvvvvvvvvvvvvvvvvvvvvvvvvvvvvvvvvvvvvvvvvvvvvvvvvvvvvvvvvvvvvvvvvvvvvvvvvvvv 1 2\n",
+        "    vvvvvvvvvvvvvvvvvvvvvvvvvvvvvvvvvvvvvvvvvvvvvvv 1 2\n                                                    ^\nthis record, or its key, its value or a header, has no reading\nexpected a record, as 1000,:key,:value or the line's end\nsee docs/SCRIPT.md, \"Records\"\n",
+    ),
+];
+
+/// What is told of a line for a cause that only a long script has, or that it hasn't.
+static GIVEN: [(&str, &str, u32, Why, &str); 4] = [
+    (
+        "too many commands",
+        "0 0 0 up\n",
+        1,
+        Why::TooMany,
+        "    0 0 0 up\n          ^\na script has at most 65536 commands\nsee docs/SCRIPT.md, \"Limits\"\n",
+    ),
+    (
+        "a batch that is too large",
+        "0 0 0 raw 00\n",
+        1,
+        Why::BatchTooLarge,
+        "    0 0 0 raw 00\n          ^\na batch has at most 1048576 bytes\nsee docs/SCRIPT.md, \"Limits\"\n",
+    ),
+    (
+        "copies past their sum",
+        "\n\n0 0 0 copy",
+        3,
+        Why::CopySum,
+        "    0 0 0 copy\n          ^\nwith this line the copies pass their sum, 2147483648 bytes\nsee docs/SCRIPT.md, \"Limits\"\n",
+    ),
+    (
+        "a line that the script lacks",
+        "0 0 0 up\n",
+        7,
+        Why::Word,
+        "    \n    ^\na word is missing here\nexpected brokers, partitions, segment_bytes, index_interval_bytes, retention_ms, retention_bytes, local_retention_ms, local_retention_bytes, later, turn, fault or a number from 0 to 63\nsee docs/SCRIPT.md, \"Actors and the schedule\"\n",
+    ),
+];
+
+/// What is told of a script that has no reading.
+fn told_of(alloc: Global, text: &str) -> Result<String, AllocError> {
+    if text.len() > 1000 {
+        return Ok(String::new(alloc));
+    }
+    match parse(alloc, text.as_bytes()) {
+        Err(ScriptRefusal::Bad { line, why }) => explanation(alloc, text.as_bytes(), line, why),
+        _ => Ok(String::new(alloc)),
+    }
+}
+
+#[test]
+fn refused_lines_are_explained(rt: HostRuntime) -> Result<(), Fail> {
+    for (name, text, told) in &ROWS {
+        assert_eq!(rt; told_of(rt.alloc(), text)?.as_str(), *told, "{name}");
+    }
+    for (name, text, line, why, told) in &GIVEN {
+        let found = explanation(rt.alloc(), text.as_bytes(), *line, *why)?;
+        assert_eq!(rt; found.as_str(), *told, "{name}");
+    }
+    Ok(())
+}
+
+/// How many bytes a source gives at its first two reads of three bytes, and whether it has kept these.
+fn keeps(alloc: Global, wanted: &[u8]) -> Result<(usize, usize, bool), AllocError> {
+    let bytes = Vec::from_slice(alloc, b"0 0 0 up".as_slice())?;
+    let mut plan = Vec::new(alloc);
+    plan.push(2)?;
+    let mut source = KeptSource::new(alloc, MemorySource::new(bytes, plan));
+    let mut room = [0; 3];
+    let first = source.read(&mut room).unwrap_or(0);
+    let failed = source.read(&mut room).unwrap_or(9);
+    let _third = source.read(&mut room);
+    Ok((first, failed, source.kept() == wanted))
+}
+
+/// How many bytes a source gives at its first read of three bytes, where it only passes them on, and whether it has kept
+/// none of them.
+fn passes(alloc: Global) -> Result<(usize, bool), AllocError> {
+    let bytes = Vec::from_slice(alloc, b"0 0 0 up".as_slice())?;
+    let mut source = KeptSource::passing(MemorySource::new(bytes, Vec::new(alloc)));
+    let mut room = [0; 3];
+    let given = source.read(&mut room).unwrap_or(9);
+    Ok((given, source.kept().is_empty()))
+}
+
+#[test]
+fn what_is_given_is_kept(rt: HostRuntime) -> Result<(), Fail> {
+    assert_eq!(rt; keeps(rt.alloc(), b"0 0 0 ".as_slice())?, (3, 9, true));
+    assert_eq!(rt; passes(rt.alloc())?, (3, true));
+    Ok(())
+}

@@ -1,0 +1,300 @@
+//! The happy path of each public call, and an entry that is refused. Expected values are worked by hand.
+
+ghost use Rattle.std.specs.Prelude.{◌≡◌, All, IfOk};
+ghost use Rattle.plain_machine.specs.Fits.{AreFor, IsFor};
+
+use plain_log::{ActorList, Answer, Command, Config, Event, JournalEntry, Order};
+use plain_machine::{Plain, first_refused, is_complete, is_complete_run, is_run};
+use std::alloc::{AllocError, Global};
+use std::test::Fail;
+use tier_base::{ActorId, BrokerId, Keep, Row, Settings};
+
+/// Two brokers.
+fn config() -> Config
+    ensures { result.brokers ≡ 2 }
+{
+    let keep = Keep { ms: -1, bytes: -1 };
+    Config {
+        brokers: 2,
+        settings: Settings {
+            segment_bytes: 1000,
+            index_interval: 100,
+        },
+        keep,
+        local_keep: keep,
+    }
+}
+
+/// A step: the command goes to this broker, and its answer is the actor's next or not.
+#[derive(Clone, Copy)]
+enum Step {
+    /// A flush is answered with this end.
+    Flush { broker: u16, number: u32, end: u64 },
+    /// The broker stops.
+    Stop { broker: u16, number: u32 },
+    /// It comes up with this end.
+    Up { broker: u16, number: u32, end: u64 },
+}
+
+/// Takes a step, and answers whether it was one.
+fn take(alloc: Global, plain: &mut Plain, step: Step) -> Result<bool, AllocError> {
+    let (broker, number, command, answer) = match step {
+        Step::Flush {
+            broker,
+            number,
+            end,
+        } => (broker, number, Command::Flush, Answer::OkAt(end)),
+        Step::Stop { broker, number } => (broker, number, Command::Stop, Answer::Ok),
+        Step::Up {
+            broker,
+            number,
+            end,
+        } => (broker, number, Command::Up, Answer::Up(end)),
+    };
+    let order = Order {
+        broker: BrokerId(broker),
+        command,
+    };
+    let entry = JournalEntry {
+        actor: ActorId(3),
+        number,
+        event: Event::Answers(answer),
+    };
+    plain.step(alloc, &order, &entry)
+}
+
+/// Steps, and whether each is one.
+static ROWS: [(Step, bool); 6] = [
+    (
+        Step::Flush {
+            broker: 1,
+            number: 0,
+            end: 0,
+        },
+        true,
+    ),
+    (
+        Step::Flush {
+            broker: 1,
+            number: 0,
+            end: 0,
+        },
+        false,
+    ),
+    (
+        Step::Up {
+            broker: 1,
+            number: 1,
+            end: 0,
+        },
+        false,
+    ),
+    (
+        Step::Stop {
+            broker: 1,
+            number: 1,
+        },
+        true,
+    ),
+    (
+        Step::Flush {
+            broker: 1,
+            number: 2,
+            end: 0,
+        },
+        false,
+    ),
+    (
+        Step::Up {
+            broker: 1,
+            number: 2,
+            end: 0,
+        },
+        true,
+    ),
+];
+
+/// Goes over the rows, and answers the first that went wrong.
+fn first_wrong(alloc: Global, rows: &[(Step, bool)]) -> Result<Option<usize>, AllocError> {
+    let mut plain = Plain::fresh(alloc, &config())?;
+    for (i, (step, taken)) in rows.iter().enumerate() {
+        if take(alloc, &mut plain, *step)? != *taken {
+            return Ok(Some(i));
+        }
+    }
+    Ok(None)
+}
+
+/// What is told of a fresh state: the first end, the first known mark, the mark, the log start, an actor's number, and
+/// how many brokers there are.
+fn told(alloc: Global) -> Result<(u128, u64, u64, u64, u32, usize), AllocError> {
+    let plain = Plain::fresh(alloc, &config())?;
+    if plain.count() == 0 {
+        return Ok((1, 1, 1, 1, 1, 0));
+    }
+    let first = BrokerId(0);
+    Ok((
+        plain.end(first),
+        plain.known(first),
+        plain.mark(),
+        plain.start(),
+        plain.number(ActorId(3)),
+        plain.count(),
+    ))
+}
+
+/// A journal without lists: of an entry, or of none.
+fn verdict(alloc: Global, entries: u32) -> Result<(Option<usize>, bool), AllocError> {
+    let lists: Row<ActorList> = Row::new(alloc);
+    let mut journal = Row::new(alloc);
+    for number in 0..entries {
+        journal.push(JournalEntry {
+            actor: ActorId(0),
+            number,
+            event: Event::Answers(Answer::Ok),
+        })?;
+    }
+    let place = first_refused(alloc, &config(), lists.as_slice(), journal.as_slice())?;
+    let is = is_run(alloc, &config(), lists.as_slice(), journal.as_slice())?;
+    Ok((place, is))
+}
+
+/// An actor's flushes of broker 1.
+fn flushes(alloc: Global, actor: u16, count: u32) -> Result<ActorList, AllocError>
+    ensures { IfOk result (λ list. All (λ order. IsFor order.command) list.orders) }
+{
+    let mut orders = Row::new(alloc);
+    for _ in 0..count {
+        orders.push(Order {
+            broker: BrokerId(1),
+            command: Command::Flush,
+        })?;
+    }
+    Ok(ActorList {
+        actor: ActorId(actor),
+        orders,
+    })
+}
+
+/// The lists of two actors: two orders of actor 0, and one of actor 2.
+fn lists(alloc: Global) -> Result<Row<ActorList>, AllocError>
+    ensures { IfOk result (λ lists. AreFor lists) }
+{
+    let mut lists = Row::new(alloc);
+    lists.push(flushes(alloc, 0, 2)?)?;
+    lists.push(flushes(alloc, 2, 1)?)?;
+    Ok(lists)
+}
+
+/// A journal of answers to flushes, each of an actor and with a number and an end.
+fn journal(alloc: Global, answers: &[(u16, u32, u64)]) -> Result<Row<JournalEntry>, AllocError> {
+    let mut journal = Row::new(alloc);
+    for (actor, number, end) in answers {
+        journal.push(JournalEntry {
+            actor: ActorId(*actor),
+            number: *number,
+            event: Event::Answers(Answer::OkAt(*end)),
+        })?;
+    }
+    Ok(journal)
+}
+
+/// Answers to flushes, and whether they are a run and are complete.
+struct Case {
+    answers: &'static [(u16, u32, u64)],
+    is_run: bool,
+    is_complete: bool,
+}
+
+/// Journals of the two lists.
+static JOURNALS: [Case; 8] = [
+    Case {
+        answers: &[],
+        is_run: true,
+        is_complete: false,
+    },
+    Case {
+        answers: &[(0, 0, 0), (2, 0, 0), (0, 1, 0)],
+        is_run: true,
+        is_complete: true,
+    },
+    Case {
+        answers: &[(0, 0, 0), (0, 1, 0)],
+        is_run: true,
+        is_complete: false,
+    },
+    Case {
+        answers: &[(2, 0, 0), (0, 0, 0)],
+        is_run: true,
+        is_complete: false,
+    },
+    Case {
+        answers: &[(0, 1, 0), (0, 0, 0), (2, 0, 0)],
+        is_run: false,
+        is_complete: false,
+    },
+    Case {
+        answers: &[(0, 0, 0), (0, 0, 0), (2, 0, 0)],
+        is_run: false,
+        is_complete: false,
+    },
+    Case {
+        answers: &[(0, 0, 0), (2, 0, 0), (0, 1, 0), (5, 0, 0)],
+        is_run: false,
+        is_complete: false,
+    },
+    Case {
+        answers: &[(0, 0, 7), (0, 1, 7), (2, 0, 7)],
+        is_run: false,
+        is_complete: true,
+    },
+];
+
+/// Whether a journal is told as its row has it.
+fn is_told(alloc: Global, case: &Case) -> Result<bool, AllocError> {
+    let lists = lists(alloc)?;
+    let journal = journal(alloc, case.answers)?;
+    let (lists, journal) = (lists.as_slice(), journal.as_slice());
+    let run = is_run(alloc, &config(), lists, journal)?;
+    let complete = is_complete(alloc, lists, journal)?;
+    let both = is_complete_run(alloc, &config(), lists, journal)?;
+    Ok(run == case.is_run && complete == case.is_complete && both == (run && complete))
+}
+
+/// Goes over journals, and answers the first that went wrong.
+fn first_mistold(alloc: Global, journals: &[Case]) -> Result<Option<usize>, AllocError> {
+    for (i, case) in journals.iter().enumerate() {
+        if !is_told(alloc, case)? {
+            return Ok(Some(i));
+        }
+    }
+    Ok(None)
+}
+
+#[test]
+fn a_complete_run_is_told(rt: HostRuntime) -> Result<(), Fail> {
+    assert_eq!(rt;
+        first_mistold(rt.alloc(), JOURNALS.as_slice())?,
+        None,
+        "a journal of the table"
+    );
+    Ok(())
+}
+
+#[test]
+fn steps_are_taken_in_order(rt: HostRuntime) -> Result<(), Fail> {
+    assert_eq!(rt;
+        first_wrong(rt.alloc(), ROWS.as_slice())?,
+        None,
+        "a row of the table"
+    );
+    assert_eq!(rt; told(rt.alloc())?, (0, 0, 0, 0, 0, 2));
+    Ok(())
+}
+
+#[test]
+fn an_entry_of_no_list_is_refused(rt: HostRuntime) -> Result<(), Fail> {
+    assert_eq!(rt; verdict(rt.alloc(), 0)?, (None, true));
+    assert_eq!(rt; verdict(rt.alloc(), 1)?, (Some(0), false));
+    Ok(())
+}

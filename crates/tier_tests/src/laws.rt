@@ -1,0 +1,23 @@
+//! Laws that are generic over devices, called once each over devices in memory.
+
+use meta_log::MemoryLog;
+use object_store::MemoryStore;
+use tier_rebuilds::{a_rebuild_finds_all, a_rebuild_reads_its_path, a_rebuild_refreshes};
+use tier_safe::{copy_turns_change, expiry_turns_change};
+use tier_serves::{damage_is_of_logs, fetch_runs_are_logs, fetch_turns_change};
+
+#[test]
+fn turns_over_devices_in_memory_are_changes() {
+    copy_turns_change::<MemoryStore, MemoryLog>();
+    expiry_turns_change::<MemoryStore, MemoryLog>();
+    fetch_turns_change::<MemoryStore, MemoryLog>();
+    fetch_runs_are_logs::<MemoryStore, MemoryLog>();
+    damage_is_of_logs::<MemoryStore, MemoryLog>();
+}
+
+#[test]
+fn rebuilds_over_devices_in_memory_read_paths() {
+    a_rebuild_refreshes::<MemoryStore, MemoryLog>();
+    a_rebuild_reads_its_path::<MemoryStore>();
+    a_rebuild_finds_all::<MemoryStore>();
+}

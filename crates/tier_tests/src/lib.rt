@@ -1,0 +1,21 @@
+//! Tests of the remote log: views, look-up, the turns of its tasks, and the laws that are generic over its devices.
+//!
+//! They stand apart from the crates that they test, since a crate is proved anew where its tests are built.
+#![tactic(auto)]
+
+#[cfg(test)]
+mod copies;
+#[cfg(test)]
+mod expiries;
+#[cfg(test)]
+mod fetches;
+#[cfg(test)]
+mod finds;
+#[cfg(test)]
+mod laws;
+#[cfg(test)]
+mod rebuilds;
+#[cfg(test)]
+mod refreshes;
+#[cfg(test)]
+mod views;
