@@ -14,8 +14,9 @@ PROGRAM is the path of `tiered`. Four things are run, in README.md and in docs/:
 - A block ```bytes has hexadecimal digits at the head of its lines: a batch that was fetched in the
   script block before it.
 
-The gate runs no document. So the refused lines stand once more in a table of the program's crate,
-which is made here, and which a test of that crate goes over. The rest is run here alone.
+The gate runs no document. So the refused lines stand once more in a table of the program's crate, and
+the scripts with their whole traces, those of examples/ too, in a text there. Both are made here, and
+tests of that crate go over them. The rest is run here alone.
 """
 import glob
 import os
@@ -29,6 +30,7 @@ sys.path.insert(0, os.path.join(TOP, "examples"))
 from view import beside  # noqa: E402
 
 TABLE = "crates/broker_main/src/shown.rt"
+RUNS = "crates/broker_main/src/shown_runs.rt"
 BLOCK = re.compile(r"^```(script|console|bytes)\n(.*?)^```$", re.S | re.M)
 
 
@@ -64,9 +66,36 @@ def table(refused):
     return text
 
 
+def runs(cases):
+    """The scripts of the gate, with their traces."""
+    text = "//! What the documents and the examples show as run. Made by docs/snippets.py, which tells where it is another.\n"
+    text += f"\n/// How many scripts there are.\npub(crate) static COUNT: u32 = {len(cases)};\n"
+    text += "\n/// A script, a grave accent, its trace, a grave accent, and so on. A script's first line says where it is shown.\n"
+    shown = "".join(f"# {place}\n{script}`{trace}`" for place, script, trace in cases)
+    return text + f"pub(crate) static RUNS: &str = {literal(shown)};\n".replace("\\n", "\n")
+
+
+def examples(program, wrong):
+    """The examples, with their traces."""
+    cases = []
+    for path in sorted(glob.glob(TOP + "/examples/*.script")):
+        with open(path, encoding="utf-8") as f:
+            script = f.read()
+        status, trace, said = ran(program, script)
+        if status != 0:
+            wrong.append(f"{path} ends with status {status}: {said}")
+        cases.append((os.path.relpath(path, TOP), script, trace))
+    return cases
+
+
+def script_in(text):
+    """The script of a block."""
+    return "".join(line + "\n" for line in text.splitlines() if not line.startswith("#>"))
+
+
 def script_block(program, text, wrong):
     """The block with the answers that the program gives, and the trace."""
-    script = "".join(line + "\n" for line in text.splitlines() if not line.startswith("#>"))
+    script = script_in(text)
     status, trace, said = ran(program, script)
     if status != 0:
         wrong.append(f"a script ends with status {status}: {said}\n{script}")
@@ -87,14 +116,17 @@ def console_block(program, text):
     return "".join(row + "\n" for row in rows)
 
 
-def blocks(program, page, wrong):
-    """The page with each block made anew."""
-    last = [""]
+def blocks(program, path, page, wrong, cases):
+    """The page with each block made anew. What its scripts give comes to the cases."""
+    last, count = [""], [0]
 
     def made(match):
         kind, text = match.groups()
         if kind == "script":
+            script = script_in(text)
             text, last[0] = script_block(program, text, wrong)
+            count[0] += 1
+            cases.append((f"{os.path.relpath(path, TOP)}, script {count[0]}", script, last[0]))
         elif kind == "console":
             text = console_block(program, text)
         elif "".join(line.split()[0] for line in text.splitlines()) not in last[0]:
@@ -136,11 +168,11 @@ def main():
         print(__doc__.strip())
         return 2
     word, program = sys.argv[1], os.path.abspath(sys.argv[2])
-    wrong, refused, shown, rows = [], [], 0, 0
+    wrong, refused, cases, shown, rows = [], [], [], 0, 0
     for path in [TOP + "/README.md"] + sorted(glob.glob(TOP + "/docs/*.md")):
         with open(path, encoding="utf-8") as f:
             page = f.read()
-        new = blocks(program, page, wrong)
+        new = blocks(program, path, page, wrong, cases)
         shown += len(BLOCK.findall(page))
         rows += refusals(program, page, wrong, refused)
         if new != page and word == "check":
@@ -148,14 +180,15 @@ def main():
         if new != page and word == "write":
             with open(path, "w", encoding="utf-8") as f:
                 f.write(new)
-    with open(os.path.join(TOP, TABLE), encoding="utf-8") as f:
-        old = f.read()
-    new = table(refused)
-    if as_laid_out(new) != as_laid_out(old) and word == "check":
-        wrong.append(TABLE + " isn't what the documents show as refused")
-    if word == "write":
-        with open(os.path.join(TOP, TABLE), "w", encoding="utf-8") as f:
-            f.write(new)
+    cases += examples(program, wrong)
+    for path, new in ((TABLE, table(refused)), (RUNS, runs(cases))):
+        with open(os.path.join(TOP, path), encoding="utf-8") as f:
+            old = f.read()
+        if as_laid_out(new) != as_laid_out(old) and word == "check":
+            wrong.append(path + " isn't what the documents show")
+        if word == "write":
+            with open(os.path.join(TOP, path), "w", encoding="utf-8") as f:
+                f.write(new)
     print("\n".join(wrong + [f"{shown} blocks and {rows} rows, {len(wrong)} of them wrong"]))
     return 1 if wrong else 0
 

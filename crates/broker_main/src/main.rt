@@ -139,6 +139,8 @@ mod law_tests;
 #[cfg(test)]
 mod shown;
 #[cfg(test)]
+mod shown_runs;
+#[cfg(test)]
 mod shown_tests;
 #[cfg(test)]
 mod tests;
