@@ -1,7 +1,7 @@
 #!/usr/bin/env python3
 """The layers of the repository, out of crates.txt and the crates' head comments.
 
-usage: docs/layers.py            prints the picture and the tables
+usage: docs/layers.py            prints the picture, the table, and the list for README.md
        docs/layers.py check      tells where a document has other text between its marks
        docs/layers.py write      puts the text between the marks
 
@@ -14,6 +14,7 @@ can double the time of all that stands above it. A part of a document that is ma
 import os
 import re
 import sys
+import textwrap
 
 TOP = os.path.join(os.path.dirname(os.path.abspath(__file__)), "..")
 PROGRAM = "broker_main"
@@ -140,8 +141,14 @@ def kit(layers, on):
     return "\n".join(rows)
 
 
-PARTS = {"picture": picture, "table": table, "kit": kit}
-PLACES = [("docs/ARCHITECTURE.md", ["picture", "table", "kit"])]
+def names(layers, on):
+    """A point a layer."""
+    points = [f"- {title}: {', '.join(f'`{x}`' for x in own)}" for title, own in layers]
+    return "\n".join(textwrap.fill(x, 100, subsequent_indent="  ", break_on_hyphens=False) for x in points)
+
+
+PARTS = {"picture": picture, "table": table, "kit": kit, "names": names}
+PLACES = [("docs/ARCHITECTURE.md", ["picture", "table", "kit"]), ("README.md", ["names"])]
 
 
 def main():
