@@ -10,12 +10,10 @@ use crate::line::Line;
 use crate::refusal::TextRefusal;
 use std::alloc::{AllocError, Global};
 use std::fmt::Write;
-use tier_base::number;
+use tier_base::{OFFSET_LIMIT, number};
 
 /// Epochs are below 2^31.
 const LAST_EPOCH: u64 = (1 << 31) - 1;
-/// Offsets are at most 2^62.
-const LAST_OFFSET: u64 = 1 << 62;
 /// As many entries as there are epochs.
 const MOST_ENTRIES: u64 = 1 << 31;
 
@@ -86,7 +84,7 @@ fn entry(bytes: &[u8]) -> Option<((u32, u64), &[u8])>
     let Some((epoch, rest)) = number(bytes, LAST_EPOCH, b' ') else {
         return None;
     };
-    let Some((start, rest)) = number(rest, LAST_OFFSET, b'\n') else {
+    let Some((start, rest)) = number(rest, OFFSET_LIMIT, b'\n') else {
         return None;
     };
     Some(((epoch as u32, start), rest))

@@ -12,14 +12,12 @@ use crate::manifest::{Extent, Front, Manifest, SegmentList};
 use crate::refusal::ManifestRefusal;
 use epoch_line::Line;
 use std::alloc::Global;
-use tier_base::Row;
+use tier_base::{OFFSET_LIMIT, Row};
 
 /// The first four bytes.
 const TAG: u32 = 0x544C_4D31;
 /// The most segments of a log.
 const MOST_SEGMENTS: u32 = 4_096;
-/// Offsets are at most 2^62.
-const LAST_OFFSET: u64 = 1 << 62;
 /// Lengths and epochs are below 2^31.
 const BOUND: u32 = 1 << 31;
 /// Where the segments begin: 4 + 4 + 8 + 4.
@@ -72,7 +70,7 @@ fn front(bytes: &[u8]) -> Result<(Front, &[u8]), ManifestRefusal>
         return Err(bad(4));
     }
     let (local_start, rest) = read_u64(rest, 8)?;
-    if local_start > LAST_OFFSET {
+    if local_start > OFFSET_LIMIT {
         return Err(bad(8));
     }
     let (count, rest) = read_u32(rest, 16)?;
@@ -93,7 +91,7 @@ fn base_may(start: u64, last: Option<Extent>, base: u64) -> bool
 {
     match last {
         None => base == start,
-        Some(last) => last.base < base && base <= LAST_OFFSET,
+        Some(last) => last.base < base && base <= OFFSET_LIMIT,
     }
 }
 
@@ -169,8 +167,8 @@ fn start_may(last: Option<(u32, u64)>, start: u64) -> bool
     ensures { result ≡ start_may last start }
 {
     match last {
-        None => start <= LAST_OFFSET,
-        Some(last) => start <= LAST_OFFSET && last.1 < start,
+        None => start <= OFFSET_LIMIT,
+        Some(last) => start <= OFFSET_LIMIT && last.1 < start,
     }
 }
 

@@ -19,15 +19,13 @@ use crate::ends::{count_up_to, end};
 use crate::roles::{is_leader, leading_in};
 use plain_log::{Answer, Broker};
 use record_batch::{BatchRefusal, Rec, built_head_tells, check};
-
-/// The greatest log end offset: 2^62.
-const LAST_END: u128 = 4_611_686_018_427_387_904;
+use tier_base::OFFSET_LIMIT;
 
 /// Whether a log has room for a batch whose last offset is so far behind its first.
 fn fits(x: &Broker, delta: u64) -> bool
     ensures { (batch : List ℕ) → last_offset_delta_of batch ≡ delta → has_room x.now batch ≡ result }
 {
-    end(x.log.as_slice()) + u128::from(delta) + 1 <= LAST_END
+    end(x.log.as_slice()) + u128::from(delta) + 1 <= u128::from(OFFSET_LIMIT)
 }
 
 /// Whether an answer tells of a batch at the end of a leader's log: its base, its last offset and its leader epoch.

@@ -10,11 +10,10 @@ use crate::walking::{Found, size_in, walk};
 use epoch_line::Line;
 use record_batch::Head;
 use std::alloc::{AllocError, Global};
+use tier_base::OFFSET_LIMIT;
 
 /// The greatest size of a segment, and how far offsets reach past its base: below 2^31.
 const REACH: u64 = 1 << 31;
-/// Offsets are below 2^62.
-const LAST_OFFSET: u64 = 1 << 62;
 /// Epochs are below 2^31.
 const EPOCHS: u32 = 1 << 31;
 
@@ -94,7 +93,7 @@ fn may_go_on(base: u64, front: &Gathered, head: &Head) -> bool
     if head.base_offset.cast_unsigned() != front.end {
         return false;
     }
-    if last >= (base + REACH).min(LAST_OFFSET) {
+    if last >= (base + REACH).min(OFFSET_LIMIT) {
         return false;
     }
     if epoch < front.epoch {

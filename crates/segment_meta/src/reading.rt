@@ -14,10 +14,8 @@ use crate::note::{Entry, Front, Note};
 use crate::refusal::NoteRefusal;
 use epoch_line::Line;
 use std::alloc::Global;
-use tier_base::{BrokerId, PartitionId, SegmentId, State};
+use tier_base::{BrokerId, OFFSET_LIMIT, PartitionId, SegmentId, State};
 
-/// Offsets of a segment are below 2^62.
-const OFFSETS: u64 = 1 << 62;
 /// Epochs are below 2^31.
 const EPOCHS: u32 = 1 << 31;
 /// The most epochs of a map.
@@ -49,7 +47,7 @@ fn range(bytes: &[u8]) -> Result<((u64, u64), &[u8]), NoteRefusal>
 {
     let (start, rest) = read_u64(bytes)?;
     let (end, rest) = read_u64(rest)?;
-    if start > end || end >= OFFSETS {
+    if start > end || end >= OFFSET_LIMIT {
         return Err(NoteRefusal::Bad { at: 28 });
     }
     Ok(((start, end), rest))
