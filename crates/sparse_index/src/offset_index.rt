@@ -163,7 +163,6 @@ fn count_in(base: u64, offsets: &[u32], positions: &[u32], offset: u64) -> usize
     ensures count { result ≡ count_by (is_up_to base offset) (zip offsets.now positions.now) }
     ensures within { result ≤ length offsets.now }
 {
-    let _even = positions;
     if offset < base {
         return 0;
     }

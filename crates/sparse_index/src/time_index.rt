@@ -173,7 +173,6 @@ fn count_up_to(times: &[i64], offsets: &[u32], ts: i64) -> usize
     ensures count { result ≡ count_by (λ time. int_le time ts) times.now }
     ensures within { result ≤ length times.now }
 {
-    let _even = offsets;
     if ts == i64::MAX {
         return times.len();
     }

@@ -1,4 +1,4 @@
-use Rattle.std.proofs.Common.{◌≡◌, ◌≤◌, ◌∙◌, ap, sym, subst, nat_lt, length}
+use Rattle.std.proofs.Common.{◌≡◌, ◌≤◌, ◌∙◌, ap, nat_lt, length}
 use Rattle.std.specs.Prelude.{count_by}
 use Rattle.sparse_index.specs.Offsets.{OffsetTable, cut_to}
 use Rattle.sparse_index.proofs.OffsetLaws.{positions-parted, columns-cut, table-cut}
