@@ -57,7 +57,10 @@ fn raise<D: Disk>(held: &mut Held<D>, role: Role, start: u64) -> Result<Answer, 
     match held.registry.raise(epoch, start) {
         Ok(start) => Ok(Answer::Raised(start)),
         Err(RegRefusal::StaleEpoch { current }) => Ok(Answer::StaleEpoch(current as u64)),
-        // Not reached, which nothing proves: retention raises it above the log start, and to the known mark at most.
+        // Retention raises it above the log start, and to the mark that the broker knows at most. So this
+        // comes only where that mark is above the high watermark: against `KnownSafe` of the plain log's
+        // safety, a rule that no turn is given. No row has an answer for it; want of memory is in none, and
+        // leaves all as it was.
         Err(_) => Err(AllocError),
     }
 }
