@@ -1,6 +1,6 @@
 //! A note as it stands in the file, both ways. The module Notes of specs/ has the table.
 
-ghost use Rattle.std.specs.Prelude.{◌≡◌, ◌<◌, ◌≤◌, ◌↔◌, length, All, IfOk, IsTrue};
+ghost use Rattle.std.specs.Prelude.{◌≡◌, ◌≤◌, ◌↔◌, length, IfOk, IsTrue};
 ghost use Rattle.segment_meta.specs.declared.refusal.NoteRefusal.TheVariants.{NoMemory};
 ghost use Rattle.segment_meta.specs.Rules.{IsNote, NoteFits, EntryFits};
 ghost use Rattle.meta_file.specs.Notes.{framed, IsTold};
@@ -13,20 +13,11 @@ use std::alloc::{AllocError, Global};
 /// How many bytes tell a note's length.
 const SIZE_BYTES: usize = 4;
 
-/// Sixteen bytes are an id's. Reading each shows that it is below 256: of what a reference lends that isn't known before.
-fn are_sixteen(bytes: &[u8; 16])
-    ensures { (length bytes.now ≡ 16) × All (λ b. b < 256) bytes.now }
-{
-    for i in 0..16 {
-        let _ = bytes[i];
-    }
-}
-
 /// The fields of an entry are of their types.
 fn entry_fits(entry: &Entry)
     ensures { EntryFits entry.now }
 {
-    are_sixteen(entry.id.0.as_bytes());
+    entry.id.as_bytes();
     let _partition = entry.partition.0;
     let _max_ts = entry.max_ts;
     let _broker = entry.broker.0;
@@ -46,7 +37,7 @@ fn fits(note: &Note)
             event_ts,
             ..
         } => {
-            are_sixteen(id.0.as_bytes());
+            id.as_bytes();
             let _broker = broker.0;
             let _event_ts = *event_ts;
         }

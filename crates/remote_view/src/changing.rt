@@ -1,6 +1,6 @@
 //! Changes of entries.
 
-ghost use Rattle.std.specs.Prelude.{◌≡◌, ◌<◌, length, All, IfOk};
+ghost use Rattle.std.specs.Prelude.{◌≡◌, IfOk};
 ghost use Rattle.segment_meta.specs.Rules.{IsAdded};
 ghost use Rattle.std.specs.Str.{bytes_eq};
 ghost use Rattle.tier_base.specs.Key.{IsId};
@@ -14,7 +14,7 @@ use tier_base::{BrokerId, SegmentId, State};
 pub(crate) fn is_same(one: &SegmentId, other: &SegmentId) -> bool
     ensures { result ≡ bytes_eq one.now.0 other.now.0 }
 {
-    one.0.as_bytes().as_slice() == other.0.as_bytes().as_slice()
+    one.as_bytes() == other.as_bytes()
 }
 
 /// An entry of the same fields.
@@ -47,18 +47,9 @@ pub(crate) fn update(entry: &mut Entry, broker: BrokerId, event_ts: i64, state: 
     entry.state = state;
 }
 
-/// Sixteen bytes are an id's. Reading each shows that it is below 256: of what a reference lends that isn't known before.
-fn are_sixteen(bytes: &[u8; 16])
-    ensures { (length bytes.now ≡ 16) × All (λ b. b < 256) bytes.now }
-{
-    for i in 0..16 {
-        let _ = bytes[i];
-    }
-}
-
 /// An entry's id is one.
 pub(crate) fn has_id(entry: &Entry)
     ensures { IsId entry.now.id }
 {
-    are_sixteen(entry.id.0.as_bytes());
+    entry.id.as_bytes();
 }

@@ -1,7 +1,7 @@
 //! The names of partitions, brokers, actors and remote segments.
 
 ghost use Rattle.std.specs.Prelude.{◌≡◌, ◌<◌, length, All};
-ghost use Rattle.tier_base.specs.Key.{id_bytes, id_text, ReadsId};
+ghost use Rattle.tier_base.specs.Key.{id_bytes, id_text, IsId, ReadsId};
 
 use uuid::Uuid;
 
@@ -39,16 +39,25 @@ pub fn segment_id(
     SegmentId(Uuid::from_bytes(bytes))
 }
 
-/// Sixteen bytes are an id's.
-fn are_sixteen(bytes: &[u8; 16])
-    ensures { (length bytes.now ≡ 16) × All (λ b. b < 256) bytes.now }
+/// Lends an array as a slice, whose items are known to be bytes.
+fn lent(array: &[u8; 16]) -> &[u8]
+    ensures value { result.now ≡ array.now }
+    ensures size { length result.now ≡ 16 }
+    ensures fits { All (λ b. b < 256) result.now }
 {
-    for i in 0..16 {
-        let _ = bytes[i];
-    }
+    let bytes = array.as_slice();
+    bytes
 }
 
 impl SegmentId {
+    /// Lends the id's bytes.
+    pub fn as_bytes(&self) -> &[u8]
+        ensures value { result.now ≡ self.now.0 }
+        ensures fits { IsId self.now }
+    {
+        lent(self.0.as_bytes())
+    }
+
     /// Writes the text to the front of a buffer, and lends it.
     #[tactic(auto, unfolding(crate::specs::Key::id_text))]
     pub fn write_text<'b>(&self, buffer: &'b mut [u8; 36]) -> &'b str
@@ -64,8 +73,8 @@ impl SegmentId {
         let Ok(id) = Uuid::try_parse_ascii(text) else {
             return None;
         };
-        are_sixteen(id.as_bytes());
         let id = SegmentId(id);
+        id.as_bytes();
         let mut buffer = [0u8; 36];
         if id.write_text(&mut buffer).as_bytes() == text {
             Some(id)

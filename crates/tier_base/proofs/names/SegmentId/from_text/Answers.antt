@@ -1,7 +1,7 @@
 use Rattle.std.proofs.Common.{◌≡◌, ◌∙◌, sym, ap, List, ℕ, true≢false}
 use Rattle.std.proofs.lemmas.Slice.Eq.{bytes_eq-Decides}
 use Rattle.tier_base.specs.Key.{id_text}
-use Rattle.tier_base.proofs.Keys.{id-parsed, same-id, is-id}
+use Rattle.tier_base.proofs.Keys.{id-parsed, same-id}
 use Rattle.tier_base.proofs.names.SegmentId.from_text.Goals as goal
 
 pub returns-in_default : goal.returns-in_default
@@ -10,7 +10,7 @@ returns-in_default c id is e =
 
 pub returns-then-eq : goal.returns-then-eq
 returns-then-eq c = (
-  is-id c.in-Ok.id c.as_bytes.result.now c.as_bytes.ensures c.are_sixteen.ensures,
+  c.as_bytes.ensures.fits,
   sym c.write_text.ensures ∙ (sym c.as_bytes-2.ensures.value ∙ (bytes_eq-Decides c.as_bytes-2.result.now c.args.text.now).0 (sym c.if-eq.ensures)),
 )
 
