@@ -6,6 +6,7 @@ ghost use Rattle.plain_log.specs.Safe.{current, Has};
 ghost use Rattle.plain_log.specs.declared.state.Role.TheVariants as role;
 ghost use Rattle.plain_log.specs.State.{breaks, put_broker};
 ghost use Rattle.plain_machine.specs.Change.{AreJoined, AtBroker, CanStop, acked, path_in, changed};
+ghost use Rattle.plain_machine.specs.Fits.{IsFor};
 
 use crate::change::Change;
 use crate::ends::end;
@@ -131,11 +132,13 @@ pub(crate) fn alter(
     requires replica { order.now.broker.0 < length p.old.registry.replicas }
     requires begins { IsPrefix p.old.committed (current p.old.paths p.old.registry.epoch p.old.committed) }
     requires joined { AreJoined p.old }
+    requires fit { IsFor order.now.command }
     ensures ok { OnOk result (AtBroker p.old order.now.broker.0 (λ x s.
         p.new ≡ changed p.old order.now.broker.0 x s order.now.command change)) }
     ensures err { OnErr result (p.new ≡ p.old) }
 {
     let b = order.broker.0 as usize;
+    // The model's counts of stops have no bound, the machine's have 64 bits.
     if p.brokers.get(b).stops == u64::MAX {
         return Err(AllocError);
     }
@@ -175,8 +178,8 @@ pub(crate) fn alter(
         Change::BreaksLonger { epoch, count } => break_longer(p, alloc, b, epoch, count),
         Change::Elects => elect(p, order.broker),
         Change::Restarts { count } => restart(p, alloc, order.broker, count),
-        Change::Shrinks => shrink(p, order.broker),
-        Change::Expands => expand(p, order.broker),
+        Change::Shrinks => Ok(shrink(p, b)),
+        Change::Expands => Ok(expand(p, b)),
         Change::Starts(offset) => Ok(start(p, offset)),
     }
 }

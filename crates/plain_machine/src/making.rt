@@ -6,11 +6,13 @@
 ghost use Rattle.std.specs.Prelude.{◌≡◌, ◌<◌, ◌^◌, ◌-◌, ◌++◌, ◌∷◌, true, false, take, length, Some, slice_get, slice_set, OnOk, OnErr, IfOk};
 ghost use mathlib.Core.List.{IsPrefix};
 ghost use Rattle.registry.specs.Registry.{elected, elected_alone, shrunk, expanded, started};
+ghost use Rattle.record_batch.specs.Build.{built, IsBuildable};
 ghost use Rattle.record_batch.specs.Stamp.{stamped};
 ghost use Rattle.plain_log.specs.RowsOfLog.{gained};
 ghost use Rattle.plain_log.specs.RowsOfElections.{led};
 ghost use Rattle.plain_log.specs.Safe.{PlainSafe};
 ghost use Rattle.plain_log.specs.State.{longer, stopped, set_registry, breaks};
+ghost use Rattle.plain_machine.specs.Fits.{IsFor};
 ghost use Rattle.plain_machine.specs.Change.{AtBroker, IsPathAt, acked, batch_in, changed, cut};
 
 use crate::change::Change;
@@ -20,7 +22,7 @@ use crate::paths::path;
 use crate::replicas::mark_with;
 use bytes::Bytes;
 use plain_log::{Broker, Command, Path, Role, State};
-use record_batch::{build, stamp};
+use record_batch::{BuildRefusal, Rec, build, stamp};
 use std::alloc::{AllocError, Global};
 use tier_base::{BrokerId, Row};
 
@@ -88,6 +90,19 @@ fn lengthen(paths: &mut Row<Path>, epoch: u32, batch: Bytes) -> Result<(), Alloc
     Ok(())
 }
 
+/// Builds the batch of an append's records at its place. They make one, so only memory can be wanting.
+fn build_at(alloc: Global, base: u64, epoch: u32, recs: &[Rec]) -> Result<Vec<u8>, AllocError>
+    requires { IsBuildable recs.now }
+    ensures { IfOk result (λ batch. batch.items ≡ stamped (built recs.now) base epoch) }
+{
+    match build(alloc, base, epoch, recs) {
+        Ok(batch) => Ok(batch),
+        Err(BuildRefusal::NoMemory) => Err(AllocError),
+        Err(BuildRefusal::NoRecords) => unreachable!(),
+        Err(BuildRefusal::TooLarge) => unreachable!(),
+    }
+}
+
 /// The batch that a command brings, at its place.
 pub(crate) fn batch_at(
     alloc: Global,
@@ -95,18 +110,20 @@ pub(crate) fn batch_at(
     epoch: u32,
     command: &Command,
 ) -> Result<Bytes, AllocError>
+    requires { IsFor command.now }
     ensures { IfOk result (λ batch. batch ≡ stamped (batch_in command.now) base epoch) }
 {
     match command {
-        Command::Append(recs) => match build(alloc, base, epoch, recs.as_slice()) {
-            Ok(batch) => Ok(Bytes::from_vec(batch)?),
-            Err(_) => Err(AllocError),
-        },
+        Command::Append(recs) => {
+            let batch = build_at(alloc, base, epoch, recs.as_slice())?;
+            Ok(Bytes::from_vec(batch)?)
+        }
         Command::Raw(bytes) if bytes.len() >= 16 => {
             let mut batch = Vec::from_slice(alloc, bytes.as_slice())?;
             stamp(batch.as_mut_slice(), base, epoch);
             Ok(Bytes::from_vec(batch)?)
         }
+        // Not reached, which nothing proves: an append or a checked raw batch alone is gained.
         _ => Err(AllocError),
     }
 }
@@ -143,6 +160,7 @@ pub(crate) fn elect(p: &mut State, broker: BrokerId) -> Result<(), AllocError>
 {
     match p.registry.elect(broker, true) {
         Ok(_) => Ok(()),
+        // Not reached, which nothing proves: the row of the election has tested the epoch and the replica.
         Err(_) => Err(AllocError),
     }
 }

@@ -14,27 +14,19 @@ use std::alloc::{AllocError, Global};
 use tier_base::BrokerId;
 
 /// Takes a broker out of the replicas in sync.
-pub(crate) fn shrink(p: &mut State, broker: BrokerId) -> Result<(), AllocError>
-    requires { broker.0 < length p.old.registry.replicas }
-    ensures ok { OnOk result (AtBroker p.old broker.0 (λ x s. p.new ≡ set_registry p.old (shrunk p.old.registry broker.0 s))) }
-    ensures err { OnErr result (p.new ≡ p.old) }
+pub(crate) fn shrink(p: &mut State, b: usize)
+    requires { b < length p.old.registry.replicas }
+    ensures { AtBroker p.old b (λ x s. p.new ≡ set_registry p.old (shrunk p.old.registry b s)) }
 {
-    match p.registry.shrink(broker) {
-        Ok(()) => Ok(()),
-        Err(_) => Err(AllocError),
-    }
+    p.registry.replicas.at_mut(b).in_sync = false;
 }
 
 /// Brings a broker to them.
-pub(crate) fn expand(p: &mut State, broker: BrokerId) -> Result<(), AllocError>
-    requires { broker.0 < length p.old.registry.replicas }
-    ensures ok { OnOk result (AtBroker p.old broker.0 (λ x s. p.new ≡ set_registry p.old (expanded p.old.registry broker.0 s))) }
-    ensures err { OnErr result (p.new ≡ p.old) }
+pub(crate) fn expand(p: &mut State, b: usize)
+    requires { b < length p.old.registry.replicas }
+    ensures { AtBroker p.old b (λ x s. p.new ≡ set_registry p.old (expanded p.old.registry b s)) }
 {
-    match p.registry.expand(broker, true) {
-        Ok(()) => Ok(()),
-        Err(_) => Err(AllocError),
-    }
+    p.registry.replicas.at_mut(b).in_sync = true;
 }
 
 /// Raises the log start.
@@ -67,6 +59,7 @@ pub(crate) fn restart(
             p.unclean = true;
             Ok(())
         }
+        // Not reached, which nothing proves: the row has tested the epoch and the stable end.
         Err(_) => Err(AllocError),
     }
 }
@@ -79,6 +72,7 @@ pub(crate) fn lead(p: &mut State, alloc: Global, b: usize, epoch: u32) -> Result
 {
     let x = p.brokers.get(b);
     let last = end(x.log.as_slice());
+    // The model's ends have no bound, a stable end has 64 bits.
     if last > u128::from(u64::MAX) {
         return Err(AllocError);
     }

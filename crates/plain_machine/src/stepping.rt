@@ -137,6 +137,7 @@ fn commit(
     requires replica { order.now.broker.0 < length p.old.registry.replicas }
     requires begins { IsPrefix p.old.committed (current p.old.paths p.old.registry.epoch p.old.committed) }
     requires joined { AreJoined p.old }
+    requires fit { IsFor order.now.command }
     ensures ok { OnOk result (AtBroker p.old order.now.broker.0 (λ x s.
         p.new ≡ with_actor id.0 actor (changed p.old order.now.broker.0 x s order.now.command change))) }
     ensures err { OnErr result (p.new ≡ p.old) }
@@ -178,6 +179,7 @@ fn answer(
     let Some(change) = decided(p, order, id, answer) else {
         return Ok(false);
     };
+    // The model's numbers of commands have no bound, the machine's have 32 bits.
     let Some(number) = number(p, id.0 as usize).checked_add(1) else {
         return Err(AllocError);
     };
@@ -214,6 +216,7 @@ fn begin(
     cut: Option<u64>,
 ) -> Result<bool, AllocError>
     requires safe { PlainSafe p.old }
+    requires fit { IsFor order.now.command }
     requires broker { order.now.broker.0 < length p.old.brokers }
     requires replica { order.now.broker.0 < length p.old.registry.replicas }
     ensures ok { IfOk result (λ taken. AtBroker p.old order.now.broker.0 (λ x s.
