@@ -14,8 +14,8 @@ PROGRAM is the path of `tiered`. Four things are run, in README.md and in docs/:
 - A block ```bytes has hexadecimal digits at the head of its lines: a batch that was fetched in the
   script block before it.
 
-The gate runs no document. So the refused lines stand once more in a table of the program's crate, and
-the scripts with their whole traces, those of examples/ too, in a text there. Both are made here, and
+The gate runs no document. So the refused lines stand once more in a table of the crate `run_tests`, and
+the scripts with their whole traces, those of examples/ too, in texts there. All are made here, and
 tests of that crate go over them. The rest is run here alone.
 """
 import glob
@@ -29,8 +29,10 @@ TOP = os.path.join(os.path.dirname(os.path.abspath(__file__)), "..")
 sys.path.insert(0, os.path.join(TOP, "examples"))
 from view import beside  # noqa: E402
 
-TABLE = "crates/broker_main/src/shown.rt"
-RUNS = "crates/broker_main/src/shown_runs.rt"
+TABLE = "crates/run_tests/src/shown.rt"
+RUNS = "crates/run_tests/src/shown_runs"
+# So many lines have the texts of scripts at most, but for the last script of each.
+MOST = 600
 BLOCK = re.compile(r"^```(script|console|bytes)\n(.*?)^```$", re.S | re.M)
 
 
@@ -66,13 +68,34 @@ def table(refused):
     return text
 
 
+def parted(cases):
+    """The scripts in parts, each of some hundred lines."""
+    parts, lines = [[]], 0
+    for case in cases:
+        if lines > MOST:
+            parts, lines = parts + [[]], 0
+        parts[-1].append(case)
+        lines += case[1].count("\n") + case[2].count("\n") + 1
+    return parts
+
+
 def runs(cases):
-    """The scripts of the gate, with their traces."""
-    text = "//! What the documents and the examples show as run. Made by docs/snippets.py, which tells where it is another.\n"
-    text += f"\n/// How many scripts there are.\npub(crate) static COUNT: u32 = {len(cases)};\n"
-    text += "\n/// A script, a grave accent, its trace, a grave accent, and so on. A script's first line says where it is shown.\n"
-    shown = "".join(f"# {place}\n{script}`{trace}`" for place, script, trace in cases)
-    return text + f"pub(crate) static RUNS: &str = {literal(shown)};\n".replace("\\n", "\n")
+    """The scripts of the gate, with their traces: the name of each file, and its text."""
+    parts = parted(cases)
+    names = [f"part_{number}" for number in range(1, len(parts) + 1)]
+    head = "//! What the documents and the examples show as run{}. Made by docs/snippets.py, which tells where it is another.\n"
+    top = head.format("") + "\n" + "".join(f"mod {name};\n" for name in names)
+    top += f"\n/// How many scripts there are.\npub(crate) static COUNT: u32 = {len(cases)};\n"
+    top += f"\n/// How many parts they stand in.\npub(crate) static PARTS: usize = {len(parts)};\n"
+    top += "\n/// A part's text: a script, a grave accent, its trace, a grave accent, and so on. A script's first line says where it is shown.\n"
+    top += "pub(crate) fn text(part: usize) -> &'static str {\n    match part {\n"
+    top += "".join(f"        {at} => {name}::RUNS,\n" for at, name in enumerate(names)) + "        _ => \"\",\n    }\n}\n"
+    made = {RUNS + ".rt": top}
+    for number, (name, part) in enumerate(zip(names, parts), 1):
+        shown = "".join(f"# {place}\n{script}`{trace}`" for place, script, trace in part)
+        text = head.format(f", part {number}") + "\n/// Scripts and their traces.\n"
+        made[f"{RUNS}/{name}.rt"] = text + f"pub(crate) static RUNS: &str = {literal(shown)};\n".replace("\\n", "\n")
+    return made
 
 
 def examples(program, wrong):
@@ -163,6 +186,13 @@ def refusals(program, page, wrong, refused):
     return count
 
 
+def read_or_none(path):
+    if not os.path.exists(path):
+        return ""
+    with open(path, encoding="utf-8") as f:
+        return f.read()
+
+
 def main():
     if len(sys.argv) != 3 or sys.argv[1] not in ("check", "write"):
         print(__doc__.strip())
@@ -181,9 +211,8 @@ def main():
             with open(path, "w", encoding="utf-8") as f:
                 f.write(new)
     cases += examples(program, wrong)
-    for path, new in ((TABLE, table(refused)), (RUNS, runs(cases))):
-        with open(os.path.join(TOP, path), encoding="utf-8") as f:
-            old = f.read()
+    for path, new in {TABLE: table(refused), **runs(cases)}.items():
+        old = read_or_none(os.path.join(TOP, path))
         if as_laid_out(new) != as_laid_out(old) and word == "check":
             wrong.append(path + " isn't what the documents show")
         if word == "write":

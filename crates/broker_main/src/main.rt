@@ -1,61 +1,15 @@
 //! The program: runs a script of log commands, and writes what each was answered, or runs a load and sums it up.
 //!
-//! `top.rt` has the call with the headline. What stands here hands it the words, standard input, a yard over the folder that
-//! the words name, and standard output, prints the status's line to standard error and what explains it behind that, and ends
-//! with the status's number.
+//! `broker_call` has the call with the headline. What stands here hands it the words, standard input, a yard over the folder
+//! that the words name, and standard output, prints the status's line to standard error and what explains it behind that, and
+//! ends with the status's number.
 #![tactic(auto)]
 
-mod devices;
-mod explaining;
-mod load;
-mod partition;
-mod plans;
-mod run;
-mod sim;
-mod status;
-mod top;
-mod words;
-
-use explaining::{explained, script_source};
+use broker_call::{Status, explained, folder, printed, script_source, tiered};
 use folder_yard::FolderYard;
-pub use script_lang::Why;
-pub use status::Status;
 use std::process::ExitCode;
 use std::{env, io};
 use tier_base::{StdSink, StdSource};
-pub use top::tiered;
-
-/// What `--help` prints.
-const HELP: &str = "\
-tiered: a partition's log, run by a script
-
-usage:
-  tiered sim      reads a script from standard input, runs it, and writes the trace to standard output
-  tiered run DIR  the same over the folder DIR, in which nothing may stand: the brokers' logs, the remote store and its
-                  metadata log become files of it
-  tiered gen N    runs the load of number N, from 0 to 4294967295, and writes how often each command was answered
-                  in which way, and where each partition ended
-  tiered --help
-  tiered --version
-
-exit status:
-  0  done
-  2  the words have none of these forms
-  3  a line of the script has no reading
-  4  standard input failed
-  5  standard output failed
-  6  out of memory
-  7  the script has more than 16777216 bytes
-  8  the folder failed
-  9  something stands in the folder
-
-documents:
-  README.md       what the program does, and what is proved of it
-  docs/SCRIPT.md  every form of line, every answer and every status
-";
-
-/// What `--version` prints.
-const VERSION: &str = "tiered 0.1.0\n";
 
 /// Collects the words behind the program's name. A word that isn't text has no form.
 fn arguments(rt: &HostRuntime) -> Result<Vec<String>, Status> {
@@ -80,18 +34,6 @@ fn refused(error: &io::Error) -> Status {
     }
 }
 
-/// What the words of the program itself print, if they are such.
-fn printed(words: &[String]) -> Option<&'static str> {
-    match words {
-        [word] => match word.as_str() {
-            "--help" => Some(HELP),
-            "--version" => Some(VERSION),
-            _ => None,
-        },
-        _ => None,
-    }
-}
-
 fn main(rt: HostRuntime) -> ExitCode {
     let words = match arguments(&rt) {
         Ok(words) => words,
@@ -113,14 +55,6 @@ fn main(rt: HostRuntime) -> ExitCode {
     told(&rt, status, script.kept())
 }
 
-/// The folder that the words name.
-fn folder(words: &[String]) -> &str {
-    match words.get(1) {
-        Some(word) => word.as_str(),
-        None => ".",
-    }
-}
-
 /// Prints a status's line and what explains it to standard error, and gives the status's number.
 fn told(rt: &HostRuntime, status: Status, script: &[u8]) -> ExitCode {
     if let Ok(text) = status.line(rt.alloc()) {
@@ -131,18 +65,3 @@ fn told(rt: &HostRuntime, status: Status, script: &[u8]) -> ExitCode {
     }
     ExitCode::from(status.number())
 }
-
-#[cfg(test)]
-mod broker_tests;
-#[cfg(test)]
-mod law_tests;
-#[cfg(test)]
-mod shown;
-#[cfg(test)]
-mod shown_runs;
-#[cfg(test)]
-mod shown_tests;
-#[cfg(test)]
-mod tests;
-#[cfg(test)]
-mod yard_tests;

@@ -1,0 +1,39 @@
+-- The forms of the words behind the program's name.
+--
+--   sim       reads a script, runs it, and writes the trace
+--   run DIR   reads a script, runs it over the devices of a folder, and writes the trace
+--   gen N     runs the script of the number N, and writes the summary
+--
+-- N = "0" / nonzero-digit *digit, at most 4294967295
+use Rattle.std.specs.Prelude.{ℕ, ◌==◌, ◌&&◌, bytes_eq, ◌^◌, nat_lt, not, if◌then◌else◌, Bool, true, false, List, [], ◌∷◌, map, codes, string_bytes, String, Option, Some, None, option_map}
+use Rattle.std.specs.Global.{Global}
+use Rattle.std.specs.Char.{is_ascii_digit}
+use Rattle.std.specs.List.{list_all}
+use Rattle.std.specs.Str.Parse.{digits_value}
+use Rattle.broker_call.specs.declared.words.Form.{Form}
+use Rattle.broker_call.specs.declared.words.Form.TheVariants.{Sim, Run, Gen}
+
+-- there is a digit, and no leading zero
+abbrev pub is_shortest : List ℕ → Bool
+is_shortest [] = false
+is_shortest (d ∷ []) = true
+is_shortest (d ∷ e ∷ ds) = not (d == 48)
+
+-- the word is N
+abbrev pub is_number : List ℕ → Bool
+is_number word = list_all is_ascii_digit word && is_shortest word && nat_lt (digits_value 10 word) (2 ^ 32)
+
+-- the number that it spells
+abbrev pub number_of : List ℕ → Option ℕ
+number_of word = if is_number word then Some (digits_value 10 word) else None
+
+-- the form of a few words; of a folder any word is the name
+abbrev pub form_in : List (List ℕ) → Option Form
+form_in (word ∷ []) = if bytes_eq word (codes "sim") then Some Sim else None
+form_in (word ∷ second ∷ []) =
+    if bytes_eq word (codes "run") then Some Run else if bytes_eq word (codes "gen") then option_map Gen (number_of second) else None
+form_in other = None
+
+-- the form of the words
+abbrev pub form_of : List (String Global) → Option Form
+form_of words = form_in (map string_bytes words)

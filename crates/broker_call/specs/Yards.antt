@@ -1,0 +1,125 @@
+-- What a run over a yard writes, and how it may end.
+--
+-- The yard is asked for its first name before the first device is handed out: a run begins only where there is none.
+use Rattle.std.specs.Prelude.{◌≡◌, ◌≢◌, ℕ, ◌+◌, ◌≤◌, List, length, Option, Some, None, Ok, Err, IsOk, IsTrue}
+use Rattle.std.specs.declared.result.Result.{Result}
+use Rattle.std.specs.Io.KnownBytes.{Appends}
+use Rattle.tier_base.specs.Counts.{counted, Rose}
+use Rattle.tier_base.specs.Stream.{Gave, ReadsWhole, AppendsFront}
+use Rattle.tier_base.specs.declared.stream.Source.{Ghosts as SourceGhosts}
+use Rattle.tier_base.specs.declared.stream.Sink.{Ghosts as SinkGhosts}
+use Rattle.disk_model.specs.declared.disk.Disk.{Ghosts as DiskGhosts}
+use Rattle.object_store.specs.declared.store.Store.{Ghosts as StoreGhosts}
+use Rattle.meta_log.specs.declared.log.MetaLog.{Ghosts as MetaGhosts}
+use Rattle.device_yard.specs.Control.{Control, Names}
+use Rattle.device_yard.specs.Held.{Held, IsFirst, IsName}
+use Rattle.script_lang.specs.declared.refusal.Why.{Why}
+use Rattle.script_lang.specs.declared.script.Script.{Script}
+use Rattle.script_lang.specs.Script.{script_in}
+use Rattle.yard_run.specs.Runs.{IsRunText}
+use Rattle.broker_call.specs.declared.status.Status.{Status}
+use Rattle.broker_call.specs.declared.status.Status.TheVariants as ending
+use Rattle.broker_call.specs.Headline.{ReadsBad}
+use Rattle.broker_call.specs.Endings.{script_limit, IsRefusedOrNoMemory}
+
+-- all was done, or the yard has this name, or there was no memory
+abbrev pub IsDoneOrNamed : Option (List ℕ) → Status → Type 0
+IsDoneOrNamed named ending.Ok = Unit {0}
+IsDoneOrNamed named ending.NoMemory = Unit {0}
+IsDoneOrNamed named (ending.NotEmpty name) = named ≡ Some name
+IsDoneOrNamed named other = ⊥
+
+-- the script wasn't read to its end, or has no reading
+abbrev pub IsOfScript : Status → Type 0
+IsOfScript ending.ReadFault = Unit {0}
+IsOfScript ending.TooLong = Unit {0}
+IsOfScript (ending.BadScript line why) = Unit {0}
+IsOfScript other = ⊥
+
+module _ {D S M : Type 0} (disk : DiskGhosts D) (store : StoreGhosts S) (meta : MetaGhosts M) where
+  -- why a script that was read isn't run to its end: the yard has this first name, or failed, or there was no memory
+  abbrev pub StopsOver : Held D S M → Control → Control → Status → Type 0
+  StopsOver held control control' (ending.NotEmpty name) =
+      (control'.named ≡ Some name) × (IsTrue held.tells → IsFirst (IsName disk.content store.content meta.content held) (Some name))
+  StopsOver held control control' ending.YardFault = Rose control.faults control'.faults
+  StopsOver held control control' ending.NoMemory = Unit {0}
+  StopsOver held control control' other = ⊥
+
+  -- why there is no trace of a script with this reading: it has none, and then the yard isn't asked, or it isn't run to its end
+  abbrev pub HasNoTrace : Result Script (ℕ × Why) → Held D S M → Control → Control → Status → Type 0
+  HasNoTrace reading held control control' (ending.BadScript line why) = (reading ≡ Err (line, why)) × (control' ≡ control)
+  HasNoTrace reading held control control' ending.NoMemory = Unit {0}
+  HasNoTrace reading held control control' other = IsOk reading × StopsOver held control control' other
+
+  -- the yard names nothing, and then the text is the trace of a run of each partition of the script over the yard's devices,
+  -- which are all back
+  pub record RunsOver (script : Script) (text : List ℕ) (held held' : Held D S M) (control control' : Control) : Type 0 where
+    pub asked : Control
+    pub names : Names (Ok None) control asked
+    pub nameless : IsTrue held.tells → IsFirst (IsName disk.content store.content meta.content held) None
+    pub text_is : IsRunText disk store meta script.config script.parts held' text asked control'
+
+  -- so it is with the script that these bytes are
+  pub record IsTraceOver (bytes text : List ℕ) (held held' : Held D S M) (control control' : Control) : Type 0 where
+    pub script : Script
+    pub read : script_in bytes ≡ Ok script
+    pub runs : RunsOver script text held held' control control'
+
+  -- the source was read to its end, and such a trace of what it gave was written
+  pub record WritesTraceOver (left left' : Option (List ℕ)) (held held' : Held D S M) (control control' : Control)
+      (sunk sunk' : Option (List ℕ)) : Type 0 where
+    pub script : List ℕ
+    pub read : ReadsWhole left left' script
+    pub text : List ℕ
+    pub trace : IsTraceOver script text held held' control control'
+    pub written : Appends sunk sunk' text
+
+  -- the same, but that a front of the trace was written, and not all of it
+  pub record WritesFrontOver (left left' : Option (List ℕ)) (held held' : Held D S M) (control control' : Control)
+      (sunk sunk' : Option (List ℕ)) : Type 0 where
+    pub script : List ℕ
+    pub read : ReadsWhole left left' script
+    pub text : List ℕ
+    pub trace : IsTraceOver script text held held' control control'
+    pub written : AppendsFront sunk sunk' text
+
+module _ {D S M R W : Type 0} (disk : DiskGhosts D) (store : StoreGhosts S) (meta : MetaGhosts M) (source : SourceGhosts R)
+    (sink : SinkGhosts W) where
+  -- `run`, from a source to a sink
+  pub record RunsInYard (script script' : R) (held held' : Held D S M) (control control' : Control) (out out' : W)
+      (status : Status) : Type 0 where
+    -- every command of the script is answered once and in order, over a yard that tells as the plain log allows, and all of
+    -- that is written
+    pub trace : status ≡ ending.Ok
+        → WritesTraceOver disk store meta (source.left script) (source.left script') held held' control control'
+        (sink.written out) (sink.written out')
+    -- each device that was handed out is back
+    pub back : control'.out ≡ control.out
+    pub tells : held'.tells ≡ held.tells
+    -- each other status has its cause; want of memory alone is free
+    pub read_fault : status ≡ ending.ReadFault → Rose (source.faults script) (source.faults script')
+    pub long : status ≡ ending.TooLong → source.given script' ≡ counted (source.given script) (script_limit + 1)
+    pub long_bytes : status ≡ ending.TooLong → Gave (source.left script) (source.left script') (script_limit + 1)
+    pub not_long : status ≢ ending.TooLong → source.given script' ≤ source.given script + script_limit
+    pub bad : (line : ℕ) (why : Why) → status ≡ ending.BadScript line why
+        → ReadsBad (source.left script) (source.left script') line why
+    pub not_empty : (name : List ℕ) → status ≡ ending.NotEmpty name → control'.named ≡ Some name
+    pub first : (name : List ℕ) → status ≡ ending.NotEmpty name → IsTrue held.tells
+        → IsFirst (IsName disk.content store.content meta.content held) (Some name)
+    pub yard_fault : status ≡ ending.YardFault → Rose control.faults control'.faults
+    pub write_fault : status ≡ ending.WriteFault → Rose (sink.faults out) (sink.faults out')
+    pub front : status ≡ ending.WriteFault
+        → WritesFrontOver disk store meta (source.left script) (source.left script') held held' control control'
+        (sink.written out) (sink.written out')
+    -- where nothing fails, a script with a reading is run, unless the yard has a name or memory runs out
+    pub complete : ¬ Rose (source.faults script) (source.faults script') → ¬ Rose control.faults control'.faults
+        → ¬ Rose (sink.faults out) (sink.faults out') → (bytes : List ℕ) → source.left script ≡ Some bytes
+        → length bytes ≤ script_limit → IsOk (script_in bytes) → IsDoneOrNamed control'.named status
+    -- and one without is refused, at its first line that has none and for that line's first cause
+    pub refused : ¬ Rose (source.faults script) (source.faults script')
+        → (bytes : List ℕ) (number : ℕ) (why : Why) → source.left script ≡ Some bytes → length bytes ≤ script_limit
+        → script_in bytes ≡ Err (number, why) → IsRefusedOrNoMemory number why status
+    -- then the yard isn't asked
+    pub unasked : IsOfScript status → control' ≡ control
+    -- nothing else writes
+    pub unwritten : status ≢ ending.Ok → status ≢ ending.WriteFault → sink.written out' ≡ sink.written out

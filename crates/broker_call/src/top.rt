@@ -1,0 +1,56 @@
+//! The call that the program makes: words, a source, a yard and a sink in, a status out.
+
+ghost use Rattle.std.specs.Prelude.{◌≡◌, ◌≢◌, ◌↔◌, ℕ, Some, None};
+ghost use Rattle.broker_call.specs.declared.words.Form.{Form};
+ghost use Rattle.broker_call.specs.Words.{form_of as form_is};
+ghost use Rattle.broker_call.specs.Endings.{Simulates, Generates};
+ghost use Rattle.broker_call.specs.Yards.{RunsInYard};
+
+use crate::load::generate;
+use crate::run::run;
+use crate::sim::simulate;
+use crate::status::Status;
+use crate::words::{Form, form_of};
+use device_yard::Yard;
+use disk_model::{Disk, MemoryDisk};
+use meta_log::{MemoryLog, MetaLog};
+use object_store::{MemoryStore, Store};
+use tier_base::{Sink, Source};
+
+/// Does what the words ask for.
+pub fn tiered<H: AllocGlobal, R: Source, Y: Yard, W: Sink>(
+    rt: &H,
+    words: &[String],
+    script: &mut R,
+    yard: &mut Y,
+    out: &mut W,
+) -> Status
+    // A script is run: every command of it is answered once and in order, as the plain log allows, and all of that is written.
+    ensures simulates { form_is words.now ≡ Some Form.Sim
+        → Simulates ⟦<MemoryDisk as Disk>⟧ ⟦<MemoryStore as Store>⟧ ⟦<MemoryLog as MetaLog>⟧ R.Source W.Sink
+        script.old script.new out.old out.new result }
+
+    // A script is run over the devices of a yard: over any yard every command is answered once and in order, and each device
+    // is given back; over one that tells the trace is a run of the plain log, and the yard holds the devices with what it left.
+    ensures runs { form_is words.now ≡ Some Form.Run
+        → RunsInYard Y.D.Disk Y.S.Store Y.M.MetaLog R.Source W.Sink script.old script.new
+        (Y.held yard.old) (Y.held yard.new) (Y.control yard.old) (Y.control yard.new) out.old out.new result }
+    ensures yard { form_is words.now ≢ Some Form.Run → yard.new ≡ yard.old }
+
+    // The script of a number is run, and what its journals come to is written.
+    ensures generates { (number : ℕ) → form_is words.now ≡ Some (Form.Gen number)
+        → Generates ⟦<MemoryDisk as Disk>⟧ ⟦<MemoryStore as Store>⟧ ⟦<MemoryLog as MetaLog>⟧ W.Sink
+        number out.old out.new result }
+    ensures unread { form_is words.now ≢ Some Form.Sim → form_is words.now ≢ Some Form.Run → script.new ≡ script.old }
+
+    // Other words have no form.
+    ensures usage { result ≡ Status.Usage ↔ (form_is words.now ≡ None) }
+    ensures untouched { result ≡ Status.Usage → out.new ≡ out.old }
+{
+    match form_of(words) {
+        None => Status::Usage,
+        Some(Form::Sim) => simulate(rt.alloc(), script, out),
+        Some(Form::Run) => run(rt.alloc(), script, yard, out),
+        Some(Form::Gen(number)) => generate(rt.alloc(), number, out),
+    }
+}

@@ -1,0 +1,66 @@
+//! The words behind the program's name, and which form they have.
+
+ghost use Rattle.std.specs.Prelude.{◌≡◌};
+ghost use Rattle.std.specs.List.{list_all};
+ghost use Rattle.std.specs.Char.{is_ascii_digit};
+ghost use Rattle.broker_call.specs.Words.{form_of as form_is, number_of as number_is, is_shortest as shortest};
+
+/// What the words ask for.
+#[derive(Clone, Copy, Debug, PartialEq, Eq)]
+pub enum Form {
+    /// `sim`: a script is read and run, and its trace is written.
+    Sim,
+    /// `run DIR`: a script is read and run over the devices of a folder, and its trace is written.
+    Run,
+    /// `gen N`: the script of a number is run, and its summary is written.
+    Gen(u32),
+}
+
+/// Whether each byte is a digit.
+fn are_digits(word: &[u8]) -> bool
+    ensures { result ≡ list_all is_ascii_digit word.now }
+{
+    word.iter().all(|byte| byte.is_ascii_digit())
+}
+
+/// Whether no digit in front of these could be left out.
+fn is_shortest(word: &[u8]) -> bool
+    ensures { result ≡ shortest word.now }
+{
+    match word {
+        [] => false,
+        [_] => true,
+        [first, ..] => *first != b'0',
+    }
+}
+
+/// The number that a word spells.
+fn number_of(word: &str) -> Option<u32>
+    ensures { result ≡ number_is word.now }
+{
+    let digits = word.as_bytes();
+    if !are_digits(digits) || !is_shortest(digits) {
+        return None;
+    }
+    word.parse::<u32>().ok()
+}
+
+/// The form that the words have, if any.
+pub fn form_of(words: &[String]) -> Option<Form>
+    ensures { result ≡ form_is words.now }
+{
+    match words {
+        [word] if word.as_str() == "sim" => Some(Form::Sim),
+        [word, _] if word.as_str() == "run" => Some(Form::Run),
+        [word, number] if word.as_str() == "gen" => Some(Form::Gen(number_of(number.as_str())?)),
+        _ => None,
+    }
+}
+
+/// The folder that the words name.
+pub fn folder(words: &[String]) -> &str {
+    match words.get(1) {
+        Some(word) => word.as_str(),
+        None => ".",
+    }
+}

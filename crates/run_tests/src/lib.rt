@@ -1,0 +1,20 @@
+//! Tests of the program's call: scripts and their traces, what the documents show, statuses, faults of the source and the
+//! sink, runs over a yard, and laws that are generic over the devices.
+//!
+//! They stand apart from the crates that they test, since a crate is proved anew where its tests are built.
+#![tactic(auto)]
+
+#[cfg(test)]
+mod broker_tests;
+#[cfg(test)]
+mod law_tests;
+#[cfg(test)]
+mod shown;
+#[cfg(test)]
+mod shown_runs;
+#[cfg(test)]
+mod shown_tests;
+#[cfg(test)]
+mod tests;
+#[cfg(test)]
+mod yard_tests;

@@ -1,0 +1,21 @@
+//! What the documents and the examples show as run. Made by docs/snippets.py, which tells where it is another.
+
+mod part_1;
+mod part_2;
+mod part_3;
+
+/// How many scripts there are.
+pub(crate) static COUNT: u32 = 49;
+
+/// How many parts they stand in.
+pub(crate) static PARTS: usize = 3;
+
+/// A part's text: a script, a grave accent, its trace, a grave accent, and so on. A script's first line says where it is shown.
+pub(crate) fn text(part: usize) -> &'static str {
+    match part {
+        0 => part_1::RUNS,
+        1 => part_2::RUNS,
+        2 => part_3::RUNS,
+        _ => "",
+    }
+}

@@ -1,0 +1,731 @@
+//! What the documents and the examples show as run, part 2. Made by docs/snippets.py, which tells where it is another.
+
+/// Scripts and their traces.
+pub(crate) static RUNS: &str = "# docs/SCRIPT.md, script 22
+brokers 2
+segment_bytes 200
+1 0 1 shrink
+0 0 0 append 1000,-,:a
+0 0 0 append 1000,-,:b
+0 0 0 append 1000,-,:c
+0 0 0 flush
+0 0 0 ack
+0 0 0 raise 2
+0 0 0 trim
+1 0 1 follow 1000
+1 0 1 join
+1 0 1 follow 1000
+`0 1 0 = Ok
+0 0 0 = Ok 0 0 0
+0 0 1 = Ok 1 1 0
+0 0 2 = Ok 2 2 0
+0 0 3 = Ok 3
+0 0 4 = Ok 3
+0 0 5 = Ok 2
+0 0 6 begin
+0 0 6 = Dropped 0 1
+0 1 1 = Moved 2
+0 1 2 begin cut 0
+0 1 2 = Rebuilt 2
+0 1 3 begin
+0 1 3 = Copied 3
+`# docs/SCRIPT.md, script 23
+brokers 2
+0 0 0 append 1000,-,:a
+0 0 0 flush
+0 0 0 ack
+1 0 1 follow 1000
+1 0 1 ack
+1 0 1 flush
+1 0 1 ack
+1 0 1 elect
+0 0 0 ack
+0 0 0 learn
+0 0 0 ack
+0 0 0 stop
+0 0 0 ack
+`0 0 0 = Ok 0 0 0
+0 0 1 = Ok 1
+0 0 2 = Ok 0
+0 1 0 begin
+0 1 0 = Copied 1
+0 1 1 = Ok 0
+0 1 2 = Ok 1
+0 1 3 = Ok 1
+0 1 4 = Ok 1
+0 0 3 = StaleEpoch 1
+0 0 4 = Follows 1
+0 0 5 = NotJoined
+0 0 6 = Ok
+0 0 7 = Down
+`# docs/SCRIPT.md, script 24
+brokers 2
+0 0 0 shrink
+1 0 1 shrink
+1 0 1 shrink
+`0 0 0 = IsLeader
+0 1 0 = Ok
+0 1 1 = NotInSync
+`# docs/SCRIPT.md, script 25
+brokers 2
+1 0 1 shrink
+0 0 0 append 1000,-,:a
+0 0 0 flush
+0 0 0 ack
+1 0 1 expand
+1 0 1 stop
+1 0 1 expand
+1 0 1 up
+1 0 1 learn
+1 0 1 join
+1 0 1 follow 1000
+1 0 1 flush
+1 0 1 ack
+1 0 1 expand
+`0 1 0 = Ok
+0 0 0 = Ok 0 0 0
+0 0 1 = Ok 1
+0 0 2 = Ok 1
+0 1 1 = Behind 0 1
+0 1 2 = Ok
+0 1 3 = DownBroker
+0 1 4 = Up 0
+0 1 5 = Follows 0
+0 1 6 = Cut 0
+0 1 7 begin
+0 1 7 = Copied 1
+0 1 8 = Ok 1
+0 1 9 = Ok 1
+0 1 10 = Ok
+`# docs/SCRIPT.md, script 26
+brokers 2
+segment_bytes 200
+fault 0 meta read 3 before
+fault 0 disk 0 read 1 before
+fault 0 store put 3 after
+fault 0 meta append 3 before
+1 0 1 shrink
+# a segment has two of these batches, so the third one closes it
+0 0 0 append 1000,-,:a
+0 0 0 append 1000,-,:b
+0 0 0 append 1000,-,:c
+1 0 1 copy
+0 0 0 copy
+0 0 0 flush
+0 0 0 ack
+0 0 0 copy
+0 0 0 copy
+0 0 0 copy
+0 0 0 copy
+0 0 0 copy
+0 0 0 copy
+# a roll closes the open segment, and its copy loses the lead at the fourth turn
+0 0 0 roll
+later 2 0 0 copy
+turn 2 3
+0 0 0 stop
+0 0 0 copy
+turn 2 1
+`0 1 0 = Ok
+0 0 0 = Ok 0 0 0
+0 0 1 = Ok 1 1 0
+0 0 2 = Ok 2 2 0
+0 1 1 = NotLeader
+0 0 3 begin
+0 0 3 = Level
+0 0 4 = Ok 3
+0 0 5 = Ok 3
+0 0 6 begin
+0 0 6 = DiskFault
+0 0 7 = MetaFault
+0 0 8 begin
+0 0 8 = StoreFault
+0 0 9 begin
+0 0 9 = MetaFault
+0 0 10 begin
+0 0 10 = Copied 00000000-0000-0001-0000-000000000002 0 1
+0 0 11 begin
+0 0 11 = Level
+0 0 12 = Ok 3
+0 2 0 begin
+0 0 13 = Ok
+0 0 14 = Down
+0 2 0 = LostLead
+`# docs/SCRIPT.md, script 27
+segment_bytes 200
+local_retention_bytes 0
+fault 0 meta read 4 before
+fault 0 disk 0 replace 3 before
+0 0 0 append 1000,-,:a
+0 0 0 append 1000,-,:b
+0 0 0 append 1000,-,:c
+0 0 0 append 1000,-,:d
+0 0 0 append 1000,-,:e
+0 0 0 flush
+0 0 0 ack
+# the segment isn't copied yet
+0 0 0 trim
+0 0 0 copy
+0 0 0 trim
+0 0 0 trim
+# the next one isn't copied either, so it is kept; and once it is, its trim stops the broker
+0 0 0 trim
+0 0 0 copy
+later 1 0 0 trim
+turn 1 1
+0 0 0 trim
+0 0 0 trim
+turn 1 1
+0 0 0 up
+# the segment is still there, but the broker knows no high watermark until it leads
+0 0 0 trim
+0 0 0 elect
+0 0 0 learn
+0 0 0 trim
+0 0 0 fetch 2 1000
+`0 0 0 = Ok 0 0 0
+0 0 1 = Ok 1 1 0
+0 0 2 = Ok 2 2 0
+0 0 3 = Ok 3 3 0
+0 0 4 = Ok 4 4 0
+0 0 5 = Ok 5
+0 0 6 = Ok 5
+0 0 7 begin
+0 0 7 = Kept
+0 0 8 begin
+0 0 8 = Copied 00000000-0000-0001-0000-000000000000 0 1
+0 0 9 = MetaFault
+0 0 10 begin
+0 0 10 = Dropped 0 1
+0 0 11 begin
+0 0 11 = Kept
+0 0 12 begin
+0 0 12 = Copied 00000000-0000-0001-0000-000000000001 2 3
+0 1 0 begin
+0 0 13 begin
+0 0 13 = DiskFault
+0 0 14 = Down
+0 1 0 = Stopped
+0 0 15 = Up 5
+0 0 16 begin
+0 0 16 = Kept
+0 0 17 = Ok 1
+0 0 18 = Leads 1
+0 0 19 begin
+0 0 19 = Dropped 2 3
+0 0 20 begin
+0 0 20 = Run remote 00000000-0000-0001-0000-000000000001 138 Piece 0000000000000002000000390000000002ccb4b8a500000000000000000000000003e800000000000003e8ffffffffffffffffffffffffffff000000010e000000010263000000000000000003000000390000000002b6d971e000000000000000000000000003e800000000000003e8ffffffffffffffffffffffffffff000000010e00000001026400
+`# docs/SCRIPT.md, script 28
+segment_bytes 200
+retention_ms -1
+0 0 0 append 1000,-,:a
+0 0 0 append 1000,-,:b
+0 0 0 append 1000,-,:c
+0 0 0 flush
+0 0 0 ack
+0 0 0 raise 1
+0 0 0 trim
+0 0 0 raise 2
+0 0 0 trim
+`0 0 0 = Ok 0 0 0
+0 0 1 = Ok 1 1 0
+0 0 2 = Ok 2 2 0
+0 0 3 = Ok 3
+0 0 4 = Ok 3
+0 0 5 = Ok 1
+0 0 6 begin
+0 0 6 = Kept
+0 0 7 = Ok 2
+0 0 8 begin
+0 0 8 = Dropped 0 1
+`# docs/SCRIPT.md, script 29
+segment_bytes 200
+retention_ms 1000
+fault 0 store delete 3 before
+0 0 0 append 1000,-,:a
+0 0 0 append 1500,-,:b
+0 0 0 append 3000,-,:c
+0 0 0 append 3000,-,:d
+0 0 0 append 3000,-,:e
+0 0 0 flush
+0 0 0 ack
+# nothing is copied yet, so nothing goes
+0 0 - clock 2501
+0 0 0 expire
+0 0 0 copy
+0 0 0 expire
+0 0 0 fetch 1 1000
+# the third object stays, and so the next expiry deletes them all again
+0 0 0 expire
+0 0 0 expire
+0 0 0 expire
+# the second copy is as old, but for the open segment nothing goes behind it
+0 0 0 copy
+0 0 - clock 9000
+0 0 0 expire
+0 0 0 expire
+0 0 0 expire
+`0 0 0 = Ok 0 0 0
+0 0 1 = Ok 1 1 0
+0 0 2 = Ok 2 2 0
+0 0 3 = Ok 3 3 0
+0 0 4 = Ok 4 4 0
+0 0 5 = Ok 5
+0 0 6 = Ok 5
+0 0 7 = Ok
+0 0 8 begin
+0 0 8 = Kept
+0 0 9 begin
+0 0 9 = Copied 00000000-0000-0001-0000-000000000000 0 1
+0 0 10 begin
+0 0 10 = Raised 2
+0 0 11 = OutOfRange 2 5
+0 0 12 begin
+0 0 12 = StoreFault
+0 0 13 begin
+0 0 13 = Deleted 00000000-0000-0001-0000-000000000000
+0 0 14 begin
+0 0 14 = Kept
+0 0 15 begin
+0 0 15 = Copied 00000000-0000-0001-0000-000000000001 2 3
+0 0 16 = Ok
+0 0 17 begin
+0 0 17 = Raised 4
+0 0 18 begin
+0 0 18 = Deleted 00000000-0000-0001-0000-000000000001
+0 0 19 begin
+0 0 19 = Kept
+`# docs/SCRIPT.md, script 30
+brokers 2
+segment_bytes 200
+retention_bytes 100
+0 0 0 append 1000,-,:a
+0 0 0 append 1000,-,:b
+0 0 0 append 1000,-,:c
+0 0 0 flush
+1 0 1 follow 1000
+1 0 1 flush
+1 0 1 ack
+0 0 0 ack
+0 0 0 copy
+# of 207 bytes 69 would be left
+0 0 0 expire
+0 0 0 append 1000,-,:d
+0 0 0 flush
+1 0 1 elect
+# the old leader doesn't know that it was replaced
+0 0 0 expire
+1 0 1 expire
+1 0 1 learn
+later 2 0 1 expire
+turn 2 1
+1 0 1 stop
+turn 2 1
+`0 0 0 = Ok 0 0 0
+0 0 1 = Ok 1 1 0
+0 0 2 = Ok 2 2 0
+0 0 3 = Ok 3
+0 1 0 begin
+0 1 0 = Copied 2
+0 1 1 = Ok 2
+0 1 2 = Ok 0
+0 0 4 = Ok 2
+0 0 5 begin
+0 0 5 = Copied 00000000-0000-0001-0000-000000000000 0 1
+0 0 6 begin
+0 0 6 = Kept
+0 0 7 = Ok 3 3 0
+0 0 8 = Ok 4
+0 1 3 = Ok 1
+0 0 9 begin
+0 0 9 = StaleEpoch 1
+0 1 4 = NotLeader
+0 1 5 = Leads 1
+0 2 0 begin
+0 1 6 = Ok
+0 2 0 = LostLead
+`# docs/SCRIPT.md, script 31
+segment_bytes 200
+0 0 0 append 1000,-,:a
+0 0 0 append 1000,-,:b
+0 0 0 append 1000,-,:c
+0 0 0 flush
+0 0 0 ack
+# all objects are put, and it isn't noted yet that the copy is whole
+later 1 0 0 copy
+turn 1 7
+0 0 0 raise 2
+0 0 0 expire
+turn 1 6
+0 0 0 fetch 1 1000
+`0 0 0 = Ok 0 0 0
+0 0 1 = Ok 1 1 0
+0 0 2 = Ok 2 2 0
+0 0 3 = Ok 3
+0 0 4 = Ok 3
+0 1 0 begin
+0 0 5 = Ok 2
+0 0 6 begin
+0 0 6 = Deleted 00000000-0000-0001-0000-000000000000
+0 1 0 = Overtaken DeleteFinished
+0 0 7 = OutOfRange 2 3
+`# docs/SCRIPT.md, script 32
+brokers 2
+1 0 1 shrink
+0 0 0 append 1000,-,:a 1000,-,:b
+0 0 0 flush
+0 0 0 ack
+0 0 0 raise 3
+0 0 0 raise 1
+0 0 0 raise 1
+0 0 0 fetch 0 1000
+1 0 1 raise 2
+0 0 0 elect
+0 0 0 raise 2
+0 0 0 stop
+0 0 0 raise 2
+`0 1 0 = Ok
+0 0 0 = Ok 0 1 0
+0 0 1 = Ok 2
+0 0 2 = Ok 2
+0 0 3 = AboveMark 2
+0 0 4 = Ok 1
+0 0 5 = NotAbove 1
+0 0 6 = OutOfRange 1 2
+0 1 1 = NotLeader
+0 0 7 = Ok 1
+0 0 8 = StaleEpoch 1
+0 0 9 = Ok
+0 0 10 = Down
+`# docs/SCRIPT.md, script 33
+0 0 - clock 86400000
+`0 0 0 = Ok
+`# docs/SCRIPT.md, script 34
+0 0 0 stop
+0 0 0 stop
+`0 0 0 = Ok
+0 0 1 = Down
+`# docs/SCRIPT.md, script 35
+fault 0 disk 0 list 1 before
+0 0 0 append 1000,-,:a
+0 0 0 flush
+0 0 0 append 1000,-,:b
+0 0 0 up
+0 0 0 stop
+0 0 0 up
+0 0 0 up
+`0 0 0 = Ok 0 0 0
+0 0 1 = Ok 1
+0 0 2 = Ok 1 1 0
+0 0 3 = IsUp
+0 0 4 = Ok
+0 0 5 = DiskFault
+0 0 6 = Up 1
+`# examples/before-ack.script
+# What isn't acknowledged can't be fetched, and what isn't flushed can't be acknowledged.
+0 0 0 append 1000,-,:a
+0 0 0 fetch 0 1000
+
+# An ack before the flush acknowledges a stable end of 0, and a flush alone raises no high
+# watermark.
+0 0 0 ack
+0 0 0 flush
+0 0 0 fetch 0 1000
+
+# After both the first batch can be fetched.
+0 0 0 ack
+0 0 0 append 1000,-,:b
+0 0 0 fetch 0 1000
+
+# The second one stands in the log and isn't committed, so offset 1 is empty, and so is the log end,
+# offset 2. Past the end nothing is in range.
+0 0 0 fetch 1 1000
+0 0 0 fetch 2 1000
+0 0 0 fetch 3 1000
+`0 0 0 = Ok 0 0 0
+0 0 1 = Empty
+0 0 2 = Ok 0
+0 0 3 = Ok 1
+0 0 4 = Empty
+0 0 5 = Ok 1
+0 0 6 = Ok 1 1 0
+0 0 7 = Run local 0 69 Mark 0000000000000000000000390000000002ebf1884b00000000000000000000000003e800000000000003e8ffffffffffffffffffffffffffff000000010e00000001026100
+0 0 8 = Empty
+0 0 9 = Empty
+0 0 10 = OutOfRange 0 2
+`# examples/copy.script
+# A leader copies its closed log segments to the remote tier, the oldest first.
+segment_bytes 200
+
+# A segment holds two of these batches. The seventh batch stands in the open segment.
+0 0 0 append 1000,-,:a
+0 0 0 append 1000,-,:b
+0 0 0 append 1000,-,:c
+0 0 0 append 1000,-,:d
+0 0 0 append 1000,-,:e
+0 0 0 append 1000,-,:f
+0 0 0 append 1000,-,:g
+
+# What isn't committed isn't copied.
+0 0 0 copy
+0 0 0 flush
+0 0 0 ack
+
+# Each copy takes the first closed segment that isn't copied yet, and tells its id, its first and
+# its last offset. The open segment isn't copied.
+0 0 0 copy
+0 0 0 copy
+0 0 0 copy
+0 0 0 copy
+
+# A roll closes it.
+0 0 0 roll
+0 0 0 copy
+
+# An id names the broker, how often its log was opened, and the copies that it began since then.
+0 0 0 append 1000,-,:h
+0 0 0 roll
+0 0 0 flush
+0 0 0 ack
+0 0 0 stop
+0 0 0 up
+0 0 0 learn
+0 0 0 elect
+0 0 0 learn
+0 0 0 ack
+0 0 0 copy
+0 0 0 copy
+`0 0 0 = Ok 0 0 0
+0 0 1 = Ok 1 1 0
+0 0 2 = Ok 2 2 0
+0 0 3 = Ok 3 3 0
+0 0 4 = Ok 4 4 0
+0 0 5 = Ok 5 5 0
+0 0 6 = Ok 6 6 0
+0 0 7 begin
+0 0 7 = Level
+0 0 8 = Ok 7
+0 0 9 = Ok 7
+0 0 10 begin
+0 0 10 = Copied 00000000-0000-0001-0000-000000000000 0 1
+0 0 11 begin
+0 0 11 = Copied 00000000-0000-0001-0000-000000000001 2 3
+0 0 12 begin
+0 0 12 = Copied 00000000-0000-0001-0000-000000000002 4 5
+0 0 13 begin
+0 0 13 = Level
+0 0 14 = Ok 7
+0 0 15 begin
+0 0 15 = Copied 00000000-0000-0001-0000-000000000003 6 6
+0 0 16 = Ok 7 7 0
+0 0 17 = Ok 8
+0 0 18 = Ok 8
+0 0 19 = Ok 8
+0 0 20 = Ok
+0 0 21 = Up 8
+0 0 22 = NeedsElection 0
+0 0 23 = Ok 1
+0 0 24 = Leads 1
+0 0 25 = Ok 8
+0 0 26 begin
+0 0 26 = Copied 00000000-0000-0002-0000-000000000000 7 7
+0 0 27 begin
+0 0 27 = Level
+`# examples/failover.script
+# A leader stops, and the other broker takes over. Broker 0 leads epoch 0 at first, and broker 1
+# follows it.
+brokers 2
+0 0 0 append 1000,-,:a
+0 0 0 append 1000,-,:b
+0 0 0 flush
+
+# Broker 1 copies both batches, which takes two turns. Once both brokers have acknowledged them they
+# are committed.
+1 0 1 follow 1000
+1 0 1 flush
+1 0 1 ack
+0 0 0 ack
+
+# A third batch isn't made stable before broker 0 stops.
+0 0 0 append 1000,-,:c
+0 0 0 fetch 0 1000
+0 0 0 stop
+
+# Broker 1 is in sync, so it can be elected. It learns that it leads epoch 1, and appends.
+1 0 1 elect
+1 0 1 learn
+1 0 1 append 1000,-,:d
+
+# Broker 0 comes up with what it had stable, learns whom it follows, and cuts its log to where it
+# meets the leader's.
+0 0 0 up
+0 0 0 learn
+0 0 0 join
+0 0 0 follow 1000
+0 0 0 flush
+0 0 0 ack
+
+# With the leader's own acknowledgement the new batch is committed too. A run ends where its leader
+# epoch does.
+1 0 1 flush
+1 0 1 ack
+1 0 1 fetch 0 1000
+1 0 1 fetch 2 1000
+`0 0 0 = Ok 0 0 0
+0 0 1 = Ok 1 1 0
+0 0 2 = Ok 2
+0 1 0 begin
+0 1 0 = Copied 2
+0 1 1 = Ok 2
+0 1 2 = Ok 0
+0 0 3 = Ok 2
+0 0 4 = Ok 2 2 0
+0 0 5 = Run local 0 138 Mark 0000000000000000000000390000000002ebf1884b00000000000000000000000003e800000000000003e8ffffffffffffffffffffffffffff000000010e000000010261000000000000000001000000390000000002df1620d200000000000000000000000003e800000000000003e8ffffffffffffffffffffffffffff000000010e00000001026200
+0 0 6 = Ok
+0 1 3 = Ok 1
+0 1 4 = Leads 1
+0 1 5 = Ok 2 2 1
+0 0 7 = Up 2
+0 0 8 = Follows 1
+0 0 9 = Cut 2
+0 0 10 begin
+0 0 10 = Copied 3
+0 0 11 = Ok 3
+0 0 12 = Ok 2
+0 1 6 = Ok 3
+0 1 7 = Ok 3
+0 1 8 = Run local 0 138 Piece 0000000000000000000000390000000002ebf1884b00000000000000000000000003e800000000000003e8ffffffffffffffffffffffffffff000000010e000000010261000000000000000001000000390000000002df1620d200000000000000000000000003e800000000000003e8ffffffffffffffffffffffffffff000000010e00000001026200
+0 1 9 = Run local 0 69 Mark 0000000000000002000000390000000102b6d971e000000000000000000000000003e800000000000003e8ffffffffffffffffffffffffffff000000010e00000001026400
+`# examples/fallen-behind.script
+# A follower that was away so long that its leader's local log begins past its own end.
+brokers 3
+segment_bytes 200
+local_retention_bytes 0
+
+# All three brokers have the first two batches. Then broker 2 stops.
+0 0 0 append 1000,-,:a
+0 0 0 append 1000,-,:b
+1 0 1 follow 1000
+2 0 2 follow 1000
+1 0 1 flush
+1 0 1 ack
+2 0 2 flush
+2 0 2 ack
+0 0 0 flush
+0 0 0 ack
+2 0 2 stop
+0 0 2 shrink
+
+# The other two go on, and broker 1 is elected: its epoch is 1.
+0 0 0 append 1000,-,:c
+0 0 0 append 1000,-,:d
+1 0 1 follow 1000
+1 0 1 flush
+1 0 1 ack
+0 0 0 flush
+0 0 0 ack
+1 0 1 elect
+1 0 1 learn
+0 0 0 learn
+0 0 0 join
+1 0 1 append 1000,-,:e
+1 0 1 append 1000,-,:f
+1 0 1 append 1000,-,:g
+0 0 0 follow 1000
+0 0 0 follow 1000
+0 0 0 flush
+0 0 0 ack
+1 0 1 flush
+1 0 1 ack
+
+# The leader copies its closed segments to the remote tier, and trims them: its local log begins at 6.
+1 0 1 copy
+1 0 1 copy
+1 0 1 copy
+1 0 1 trim
+1 0 1 trim
+1 0 1 trim
+
+# Broker 2 comes up again with the end 2. Its log meets the leader's there, and what comes next isn't in
+# the leader's local log. So it begins its own anew at 6, with the line of leader epochs that stands in
+# the remote tier beside the segment before, and follows from there on.
+2 0 2 up
+2 0 2 learn
+2 0 2 join
+2 0 2 follow 1000
+2 0 2 flush
+2 0 2 ack
+0 0 2 expand
+
+# It can lead, and serves what it never had on its disk out of the tier.
+2 0 2 elect
+2 0 2 learn
+2 0 2 fetch 0 1000
+2 0 2 fetch 4 1000
+2 0 2 fetch 6 1000
+`0 0 0 = Ok 0 0 0
+0 0 1 = Ok 1 1 0
+0 1 0 begin
+0 1 0 = Copied 2
+0 2 0 begin
+0 2 0 = Copied 2
+0 1 1 = Ok 2
+0 1 2 = Ok 0
+0 2 1 = Ok 2
+0 2 2 = Ok 0
+0 0 2 = Ok 2
+0 0 3 = Ok 2
+0 2 3 = Ok
+0 0 4 = Ok
+0 0 5 = Ok 2 2 0
+0 0 6 = Ok 3 3 0
+0 1 3 begin
+0 1 3 = Copied 4
+0 1 4 = Ok 4
+0 1 5 = Ok 2
+0 0 7 = Ok 4
+0 0 8 = Ok 4
+0 1 6 = Ok 1
+0 1 7 = Leads 1
+0 0 9 = Follows 1
+0 0 10 = Cut 4
+0 1 8 = Ok 4 4 1
+0 1 9 = Ok 5 5 1
+0 1 10 = Ok 6 6 1
+0 0 11 begin
+0 0 11 = Copied 6
+0 0 12 begin
+0 0 12 = Copied 7
+0 0 13 = Ok 7
+0 0 14 = Ok 4
+0 1 11 = Ok 7
+0 1 12 = Ok 7
+0 1 13 begin
+0 1 13 = Copied 00000001-0000-0001-0000-000000000000 0 1
+0 1 14 begin
+0 1 14 = Copied 00000001-0000-0001-0000-000000000001 2 3
+0 1 15 begin
+0 1 15 = Copied 00000001-0000-0001-0000-000000000002 4 5
+0 1 16 begin
+0 1 16 = Dropped 0 1
+0 1 17 begin
+0 1 17 = Dropped 2 3
+0 1 18 begin
+0 1 18 = Dropped 4 5
+0 2 4 = Up 2
+0 2 5 = Follows 1
+0 2 6 begin cut 2
+0 2 6 = Rebuilt 6
+0 2 7 begin
+0 2 7 = Copied 7
+0 2 8 = Ok 7
+0 2 9 = Ok 7
+0 0 15 = Ok
+0 2 10 = Ok 2
+0 2 11 = Leads 2
+0 2 12 begin
+0 2 12 = Run remote 00000001-0000-0001-0000-000000000000 138 Piece 0000000000000000000000390000000002ebf1884b00000000000000000000000003e800000000000003e8ffffffffffffffffffffffffffff000000010e000000010261000000000000000001000000390000000002df1620d200000000000000000000000003e800000000000003e8ffffffffffffffffffffffffffff000000010e00000001026200
+0 2 13 begin
+0 2 13 = Run remote 00000001-0000-0001-0000-000000000002 138 Piece 0000000000000004000000390000000102a57be99700000000000000000000000003e800000000000003e8ffffffffffffffffffffffffffff000000010e000000010265000000000000000005000000390000000102919c410e00000000000000000000000003e800000000000003e8ffffffffffffffffffffffffffff000000010e00000001026600
+0 2 14 = Run local 6 69 Mark 0000000000000006000000390000000102823ed97900000000000000000000000003e800000000000003e8ffffffffffffffffffffffffffff000000010e00000001026700
+`";

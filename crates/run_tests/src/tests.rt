@@ -1,0 +1,465 @@
+//! Scripts and their traces, each status, and the faults of a source and a sink.
+//!
+//! The batches' bytes come from a writer of record batches that was made apart from this repository.
+
+use broker_call::{Form, Status, Why, explained, folder, form_of, printed, script_source, tiered};
+use folder_yard::FolderYard;
+use std::alloc::Global;
+use std::fs;
+use std::test::Fail;
+use tier_base::{Blob, MemorySink, MemorySource};
+
+/// The words of a call.
+pub(crate) fn words_of(alloc: Global, list: &[&str]) -> Result<Vec<String>, Fail> {
+    let mut words = Vec::new(alloc);
+    for word in list {
+        words.push(String::from_str(alloc, word)?)?;
+    }
+    Ok(words)
+}
+
+/// A source of these bytes, whose calls of the plan fail.
+pub(crate) fn source_of(alloc: Global, bytes: &[u8], plan: &[u32]) -> Result<MemorySource, Fail> {
+    Ok(MemorySource::new(bytes.to_vec(alloc)?, plan.to_vec(alloc)?))
+}
+
+/// What a call of the program comes to, as its number, with a yard over the folder that the words name.
+pub(crate) fn status_of(
+    rt: HostRuntime,
+    words: &[String],
+    script: &mut MemorySource,
+    out: &mut MemorySink,
+) -> Result<Status, Fail> {
+    let mut yard = FolderYard::new(rt, folder(words))?;
+    Ok(tiered(&rt, words, script, &mut yard, out))
+}
+
+/// Scripts and the traces that they give.
+const ROWS: [(&str, &str, &str); 6] = [
+    ("an empty script", "", ""),
+    (
+        "all three batches",
+        "0 0 0 append 1000,-,:a\n0 0 0 append 1000,-,:b\n0 0 0 append 1000,-,:c\n0 0 0 flush\n0 0 0 ack\n0 0 0 fetch 0 1000\n",
+        "0 0 0 = Ok 0 0 0\n0 0 1 = Ok 1 1 0\n0 0 2 = Ok 2 2 0\n0 0 3 = Ok 3\n0 0 4 = Ok 3\n0 0 5 = Run local 0 207 Mark 0000000000000000000000390000000002ebf1884b00000000000000000000000003e800000000000003e8ffffffffffffffffffffffffffff000000010e000000010261000000000000000001000000390000000002df1620d200000000000000000000000003e800000000000003e8ffffffffffffffffffffffffffff000000010e000000010262000000000000000002000000390000000002ccb4b8a500000000000000000000000003e800000000000003e8ffffffffffffffffffffffffffff000000010e00000001026300\n",
+    ),
+    (
+        "limits and ends",
+        "0 0 0 append 1000,-,:a\n0 0 0 append 1000,-,:b\n0 0 0 append 1000,-,:c\n0 0 0 flush\n0 0 0 ack\n0 0 0 fetch 0 1\n0 0 0 fetch 0 138\n0 0 0 fetch 3 1\n0 0 0 fetch 4 1\n",
+        "0 0 0 = Ok 0 0 0\n0 0 1 = Ok 1 1 0\n0 0 2 = Ok 2 2 0\n0 0 3 = Ok 3\n0 0 4 = Ok 3\n0 0 5 = Run local 0 69 Limit 0000000000000000000000390000000002ebf1884b00000000000000000000000003e800000000000003e8ffffffffffffffffffffffffffff000000010e00000001026100\n0 0 6 = Run local 0 138 Limit 0000000000000000000000390000000002ebf1884b00000000000000000000000003e800000000000003e8ffffffffffffffffffffffffffff000000010e000000010261000000000000000001000000390000000002df1620d200000000000000000000000003e800000000000003e8ffffffffffffffffffffffffffff000000010e00000001026200\n0 0 7 = Empty\n0 0 8 = OutOfRange 0 3\n",
+    ),
+    (
+        "nothing is acknowledged",
+        "0 0 0 append 1000,-,:a\n0 0 0 append 1000,-,:b\n0 0 0 append 1000,-,:c\n0 0 0 flush\n0 0 0 fetch 0 1000\n",
+        "0 0 0 = Ok 0 0 0\n0 0 1 = Ok 1 1 0\n0 0 2 = Ok 2 2 0\n0 0 3 = Ok 3\n0 0 4 = Empty\n",
+    ),
+    (
+        "an unflushed batch is not acknowledged",
+        "0 0 0 append 1000,-,:a\n0 0 0 flush\n0 0 0 append 1000,-,:b\n0 0 0 ack\n0 0 0 fetch 0 1000\n",
+        "0 0 0 = Ok 0 0 0\n0 0 1 = Ok 1\n0 0 2 = Ok 1 1 0\n0 0 3 = Ok 1\n0 0 4 = Run local 0 69 Mark 0000000000000000000000390000000002ebf1884b00000000000000000000000003e800000000000003e8ffffffffffffffffffffffffffff000000010e00000001026100\n",
+    ),
+    (
+        "a great limit of an empty log",
+        "0 0 0 fetch 0 268435456\n",
+        "0 0 0 = Empty\n",
+    ),
+];
+
+/// Scripts with batches from outside and records in full, and the traces that they give.
+const RAW_ROWS: [(&str, &str, &str); 17] = [
+    (
+        "a batch from outside is placed, and else left as it was given",
+        "0 0 0 raw 000000000000006300000039000000050228835a5e00000000000000000000000003e800000000000003e80000000000000007ffffffffffff000000010e00000001026100\n0 0 0 flush\n0 0 0 ack\n0 0 0 fetch 0 1000\n",
+        "0 0 0 = Ok 0 0 0\n0 0 1 = Ok 1\n0 0 2 = Ok 1\n0 0 3 = Run local 0 69 Mark 000000000000000000000039000000000228835a5e00000000000000000000000003e800000000000003e80000000000000007ffffffffffff000000010e00000001026100\n",
+    ),
+    (
+        "one bit of the value is wrong",
+        "0 0 0 raw 0000000000000000000000390000000002ebf1884b00000000000000000000000003e800000000000003e8ffffffffffffffffffffffffffff000000010e00000001026000\n",
+        "0 0 0 = Refused BadCrc 3958474827 4166193212\n",
+    ),
+    (
+        "the checksum is tested before the compression",
+        "0 0 0 raw 0000000000000000000000390000000002ebf1884b00010000000000000000000003e800000000000003e8ffffffffffffffffffffffffffff000000010e00000001026100\n",
+        "0 0 0 = Refused BadCrc 3958474827 2767818519\n",
+    ),
+    (
+        "compressed records, with the right checksum",
+        "0 0 0 raw 0000000000000000000000390000000002a4f98f1700010000000000000000000003e800000000000003e8ffffffffffffffffffffffffffff000000010e00000001026100\n",
+        "0 0 0 = Refused Compressed\n",
+    ),
+    (
+        "a control batch of a transaction",
+        "0 0 0 raw 0000000000000000000000390000000002c74f0cb600300000000000000000000003e800000000000003e8ffffffffffffffffffffffffffff000000010e00000001026100\n",
+        "0 0 0 = Refused Transactional\n",
+    ),
+    (
+        "a control batch",
+        "0 0 0 raw 0000000000000000000000390000000002207ea2b200200000000000000000000003e800000000000003e8ffffffffffffffffffffffffffff000000010e00000001026100\n",
+        "0 0 0 = Refused Control\n",
+    ),
+    (
+        "the bytes end inside the head",
+        "0 0 0 raw 0000000000000000000000390000000002ebf1884b00000000000000000000000003e800000000000003e8ffffffffffffffffffffffffffff000000\n",
+        "0 0 0 = Refused Short\n",
+    ),
+    (
+        "an older magic",
+        "0 0 0 raw 0000000000000000000000390000000001ebf1884b00000000000000000000000003e800000000000003e8ffffffffffffffffffffffffffff000000010e00000001026100\n",
+        "0 0 0 = Refused BadMagic\n",
+    ),
+    (
+        "a length below that of a head",
+        "0 0 0 raw 0000000000000000000000300000000002ebf1884b00000000000000000000000003e800000000000003e8ffffffffffffffffffffffffffff000000010e00000001026100\n",
+        "0 0 0 = Refused BadLength\n",
+    ),
+    (
+        "a byte after the batch",
+        "0 0 0 raw 0000000000000000000000390000000002ebf1884b00000000000000000000000003e800000000000003e8ffffffffffffffffffffffffffff000000010e0000000102610000\n",
+        "0 0 0 = Refused BadLength\n",
+    ),
+    (
+        "no records",
+        "0 0 0 raw 00000000000000000000003900000000021fcf5e0300000000000000000000000003e800000000000003e8ffffffffffffffffffffffffffff000000000e00000001026100\n",
+        "0 0 0 = Refused BadRecords 57\n",
+    ),
+    (
+        "the last offset delta is not the count less 1",
+        "0 0 0 raw 000000000000000000000039000000000279aaa3da00000000000100000000000003e800000000000003e8ffffffffffffffffffffffffffff000000010e00000001026100\n",
+        "0 0 0 = Refused BadRecords 23\n",
+    ),
+    (
+        "a key, no value, and a header without a value",
+        "0 0 0 append 5,:k,-,:h=-\n0 0 0 flush\n0 0 0 ack\n0 0 0 fetch 0 100\n",
+        "0 0 0 = Ok 0 0 0\n0 0 1 = Ok 1\n0 0 2 = Ok 1\n0 0 3 = Run local 0 72 Mark 00000000000000000000003c0000000002bb6f0d3800000000000000000000000000050000000000000005ffffffffffffffffffffffffffff0000000114000000026b0102026801\n",
+    ),
+    (
+        "the first example of the language's page",
+        "# two records, made stable, committed, and read\n0 0 0 append 1000,:k,:v 1000,-,:w\n0 0 0 flush\n0 0 0 ack\n0 0 0 fetch 0 1000\n",
+        "0 0 0 = Ok 0 1 0\n0 0 1 = Ok 2\n0 0 2 = Ok 2\n0 0 3 = Run local 0 78 Mark 000000000000000000000042000000000254c6652100000000000100000000000003e800000000000003e8ffffffffffffffffffffffffffff0000000210000000026b0276000e00000201027700\n",
+    ),
+    (
+        "the example of its answers",
+        "0 0 0 append 1000,-,:a\n0 0 0 fetch 0 1000\n0 0 0 flush\n0 0 0 ack\n0 0 0 fetch 0 0\n0 0 0 fetch 1 1000\n0 0 0 fetch 2 1000\n0 0 0 raw 0000\n",
+        "0 0 0 = Ok 0 0 0\n0 0 1 = Empty\n0 0 2 = Ok 1\n0 0 3 = Ok 1\n0 0 4 = Run local 0 69 Mark 0000000000000000000000390000000002ebf1884b00000000000000000000000003e800000000000003e8ffffffffffffffffffffffffffff000000010e00000001026100\n0 0 5 = Empty\n0 0 6 = OutOfRange 0 1\n0 0 7 = Refused Short\n",
+    ),
+    (
+        "the example of batches from outside",
+        "# A batch from outside, with base offset 99, leader epoch 5 and producer 7. Its checksum covers neither of the first two:\n# the broker places the batch at its log's end, in its own epoch, and leaves all else as it was given.\n0 0 0 raw 000000000000006300000039000000050228835a5e00000000000000000000000003e800000000000003e80000000000000007ffffffffffff000000010e00000001026100\n\n# One bit of the value is wrong: refused, with the checksum that the batch has and the one that its bytes give.\n0 0 0 raw 0000000000000000000000390000000002ebf1884b00000000000000000000000003e800000000000003e8ffffffffffffffffffffffffffff000000010e00000001026000\n\n# The bytes end inside the head.\n0 0 0 raw 0000\n\n# Two records in one batch, the second with a key, no value, and a header of no value.\n0 0 0 append 5,-,:a 6,:k,-,:h=-\n\n0 0 0 flush\n0 0 0 ack\n0 0 0 fetch 0 1000\n",
+        "0 0 0 = Ok 0 0 0\n0 0 1 = Refused BadCrc 3958474827 4166193212\n0 0 2 = Refused Short\n0 0 3 = Ok 1 2 0\n0 0 4 = Ok 3\n0 0 5 = Ok 3\n0 0 6 = Run local 0 149 Mark 000000000000000000000039000000000228835a5e00000000000000000000000003e800000000000003e80000000000000007ffffffffffff000000010e00000001026100000000000000000100000044000000000267651f9b00000000000100000000000000050000000000000006ffffffffffffffffffffffffffff000000020e0000000102610014000202026b0102026801\n",
+    ),
+    (
+        "comments, blanks, tabs and line ends",
+        "# a comment\r\n\n \t\npartitions 1\n\t00  0\t0 flush \r\n0 0 0 ack",
+        "0 0 0 = Ok 0\n0 0 1 = Ok 0\n",
+    ),
+];
+
+/// The examples of the remote tier.
+const REMOTE_ROWS: [(&str, &str, &str); 3] = [
+    (
+        "the example of copies",
+        "# A leader copies its closed log segments to the remote tier, the oldest first.\nsegment_bytes 200\n\n# A segment holds two of these batches. The seventh batch stands in the open segment.\n0 0 0 append 1000,-,:a\n0 0 0 append 1000,-,:b\n0 0 0 append 1000,-,:c\n0 0 0 append 1000,-,:d\n0 0 0 append 1000,-,:e\n0 0 0 append 1000,-,:f\n0 0 0 append 1000,-,:g\n\n# What isn't committed isn't copied.\n0 0 0 copy\n0 0 0 flush\n0 0 0 ack\n\n# Each copy takes the first closed segment that isn't copied yet, and tells its id, its first and\n# its last offset. The open segment isn't copied.\n0 0 0 copy\n0 0 0 copy\n0 0 0 copy\n0 0 0 copy\n\n# A roll closes it.\n0 0 0 roll\n0 0 0 copy\n\n# An id names the broker, how often its log was opened, and the copies that it began since then.\n0 0 0 append 1000,-,:h\n0 0 0 roll\n0 0 0 flush\n0 0 0 ack\n0 0 0 stop\n0 0 0 up\n0 0 0 learn\n0 0 0 elect\n0 0 0 learn\n0 0 0 ack\n0 0 0 copy\n0 0 0 copy\n",
+        "0 0 0 = Ok 0 0 0\n0 0 1 = Ok 1 1 0\n0 0 2 = Ok 2 2 0\n0 0 3 = Ok 3 3 0\n0 0 4 = Ok 4 4 0\n0 0 5 = Ok 5 5 0\n0 0 6 = Ok 6 6 0\n0 0 7 begin\n0 0 7 = Level\n0 0 8 = Ok 7\n0 0 9 = Ok 7\n0 0 10 begin\n0 0 10 = Copied 00000000-0000-0001-0000-000000000000 0 1\n0 0 11 begin\n0 0 11 = Copied 00000000-0000-0001-0000-000000000001 2 3\n0 0 12 begin\n0 0 12 = Copied 00000000-0000-0001-0000-000000000002 4 5\n0 0 13 begin\n0 0 13 = Level\n0 0 14 = Ok 7\n0 0 15 begin\n0 0 15 = Copied 00000000-0000-0001-0000-000000000003 6 6\n0 0 16 = Ok 7 7 0\n0 0 17 = Ok 8\n0 0 18 = Ok 8\n0 0 19 = Ok 8\n0 0 20 = Ok\n0 0 21 = Up 8\n0 0 22 = NeedsElection 0\n0 0 23 = Ok 1\n0 0 24 = Leads 1\n0 0 25 = Ok 8\n0 0 26 begin\n0 0 26 = Copied 00000000-0000-0002-0000-000000000000 7 7\n0 0 27 begin\n0 0 27 = Level\n",
+    ),
+    (
+        "the example of a store and a metadata log that fail",
+        "# A store and a metadata log that fail: a copy ends where its call fails, and the next one begins\n# anew, under another id.\nsegment_bytes 200\n\n# A copy appends a note that it starts, puts four objects, appends a note that it is whole, and reads\n# the notes at its first and its last turn. A call that fails before isn't done, and one that fails\n# after is done, but its broker isn't told so.\nfault 0 meta append 1 before\nfault 0 store put 2 before\nfault 0 store put 6 after\nfault 0 meta append 5 before\nfault 0 meta append 7 after\nfault 0 meta read 6 before\nfault 0 meta read 8 before\n\n# Two closed segments, of two batches each, and an open one.\n0 0 0 append 1000,-,:a\n0 0 0 append 1000,-,:b\n0 0 0 append 1000,-,:c\n0 0 0 append 1000,-,:d\n0 0 0 append 1000,-,:e\n0 0 0 flush\n0 0 0 ack\n\n# The note that it starts isn't taken.\n0 0 0 copy\n\n# The second object isn't put. The first one stands, under an id that is never finished.\n0 0 0 copy\n\n# The fourth object is put, which the broker doesn't know.\n0 0 0 copy\n\n# All four objects stand, but the note that the copy is whole isn't taken.\n0 0 0 copy\n\n# That note is taken, so the segment is copied, which the broker doesn't know.\n0 0 0 copy\n\n# The next copy can't read the notes, and doesn't begin. The one after it finds the first segment\n# copied, under the fifth id, and copies the second segment. Its last look at the notes fails.\n0 0 0 copy\n0 0 0 copy\n\n# Both segments are copied. Six copies have begun so far, so the next one has the seventh id.\n0 0 0 copy\n0 0 0 roll\n0 0 0 copy\n",
+        "0 0 0 = Ok 0 0 0\n0 0 1 = Ok 1 1 0\n0 0 2 = Ok 2 2 0\n0 0 3 = Ok 3 3 0\n0 0 4 = Ok 4 4 0\n0 0 5 = Ok 5\n0 0 6 = Ok 5\n0 0 7 begin\n0 0 7 = MetaFault\n0 0 8 begin\n0 0 8 = StoreFault\n0 0 9 begin\n0 0 9 = StoreFault\n0 0 10 begin\n0 0 10 = MetaFault\n0 0 11 begin\n0 0 11 = MetaFault\n0 0 12 = MetaFault\n0 0 13 begin\n0 0 13 = MetaFault\n0 0 14 begin\n0 0 14 = Level\n0 0 15 = Ok 5\n0 0 16 begin\n0 0 16 = Copied 00000000-0000-0001-0000-000000000006 4 4\n",
+    ),
+    (
+        "the example of a leader that was replaced",
+        "# A leader is replaced in the middle of a copy, and the new leader copies the segment again.\nbrokers 2\nsegment_bytes 200\n\n# Broker 0 leads, and broker 1 follows. All is stable on both, and committed.\n0 0 0 append 1000,-,:a\n0 0 0 append 1000,-,:b\n0 0 0 append 1000,-,:c\n1 0 1 follow 1000\n1 0 1 follow 1000\n1 0 1 flush\n1 0 1 ack\n0 0 0 flush\n0 0 0 ack\n\n# Broker 0 begins a copy, and has put three of the four objects when it stops.\nlater 2 0 0 copy\nturn 2 6\n0 0 0 stop\n\n# Broker 1 is elected, learns that it leads, and copies the segment under an id of its own.\n1 0 1 elect\n1 0 1 learn\n1 0 1 copy\n\n# Broker 0's copy ends at its next turn. Three objects stay, under an id that is never finished.\nturn 2 1\n\n# A leader that was replaced and doesn't know it goes on. Broker 1 begins to copy its next segment;\n# broker 0 has taken the batches by then, is elected, and copies the segment too.\n1 0 1 append 1000,-,:d\n1 0 1 append 1000,-,:e\n0 0 0 up\n0 0 0 learn\n0 0 0 join\n0 0 0 follow 1000\n0 0 0 follow 1000\n0 0 0 flush\n0 0 0 ack\n1 0 1 flush\n1 0 1 ack\n0 0 0 expand\nlater 3 0 1 copy\nturn 3 5\n0 0 0 elect\n0 0 0 learn\n0 0 0 copy\n\n# Both copies become whole. They hold the same batches.\nturn 3 4\n",
+        "0 0 0 = Ok 0 0 0\n0 0 1 = Ok 1 1 0\n0 0 2 = Ok 2 2 0\n0 1 0 begin\n0 1 0 = Copied 2\n0 1 1 begin\n0 1 1 = Copied 3\n0 1 2 = Ok 3\n0 1 3 = Ok 0\n0 0 3 = Ok 3\n0 0 4 = Ok 3\n0 2 0 begin\n0 0 5 = Ok\n0 1 4 = Ok 1\n0 1 5 = Leads 1\n0 1 6 begin\n0 1 6 = Copied 00000001-0000-0001-0000-000000000000 0 1\n0 2 0 = LostLead\n0 1 7 = Ok 3 3 1\n0 1 8 = Ok 4 4 1\n0 0 6 = Up 3\n0 0 7 = Follows 1\n0 0 8 = Cut 3\n0 0 9 begin\n0 0 9 = Copied 4\n0 0 10 begin\n0 0 10 = Copied 5\n0 0 11 = Ok 5\n0 0 12 = Ok 3\n0 1 9 = Ok 5\n0 1 10 = Ok 5\n0 0 13 = Ok\n0 3 0 begin\n0 0 14 = Ok 2\n0 0 15 = Leads 2\n0 0 16 begin\n0 0 16 = Copied 00000000-0000-0002-0000-000000000000 2 3\n0 3 0 = Copied 00000001-0000-0001-0000-000000000001 2 3\n",
+    ),
+];
+
+#[test]
+fn scripts_give_their_traces(rt: HostRuntime) -> Result<(), Fail> {
+    let alloc = rt.alloc();
+    let words = words_of(alloc, &["sim"])?;
+    for rows in [ROWS.as_slice(), RAW_ROWS.as_slice(), REMOTE_ROWS.as_slice()] {
+        for (name, script, trace) in rows {
+            let mut source = source_of(alloc, script.as_bytes(), &[])?;
+            let mut sink = MemorySink::new(alloc, 10_000, 7, Vec::new(alloc))?;
+            let status = status_of(rt, words.as_slice(), &mut source, &mut sink)?;
+            assert_eq!(rt; status.number(), 0, "{name}");
+            assert_eq!(rt; sink.written(), trace.as_bytes(), "{name}");
+        }
+    }
+    Ok(())
+}
+
+#[test]
+fn statuses_tell_their_causes(rt: HostRuntime) -> Result<(), Fail> {
+    let alloc = rt.alloc();
+    let script = ROWS[1].1.as_bytes();
+    let rows: [(&[&str], &[u8], &[u32], &str, u8); 7] = [
+        (
+            &["sim"],
+            b"0 0 - pack 1\n",
+            &[],
+            "tiered: line 1: Unbuilt\n",
+            3,
+        ),
+        (
+            &["sim"],
+            b"# c\n0 0 0 frob\n",
+            &[],
+            "tiered: line 2: Word\n",
+            3,
+        ),
+        (
+            &["sim"],
+            b"0 0 0 fetch 0 268435457\n",
+            &[],
+            "tiered: line 1: FetchSum\n",
+            3,
+        ),
+        (&["sim"], script, &[1], "tiered: read fault\n", 4),
+        (
+            &["sim", "x"],
+            script,
+            &[],
+            "tiered: usage: tiered sim or run DIR or gen N\n",
+            2,
+        ),
+        (
+            &["run", "broker_none"],
+            b"frob",
+            &[],
+            "tiered: line 1: Word\n",
+            3,
+        ),
+        (&["sim"], script, &[], "", 0),
+    ];
+    for (list, bytes, plan, line, number) in rows {
+        let words = words_of(alloc, list)?;
+        let mut source = source_of(alloc, bytes, plan)?;
+        let mut sink = MemorySink::new(alloc, 10_000, 100, Vec::new(alloc))?;
+        let status = status_of(rt, words.as_slice(), &mut source, &mut sink)?;
+        assert_eq!(rt; status.line(alloc)?.as_str(), line);
+        assert_eq!(rt; status.number(), number);
+        assert_eq!(rt; sink.written().is_empty(), number != 0);
+    }
+    Ok(())
+}
+
+#[test]
+fn each_status_has_its_number_and_line(rt: HostRuntime) -> Result<(), Fail> {
+    let bad = Status::BadScript {
+        line: 12,
+        why: Why::Unbuilt,
+    };
+    let named = Status::NotEmpty {
+        name: Blob::from_slice(rt.alloc(), b"x")?,
+    };
+    let rows = [
+        (Status::Ok, 0, ""),
+        (
+            Status::Usage,
+            2,
+            "tiered: usage: tiered sim or run DIR or gen N\n",
+        ),
+        (bad, 3, "tiered: line 12: Unbuilt\n"),
+        (Status::ReadFault, 4, "tiered: read fault\n"),
+        (Status::WriteFault, 5, "tiered: write fault\n"),
+        (Status::NoMemory, 6, "tiered: out of memory\n"),
+        (Status::TooLong, 7, "tiered: script over 16777216 bytes\n"),
+        (Status::YardFault, 8, "tiered: folder fault\n"),
+        (named, 9, "tiered: folder not empty: x\n"),
+    ];
+    for (status, number, line) in rows {
+        assert_eq!(rt; status.number(), number);
+        assert_eq!(rt; status.line(rt.alloc())?.as_str(), line);
+    }
+    Ok(())
+}
+
+/// The bytes that were kept of a script whose second line has a word without a reading, and what follows the status's line.
+static EXPLAINED: [(&str, &str); 2] = [
+    (
+        "# c\n0 0 0 flush x\n",
+        "    0 0 0 flush x\n                ^\nthis is a word too many\nexpected the line's end\nsee docs/SCRIPT.md, \"flush\"\n",
+    ),
+    ("", ""),
+];
+
+/// Whether this follows a status's line.
+fn follows(alloc: Global, status: Status, script: &str, told: &str) -> Result<bool, Fail> {
+    let text = explained(alloc, &status, script.as_bytes())?;
+    Ok(text.as_str() == told)
+}
+
+#[test]
+fn a_kept_script_is_explained(rt: HostRuntime) -> Result<(), Fail> {
+    let alloc = rt.alloc();
+    for (script, told) in &EXPLAINED {
+        let bad = Status::BadScript {
+            line: 2,
+            why: Why::Word,
+        };
+        assert!(rt; follows(alloc, bad, script, told)?);
+    }
+    let example = "for example: tiered sim < examples/first.script\ntiered --help tells more\n";
+    assert!(rt; follows(alloc, Status::Usage, "", example)?);
+    assert!(rt; follows(alloc, Status::Ok, "0 0 0 up\n", "")?);
+    Ok(())
+}
+
+/// Words, and the form that they have.
+static FORMS: [(&[&str], Option<Form>); 15] = [
+    (&["sim"], Some(Form::Sim)),
+    (&["run", "d"], Some(Form::Run)),
+    (&["run"], None),
+    (&["run", "d", "e"], None),
+    (&["gen", "0"], Some(Form::Gen(0))),
+    (&["gen", "4294967295"], Some(Form::Gen(4_294_967_295))),
+    (&["gen", "4294967296"], None),
+    (&["gen", "01"], None),
+    (&["gen", "00"], None),
+    (&["gen", "+1"], None),
+    (&["gen", "-1"], None),
+    (&["gen", "1x"], None),
+    (&["gen", ""], None),
+    (&["gen"], None),
+    (&[], None),
+];
+
+/// Whether words have this form.
+fn have_form(alloc: Global, list: &[&str], want: Option<Form>) -> Result<bool, Fail> {
+    let words = words_of(alloc, list)?;
+    Ok(form_of(words.as_slice()) == want)
+}
+
+#[test]
+fn form_rows(rt: HostRuntime) -> Result<(), Fail> {
+    for (i, (list, form)) in FORMS.iter().enumerate() {
+        let is = have_form(rt.alloc(), list, *form)?;
+        assert!(rt; is, "row {i}");
+    }
+    Ok(())
+}
+
+/// The summary of the script of 1, as a simulator made apart from this repository gives it.
+static SUMMARY: &str = "\
+    append Ok 6012\n\
+    flush Ok 2027\n\
+    ack Ok 2027\n\
+    join Cut 968\n\
+    follow Copied 925\n\
+    follow Level 40\n\
+    copy Copied 241\n\
+    copy Level 1809\n\
+    trim Dropped 704\n\
+    trim Kept 1290\n\
+    expire Deleted 184\n\
+    expire Kept 642\n\
+    expire Raised 177\n\
+    clock Ok 960\n\
+    fetch Empty 139\n\
+    fetch OutOfRange 3074\n\
+    fetch Run 808\n\
+    bytes 1677710\n\
+    partition 0 end 1495 mark 1373 start 1097\n\
+    partition 1 end 1519 mark 1490 start 1110\n\
+    partition 2 end 1505 mark 1487 start 1097\n\
+    partition 3 end 1493 mark 1455 start 1059\n\
+";
+
+/// Whether a load of this number, in pieces of 100 bytes, is summed up so.
+fn sums_up(rt: HostRuntime, number: &str, want: &str) -> Result<(u8, bool), Fail> {
+    let alloc = rt.alloc();
+    let words = words_of(alloc, &["gen", number])?;
+    let mut source = source_of(alloc, b"0 0 0 flush\n", &[1])?;
+    let mut sink = MemorySink::new(alloc, 10_000, 100, Vec::new(alloc))?;
+    let status = status_of(rt, words.as_slice(), &mut source, &mut sink)?;
+    Ok((status.number(), sink.written() == want.as_bytes()))
+}
+
+/// It takes longer than `rt try` waits for a test.
+#[test]
+fn a_load_is_summed_up(rt: HostRuntime) -> Result<(), Fail> {
+    let told = sums_up(rt, "1", SUMMARY)?;
+    assert!(rt; told == (0, true));
+    Ok(())
+}
+
+/// A script over two brokers, a follower among them, and a copy to the remote tier.
+static FOLDER_SCRIPT: &str =
+    "brokers 2\nsegment_bytes 100\n0 0 0 append 1000,-,:a\n0 0 0 append 1000,-,:b\n0 0 0 flush\n1 0 1 follow 1000\n1 0 1 flush\n1 0 1 ack\n0 0 0 ack\n0 0 0 copy\n";
+
+static FOLDER_TRACE: &str =
+    "0 0 0 = Ok 0 0 0\n0 0 1 = Ok 1 1 0\n0 0 2 = Ok 2\n0 1 0 begin\n0 1 0 = Copied 1\n0 1 1 = Ok 1\n0 1 2 = Ok 0\n0 0 3 = Ok 1\n0 0 4 begin\n0 0 4 = Copied 00000000-0000-0001-0000-000000000000 0 0\n";
+
+/// What a run over a folder comes to, and what it writes.
+fn runs_over(rt: HostRuntime, dir: &str, script: &str) -> Result<(u8, String, Vec<u8>), Fail> {
+    let alloc = rt.alloc();
+    let words = words_of(alloc, &["run", dir])?;
+    let mut source = source_of(alloc, script.as_bytes(), &[])?;
+    let mut sink = MemorySink::new(alloc, 10_000, 100, Vec::new(alloc))?;
+    let status = status_of(rt, words.as_slice(), &mut source, &mut sink)?;
+    Ok((
+        status.number(),
+        status.line(alloc)?,
+        sink.written().to_vec(alloc)?,
+    ))
+}
+
+#[test]
+fn a_folder_is_run_over_once(rt: HostRuntime) -> Result<(), Fail> {
+    let _ = fs::remove_dir_all(&rt, "broker_run");
+    let (number, _, written) = runs_over(rt, "broker_run", FOLDER_SCRIPT)?;
+    assert_eq!(rt; number, 0);
+    assert_eq!(rt; written.as_slice(), FOLDER_TRACE.as_bytes());
+    for path in [
+        "broker_run/p0/b0/manifest",
+        "broker_run/p0/b1/manifest",
+        "broker_run/p0/meta/notes",
+        "broker_run/p0/store/00000000-0000-0001-0000-000000000000.log",
+    ] {
+        assert!(rt; fs::metadata(&rt, path).is_ok(), "{path}");
+    }
+    let (number, line, written) = runs_over(rt, "broker_run", FOLDER_SCRIPT)?;
+    assert_eq!(rt; (number, written.len()), (9, 0));
+    assert_eq!(rt; line.as_str(), "tiered: folder not empty: p0\n");
+    fs::remove_dir_all(&rt, "broker_run")?;
+    Ok(())
+}
+
+#[test]
+fn help_and_version_are_words_of_their_own(rt: HostRuntime) -> Result<(), Fail> {
+    let alloc = rt.alloc();
+    assert!(rt; printed(words_of(alloc, &["--help"])?.as_slice()).is_some());
+    assert_eq!(rt;
+        printed(words_of(alloc, &["--version"])?.as_slice()),
+        Some("tiered 0.1.0\n")
+    );
+    assert!(rt; printed(words_of(alloc, &["sim"])?.as_slice()).is_none());
+    assert!(rt; printed(words_of(alloc, &["--help", "x"])?.as_slice()).is_none());
+    Ok(())
+}
+
+#[test]
+fn a_failed_write_leaves_a_front(rt: HostRuntime) -> Result<(), Fail> {
+    let alloc = rt.alloc();
+    let words = words_of(alloc, &["sim"])?;
+    let mut source = source_of(alloc, ROWS[1].1.as_bytes(), &[])?;
+    let mut sink = MemorySink::new(alloc, 10_000, 4, [2].as_slice().to_vec(alloc)?)?;
+    let status = status_of(rt, words.as_slice(), &mut source, &mut sink)?;
+    assert_eq!(rt; status.number(), 5);
+    assert_eq!(rt; sink.written(), b"0 0 ".as_slice());
+    Ok(())
+}
+
+#[test]
+fn a_script_past_the_limit_is_too_long(rt: HostRuntime) -> Result<(), Fail> {
+    let alloc = rt.alloc();
+    let words = words_of(alloc, &["sim"])?;
+    let mut bytes = Vec::new(alloc);
+    bytes.resize(16_777_217, b'#')?;
+    let mut source = MemorySource::new(bytes, Vec::new(alloc));
+    let mut sink = MemorySink::new(alloc, 100, 100, Vec::new(alloc))?;
+    let status = status_of(rt, words.as_slice(), &mut source, &mut sink)?;
+    assert_eq!(rt; status.number(), 7);
+    assert_eq!(rt; sink.written().is_empty(), true);
+    Ok(())
+}
