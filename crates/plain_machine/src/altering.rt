@@ -7,6 +7,7 @@ ghost use Rattle.plain_log.specs.declared.state.Role.TheVariants as role;
 ghost use Rattle.plain_log.specs.State.{breaks, put_broker};
 ghost use Rattle.plain_machine.specs.Change.{AreJoined, AtBroker, CanStop, acked, path_in, changed};
 ghost use Rattle.plain_machine.specs.Fits.{IsFor};
+ghost use Rattle.registry.specs.Registry.{epoch_limit};
 
 use crate::change::Change;
 use crate::ends::end;
@@ -133,6 +134,7 @@ pub(crate) fn alter(
     requires begins { IsPrefix p.old.committed (current p.old.paths p.old.registry.epoch p.old.committed) }
     requires joined { AreJoined p.old }
     requires fit { IsFor order.now.command }
+    requires epoch { p.old.registry.epoch ≤ epoch_limit }
     ensures ok { OnOk result (AtBroker p.old order.now.broker.0 (λ x s.
         p.new ≡ changed p.old order.now.broker.0 x s order.now.command change)) }
     ensures err { OnErr result (p.new ≡ p.old) }
@@ -176,7 +178,7 @@ pub(crate) fn alter(
             stable,
         } => extend(p, alloc, b, epoch, count, stable),
         Change::BreaksLonger { epoch, count } => break_longer(p, alloc, b, epoch, count),
-        Change::Elects => elect(p, order.broker),
+        Change::Elects => Ok(elect(p, order.broker)),
         Change::Restarts { count } => restart(p, alloc, order.broker, count),
         Change::Shrinks => Ok(shrink(p, b)),
         Change::Expands => Ok(expand(p, b)),

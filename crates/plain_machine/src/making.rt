@@ -3,9 +3,9 @@
 //! What takes memory comes first, so that a change for which there is none leaves the state as it was. A count of stops
 //! has 64 bits: a broker whose count is at its end isn't changed.
 
-ghost use Rattle.std.specs.Prelude.{◌≡◌, ◌<◌, ◌^◌, ◌-◌, ◌++◌, ◌∷◌, true, false, take, length, Some, slice_get, slice_set, OnOk, OnErr, IfOk};
+ghost use Rattle.std.specs.Prelude.{◌≡◌, ◌<◌, ◌≤◌, ◌^◌, ◌-◌, ◌++◌, ◌∷◌, true, false, take, length, Some, slice_get, slice_set, OnOk, OnErr, IfOk};
 ghost use mathlib.Core.List.{IsPrefix};
-ghost use Rattle.registry.specs.Registry.{elected, elected_alone, shrunk, expanded, started};
+ghost use Rattle.registry.specs.Registry.{epoch_limit, elected};
 ghost use Rattle.record_batch.specs.Build.{built, IsBuildable};
 ghost use Rattle.record_batch.specs.Stamp.{stamped};
 ghost use Rattle.plain_log.specs.RowsOfLog.{gained};
@@ -153,14 +153,9 @@ pub(crate) fn gain(
 }
 
 /// Elects a broker from the replicas in sync.
-pub(crate) fn elect(p: &mut State, broker: BrokerId) -> Result<(), AllocError>
-    requires { broker.0 < length p.old.registry.replicas }
-    ensures ok { OnOk result (p.new ≡ set_registry p.old (elected p.old.registry broker.0)) }
-    ensures err { OnErr result (p.new ≡ p.old) }
+pub(crate) fn elect(p: &mut State, broker: BrokerId)
+    requires { p.old.registry.epoch ≤ epoch_limit }
+    ensures { p.new ≡ set_registry p.old (elected p.old.registry broker.0) }
 {
-    match p.registry.elect(broker, true) {
-        Ok(_) => Ok(()),
-        // Not reached, which nothing proves: the row of the election has tested the epoch and the replica.
-        Err(_) => Err(AllocError),
-    }
+    p.registry.lead(broker);
 }

@@ -1,7 +1,7 @@
 //! What a change of the registry does, of what is committed, and of who leads.
 
-ghost use Rattle.std.specs.Prelude.{◌≡◌, ◌<◌, ◌∷◌, true, take, length, Some, slice_get, OnOk, OnErr};
-ghost use Rattle.registry.specs.Registry.{elected_alone, shrunk, expanded, started};
+ghost use Rattle.std.specs.Prelude.{◌≡◌, ◌<◌, ◌≤◌, ◌∷◌, true, take, length, Some, slice_get, OnOk, OnErr};
+ghost use Rattle.registry.specs.Registry.{epoch_limit, elected_alone, shrunk, expanded, started};
 ghost use Rattle.plain_log.specs.RowsOfElections.{led};
 ghost use Rattle.plain_log.specs.State.{set_registry, breaks};
 ghost use Rattle.plain_machine.specs.Change.{AtBroker, CanStop};
@@ -45,6 +45,7 @@ pub(crate) fn restart(
 ) -> Result<(), AllocError>
     requires broker { broker.0 < length p.old.brokers }
     requires replica { broker.0 < length p.old.registry.replicas }
+    requires epoch { p.old.registry.epoch ≤ epoch_limit }
     ensures ok { OnOk result (AtBroker p.old broker.0 (λ x s. p.new
         ≡ set_registry (record p.old { committed = take count x.log; unclean = true }) (elected_alone p.old.registry broker.0 x.stable))) }
     ensures err { OnErr result (p.new ≡ p.old) }
@@ -53,15 +54,10 @@ pub(crate) fn restart(
     let stable = x.stable;
     let log = x.log.as_slice();
     let committed = shared(alloc, &log[..count.min(log.len())])?;
-    match p.registry.elect_unclean(broker, true, stable) {
-        Ok(_) => {
-            p.committed = committed;
-            p.unclean = true;
-            Ok(())
-        }
-        // Not reached, which nothing proves: the row has tested the epoch and the stable end.
-        Err(_) => Err(AllocError),
-    }
+    p.registry.lead_alone(broker, stable);
+    p.committed = committed;
+    p.unclean = true;
+    Ok(())
 }
 
 /// Lets a broker lead an epoch, with its whole log stable.

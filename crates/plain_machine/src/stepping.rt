@@ -1,8 +1,9 @@
 //! A step of the state: an entry of a journal is tested, and what it changes is made.
 
-ghost use Rattle.std.specs.Prelude.{◌≡◌, ◌<◌, ◌+◌, ℕ, vec_len, vec_capacity, length, Some, slice_get, IfOk, OnOk, OnErr, is_some, option_map};
+ghost use Rattle.std.specs.Prelude.{◌≡◌, ◌<◌, ◌≤◌, ◌+◌, ℕ, vec_len, vec_capacity, length, Some, slice_get, IfOk, OnOk, OnErr, is_some, option_map};
 ghost use Rattle.std.specs.Option.{option_copied};
 ghost use Rattle.registry.specs.Calls.{when};
+ghost use Rattle.registry.specs.Registry.{epoch_limit};
 ghost use Rattle.plain_log.specs.Safe.{PlainSafe, current};
 ghost use Rattle.plain_log.specs.State.{actor_at, with_actor, put_actor as put_at};
 ghost use Rattle.plain_log.specs.Step.{same_which, same_command, is_noted, next_actor, event_step, step as step_of};
@@ -138,6 +139,7 @@ fn commit(
     requires begins { IsPrefix p.old.committed (current p.old.paths p.old.registry.epoch p.old.committed) }
     requires joined { AreJoined p.old }
     requires fit { IsFor order.now.command }
+    requires epoch { p.old.registry.epoch ≤ epoch_limit }
     ensures ok { OnOk result (AtBroker p.old order.now.broker.0 (λ x s.
         p.new ≡ with_actor id.0 actor (changed p.old order.now.broker.0 x s order.now.command change))) }
     ensures err { OnErr result (p.new ≡ p.old) }

@@ -1,8 +1,8 @@
 //! The registry and its calls.
 
-ghost use Rattle.std.specs.Prelude.{◌≡◌, ◌<◌, ◌≤◌, ◌↔◌, length, Some, IsOk, IfOk, IsErrOf, OnErr};
+ghost use Rattle.std.specs.Prelude.{◌≡◌, ◌<◌, ◌≤◌, ◌^◌, ◌-◌, ◌↔◌, length, Some, IsOk, IfOk, IsErrOf, OnErr};
 ghost use Rattle.registry.specs.Replicas.{AtReplica};
-ghost use Rattle.registry.specs.Registry.{fresh_registry};
+ghost use Rattle.registry.specs.Registry.{fresh_registry, elected, elected_alone};
 ghost use Rattle.registry.specs.Calls.{after_elect, after_unclean, after_ack, after_shrink, after_expand, after_raise};
 
 use crate::refusal::RegRefusal;
@@ -71,6 +71,36 @@ impl Registry {
         })
     }
 
+    /// Begins the next epoch under a broker whose election is allowed.
+    pub fn lead(&mut self, broker: BrokerId)
+        requires { self.old.epoch < 2 ^ 32 - 1 }
+        ensures is { self.new ≡ elected self.old broker.0 }
+        ensures count { length self.new.replicas ≡ length self.old.replicas }
+    {
+        let mark = self.mark;
+        reset(&mut self.replicas, mark);
+        self.epoch += 1;
+        self.leader = broker;
+    }
+
+    /// Begins the next epoch under a broker whose unclean election is allowed, and who has this stable end.
+    pub fn lead_alone(&mut self, broker: BrokerId, stable: u64)
+        requires within { broker.0 < length self.old.replicas }
+        requires follows { self.old.epoch < 2 ^ 32 - 1 }
+        ensures is { self.new ≡ elected_alone self.old broker.0 stable }
+        ensures count { length self.new.replicas ≡ length self.old.replicas }
+    {
+        all_out(&mut self.replicas);
+        let leader = Replica {
+            in_sync: true,
+            acked: stable,
+        };
+        let _ = self.replicas.replace(broker.0 as usize, leader);
+        self.epoch += 1;
+        self.leader = broker;
+        self.mark = stable;
+    }
+
     /// Elects a broker out of the replicas in sync, and answers the new leader epoch. `up` tells whether it is up.
     pub fn elect(&mut self, broker: BrokerId, up: bool) -> Result<u32, RegRefusal>
         requires { broker.0 < length self.old.replicas }
@@ -87,10 +117,7 @@ impl Registry {
         if !up {
             return Err(RegRefusal::DownBroker);
         }
-        let mark = self.mark;
-        reset(&mut self.replicas, mark);
-        self.epoch += 1;
-        self.leader = broker;
+        self.lead(broker);
         Ok(self.epoch)
     }
 
@@ -119,15 +146,7 @@ impl Registry {
                 start: self.start,
             });
         }
-        all_out(&mut self.replicas);
-        let leader = Replica {
-            in_sync: true,
-            acked: stable,
-        };
-        let _ = self.replicas.replace(broker.0 as usize, leader);
-        self.epoch += 1;
-        self.leader = broker;
-        self.mark = stable;
+        self.lead_alone(broker, stable);
         Ok(self.epoch)
     }
 
