@@ -128,6 +128,7 @@ impl Copying {
         ensures rules { IfOk result IsNote }
     {
         let map = self.segment.epochs().copy(alloc)?;
+        // Reading it shows that the map is a line.
         let _line = map.entries();
         Ok(Note::Add(Entry {
             id: self.id,

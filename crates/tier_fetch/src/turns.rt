@@ -77,6 +77,7 @@ fn chosen(wanted: &Wanted, line: &Line, view: &View) -> FetchTurn
 {
     match find(view, line, wanted.log_end, wanted.offset) {
         Some(piece) => {
+            // Reading both shows that the piece ends past the offset.
             let _entries = view.entries();
             let _line = line.entries();
             FetchTurn::Goes(Next::Index(piece))
