@@ -1,4 +1,5 @@
 pub mod Attempts
+pub mod Joined
 pub mod Listed
 pub mod Names
 pub mod Past

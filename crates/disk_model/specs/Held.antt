@@ -2,9 +2,9 @@
 use Rattle.std.specs.Prelude.{ℕ, List, ◌++◌, take, Option, option_map}
 use Rattle.disk_model.specs.declared.held.Held.{Held}
 
--- the bytes
+-- the bytes: those that were gathered, and then those of the pieces
 abbrev pub all_of : Held → List ℕ
-all_of held = held.bytes ++ held.behind.items
+all_of held = held.bytes ++ held.behind
 
 -- the bytes up to the last sync
 abbrev pub safe_of : Held → List ℕ

@@ -1,9 +1,10 @@
 //! What the calls of a disk in memory do to one file.
 
-ghost use Rattle.std.specs.Prelude.{◌≡◌, ◌++◌, [], take, drop, IfOk, OnOk, OnErr};
+ghost use Rattle.std.specs.Prelude.{◌≡◌, ◌++◌, [], take, drop, IfOk, IfSome, OnOk, OnErr};
 ghost use Rattle.disk_model.specs.Held.{all_of, safe_of};
 
 use crate::held::Held;
+use crate::pieces::Pieces;
 use bytes::Bytes;
 use std::alloc::{AllocError, Global};
 
@@ -15,7 +16,7 @@ impl Held {
     {
         Held {
             bytes,
-            behind: Vec::new(alloc),
+            behind: Pieces::new(alloc),
             synced: 0,
         }
     }
@@ -28,19 +29,19 @@ impl Held {
         let synced = bytes.len();
         Held {
             bytes,
-            behind: Vec::new(alloc),
+            behind: Pieces::new(alloc),
             synced,
         }
     }
 }
 
 /// Adds bytes at a file's end.
-pub fn extend(held: &mut Held, bytes: &[u8]) -> Result<(), AllocError>
-    ensures ok { OnOk result (all_of held.new ≡ all_of held.old ++ bytes.now) }
+pub fn extend(held: &mut Held, bytes: Bytes) -> Result<(), AllocError>
+    ensures ok { OnOk result (all_of held.new ≡ all_of held.old ++ bytes) }
     ensures err { OnErr result (all_of held.new ≡ all_of held.old) }
     ensures safe { safe_of held.new ≡ safe_of held.old }
 {
-    held.behind.extend_from_slice(bytes)
+    held.behind.push(bytes)
 }
 
 /// Cuts a file to a length.
@@ -76,9 +77,24 @@ pub fn share_from(alloc: Global, held: &mut Held, at: usize) -> Result<Bytes, Al
     ensures safe { safe_of held.new ≡ safe_of held.old }
     ensures shared { IfOk result (λ shared. shared ≡ drop at (all_of held.old)) }
 {
+    // What stands in one piece keeps no more than that piece, however long the file is.
+    if let Some(shared) = share_last(held, at)? {
+        return Ok(shared);
+    }
     gather(alloc, held)?;
     let from = at.min(held.bytes.len());
     held.bytes.slice(from..)
+}
+
+/// Gives a file's bytes from a place on, where the piece that was appended last has them.
+fn share_last(held: &Held, at: usize) -> Result<Option<Bytes>, AllocError>
+    ensures { IfOk result (λ found. IfSome found (λ bytes. bytes ≡ drop at (all_of held.now))) }
+{
+    let front = held.bytes.len();
+    if at < front {
+        return Ok(None);
+    }
+    held.behind.share_last(at - front)
 }
 
 /// Gathers what was appended into the bytes that are shared.
@@ -90,9 +106,10 @@ fn gather(alloc: Global, held: &mut Held) -> Result<(), AllocError>
     if held.behind.is_empty() {
         return Ok(());
     }
-    let mut all = Vec::from_slice(alloc, held.bytes.as_slice())?;
-    all.extend_from_slice(held.behind.as_slice())?;
+    let mut all = Vec::with_capacity(alloc, held.bytes.len() + held.behind.len())?;
+    all.extend_from_slice(held.bytes.as_slice())?;
+    held.behind.copy_to(&mut all)?;
     held.bytes = Bytes::from_vec(all)?;
-    held.behind.clear();
+    held.behind = Pieces::new(alloc);
     Ok(())
 }

@@ -185,7 +185,7 @@ fn append_to(alloc: Global, slot: &mut Option<Held>, bytes: Bytes) -> Result<(),
     ensures safe_err { OnErr result (safe_at slot.new ≡ safe_at slot.old) }
 {
     match slot {
-        Some(held) => extend(held, bytes.as_slice()),
+        Some(held) => extend(held, bytes),
         None => {
             *slot = Some(Held::unsynced(alloc, bytes));
             Ok(())
@@ -210,7 +210,7 @@ fn append_at(
         → safe_at (get nat_cmp logs.new q) ≡ safe_at (get nat_cmp logs.old q)) }
 {
     match logs.get_mut(&base) {
-        Some(held) => extend(held, bytes.as_slice()),
+        Some(held) => extend(held, bytes),
         None => {
             logs.insert(base, Held::unsynced(alloc, bytes))?;
             Ok(())
