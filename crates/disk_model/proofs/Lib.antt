@@ -5,3 +5,4 @@ pub mod Names
 pub mod Past
 pub mod Patches
 pub mod Steps
+pub mod Whole

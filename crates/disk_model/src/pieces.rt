@@ -1,9 +1,13 @@
 //! Bytes in pieces, one after another, each of which may have further owners.
 //!
-//! A piece is put behind the others, and bytes are cut off the end, without a copy of any byte.
+//! A piece is put behind the others, and bytes are cut off the end, without a copy of any byte. A part
+//! within one piece is shared. One that spans pieces is copied alone, so that whoever keeps it keeps
+//! no more than it. All bytes together become one piece once they are read: they are read again as
+//! they stand where a segment is copied again, and then shared.
 
-ghost use Rattle.std.specs.Prelude.{◌≡◌, ◌-◌, ◌<◌, ◌^◌, ◌++◌, ◌↔◌, [], length, take, drop, IsTrue, IfOk, IfSome, OnOk, OnErr};
-ghost use Rattle.std.specs.List.{concat};
+ghost use Rattle.std.specs.Prelude.{◌≡◌, ◌≤◌, ◌<◌, ◌^◌, ◌+◌, ◌-◌, ◌++◌, ℕ, List, [], length, take, drop, IfOk, OnOk, OnErr};
+ghost use Rattle.disk_model.specs.Content.{part_of};
+ghost use Rattle.disk_model.specs.Pieces.{joined, AreEnded};
 
 use bytes::Bytes;
 use std::alloc::{AllocError, Global};
@@ -12,20 +16,27 @@ use std::marker::Model;
 /// How many bytes there may be: as many as stand in one vector.
 const MOST: usize = usize::MAX / 2;
 
+/// A piece, and where it ends, so that a place is found by halving.
+#[derive(Drop)]
+pub struct Piece {
+    bytes: Bytes,
+    end: usize,
+}
+
 /// Bytes in pieces, and how many they are.
 #[derive(Drop)]
 pub struct Pieces {
-    items: Vec<Bytes>,
+    items: Vec<Piece>,
     len: usize,
 }
 
 impl Model for Pieces {
     ghost use Rattle.std.specs.Prelude.{List, ℕ};
-    ghost use Rattle.disk_model.specs.Pieces.{joined, IsCounted};
+    ghost use Rattle.disk_model.specs.Pieces.{bytes_of, IsCounted};
 
     ghost Value = { List ℕ };
 
-    ghost view = { joined };
+    ghost view = { bytes_of };
 
     ghost invariant = { IsCounted };
 }
@@ -49,24 +60,27 @@ impl Pieces {
         self.len
     }
 
-    /// Answers whether there are no bytes.
-    pub fn is_empty(&self) -> bool
-        ensures { IsTrue result ↔ (self.now ≡ []) }
+    /// Lends the first piece.
+    pub fn front(&self) -> &[u8]
+        ensures { (rest : List ℕ) × (self.now ≡ result.now ++ rest) }
     {
-        self.len == 0
+        match self.items.first() {
+            Some(piece) => piece.bytes.as_slice(),
+            None => &[],
+        }
     }
 
     /// Puts a piece behind the others.
-    pub fn push(&mut self, piece: Bytes) -> Result<(), AllocError>
-        ensures ok { OnOk result (self.new ≡ self.old ++ piece) }
+    pub fn push(&mut self, bytes: Bytes) -> Result<(), AllocError>
+        ensures ok { OnOk result (self.new ≡ self.old ++ bytes) }
         ensures err { OnErr result (self.new ≡ self.old) }
     {
-        let len = self.len + piece.len();
-        if len > MOST {
+        let end = self.len + bytes.len();
+        if end > MOST {
             return Err(AllocError);
         }
-        self.items.push(piece)?;
-        self.len = len;
+        self.items.push(Piece { bytes, end })?;
+        self.len = end;
         Ok(())
     }
 
@@ -78,43 +92,104 @@ impl Pieces {
         self.len = self.len.min(len);
     }
 
-    /// Shares the bytes from a place on, where the last piece has all of them.
-    pub fn share_last(&self, at: usize) -> Result<Option<Bytes>, AllocError>
-        ensures { IfOk result (λ found. IfSome found (λ bytes. bytes ≡ drop at self.now)) }
+    /// Gives so many bytes from a place on, and fewer only where they end.
+    pub fn read(&mut self, alloc: Global, at: usize, most: usize) -> Result<Bytes, AllocError>
+        ensures bytes { IfOk result (λ bytes. bytes ≡ part_of at most self.old) }
+        ensures kept { self.new ≡ self.old }
     {
-        let count = self.items.len();
-        if count == 0 {
-            return Ok(None);
+        if at == 0 && self.len <= most {
+            self.gather(alloc)?;
         }
-        let last = &self.items[count - 1];
-        let front = self.len - last.len();
-        if at < front || self.len < at {
-            return Ok(None);
-        }
-        let shared = last.slice(at - front..)?;
-        Ok(Some(shared))
+        self.part(alloc, at, most)
     }
 
-    /// Copies the bytes to the end of others. Where memory fails, some of them may stand there.
-    pub fn copy_to(&self, all: &mut Vec<u8>) -> Result<(), AllocError>
-        ensures { OnOk result (all.new.items ≡ all.old.items ++ self.now) }
+    /// Makes one piece of all.
+    fn gather(&mut self, alloc: Global) -> Result<(), AllocError>
+        ensures { self.new ≡ self.old }
     {
-        for piece in &self.items {
-            all.extend_from_slice(piece.as_slice())?;
+        if self.items.len() < 2 {
+            return Ok(());
         }
+        let mut all = Vec::with_capacity(alloc, self.len)?;
+        copy_front(self.items.as_slice(), self.len, &mut all)?;
+        let mut whole = Pieces::new(alloc);
+        whole.push(Bytes::from_vec(all)?)?;
+        *self = whole;
         Ok(())
+    }
+
+    /// Shares a part of one piece, or copies one that spans pieces.
+    fn part(&self, alloc: Global, at: usize, most: usize) -> Result<Bytes, AllocError>
+        ensures { IfOk result (λ bytes. bytes ≡ part_of at most self.now) }
+    {
+        let passed = count_passed(self.items.as_slice(), at);
+        match self.items[passed..].split_first() {
+            Some((piece, behind)) => read_in(alloc, piece, behind, piece.end - at, most),
+            None => Ok(Bytes::new()),
+        }
     }
 }
 
+/// How many pieces end at or below a place: those in front.
+fn count_passed(pieces: &[Piece], at: usize) -> usize
+    requires { AreEnded 0 pieces.now }
+    ensures within { result ≤ length pieces.now }
+    ensures passed { length (joined (take result pieces.now)) ≤ at }
+    ensures next { result < length pieces.now → at < length (joined (take (result + 1) pieces.now)) }
+{
+    pieces.partition_point(|piece| piece.end <= at)
+}
+
+/// Shares a part of a piece that has so many bytes of it, or copies one that spans pieces.
+fn read_in(
+    alloc: Global,
+    piece: &Piece,
+    behind: &[Piece],
+    here: usize,
+    most: usize,
+) -> Result<Bytes, AllocError>
+    requires { here ≤ length piece.now.bytes }
+    ensures { IfOk result (λ bytes. bytes ≡ take most
+        (drop (length piece.now.bytes - here) piece.now.bytes ++ joined behind.now)) }
+{
+    let bytes = &piece.bytes;
+    let from = bytes.len() - here;
+    if most <= here || behind.is_empty() {
+        return bytes.slice(from..from + most.min(here));
+    }
+    let mut all = Vec::from_slice(alloc, &bytes.as_slice()[from..])?;
+    copy_front(behind, most - here, &mut all)?;
+    Ok(Bytes::from_vec(all)?)
+}
+
+/// Copies so many of the first bytes of pieces to the end of others. Where memory fails, some of
+/// them may stand there.
+fn copy_front(pieces: &[Piece], mut most: usize, all: &mut Vec<u8>) -> Result<(), AllocError>
+    ensures { OnOk result (all.new.items ≡ all.old.items ++ take most (joined pieces.now)) }
+{
+    for piece in pieces {
+        if most == 0 {
+            break;
+        }
+        let here = most.min(piece.bytes.len());
+        all.extend_from_slice(&piece.bytes.as_slice()[..here])?;
+        most -= here;
+    }
+    Ok(())
+}
+
 /// Drops so many bytes from the end.
-fn drop_last(pieces: &mut Vec<Bytes>, mut count: usize)
-    ensures { concat pieces.new.items
-        ≡ take (length (concat pieces.old.items) - count) (concat pieces.old.items) }
+fn drop_last(pieces: &mut Vec<Piece>, mut count: usize)
+    requires { AreEnded 0 pieces.old.items }
+    ensures bytes { joined pieces.new.items
+        ≡ take (length (joined pieces.old.items) - count) (joined pieces.old.items) }
+    ensures ends { AreEnded 0 pieces.new.items }
 {
     while let Some(mut last) = pieces.pop() {
-        let len = last.len();
+        let len = last.bytes.len();
         if count < len {
-            last.truncate(len - count);
+            last.bytes.truncate(len - count);
+            last.end -= count;
             // It has the room from which it was taken.
             let _ = pieces.push(last);
             return;
