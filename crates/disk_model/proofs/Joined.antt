@@ -1,7 +1,7 @@
 -- Bytes in pieces: one piece more, bytes that are dropped from the end, and where each piece ends.
 use Rattle.std.specs.Prelude.{◌≡◌, ℕ, ◌+◌, ◌-◌, ◌<◌, ◌≤◌, List, [], ◌∷◌, ◌++◌, length, take, drop, map}
 use Rattle.std.specs.List.{concat}
-use Rattle.std.proofs.Common.{sym, ◌∙◌, ap, subst, arith, append-nil, append_assoc, length-append, zero, suc, true, false, nat_le, add-one, get_or, min, length-drop, take-add, take-append-drop}
+use Rattle.std.proofs.Common.{sym, ◌∙◌, ap, subst, arith, append-nil, length-append, zero, suc, true, false, nat_le, add-one, get_or, min, length-drop, take-add, take-append-drop}
 use Rattle.std.proofs.Math.Seq.{take-append-add, drop-append-add}
 use Rattle.std.proofs.lemmas.Bool.Decides.{nat_tests}
 use Rattle.std.proofs.lemmas.List.{take_all, take_more, take_min, take-append-le, drop-append-le, map-append}

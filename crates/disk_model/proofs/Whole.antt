@@ -1,5 +1,5 @@
 -- A read without a limit: no file has as many bytes.
-use Rattle.std.proofs.Common.{◌≡◌, ◌<◌, ◌^◌, ◌∙◌, ℕ, List, Option, None, Some, length, take, drop, ap, sym, refl, arith, length-take}
+use Rattle.std.proofs.Common.{◌≡◌, ◌<◌, ◌∙◌, ℕ, List, Option, None, Some, length, take, drop, ap, refl, arith, length-take}
 use Rattle.std.proofs.lemmas.List.{take_all}
 use Rattle.std.specs.Prelude.{option_map}
 use Rattle.disk_model.specs.Content.{part_of}

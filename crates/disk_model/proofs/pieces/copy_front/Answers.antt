@@ -1,4 +1,4 @@
-use Rattle.std.proofs.Common.{◌≡◌, ◌≤◌, ◌-◌, ◌++◌, List, ℕ, length, min, ap, sym, ◌∙◌, arith, append_assoc, length-append, take}
+use Rattle.std.proofs.Common.{◌++◌, List, ℕ, length, min, ap, sym, ◌∙◌, arith, append_assoc, length-append, take}
 use Rattle.disk_model.specs.Pieces.{joined}
 use Rattle.disk_model.proofs.Joined.{joined-take_more, copied, enough}
 use Rattle.disk_model.proofs.pieces.copy_front.Goals as goal

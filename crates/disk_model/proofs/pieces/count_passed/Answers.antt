@@ -1,6 +1,5 @@
 use Rattle.std.proofs.Common.{rules, nat_le, arith}
 use Rattle.std.proofs.lemmas.List.Sorted.{IsPartitionPoint-from_clause, IsPartitionedBy-leb}
-use Rattle.disk_model.specs.declared.pieces.Piece.{Piece}
 use Rattle.disk_model.proofs.Joined.{ends-rise, passed_at}
 use Rattle.disk_model.proofs.pieces.count_passed.Goals as goal
 

@@ -1,4 +1,4 @@
-use Rattle.std.proofs.Common.{◌≡◌, ◌<◌, ◌+◌, ◌-◌, ◌++◌, ◌∷◌, [], cond, Bool, List, ℕ, ap, subst, sym, refl, ◌∙◌, arith, length, length-take, vec_len, vec_capacity}
+use Rattle.std.proofs.Common.{◌≡◌, ◌<◌, ◌-◌, ◌++◌, ◌∷◌, [], cond, Bool, List, ℕ, ap, subst, sym, refl, ◌∙◌, arith, length, length-take, vec_len, vec_capacity}
 use Rattle.disk_model.specs.declared.pieces.Piece.{Piece}
 use Rattle.disk_model.specs.Pieces.{joined, AreEnded}
 use Rattle.disk_model.proofs.Joined.{drops_part, drops_whole, ended-append, ended-push}

@@ -1,4 +1,4 @@
-use Rattle.std.proofs.Common.{◌≡◌, ◌^◌, ◌-◌, arith, ℕ, List, Option, None, Some}
+use Rattle.std.proofs.Common.{◌≡◌, ◌^◌, ◌-◌, arith, None, Some}
 use Rattle.std.specs.Prelude.{option_map}
 use Rattle.disk_model.specs.Content.{part_of}
 use Rattle.disk_model.specs.Steps.{reads}
