@@ -1,10 +1,10 @@
 -- A file of a disk in memory: its bytes, and those up to the last sync.
-use Rattle.std.specs.Prelude.{ℕ, List, ◌++◌, take, Option, option_map}
+use Rattle.std.specs.Prelude.{ℕ, List, take, Option, option_map}
 use Rattle.disk_model.specs.declared.held.Held.{Held}
 
 -- the bytes
 abbrev pub all_of : Held → List ℕ
-all_of held = held.bytes ++ held.behind.items
+all_of held = held.bytes
 
 -- the bytes up to the last sync
 abbrev pub safe_of : Held → List ℕ

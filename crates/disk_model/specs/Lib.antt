@@ -3,6 +3,7 @@ pub mod Content
 pub mod Deaf
 pub mod Held
 pub mod Patch
+pub mod Pieces
 pub mod History
 pub mod Kept
 pub mod Laws

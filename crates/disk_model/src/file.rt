@@ -1,46 +1,46 @@
 //! What the calls of a disk in memory do to one file.
 
-ghost use Rattle.std.specs.Prelude.{◌≡◌, ◌++◌, [], take, drop, IfOk, OnOk, OnErr};
+ghost use Rattle.std.specs.Prelude.{◌≡◌, ◌++◌, [], take, IfOk, OnOk, OnErr};
+ghost use Rattle.disk_model.specs.Content.{part_of};
 ghost use Rattle.disk_model.specs.Held.{all_of, safe_of};
 
 use crate::held::Held;
+use crate::pieces::Pieces;
 use bytes::Bytes;
 use std::alloc::{AllocError, Global};
 
 impl Held {
     /// Makes a file of these bytes, none of which is synced.
-    pub fn unsynced(alloc: Global, bytes: Bytes) -> Held
-        ensures bytes { all_of result ≡ bytes }
-        ensures safe { safe_of result ≡ [] }
+    pub fn unsynced(alloc: Global, bytes: Bytes) -> Result<Held, AllocError>
+        ensures bytes { IfOk result (λ held. all_of held ≡ bytes) }
+        ensures safe { IfOk result (λ held. safe_of held ≡ []) }
     {
-        Held {
-            bytes,
-            behind: Vec::new(alloc),
+        let mut pieces = Pieces::new(alloc);
+        pieces.push(bytes)?;
+        Ok(Held {
+            bytes: pieces,
             synced: 0,
-        }
+        })
     }
 
     /// Makes a file of these bytes, all of which are synced.
-    pub fn synced(alloc: Global, bytes: Bytes) -> Held
-        ensures bytes { all_of result ≡ bytes }
-        ensures safe { safe_of result ≡ bytes }
+    pub fn synced(alloc: Global, bytes: Bytes) -> Result<Held, AllocError>
+        ensures bytes { IfOk result (λ held. all_of held ≡ bytes) }
+        ensures safe { IfOk result (λ held. safe_of held ≡ bytes) }
     {
-        let synced = bytes.len();
-        Held {
-            bytes,
-            behind: Vec::new(alloc),
-            synced,
-        }
+        let mut held = Held::unsynced(alloc, bytes)?;
+        settle(&mut held);
+        Ok(held)
     }
 }
 
 /// Adds bytes at a file's end.
-pub fn extend(held: &mut Held, bytes: &[u8]) -> Result<(), AllocError>
-    ensures ok { OnOk result (all_of held.new ≡ all_of held.old ++ bytes.now) }
+pub fn extend(held: &mut Held, bytes: Bytes) -> Result<(), AllocError>
+    ensures ok { OnOk result (all_of held.new ≡ all_of held.old ++ bytes) }
     ensures err { OnErr result (all_of held.new ≡ all_of held.old) }
     ensures safe { safe_of held.new ≡ safe_of held.old }
 {
-    held.behind.extend_from_slice(bytes)
+    held.bytes.push(bytes)
 }
 
 /// Cuts a file to a length.
@@ -49,9 +49,7 @@ pub fn shorten(held: &mut Held, len: usize)
     ensures safe { safe_of held.new ≡ take len (safe_of held.old) }
 {
     held.synced = held.synced.min(len);
-    let front = held.bytes.len();
     held.bytes.truncate(len);
-    held.behind.truncate(len.saturating_sub(front));
 }
 
 /// Counts all bytes of a file as synced.
@@ -59,7 +57,7 @@ pub fn settle(held: &mut Held)
     ensures bytes { all_of held.new ≡ all_of held.old }
     ensures safe { safe_of held.new ≡ all_of held.old }
 {
-    held.synced = held.bytes.len() + held.behind.len();
+    held.synced = held.bytes.len();
 }
 
 /// Drops the bytes that aren't synced.
@@ -70,29 +68,11 @@ pub fn drop_unsynced(held: &mut Held)
     shorten(held, held.synced);
 }
 
-/// Gives a file's bytes from a place on, none past its end.
-pub fn share_from(alloc: Global, held: &mut Held, at: usize) -> Result<Bytes, AllocError>
+/// Gives so many bytes of a file from a place on, and fewer only where it ends.
+pub fn read(alloc: Global, held: &mut Held, at: usize, most: usize) -> Result<Bytes, AllocError>
     ensures bytes { all_of held.new ≡ all_of held.old }
     ensures safe { safe_of held.new ≡ safe_of held.old }
-    ensures shared { IfOk result (λ shared. shared ≡ drop at (all_of held.old)) }
+    ensures part { IfOk result (λ part. part ≡ part_of at most (all_of held.old)) }
 {
-    gather(alloc, held)?;
-    let from = at.min(held.bytes.len());
-    held.bytes.slice(from..)
-}
-
-/// Gathers what was appended into the bytes that are shared.
-fn gather(alloc: Global, held: &mut Held) -> Result<(), AllocError>
-    ensures bytes { all_of held.new ≡ all_of held.old }
-    ensures synced { held.new.synced ≡ held.old.synced }
-    ensures ok { OnOk result (held.new.bytes ≡ all_of held.old) }
-{
-    if held.behind.is_empty() {
-        return Ok(());
-    }
-    let mut all = Vec::from_slice(alloc, held.bytes.as_slice())?;
-    all.extend_from_slice(held.behind.as_slice())?;
-    held.bytes = Bytes::from_vec(all)?;
-    held.behind.clear();
-    Ok(())
+    held.bytes.read(alloc, at, most)
 }

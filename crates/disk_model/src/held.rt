@@ -1,17 +1,15 @@
 //! What is held of a file of a disk in memory.
 //!
-//! What a read gives shares the file's bytes. What was appended since the last read stands behind
-//! them, until the next read gathers both; so reads of an unchanged file copy nothing.
+//! What was appended is kept as it was given, so an append copies nothing.
 
-ghost use Rattle.std.specs.Prelude.{◌≤◌, ◌+◌, length, vec_len};
+ghost use Rattle.std.specs.Prelude.{◌≤◌, length};
 
-use bytes::Bytes;
+use crate::pieces::Pieces;
 
 /// A file's bytes, and how many of them are synced.
 #[derive(Drop)]
 pub struct Held {
-    pub bytes: Bytes,
-    pub behind: Vec<u8>,
+    pub bytes: Pieces,
     pub synced: usize,
-    ghost within: { synced ≤ length bytes + vec_len behind },
+    ghost within: { synced ≤ length bytes },
 }

@@ -6,6 +6,7 @@
 
 ghost use Rattle.std.specs.Prelude.{◌≡◌, ◌+◌, ◌≤◌, ◌<◌, ◌++◌, ◌∷◌, [], false, IfOk, OnOk, OnErr, drop, option_map, vec_len, vec_capacity};
 ghost use Rattle.tier_base.specs.Told.{Names};
+ghost use Rattle.disk_model.specs.Content.{part_of};
 ghost use Rattle.disk_model.specs.Steps.{Append, Sync, Cut, Replace, Remove, reads};
 ghost use Rattle.disk_model.specs.Kept.{does, Drops};
 
@@ -177,7 +178,29 @@ impl History {
             ≡ option_map (drop at) (reads self.old.past name)) }
         ensures kept { self.new ≡ self.old }
     {
-        self.shelf.read(self.alloc, name, at as usize)
+        match self.read_part(name, at, u64::MAX)? {
+            None => Ok(None),
+            Some(bytes) => {
+                // No file has as many bytes.
+                let _len = bytes.len();
+                Ok(Some(bytes))
+            }
+        }
+    }
+
+    /// Gives so many bytes of a file from a place on, and fewer only where it ends.
+    pub fn read_part(
+        &mut self,
+        name: FileName,
+        at: u64,
+        most: u64,
+    ) -> Result<Option<Bytes>, AllocError>
+        ensures bytes { IfOk result (λ bytes. bytes
+            ≡ option_map (part_of at most) (reads self.old.past name)) }
+        ensures kept { self.new ≡ self.old }
+    {
+        self.shelf
+            .read(self.alloc, name, at as usize, most as usize)
     }
 }
 

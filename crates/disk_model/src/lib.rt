@@ -16,6 +16,7 @@ mod held;
 mod history;
 mod memory_disk;
 mod patch;
+mod pieces;
 mod shelf;
 
 pub use call::{DiskCall, Planned};

@@ -12,7 +12,7 @@ ghost use Rattle.disk_model.specs.Content.{Keeps};
 ghost use Rattle.disk_model.specs.Laws.{lawful_at};
 ghost use Rattle.disk_model.specs.Steps.{content_of};
 
-use crate::attempt::{append_if, cut_if, front_of, hand, remove_if, replace_if, share, sync_if};
+use crate::attempt::{append_if, cut_if, hand, remove_if, replace_if, share, sync_if};
 use crate::call::{DiskCall, Planned};
 use crate::disk::Disk;
 use crate::history::History;
@@ -153,7 +153,7 @@ impl Disk for MemoryDisk {
 
     fn read_part(&mut self, name: FileName, at: u64, most: u64) -> Result<Option<Bytes>, Trouble> {
         let ending = self.faults.ending(DiskCall::Read);
-        let part = front_of(self.history.read(name, at)?, most as usize);
+        let part = self.history.read_part(name, at, most)?;
         let handed = share(&part)?;
         let outcome = self.faults.note(DiskCall::Read, ending);
         hand(&mut self.handed, outcome.is_ok(), handed);

@@ -1,16 +1,16 @@
 //! The files of a disk in memory, those of log segments by their base offset.
 
-ghost use Rattle.std.specs.Prelude.{◌≡◌, ◌≢◌, ◌++◌, ℕ, map, drop, None, Some, IfOk, OnOk, OnErr, option_map};
+ghost use Rattle.std.specs.Prelude.{◌≡◌, ◌≢◌, ◌++◌, ℕ, map, None, Some, IfOk, OnOk, OnErr, option_map};
 ghost use Rattle.std.specs.Ordering.{nat_cmp};
 ghost use Rattle.std.specs.BTreeMap.{get, keys};
 ghost use Rattle.std.specs.List.Sorted.{IsStrictlySortedBy};
 ghost use Rattle.tier_base.specs.declared.plain.FileName.TheVariants.{Log};
 ghost use Rattle.tier_base.specs.Told.{replaced, removed};
-ghost use Rattle.disk_model.specs.Content.{appended, cut_to};
+ghost use Rattle.disk_model.specs.Content.{appended, cut_to, part_of};
 ghost use Rattle.disk_model.specs.Held.{all_of, safe_of, bytes_at, safe_at};
 ghost use Rattle.disk_model.specs.Shelf.{made, files_on, names_on, safe_on, Becomes, IsFront};
 
-use crate::file::{drop_unsynced, extend, settle, share_from, shorten};
+use crate::file::{drop_unsynced, extend, read, settle, shorten};
 use crate::held::Held;
 use bytes::Bytes;
 use std::alloc::{AllocError, Global};
@@ -78,7 +78,7 @@ impl Shelf {
         ensures err { OnErr result ((n : _) → files_on self.new n ≡ files_on self.old n) }
         ensures safe_err { OnErr result ((n : _) → safe_on self.new n ≡ safe_on self.old n) }
     {
-        let held = Held::synced(alloc, bytes);
+        let held = Held::synced(alloc, bytes)?;
         match name {
             FileName::Manifest => self.manifest = Some(held),
             FileName::Log(base) => put_at(&mut self.logs, base, held)?,
@@ -88,8 +88,8 @@ impl Shelf {
         Ok(())
     }
 
-    /// Lends bytes with which a file begins: those that were read or put at once. Of a log segment none are lent, which is
-    /// never replaced.
+    /// Lends bytes with which a file begins: all of one that was put. Of a log segment none are lent, which is never
+    /// replaced.
     pub fn front(&self, name: FileName) -> &[u8]
         ensures { IsFront result.now (files_on self.now name) }
     {
@@ -157,23 +157,24 @@ impl Shelf {
         Ok(names)
     }
 
-    /// Gives a file's bytes from a place on.
+    /// Gives so many bytes of a file from a place on, and fewer only where it ends.
     pub fn read(
         &mut self,
         alloc: Global,
         name: FileName,
         at: usize,
+        most: usize,
     ) -> Result<Option<Bytes>, AllocError>
         ensures bytes { IfOk result (λ bytes. bytes
-            ≡ option_map (drop at) (files_on self.old name)) }
+            ≡ option_map (part_of at most) (files_on self.old name)) }
         ensures files { (n : _) → files_on self.new n ≡ files_on self.old n }
         ensures safe { (n : _) → safe_on self.new n ≡ safe_on self.old n }
     {
         match name {
-            FileName::Manifest => read_slot(alloc, &mut self.manifest, at),
-            FileName::Log(base) => read_at(alloc, &mut self.logs, base, at),
-            FileName::Notes => read_slot(alloc, &mut self.notes, at),
-            FileName::Gate => read_slot(alloc, &mut self.gate, at),
+            FileName::Manifest => read_slot(alloc, &mut self.manifest, at, most),
+            FileName::Log(base) => read_at(alloc, &mut self.logs, base, at, most),
+            FileName::Notes => read_slot(alloc, &mut self.notes, at, most),
+            FileName::Gate => read_slot(alloc, &mut self.gate, at, most),
         }
     }
 }
@@ -185,9 +186,9 @@ fn append_to(alloc: Global, slot: &mut Option<Held>, bytes: Bytes) -> Result<(),
     ensures safe_err { OnErr result (safe_at slot.new ≡ safe_at slot.old) }
 {
     match slot {
-        Some(held) => extend(held, bytes.as_slice()),
+        Some(held) => extend(held, bytes),
         None => {
-            *slot = Some(Held::unsynced(alloc, bytes));
+            *slot = Some(Held::unsynced(alloc, bytes)?);
             Ok(())
         }
     }
@@ -210,9 +211,9 @@ fn append_at(
         → safe_at (get nat_cmp logs.new q) ≡ safe_at (get nat_cmp logs.old q)) }
 {
     match logs.get_mut(&base) {
-        Some(held) => extend(held, bytes.as_slice()),
+        Some(held) => extend(held, bytes),
         None => {
-            logs.insert(base, Held::unsynced(alloc, bytes))?;
+            logs.insert(base, Held::unsynced(alloc, bytes)?)?;
             Ok(())
         }
     }
@@ -243,7 +244,7 @@ fn front_in(slot: &Option<Held>) -> &[u8]
     ensures { IsFront result.now (bytes_at slot.now) }
 {
     match slot {
-        Some(held) => held.bytes.as_slice(),
+        Some(held) => held.bytes.front(),
         None => &[],
     }
 }
@@ -304,13 +305,19 @@ fn remove_at(logs: &mut BTreeMap<u64, Held>, base: u64)
     logs.remove(&base);
 }
 
-fn read_slot(alloc: Global, slot: &mut Option<Held>, at: usize) -> Result<Option<Bytes>, AllocError>
-    ensures shared { IfOk result (λ bytes. bytes ≡ option_map (drop at) (bytes_at slot.old)) }
+fn read_slot(
+    alloc: Global,
+    slot: &mut Option<Held>,
+    at: usize,
+    most: usize,
+) -> Result<Option<Bytes>, AllocError>
+    ensures part { IfOk result (λ bytes. bytes
+        ≡ option_map (part_of at most) (bytes_at slot.old)) }
     ensures bytes { bytes_at slot.new ≡ bytes_at slot.old }
     ensures safe { safe_at slot.new ≡ safe_at slot.old }
 {
     match slot {
-        Some(held) => Ok(Some(share_from(alloc, held, at)?)),
+        Some(held) => Ok(Some(read(alloc, held, at, most)?)),
         None => Ok(None),
     }
 }
@@ -320,16 +327,17 @@ fn read_at(
     logs: &mut BTreeMap<u64, Held>,
     base: u64,
     at: usize,
+    most: usize,
 ) -> Result<Option<Bytes>, AllocError>
-    ensures shared { IfOk result (λ bytes. bytes
-        ≡ option_map (drop at) (bytes_at (get nat_cmp logs.old base))) }
+    ensures part { IfOk result (λ bytes. bytes
+        ≡ option_map (part_of at most) (bytes_at (get nat_cmp logs.old base))) }
     ensures bytes { (q : ℕ)
         → bytes_at (get nat_cmp logs.new q) ≡ bytes_at (get nat_cmp logs.old q) }
     ensures safe { (q : ℕ)
         → safe_at (get nat_cmp logs.new q) ≡ safe_at (get nat_cmp logs.old q) }
 {
     match logs.get_mut(&base) {
-        Some(held) => Ok(Some(share_from(alloc, held, at)?)),
+        Some(held) => Ok(Some(read(alloc, held, at, most)?)),
         None => Ok(None),
     }
 }
