@@ -13,7 +13,7 @@ ghost use Rattle.partition_turns.specs.Sound.{HeldSound};
 
 use crate::held::Held;
 use crate::roles::leading;
-use broker_log::LogRefusal;
+use broker_log::{AppendRefusal, ReadRefusal, RollRefusal};
 use disk_model::Disk;
 use partition_seen::Turned;
 use plain_log::{Answer, Place, Tier};
@@ -22,6 +22,7 @@ use record_batch::{
     stamp_sets_base_and_epoch, stamped_is_checked,
 };
 use std::alloc::{AllocError, Global};
+use tier_base::Trouble;
 
 /// The greatest log end offset.
 const OFFSET_LIMIT: u64 = 1 << 62;
@@ -136,13 +137,13 @@ impl<D: Disk> Held<D> {
         let node = self.nodes.at_mut(b);
         match node.log.append(batch) {
             Ok(_) => Ok(Answer::OkSpan(base, last, epoch as u64)),
-            Err(LogRefusal::TooManySegments) => Ok(Answer::TooManySegments),
-            Err(LogRefusal::DiskFault) => {
+            Err(AppendRefusal::LastOffset) => Ok(Answer::LastOffset),
+            Err(AppendRefusal::TooManySegments) => Ok(Answer::TooManySegments),
+            Err(AppendRefusal::DiskFault) => {
                 node.note_stop();
                 Ok(Answer::DiskFault)
             }
-            Err(LogRefusal::NoMemory) => Err(AllocError),
-            Err(_) => unreachable!(),
+            Err(AppendRefusal::NoMemory) => Err(AllocError),
         }
     }
 
@@ -158,12 +159,11 @@ impl<D: Disk> Held<D> {
         let node = self.nodes.at_mut(b);
         match node.log.flush() {
             Ok(end) => Ok(Answer::OkAt(end)),
-            Err(LogRefusal::DiskFault) => {
+            Err(Trouble::Failed) => {
                 node.note_stop();
                 Ok(Answer::DiskFault)
             }
-            Err(LogRefusal::NoMemory) => Err(AllocError),
-            Err(_) => unreachable!(),
+            Err(Trouble::NoMemory) => Err(AllocError),
         }
     }
 
@@ -180,14 +180,13 @@ impl<D: Disk> Held<D> {
         let node = self.nodes.at_mut(b);
         match node.log.roll() {
             Ok(base) => Ok(Answer::OkAt(base)),
-            Err(LogRefusal::EmptySegment) => Ok(Answer::EmptySegment),
-            Err(LogRefusal::TooManySegments) => Ok(Answer::TooManySegments),
-            Err(LogRefusal::DiskFault) => {
+            Err(RollRefusal::EmptySegment) => Ok(Answer::EmptySegment),
+            Err(RollRefusal::TooManySegments) => Ok(Answer::TooManySegments),
+            Err(RollRefusal::DiskFault) => {
                 node.note_stop();
                 Ok(Answer::DiskFault)
             }
-            Err(LogRefusal::NoMemory) => Err(AllocError),
-            Err(_) => unreachable!(),
+            Err(RollRefusal::NoMemory) => Err(AllocError),
         }
     }
 
@@ -201,12 +200,11 @@ impl<D: Disk> Held<D> {
         let node = self.nodes.at_mut(b);
         match node.log.drop_first() {
             Ok((base, last)) => Ok(Answer::Dropped(base, last)),
-            Err(LogRefusal::DiskFault) => {
+            Err(Trouble::Failed) => {
                 node.note_stop();
                 Ok(Answer::DiskFault)
             }
-            Err(LogRefusal::NoMemory) => Err(AllocError),
-            Err(_) => unreachable!(),
+            Err(Trouble::NoMemory) => Err(AllocError),
         }
     }
 
@@ -261,10 +259,9 @@ impl<D: Disk> Held<D> {
                 stop: run.stop,
                 bytes: run.bytes,
             }),
-            Err(LogRefusal::Damaged { file, at }) => Ok(Answer::Damaged(Place::File(file), at)),
-            Err(LogRefusal::DiskFault) => Ok(Answer::DiskFault),
-            Err(LogRefusal::NoMemory) => Err(AllocError),
-            Err(_) => unreachable!(),
+            Err(ReadRefusal::Damaged { file, at }) => Ok(Answer::Damaged(Place::File(file), at)),
+            Err(ReadRefusal::DiskFault) => Ok(Answer::DiskFault),
+            Err(ReadRefusal::NoMemory) => Err(AllocError),
         }
     }
 }
