@@ -7,7 +7,7 @@
 
 ghost use Rattle.std.specs.Prelude.{◌≡◌, ◌⊎◌, ◌+◌, ◌≤◌, ◌<◌, ℕ, length, false, true, OnOk, OnErr, IfOk, IsErrOf, IsTrue};
 ghost use Rattle.disk_model.specs.Content.{LeavesOnly, Image, Files, Keeps};
-ghost use Rattle.tier_base.specs.declared.fault.Trouble.TheVariants.{Failed, NoMemory};
+ghost use Rattle.tier_base.specs.declared.fault.Trouble.TheVariants as fault;
 ghost use Rattle.tier_base.specs.Counts.{Rose};
 ghost use Rattle.tier_base.specs.Device.{Lasts};
 ghost use Rattle.epoch_line.specs.Line.{cut_end};
@@ -42,13 +42,13 @@ impl<D: Disk> LocalLog<D> {
         ensures opens { LeavesOnly (D.content self.old.disk) (D.content self.new.disk)
             (OpensAsOr (D.content self.old.disk) (all_of (cut_at self.old end))) }
 
-        ensures others { OnErr result (IsErrOf result NoMemory ⊎ IsErrOf result Failed) }
-        ensures no_memory { IsErrOf result NoMemory → Becomes D.content self.old self.new }
-        ensures no_image { IsErrOf result NoMemory → (c : Files) → Image (D.content self.new.disk) c → Image (D.content self.old.disk) c }
-        ensures broken { IsErrOf result Failed → self.new.broken ≡ true }
+        ensures others { OnErr result (IsErrOf result fault.NoMemory ⊎ IsErrOf result fault.Failed) }
+        ensures no_memory { IsErrOf result fault.NoMemory → Becomes D.content self.old self.new }
+        ensures no_image { IsErrOf result fault.NoMemory → (c : Files) → Image (D.content self.new.disk) c → Image (D.content self.old.disk) c }
+        ensures broken { IsErrOf result fault.Failed → self.new.broken ≡ true }
         ensures tells { (D.content self.new.disk).tells ≡ (D.content self.old.disk).tells }
         ensures control { Lasts (D.control self.old.disk) (D.control self.new.disk) }
-        ensures cause { IsErrOf result Failed → Rose (D.control self.old.disk).faults (D.control self.new.disk).faults }
+        ensures cause { IsErrOf result fault.Failed → Rose (D.control self.old.disk).faults (D.control self.new.disk).faults }
     {
         if end < self.local_start {
             self.cut_before(end)
@@ -69,13 +69,13 @@ impl<D: Disk> LocalLog<D> {
         // Each of these images opens as an image of before does, or as the empty log.
         ensures opens { LeavesOnly (D.content self.old.disk) (D.content self.new.disk)
             (OpensAsOr (D.content self.old.disk) (all_of (restarted self.old end (cut_end self.old.line end)))) }
-        ensures others { OnErr result (IsErrOf result NoMemory ⊎ IsErrOf result Failed) }
-        ensures no_memory { IsErrOf result NoMemory → Becomes D.content self.old self.new }
-        ensures no_image { IsErrOf result NoMemory → (c : Files) → Image (D.content self.new.disk) c → Image (D.content self.old.disk) c }
-        ensures broken { IsErrOf result Failed → self.new.broken ≡ true }
+        ensures others { OnErr result (IsErrOf result fault.NoMemory ⊎ IsErrOf result fault.Failed) }
+        ensures no_memory { IsErrOf result fault.NoMemory → Becomes D.content self.old self.new }
+        ensures no_image { IsErrOf result fault.NoMemory → (c : Files) → Image (D.content self.new.disk) c → Image (D.content self.old.disk) c }
+        ensures broken { IsErrOf result fault.Failed → self.new.broken ≡ true }
         ensures tells { (D.content self.new.disk).tells ≡ (D.content self.old.disk).tells }
         ensures control { Lasts (D.control self.old.disk) (D.control self.new.disk) }
-        ensures cause { IsErrOf result Failed → Rose (D.control self.old.disk).faults (D.control self.new.disk).faults }
+        ensures cause { IsErrOf result fault.Failed → Rose (D.control self.old.disk).faults (D.control self.new.disk).faults }
     {
         self.stands();
         let mut line = self.line.copy(self.alloc)?;
@@ -97,13 +97,13 @@ impl<D: Disk> LocalLog<D> {
         // Each of these images opens as an image of before does, or as the cut log.
         ensures opens { LeavesOnly (D.content self.old.disk) (D.content self.new.disk)
             (OpensAsOr (D.content self.old.disk) (all_of (cut self.old (cut_point end self.old.closed self.old.active)))) }
-        ensures others { OnErr result (IsErrOf result NoMemory ⊎ IsErrOf result Failed) }
-        ensures no_memory { IsErrOf result NoMemory → Becomes D.content self.old self.new }
-        ensures no_image { IsErrOf result NoMemory → (c : Files) → Image (D.content self.new.disk) c → Image (D.content self.old.disk) c }
-        ensures broken { IsErrOf result Failed → self.new.broken ≡ true }
+        ensures others { OnErr result (IsErrOf result fault.NoMemory ⊎ IsErrOf result fault.Failed) }
+        ensures no_memory { IsErrOf result fault.NoMemory → Becomes D.content self.old self.new }
+        ensures no_image { IsErrOf result fault.NoMemory → (c : Files) → Image (D.content self.new.disk) c → Image (D.content self.old.disk) c }
+        ensures broken { IsErrOf result fault.Failed → self.new.broken ≡ true }
         ensures tells { (D.content self.new.disk).tells ≡ (D.content self.old.disk).tells }
         ensures control { Lasts (D.control self.old.disk) (D.control self.new.disk) }
-        ensures cause { IsErrOf result Failed → Rose (D.control self.old.disk).faults (D.control self.new.disk).faults }
+        ensures cause { IsErrOf result fault.Failed → Rose (D.control self.old.disk).faults (D.control self.new.disk).faults }
     {
         let point = cut_point(&self.closed, &self.active, end);
         self.cut_within(point)
@@ -137,14 +137,14 @@ impl<D: Disk> LocalLog<D> {
         // Each of these images opens as an image of before does, or as the cut log.
         ensures opens { LeavesOnly (D.content self.old.disk) (D.content self.new.disk)
             (OpensAsOr (D.content self.old.disk) (opened_to self.old end)) }
-        ensures others { OnErr result (IsErrOf result NoMemory ⊎ IsErrOf result Failed) }
-        ensures no_memory { IsErrOf result NoMemory → Becomes D.content self.old self.new }
-        ensures no_image { IsErrOf result NoMemory → (c : Files) → Image (D.content self.new.disk) c → Image (D.content self.old.disk) c }
-        ensures broken { IsErrOf result Failed → Breaks D.content self.old self.new }
+        ensures others { OnErr result (IsErrOf result fault.NoMemory ⊎ IsErrOf result fault.Failed) }
+        ensures no_memory { IsErrOf result fault.NoMemory → Becomes D.content self.old self.new }
+        ensures no_image { IsErrOf result fault.NoMemory → (c : Files) → Image (D.content self.new.disk) c → Image (D.content self.old.disk) c }
+        ensures broken { IsErrOf result fault.Failed → Breaks D.content self.old self.new }
         ensures room { OnOk result (D.spare self.new.disk + 1 ≡ D.spare self.old.disk) }
         ensures tells { (D.content self.new.disk).tells ≡ (D.content self.old.disk).tells }
         ensures control { Lasts (D.control self.old.disk) (D.control self.new.disk) }
-        ensures cause { IsErrOf result Failed → Rose (D.control self.old.disk).faults (D.control self.new.disk).faults }
+        ensures cause { IsErrOf result fault.Failed → Rose (D.control self.old.disk).faults (D.control self.new.disk).faults }
     {
         let last = open_front(&self.closed, &self.active, end);
         match publish(&mut self.disk, FileName::Log(last.base), bytes) {
@@ -199,13 +199,13 @@ impl<D: Disk> LocalLog<D> {
         // Each of these images opens as an image of before does, or as the cut log.
         ensures opens { LeavesOnly (D.content self.old.disk) (D.content self.new.disk)
             (OpensAsOr (D.content self.old.disk) (opened_to self.old end)) }
-        ensures others { OnErr result (IsErrOf result NoMemory ⊎ IsErrOf result Failed) }
-        ensures no_memory { IsErrOf result NoMemory → Becomes D.content self.old self.new }
-        ensures no_image { IsErrOf result NoMemory → (c : Files) → Image (D.content self.new.disk) c → Image (D.content self.old.disk) c }
-        ensures broken { IsErrOf result Failed → self.new.broken ≡ true }
+        ensures others { OnErr result (IsErrOf result fault.NoMemory ⊎ IsErrOf result fault.Failed) }
+        ensures no_memory { IsErrOf result fault.NoMemory → Becomes D.content self.old self.new }
+        ensures no_image { IsErrOf result fault.NoMemory → (c : Files) → Image (D.content self.new.disk) c → Image (D.content self.old.disk) c }
+        ensures broken { IsErrOf result fault.Failed → self.new.broken ≡ true }
         ensures tells { (D.content self.new.disk).tells ≡ (D.content self.old.disk).tells }
         ensures control { Lasts (D.control self.old.disk) (D.control self.new.disk) }
-        ensures cause { IsErrOf result Failed → Rose (D.control self.old.disk).faults (D.control self.new.disk).faults }
+        ensures cause { IsErrOf result fault.Failed → Rose (D.control self.old.disk).faults (D.control self.new.disk).faults }
     {
         self.settle(bytes, end)?;
         Ok(self.shed(end)?)
@@ -223,13 +223,13 @@ impl<D: Disk> LocalLog<D> {
         // Each of these images opens as an image of before does, or as the cut log.
         ensures opens { LeavesOnly (D.content self.old.disk) (D.content self.new.disk)
             (OpensAsOr (D.content self.old.disk) (opened_to self.old end)) }
-        ensures others { OnErr result (IsErrOf result NoMemory ⊎ IsErrOf result Failed) }
-        ensures no_memory { IsErrOf result NoMemory → Becomes D.content self.old self.new }
-        ensures no_image { IsErrOf result NoMemory → (c : Files) → Image (D.content self.new.disk) c → Image (D.content self.old.disk) c }
-        ensures broken { IsErrOf result Failed → self.new.broken ≡ true }
+        ensures others { OnErr result (IsErrOf result fault.NoMemory ⊎ IsErrOf result fault.Failed) }
+        ensures no_memory { IsErrOf result fault.NoMemory → Becomes D.content self.old self.new }
+        ensures no_image { IsErrOf result fault.NoMemory → (c : Files) → Image (D.content self.new.disk) c → Image (D.content self.old.disk) c }
+        ensures broken { IsErrOf result fault.Failed → self.new.broken ≡ true }
         ensures tells { (D.content self.new.disk).tells ≡ (D.content self.old.disk).tells }
         ensures control { Lasts (D.control self.old.disk) (D.control self.new.disk) }
-        ensures cause { IsErrOf result Failed → Rose (D.control self.old.disk).faults (D.control self.new.disk).faults }
+        ensures cause { IsErrOf result fault.Failed → Rose (D.control self.old.disk).faults (D.control self.new.disk).faults }
     {
         self.stands();
         let bytes = self.listing_cut(end)?;

@@ -6,7 +6,7 @@
 //! are tested without what memory keeps.
 
 ghost use Rattle.std.specs.Prelude.{◌≡◌, ◌<◌, ◌≤◌, ◌+◌, ℕ, option_map, min, false, true, ◌^◌, ◌↔◌, IfOk, IfErr, IfSome, IsOk, IsErrOf, IsTrue};
-ghost use Rattle.tier_base.specs.declared.fault.Trouble.TheVariants.{Failed};
+ghost use Rattle.tier_base.specs.declared.fault.Trouble.TheVariants as fault;
 ghost use Rattle.tier_base.specs.Counts.{Rose};
 ghost use Rattle.tier_base.specs.Device.{Lasts};
 ghost use Rattle.tier_base.specs.declared.plain.FileName.TheVariants as file;
@@ -140,7 +140,7 @@ impl<D: Disk> LocalLog<D> {
         ensures any_moment { LeavesOnly (D.content self.old.disk) (D.content self.new.disk)
             (OpensStable self.old) }
         ensures control { Lasts (D.control self.old.disk) (D.control self.new.disk) }
-        ensures cause { IsErrOf result Failed → Rose (D.control self.old.disk).faults (D.control self.new.disk).faults }
+        ensures cause { IsErrOf result fault.Failed → Rose (D.control self.old.disk).faults (D.control self.new.disk).faults }
     {
         self.disk.read_part(FileName::Log(base), from as u64, most)
     }

@@ -69,10 +69,8 @@ impl<D: Disk> Held<D> {
             return Ok(Turned::Answers(Answer::NoLeader));
         };
         let met = node.meet(leader);
-        let (Some(wanted), Some(line)) = (leader.log.local_start(), leader.log.line()) else {
-            unreachable!()
-        };
-        let mut line = line.copy(alloc)?;
+        let wanted = leader.local_start();
+        let mut line = leader.copy_line(alloc)?;
         line.cut_end(wanted);
         let stops = node.stops;
         let start = self.registry.start;
@@ -176,9 +174,7 @@ impl<D: Disk> Held<D> {
         if bound <= end {
             return Ok(Turned::Answers(Answer::Level));
         }
-        let Some(local) = leader.log.local_start() else {
-            unreachable!()
-        };
+        let local = leader.local_start();
         if end < local {
             return Ok(Turned::Answers(Answer::Moved(local)));
         }

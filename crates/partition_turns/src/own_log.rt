@@ -18,7 +18,7 @@ use disk_model::Disk;
 use partition_seen::Turned;
 use plain_log::{Answer, Place, Tier};
 use record_batch::{
-    BatchRefusal, Rec, build, built_head_tells, check, checked_is_batch, stamp,
+    BatchRefusal, BuildRefusal, Rec, build, built_head_tells, check, checked_is_batch, stamp,
     stamp_sets_base_and_epoch, stamped_is_checked,
 };
 use std::alloc::{AllocError, Global};
@@ -78,8 +78,10 @@ impl<D: Disk> Held<D> {
         if end > OFFSET_LIMIT {
             return Ok(Answer::LastOffset);
         }
-        let Ok(batch) = build(alloc, base, epoch, recs) else {
-            return Err(AllocError);
+        let batch = match build(alloc, base, epoch, recs) {
+            Ok(batch) => batch,
+            Err(BuildRefusal::NoMemory) => return Err(AllocError),
+            Err(BuildRefusal::NoRecords | BuildRefusal::TooLarge) => unreachable!(),
         };
         self.put(b, batch.as_slice(), base, end - 1, epoch)
     }
@@ -235,10 +237,7 @@ impl<D: Disk> Held<D> {
         if offset >= known {
             return Ok(Turned::Answers(Answer::Empty));
         }
-        let Some(local) = node.log.local_start() else {
-            unreachable!()
-        };
-        if offset < local {
+        if offset < node.local_start() {
             return Ok(Turned::Begins(self.notes(alloc, b)));
         }
         Ok(Turned::Answers(self.give(b, offset, limit, known)?))
