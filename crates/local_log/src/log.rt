@@ -173,16 +173,17 @@ impl<D: Disk> LocalLog<D> {
         }
     }
 
-    /// Every image opens as the stable log. It does nothing: calling it cites what the type keeps of each of its values, which
-    /// no law over definitions could say, since it doesn't hold of just any `Log`.
+    /// Every image opens as the stable log. It does nothing when it runs, and stands for proofs: calling it cites what the type
+    /// keeps of each of its values. No law over definitions could say it, since it doesn't hold of just any `Log`.
     pub fn stands(&self)
         ensures { self.now.broken ≡ false → (c : Files) → Image (D.content self.now.disk) c → OpensStable self.now c }
     {
+        // What is read of a log has what its type keeps told.
         let _ = &self.active;
     }
 
     /// The batches are checked and follow one another up to the end, and a cut and a piece end where one of them does. It does
-    /// nothing, and cites what the type keeps, as `stands` does.
+    /// nothing when it runs, and cites what the type keeps, as `stands` does.
     pub fn coheres(&self)
         ensures { self.now.broken ≡ false → IsTrue (D.content self.now.disk).tells → Coheres self.now }
     {

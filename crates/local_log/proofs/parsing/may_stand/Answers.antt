@@ -24,3 +24,17 @@ returns-then-last-ge-LAST_OFFSET c =
       λ t. absurd (cc (t)),
       λ m. absurd (let low = m.low in omega (arith, c.if-last-ge-LAST_OFFSET.true, delta, low)),
     )
+
+pub returns-then-cast_unsigned-end : goal.returns-then-cast_unsigned-end
+returns-then-cast_unsigned-end c =
+    let base : c.cast_unsigned.result ≡ cast_unsigned w64 c.args.head.now.base_offset = search rules in (
+      λ t. absurd (cc (t)),
+      λ m. absurd (c.if-cast_unsigned-end.true (base ∙ m.begins)),
+    )
+
+pub returns-then-last-base-ge-REACH : goal.returns-then-last-base-ge-REACH
+returns-then-last-base-ge-REACH c =
+    let delta : c.cast_unsigned-delta.result ≡ cast_unsigned w32 c.args.head.now.last_offset_delta = search rules in (
+      λ t. absurd (cc (t)),
+      λ m. absurd (let near = m.near in omega (arith, c.if-last-base-ge-REACH.true, delta, near)),
+    )
