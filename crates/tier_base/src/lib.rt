@@ -40,7 +40,7 @@ pub use memory_source::MemorySource;
 pub use names::{ActorId, BrokerId, PartitionId, SegmentId, segment_id};
 pub use numeral::number;
 pub use object_key::ObjectKey;
-pub use plain::{FileName, Item, Keep, Part, Settings, State, Stop};
+pub use plain::{FileName, Item, Keep, OFFSET_LIMIT, Part, Settings, State, Stop};
 pub use planned::{CallKind, Planned};
 pub use reading::{ReadRefusal, read_all};
 pub use roll::Roll;

@@ -1,5 +1,12 @@
 //! Plain types that crates side by side name: a log's settings, its retention, a closed segment's
-//! sums, why a run ends, a remote segment's states and parts, a broker's files.
+//! sums, why a run ends, a remote segment's states and parts, a broker's files; and how far offsets
+//! go.
+
+/// The bound of offsets, 2^62: a batch's last offset is below it, and a base offset and a log's end
+/// are at most it. What one batch adds to a log's end, and how far a segment reaches past its base
+/// offset, is at most 2^31, so such sums stay within 64 bits; and in Kafka's fields, which are
+/// signed, no offset is negative.
+pub const OFFSET_LIMIT: u64 = 1 << 62;
 
 /// How a log is cut into segments and how dense its indexes are.
 #[derive(Clone, Copy, Debug, PartialEq, Eq)]
