@@ -32,7 +32,7 @@ ghost use Rattle.local_log.specs.Log.{IsFirst, committed, Committing, AreSetting
 use crate::listing::listing;
 use crate::opening::open_log;
 use crate::refusal::{AppendRefusal, CreateRefusal, OpenRefusal, RollRefusal};
-use crate::run::{LAST_OFFSET, first_asked, rolls_before, take_in};
+use crate::run::{first_asked, rolls_before, take_in};
 use disk_model::{Disk, FileName};
 use epoch_line::Line;
 use log_steps::publish;
@@ -40,7 +40,7 @@ use segment_file::Growing;
 use std::alloc::{AllocError, Global};
 use std::marker::Model;
 use std::mem;
-use tier_base::{Failed, Settings, Trouble};
+use tier_base::{Failed, OFFSET_LIMIT, Settings, Trouble};
 
 /// The most segments of a log.
 const MOST_SEGMENTS: usize = 4_096;
@@ -228,7 +228,7 @@ impl<D: Disk> LocalLog<D> {
         let base = self.active.base();
         let size = self.active.size();
         let first = first_asked(run);
-        if first.last >= LAST_OFFSET {
+        if first.last >= OFFSET_LIMIT {
             return Err(AppendRefusal::LastOffset);
         }
         if !rolls_before(most, base, size, first.size, first.last) {

@@ -22,10 +22,7 @@ use record_batch::{
     stamp_sets_base_and_epoch, stamped_is_checked,
 };
 use std::alloc::{AllocError, Global};
-use tier_base::Trouble;
-
-/// The greatest log end offset.
-const OFFSET_LIMIT: u64 = 1 << 62;
+use tier_base::{OFFSET_LIMIT, Trouble};
 
 /// Checks bytes from outside, and answers how many records the batch has.
 fn count_checked(bytes: &[u8]) -> Result<u32, BatchRefusal>
