@@ -17,8 +17,8 @@ use Rattle.log_steps.proofs.Lists.{each_map, each_left, each_right}
 use Rattle.local_log.specs.declared.reading.RunOut.{RunOut}
 use Rattle.local_log.specs.Log.{Log, Becomes}
 use Rattle.local_log.specs.Coheres.{Coheres}
-use Rattle.local_log.specs.declared.refusal.LogRefusal.{LogRefusal}
-use Rattle.local_log.specs.declared.refusal.LogRefusal.TheVariants.{Damaged}
+use Rattle.local_log.specs.declared.refusal.ReadRefusal.{ReadRefusal}
+use Rattle.local_log.specs.declared.refusal.ReadRefusal.TheVariants.{Damaged}
 use Rattle.local_log.specs.Reading.{segment_at, IsRunOf, IsEdge, IsCut, RunFails, IsOfDevice, piece_of, passes}
 use Rattle.broker_log.specs.Seen.{Seen, Up, Stays, ShowsOpen}
 use Rattle.broker_log.specs.Turns.{IsRunIn, IsSegmentOf, Reads, Misreads, StopIs}
@@ -107,7 +107,7 @@ ok_three P Q R S (Ok x) f p q h = f x p q h
 ok_three P Q R S (Err e) f p q h = tt
 
 -- what a refusal tells
-pub err_told : {T : Type 0} (P Q : LogRefusal → Type 0) (r : Result T LogRefusal) (cause : LogRefusal) → IfErr r P → IfErr r Q → IsErrOf r cause → P cause × Q cause
+pub err_told : {T : Type 0} (P Q : ReadRefusal → Type 0) (r : Result T ReadRefusal) (cause : ReadRefusal) → IfErr r P → IfErr r Q → IsErrOf r cause → P cause × Q cause
 err_told P Q (Ok x) cause p q is = absurd (cc is)
 err_told P Q (Err e) cause p q is = let same : e ≡ cause = cc is in (subst P same p, subst Q same q)
 

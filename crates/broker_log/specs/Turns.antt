@@ -9,7 +9,7 @@ use Rattle.tier_base.specs.declared.plain.Settings.{Settings}
 use Rattle.tier_base.specs.Device.{Control}
 use Rattle.disk_model.specs.Call.{call_code}
 use Rattle.segment_file.specs.Growing.{Grown}
-use Rattle.local_log.specs.declared.refusal.LogRefusal.TheVariants as refusal
+use Rattle.local_log.specs.declared.refusal.ReadRefusal.TheVariants as refusal
 use Rattle.local_log.specs.declared.refusal.OpenRefusal.TheVariants.{Damaged, LastIncarnation}
 use Rattle.local_log.specs.Cutting.{cut_point, cut_at as cut_log, restarted as restarted_log}
 use Rattle.local_log.specs.Dropping.{SpansFirst, start_behind, dropped as dropped_log}

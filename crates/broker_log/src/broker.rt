@@ -16,7 +16,10 @@ ghost use Rattle.log_terms.specs.Batch.{last_of};
 ghost use Rattle.epoch_line.specs.Line.{last_epoch, assign, cut_end};
 ghost use Rattle.local_log.specs.Stored.{size_of};
 ghost use Rattle.local_log.specs.Run.{IsRun, is_due};
-ghost use Rattle.local_log.specs.declared.refusal.LogRefusal.TheVariants.{LastOffset, TooManySegments, EmptySegment, Damaged, DiskFault, NoMemory};
+ghost use Rattle.tier_base.specs.declared.fault.Trouble.TheVariants.{Failed, NoMemory};
+ghost use Rattle.local_log.specs.declared.refusal.AppendRefusal.TheVariants as append;
+ghost use Rattle.local_log.specs.declared.refusal.RollRefusal.TheVariants as roll;
+ghost use Rattle.local_log.specs.declared.refusal.ReadRefusal.TheVariants as reading;
 ghost use Rattle.local_log.specs.declared.refusal.OpenRefusal.TheVariants as opening;
 ghost use Rattle.broker_log.specs.Seen.{Seen, Shows, Goes, Stays, WhileUp, OnDisk, Lasting, Faulted, is_up, end_in, stable_in, line_in, local_in, incarnation_in, closed_in, layout_in, settings_in};
 ghost use Rattle.broker_log.specs.Turns.{IsFirst, Appends, Settles, Cuts, MayCut, cut_back, Drops, DropBreaks, Restarts, RestartBreaks, IsSegmentOf, Breaks, BreaksIf, BreaksUnsaved, loosened, torn, IsEndUpTo, Rolls, Reads, Misreads, Unopened, IsSpent, Stops, ComesUp};
@@ -24,14 +27,16 @@ ghost use Rattle.log_steps.specs.Fronts.{Each};
 ghost use Rattle.local_log.specs.Dropping.{IsFirstStable};
 ghost use Rattle.local_log.specs.Reading.{IsClosedFrom, ClosedFails};
 
-use crate::place::{Place, is_fault, placed, taken, taken_disk};
+use crate::place::{Place, is_append_fault, is_fault, is_roll_fault, placed, taken, taken_disk};
 use disk_model::Disk;
 use epoch_line::Line;
-use local_log::{CreateRefusal, LocalLog, LogRefusal, OpenRefusal, RunOut};
+use local_log::{
+    AppendRefusal, CreateRefusal, LocalLog, OpenRefusal, ReadRefusal, RollRefusal, RunOut,
+};
 use segment_file::{Closed, Growing};
 use std::alloc::Global;
 use std::marker::Model;
-use tier_base::Settings;
+use tier_base::{Settings, Trouble};
 
 /// The log of a broker that is up or down.
 #[derive(Drop)]
@@ -213,14 +218,14 @@ impl<D: Disk> BrokerLog<D> {
     }
 
     /// Makes all of the log stable, and answers its end.
-    pub fn flush(&mut self) -> Result<u64, LogRefusal>
+    pub fn flush(&mut self) -> Result<u64, Trouble>
         requires { IsTrue (is_up self.old) }
         ensures ok { IfOk result (λ end. Settles D.content self.old self.new (λ line _. line) end) }
-        ensures refused { OnErr result (IsErrOf result NoMemory ⊎ IsErrOf result DiskFault) }
+        ensures refused { OnErr result (IsErrOf result NoMemory ⊎ IsErrOf result Failed) }
         ensures no_memory { IsErrOf result NoMemory → Stays D.content self.old self.new }
-        ensures fault { IsErrOf result DiskFault → Breaks D.content self.old self.new (λ s. loosened s (end_of s.batches, s.line, s.local)) }
+        ensures fault { IsErrOf result Failed → Breaks D.content self.old self.new (λ s. loosened s (end_of s.batches, s.line, s.local)) }
         ensures control { Lasting D.control self.old self.new }
-        ensures cause { IsErrOf result DiskFault → Faulted D.control self.old self.new }
+        ensures cause { IsErrOf result Failed → Faulted D.control self.old self.new }
     {
         let mut log = taken(&mut self.place);
         let settings = *log.settings();
@@ -232,41 +237,41 @@ impl<D: Disk> BrokerLog<D> {
 
     /// Appends the first batches of a run that stand in one segment, and answers their first and their last offset. They
     /// come back after a stop once they are flushed.
-    pub fn append(&mut self, run: &[u8]) -> Result<(u64, u64), LogRefusal>
+    pub fn append(&mut self, run: &[u8]) -> Result<(u64, u64), AppendRefusal>
         requires { WhileUp self.old (λ log. IsRun log.end log.line run.now) }
         ensures ok { IfOk result (λ answer. Appends D.content self.old self.new run.now answer) }
 
         // Each cause, where no earlier one holds.
-        ensures last_offset { IsErrOf result LastOffset ↔ (2 ^ 62 ≤ last_of run.now) }
-        ensures many { IsErrOf result TooManySegments ↔ (last_of run.now < 2 ^ 62)
+        ensures last_offset { IsErrOf result append.LastOffset ↔ (2 ^ 62 ≤ last_of run.now) }
+        ensures many { IsErrOf result append.TooManySegments ↔ (last_of run.now < 2 ^ 62)
             × WhileUp self.old (λ log. IsTrue (is_due log run.now) × (4095 ≤ length log.closed)) }
-        ensures unchanged { (IsErrOf result LastOffset ⊎ IsErrOf result TooManySegments) → self.new ≡ self.old }
-        ensures refused { OnErr result ((IsErrOf result LastOffset ⊎ IsErrOf result TooManySegments)
-            ⊎ (IsErrOf result NoMemory ⊎ IsErrOf result DiskFault)) }
-        ensures no_memory { IsErrOf result NoMemory → Stays D.content self.old self.new }
-        ensures fault { IsErrOf result DiskFault → BreaksUnsaved D.content self.old self.new }
+        ensures unchanged { (IsErrOf result append.LastOffset ⊎ IsErrOf result append.TooManySegments) → self.new ≡ self.old }
+        ensures refused { OnErr result ((IsErrOf result append.LastOffset ⊎ IsErrOf result append.TooManySegments)
+            ⊎ (IsErrOf result append.NoMemory ⊎ IsErrOf result append.DiskFault)) }
+        ensures no_memory { IsErrOf result append.NoMemory → Stays D.content self.old self.new }
+        ensures fault { IsErrOf result append.DiskFault → BreaksUnsaved D.content self.old self.new }
         ensures control { Lasting D.control self.old self.new }
-        ensures cause { IsErrOf result DiskFault → Faulted D.control self.old self.new }
+        ensures cause { IsErrOf result append.DiskFault → Faulted D.control self.old self.new }
     {
         let mut log = taken(&mut self.place);
         let settings = *log.settings();
         log.coheres();
         let outcome = log.append(run);
-        self.place = placed(settings, log, is_fault(&outcome));
+        self.place = placed(settings, log, is_append_fault(&outcome));
         outcome
     }
 
     /// Enters a leader epoch that begins at the log's end, makes all stable, and answers the end.
-    pub fn lead(&mut self, epoch: u32) -> Result<u64, LogRefusal>
+    pub fn lead(&mut self, epoch: u32) -> Result<u64, Trouble>
         requires fits { epoch < 2 ^ 31 }
         requires above { WhileUp self.old (λ log. ForSome (last_epoch log.line) (λ last. last < epoch)) }
         ensures ok { IfOk result (λ end. Settles D.content self.old self.new (λ line end. assign line epoch end) end) }
-        ensures refused { OnErr result (IsErrOf result NoMemory ⊎ IsErrOf result DiskFault) }
+        ensures refused { OnErr result (IsErrOf result NoMemory ⊎ IsErrOf result Failed) }
         ensures no_memory { IsErrOf result NoMemory → Stays D.content self.old self.new }
-        ensures fault { IsErrOf result DiskFault → Breaks D.content self.old self.new
+        ensures fault { IsErrOf result Failed → Breaks D.content self.old self.new
             (λ s. loosened s (end_of s.batches, assign s.line epoch (end_of s.batches), s.local)) }
         ensures control { Lasting D.control self.old self.new }
-        ensures cause { IsErrOf result DiskFault → Faulted D.control self.old self.new }
+        ensures cause { IsErrOf result Failed → Faulted D.control self.old self.new }
     {
         let mut log = taken(&mut self.place);
         let settings = *log.settings();
@@ -277,42 +282,42 @@ impl<D: Disk> BrokerLog<D> {
     }
 
     /// Closes the open segment, and opens a new one at the log's end.
-    pub fn roll(&mut self) -> Result<u64, LogRefusal>
+    pub fn roll(&mut self) -> Result<u64, RollRefusal>
         requires { IsTrue (is_up self.old) }
         ensures base { IfOk result (λ base. end_in self.old ≡ Some base) }
         ensures ok { OnOk result (Rolls D.content self.old self.new) }
-        ensures may { (IsOk result ⊎ IsErrOf result DiskFault)
+        ensures may { (IsOk result ⊎ IsErrOf result roll.DiskFault)
             → WhileUp self.old (λ log. (0 < size_of log.active) × (length log.closed < 4095)) }
 
         // Each cause, where no earlier one holds.
-        ensures empty { IsErrOf result EmptySegment ↔ WhileUp self.old (λ log. size_of log.active ≡ 0) }
-        ensures many { IsErrOf result TooManySegments ↔ WhileUp self.old (λ log. (0 < size_of log.active)
+        ensures empty { IsErrOf result roll.EmptySegment ↔ WhileUp self.old (λ log. size_of log.active ≡ 0) }
+        ensures many { IsErrOf result roll.TooManySegments ↔ WhileUp self.old (λ log. (0 < size_of log.active)
             × (4095 ≤ length log.closed)) }
-        ensures unchanged { (IsErrOf result EmptySegment ⊎ IsErrOf result TooManySegments) → self.new ≡ self.old }
-        ensures refused { OnErr result ((IsErrOf result EmptySegment ⊎ IsErrOf result TooManySegments)
-            ⊎ (IsErrOf result NoMemory ⊎ IsErrOf result DiskFault)) }
-        ensures no_memory { IsErrOf result NoMemory → Stays D.content self.old self.new }
-        ensures fault { IsErrOf result DiskFault → BreaksUnsaved D.content self.old self.new }
+        ensures unchanged { (IsErrOf result roll.EmptySegment ⊎ IsErrOf result roll.TooManySegments) → self.new ≡ self.old }
+        ensures refused { OnErr result ((IsErrOf result roll.EmptySegment ⊎ IsErrOf result roll.TooManySegments)
+            ⊎ (IsErrOf result roll.NoMemory ⊎ IsErrOf result roll.DiskFault)) }
+        ensures no_memory { IsErrOf result roll.NoMemory → Stays D.content self.old self.new }
+        ensures fault { IsErrOf result roll.DiskFault → BreaksUnsaved D.content self.old self.new }
         ensures control { Lasting D.control self.old self.new }
-        ensures cause { IsErrOf result DiskFault → Faulted D.control self.old self.new }
+        ensures cause { IsErrOf result roll.DiskFault → Faulted D.control self.old self.new }
     {
         let mut log = taken(&mut self.place);
         let settings = *log.settings();
         let outcome = log.roll();
-        self.place = placed(settings, log, is_fault(&outcome));
+        self.place = placed(settings, log, is_roll_fault(&outcome));
         outcome
     }
 
     /// Cuts the log to an offset, durably, and answers its new end; where a batch holds the offset, that batch's base. Below
     /// the local start nothing is left of it on the disk.
-    pub fn cut_to(&mut self, end: u64) -> Result<u64, LogRefusal>
+    pub fn cut_to(&mut self, end: u64) -> Result<u64, Trouble>
         requires { WhileUp self.old (λ log. end ≤ log.end) }
         ensures ok { IfOk result (λ now. Cuts D.content self.old self.new end now) }
-        ensures refused { OnErr result (IsErrOf result NoMemory ⊎ IsErrOf result DiskFault) }
+        ensures refused { OnErr result (IsErrOf result NoMemory ⊎ IsErrOf result Failed) }
         ensures no_memory { IsErrOf result NoMemory → Stays D.content self.old self.new }
-        ensures fault { IsErrOf result DiskFault → BreaksIf D.content self.old self.new (MayCut end) (λ s. torn s (cut_back s end)) }
+        ensures fault { IsErrOf result Failed → BreaksIf D.content self.old self.new (MayCut end) (λ s. torn s (cut_back s end)) }
         ensures control { Lasting D.control self.old self.new }
-        ensures cause { IsErrOf result DiskFault → Faulted D.control self.old self.new }
+        ensures cause { IsErrOf result Failed → Faulted D.control self.old self.new }
     {
         let mut log = taken(&mut self.place);
         let settings = *log.settings();
@@ -337,14 +342,14 @@ impl<D: Disk> BrokerLog<D> {
     }
 
     /// Drops the first closed segment, durably, and answers its base and its last offset.
-    pub fn drop_first(&mut self) -> Result<(u64, u64), LogRefusal>
+    pub fn drop_first(&mut self) -> Result<(u64, u64), Trouble>
         requires { WhileUp self.old (λ log. IsFirstStable log.stable log.closed) }
         ensures ok { IfOk result (λ answer. Drops D.content self.old self.new answer) }
-        ensures refused { OnErr result (IsErrOf result NoMemory ⊎ IsErrOf result DiskFault) }
+        ensures refused { OnErr result (IsErrOf result NoMemory ⊎ IsErrOf result Failed) }
         ensures no_memory { IsErrOf result NoMemory → Stays D.content self.old self.new }
-        ensures fault { IsErrOf result DiskFault → DropBreaks D.content self.old self.new }
+        ensures fault { IsErrOf result Failed → DropBreaks D.content self.old self.new }
         ensures control { Lasting D.control self.old self.new }
-        ensures cause { IsErrOf result DiskFault → Faulted D.control self.old self.new }
+        ensures cause { IsErrOf result Failed → Faulted D.control self.old self.new }
     {
         let mut log = taken(&mut self.place);
         let settings = *log.settings();
@@ -355,16 +360,16 @@ impl<D: Disk> BrokerLog<D> {
     }
 
     /// Begins the local log anew at an offset, empty and durable, with this line.
-    pub fn restart_at(&mut self, start: u64, line: Line) -> Result<(), LogRefusal>
+    pub fn restart_at(&mut self, start: u64, line: Line) -> Result<(), Trouble>
         requires up { IsTrue (is_up self.old) }
         requires low { start ≤ 2 ^ 62 }
         requires within { Each (λ (entry : ℕ × ℕ). entry.1 ≤ start) line }
         ensures ok { OnOk result (Restarts D.content self.old self.new start line) }
-        ensures refused { OnErr result (IsErrOf result NoMemory ⊎ IsErrOf result DiskFault) }
+        ensures refused { OnErr result (IsErrOf result NoMemory ⊎ IsErrOf result Failed) }
         ensures no_memory { IsErrOf result NoMemory → Stays D.content self.old self.new }
-        ensures fault { IsErrOf result DiskFault → RestartBreaks D.content self.old self.new start line }
+        ensures fault { IsErrOf result Failed → RestartBreaks D.content self.old self.new start line }
         ensures control { Lasting D.control self.old self.new }
-        ensures cause { IsErrOf result DiskFault → Faulted D.control self.old self.new }
+        ensures cause { IsErrOf result Failed → Faulted D.control self.old self.new }
     {
         let mut log = taken(&mut self.place);
         let settings = *log.settings();
@@ -374,7 +379,7 @@ impl<D: Disk> BrokerLog<D> {
     }
 
     /// Reads the first closed segment that ends past an offset. The log is as it was also where the read failed.
-    pub fn closed_from(&mut self, offset: u64) -> Result<Option<Closed>, LogRefusal>
+    pub fn closed_from(&mut self, offset: u64) -> Result<Option<Closed>, ReadRefusal>
         requires { IsTrue (is_up self.old) }
         ensures stays { Stays D.content self.old self.new }
         ensures segment { IfOk result (λ segment. WhileUp self.old (λ log. OnDisk self.new (λ d.
@@ -383,7 +388,7 @@ impl<D: Disk> BrokerLog<D> {
         ensures err { IfErr result (λ e. WhileUp self.old (λ log. OnDisk self.new (λ d. ClosedFails log offset (D.control d).handed e))) }
         ensures whole { IfErr result (λ e. (s : Seen) → Shows D.content self.old s → IsOfDevice e) }
         ensures control { Lasting D.control self.old self.new }
-        ensures cause { IsErrOf result DiskFault → Faulted D.control self.old self.new }
+        ensures cause { IsErrOf result reading.DiskFault → Faulted D.control self.old self.new }
     {
         let mut log = taken(&mut self.place);
         log.coheres();
@@ -394,19 +399,19 @@ impl<D: Disk> BrokerLog<D> {
 
     /// Reads the run at an offset: the batch that holds it, and further ones that end at or below the mark and together
     /// fit the limit, in bytes. The log is as it was also where the read failed.
-    pub fn read_run(&mut self, offset: u64, limit: u64, mark: u64) -> Result<RunOut, LogRefusal>
+    pub fn read_run(&mut self, offset: u64, limit: u64, mark: u64) -> Result<RunOut, ReadRefusal>
         requires start { WhileUp self.old (λ log. log.local_start ≤ offset) }
         requires below { offset < mark }
         ensures stays { Stays D.content self.old self.new }
         ensures ok { IfOk result (Reads D.content D.control self.old self.new offset limit mark) }
 
         // Each cause. Where the disk tells and a batch ends at the mark, nothing is damaged.
-        ensures damaged { (name : FileName) (at : ℕ) → IsErrOf result (Damaged name at)
+        ensures damaged { (name : FileName) (at : ℕ) → IsErrOf result (reading.Damaged name at)
             → Misreads D.content D.control self.old self.new offset limit mark name at }
         ensures refused { IfErr result (λ e. WhileUp self.old (λ log. OnDisk self.new (λ d.
             RunFails log offset limit mark (D.control d).handed e))) }
         ensures control { Lasting D.control self.old self.new }
-        ensures cause { IsErrOf result DiskFault → Faulted D.control self.old self.new }
+        ensures cause { IsErrOf result reading.DiskFault → Faulted D.control self.old self.new }
     {
         let mut log = taken(&mut self.place);
         log.coheres();
@@ -481,7 +486,7 @@ impl<D: Disk> BrokerLog<D> {
 }
 
 /// The end of a log where a call went well.
-fn ended(outcome: Result<(), LogRefusal>, end: u64) -> Result<u64, LogRefusal>
+fn ended(outcome: Result<(), Trouble>, end: u64) -> Result<u64, Trouble>
     ensures ok { IsOk outcome → result ≡ Ok end }
     ensures err { IfErr outcome (λ e. result ≡ Err e) }
 {

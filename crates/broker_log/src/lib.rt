@@ -10,4 +10,4 @@ mod broker;
 mod place;
 
 pub use broker::BrokerLog;
-pub use local_log::{CreateRefusal, LogRefusal, OpenRefusal, RunOut};
+pub use local_log::{AppendRefusal, CreateRefusal, OpenRefusal, ReadRefusal, RollRefusal, RunOut};

@@ -5,15 +5,17 @@
 ghost use Rattle.std.specs.Prelude.{◌≡◌, ◌↔◌, true, false, IsTrue, IsFalse, IsErrOf};
 ghost use Rattle.log_steps.specs.Reopens.{Reopens};
 ghost use Rattle.local_log.specs.Coheres.{Coheres};
-ghost use Rattle.local_log.specs.declared.refusal.LogRefusal.TheVariants.{DiskFault};
+ghost use Rattle.tier_base.specs.declared.fault.Trouble.TheVariants.{Failed};
+ghost use Rattle.local_log.specs.declared.refusal.AppendRefusal.TheVariants as append;
+ghost use Rattle.local_log.specs.declared.refusal.RollRefusal.TheVariants as roll;
 ghost use Rattle.broker_log.specs.declared.place.Place.TheVariants as place;
 ghost use Rattle.broker_log.specs.Seen.{is_up, is_down, Up, Down};
 ghost use Rattle.broker_log.specs.Inside.{kept_of};
 
 use disk_model::Disk;
-use local_log::{LocalLog, LogRefusal};
+use local_log::{AppendRefusal, LocalLog, RollRefusal};
 use std::mem;
-use tier_base::Settings;
+use tier_base::{Settings, Trouble};
 
 /// Where a log is.
 #[derive(Drop)]
@@ -63,9 +65,23 @@ pub(crate) fn placed<D: Disk>(settings: Settings, log: LocalLog<D>, failed: bool
     }
 }
 
-/// Whether a call ended by a fault of the disk.
-pub(crate) fn is_fault<T>(outcome: &Result<T, LogRefusal>) -> bool
-    ensures { IsTrue result ↔ IsErrOf outcome.now DiskFault }
+/// Whether a write ended by a fault of the disk.
+pub(crate) fn is_fault<T>(outcome: &Result<T, Trouble>) -> bool
+    ensures { IsTrue result ↔ IsErrOf outcome.now Failed }
 {
-    matches!(outcome, Err(LogRefusal::DiskFault))
+    matches!(outcome, Err(Trouble::Failed))
+}
+
+/// Whether an append ended so.
+pub(crate) fn is_append_fault<T>(outcome: &Result<T, AppendRefusal>) -> bool
+    ensures { IsTrue result ↔ IsErrOf outcome.now append.DiskFault }
+{
+    matches!(outcome, Err(AppendRefusal::DiskFault))
+}
+
+/// Whether a roll ended so.
+pub(crate) fn is_roll_fault<T>(outcome: &Result<T, RollRefusal>) -> bool
+    ensures { IsTrue result ↔ IsErrOf outcome.now roll.DiskFault }
+{
+    matches!(outcome, Err(RollRefusal::DiskFault))
 }

@@ -21,8 +21,8 @@ use Rattle.log_steps.specs.Fronts.{Each}
 use Rattle.log_steps.specs.Opens.{IsPlaced}
 use Rattle.log_steps.proofs.Lists.{each_join}
 use Rattle.local_log.specs.declared.log.LocalLog.TheInside.{Inside}
-use Rattle.local_log.specs.declared.refusal.LogRefusal.{LogRefusal}
-use Rattle.local_log.specs.declared.refusal.LogRefusal.TheVariants as refusal
+use Rattle.local_log.specs.declared.refusal.ReadRefusal.{ReadRefusal}
+use Rattle.local_log.specs.declared.refusal.ReadRefusal.TheVariants as refusal
 use Rattle.local_log.specs.Stored.{bytes_of, batches_of, all_batches, size_of, end_of, AreChained, IsStored}
 use Rattle.local_log.specs.Listing.{IsLaidOut}
 use Rattle.local_log.specs.Inside.{log_in, IsSound}
@@ -217,10 +217,7 @@ module _ {D : Type 0} (content : D → Content) (s : Inside D) (sound : IsSound 
         | inr short ↦ (let long = k.stands.long in let e = short.0 in let lt = short.1 in let len = length-take-le (size_of found) (bytes_of f found) long in absurd (omega (arith, long, e, lt, len)))
       ]
 
-  pub front_told : (b size : ℕ) (read : List ℕ) (e : LogRefusal) → b ≡ found.base → size ≡ size_of found → read ≡ take (size_of found) (bytes_of f found) → FrontFails b size read e → IsOfDevice e
-  front_told b size read refusal.LastOffset at_b at_size same why = why
-  front_told b size read refusal.TooManySegments at_b at_size same why = why
-  front_told b size read refusal.EmptySegment at_b at_size same why = why
+  pub front_told : (b size : ℕ) (read : List ℕ) (e : ReadRefusal) → b ≡ found.base → size ≡ size_of found → read ≡ take (size_of found) (bytes_of f found) → FrontFails b size read e → IsOfDevice e
   front_told b size read (refusal.Damaged name at) at_b at_size same why = no_bad_segment read at same (subst (λ (n : ℕ). HasNoSegment found.base n read at) at_size (subst (λ (n : ℕ). HasNoSegment n size read at) at_b why.1))
   front_told b size read refusal.DiskFault at_b at_size same why = absurd why
   front_told b size read refusal.NoMemory at_b at_size same why = why

@@ -2,20 +2,18 @@
 use Rattle.std.proofs.Common.{◌≡◌, ◌∙◌, Bool, true, false, refl, sym, ap}
 use Rattle.tier_base.specs.declared.fault.Trouble.{Trouble}
 use Rattle.tier_base.specs.declared.fault.Trouble.TheVariants as fault
-use Rattle.local_log.specs.declared.refusal.LogRefusal.{LogRefusal}
-use Rattle.local_log.specs.declared.refusal.LogRefusal.TheVariants.{DiskFault, NoMemory}
 
 -- a log that isn't broken found no memory
-pub not_broken : (t : Trouble) (r : LogRefusal) (new : Bool) → (t ≡ fault.Failed → (r ≡ DiskFault) × (new ≡ true)) → new ≡ false → t ≡ fault.NoMemory
+pub not_broken : (t : Trouble) (r : Trouble) (new : Bool) → (t ≡ fault.Failed → (r ≡ fault.Failed) × (new ≡ true)) → new ≡ false → t ≡ fault.NoMemory
 not_broken fault.Failed r new f e = absurd (cc ((f refl).1, e))
 not_broken fault.NoMemory r new f e = refl
 
 -- a fault breaks it
-pub breaks : (t : Trouble) (r : LogRefusal) (new old : Bool) → (t ≡ fault.Failed → (r ≡ DiskFault) × (new ≡ true)) → (t ≡ fault.NoMemory → (r ≡ NoMemory) × (new ≡ old)) → r ≡ DiskFault → new ≡ true
+pub breaks : (t : Trouble) (r : Trouble) (new old : Bool) → (t ≡ fault.Failed → (r ≡ fault.Failed) × (new ≡ true)) → (t ≡ fault.NoMemory → (r ≡ fault.NoMemory) × (new ≡ old)) → r ≡ fault.Failed → new ≡ true
 breaks fault.Failed r new old f m e = (f refl).1
 breaks fault.NoMemory r new old f m e = absurd (cc ((m refl).0, e))
 
 -- want of memory leaves it
-pub stays : (t : Trouble) (r : LogRefusal) (new old : Bool) → (t ≡ fault.Failed → (r ≡ DiskFault) × (new ≡ true)) → (t ≡ fault.NoMemory → (r ≡ NoMemory) × (new ≡ old)) → r ≡ NoMemory → new ≡ old
+pub stays : (t : Trouble) (r : Trouble) (new old : Bool) → (t ≡ fault.Failed → (r ≡ fault.Failed) × (new ≡ true)) → (t ≡ fault.NoMemory → (r ≡ fault.NoMemory) × (new ≡ old)) → r ≡ fault.NoMemory → new ≡ old
 stays fault.Failed r new old f m e = absurd (cc ((f refl).0, e))
 stays fault.NoMemory r new old f m e = (m refl).1

@@ -15,8 +15,8 @@ use Rattle.log_steps.specs.Fronts.{Each}
 use Rattle.log_steps.proofs.Lists.{each_join, each_right}
 use Rattle.local_log.specs.declared.log.LocalLog.TheInside.{Inside}
 use Rattle.local_log.specs.declared.reading.RunOut.{RunOut}
-use Rattle.local_log.specs.declared.refusal.LogRefusal.{LogRefusal}
-use Rattle.local_log.specs.declared.refusal.LogRefusal.TheVariants as refusal
+use Rattle.local_log.specs.declared.refusal.ReadRefusal.{ReadRefusal}
+use Rattle.local_log.specs.declared.refusal.ReadRefusal.TheVariants as refusal
 use Rattle.local_log.specs.Stored.{bytes_of, all_batches, size_of, IsStored}
 use Rattle.local_log.specs.Listing.{AreSegmentsOf, IsLaidOut}
 use Rattle.local_log.specs.Inside.{log_in, IsSound}
@@ -167,10 +167,7 @@ module _ {D : Type 0} (content : D → Content) (s : Inside D) (sound : IsSound 
         let here = subst (λ (b : List ℕ). HasNoRun b offset limit (min mark piece) position at) is none in
         never_bad f s.line g k offset limit mark piece position search base under p.above ends p.below part unread read holds enough_read here.found here.bad
 
-    pub fails_told : (b : ℕ) (bytes : List ℕ) (e : LogRefusal) → bytes ≡ part → CutFails b position bytes offset limit (min mark piece) e → IsOfDevice e
-    fails_told b bytes refusal.LastOffset is why = why
-    fails_told b bytes refusal.TooManySegments is why = why
-    fails_told b bytes refusal.EmptySegment is why = why
+    pub fails_told : (b : ℕ) (bytes : List ℕ) (e : ReadRefusal) → bytes ≡ part → CutFails b position bytes offset limit (min mark piece) e → IsOfDevice e
     fails_told b bytes (refusal.Damaged name at) is why = no_bad bytes at is why.1
     fails_told b bytes refusal.DiskFault is why = tt
     fails_told b bytes refusal.NoMemory is why = tt

@@ -13,8 +13,8 @@ use Rattle.segment_file.specs.Closed.{Whole, IsWhole, IsBadPlace}
 use Rattle.segment_file.specs.Run.{Fits, StopIs, IsRun, IsBadAt}
 use Rattle.local_log.specs.Stored.{size_of, end_of}
 use Rattle.local_log.specs.Log.{Log}
-use Rattle.local_log.specs.declared.refusal.LogRefusal.{LogRefusal}
-use Rattle.local_log.specs.declared.refusal.LogRefusal.TheVariants.{LastOffset, TooManySegments, EmptySegment, Damaged, DiskFault, NoMemory}
+use Rattle.local_log.specs.declared.refusal.ReadRefusal.{ReadRefusal}
+use Rattle.local_log.specs.declared.refusal.ReadRefusal.TheVariants.{Damaged, DiskFault, NoMemory}
 use Rattle.local_log.specs.declared.reading.RunOut.{RunOut}
 
 -- the first segment that ends past an offset
@@ -72,29 +72,20 @@ pub record HasNoSegment (base size : ℕ) (bytes : List ℕ) (at : ℕ) : Type 0
   pub bad : IsBadPlace base (take size bytes) at ⊎ ((at ≡ length bytes) × (at < size))
 
 -- why bytes aren't read as a segment
-abbrev pub FrontFails : ℕ → ℕ → List ℕ → LogRefusal → Type 0
-FrontFails base size bytes LastOffset = ⊥
-FrontFails base size bytes TooManySegments = ⊥
-FrontFails base size bytes EmptySegment = ⊥
+abbrev pub FrontFails : ℕ → ℕ → List ℕ → ReadRefusal → Type 0
 FrontFails base size bytes (Damaged name at) = (name ≡ file.Log base) × HasNoSegment base size bytes at
 FrontFails base size bytes DiskFault = ⊥
 FrontFails base size bytes NoMemory = Unit {0}
 
 -- why nothing was cut out of bytes that stand at a position of a segment's file
-abbrev pub CutFails : ℕ → ℕ → List ℕ → ℕ → ℕ → ℕ → LogRefusal → Type 0
-CutFails base position bytes offset limit bound LastOffset = ⊥
-CutFails base position bytes offset limit bound TooManySegments = ⊥
-CutFails base position bytes offset limit bound EmptySegment = ⊥
+abbrev pub CutFails : ℕ → ℕ → List ℕ → ℕ → ℕ → ℕ → ReadRefusal → Type 0
 CutFails base position bytes offset limit bound (Damaged name at) =
     (name ≡ file.Log base) × HasNoRun bytes offset limit bound position at
 CutFails base position bytes offset limit bound DiskFault = ⊥
 CutFails base position bytes offset limit bound NoMemory = Unit {0}
 
 -- the disk failed, or there was no memory
-abbrev pub IsOfDevice : LogRefusal → Type 0
-IsOfDevice LastOffset = ⊥
-IsOfDevice TooManySegments = ⊥
-IsOfDevice EmptySegment = ⊥
+abbrev pub IsOfDevice : ReadRefusal → Type 0
 IsOfDevice (Damaged name at) = ⊥
 IsOfDevice DiskFault = Unit {0}
 IsOfDevice NoMemory = Unit {0}
@@ -132,10 +123,7 @@ module _ {D : Type 0} where
       (segment : Grown) × (first_past offset log.closed ≡ Some segment) × IsFront segment.base (size_of segment) handed whole
 
   -- why it isn't read
-  abbrev pub ClosedFails : Log D → ℕ → List ℕ → LogRefusal → Type 0
-  ClosedFails log offset handed LastOffset = ⊥
-  ClosedFails log offset handed TooManySegments = ⊥
-  ClosedFails log offset handed EmptySegment = ⊥
+  abbrev pub ClosedFails : Log D → ℕ → List ℕ → ReadRefusal → Type 0
   ClosedFails log offset handed (Damaged name at) =
       (segment : Grown) × (first_past offset log.closed ≡ Some segment) × (name ≡ file.Log segment.base)
       × HasNoSegment segment.base (size_of segment) handed at
@@ -167,10 +155,7 @@ module _ {D : Type 0} where
     pub bad : HasNoRun handed offset limit (min mark (piece_of log offset)) position at
 
   -- why there is no run
-  abbrev pub RunFails : Log D → ℕ → ℕ → ℕ → List ℕ → LogRefusal → Type 0
-  RunFails log offset limit mark handed LastOffset = ⊥
-  RunFails log offset limit mark handed TooManySegments = ⊥
-  RunFails log offset limit mark handed EmptySegment = ⊥
+  abbrev pub RunFails : Log D → ℕ → ℕ → ℕ → List ℕ → ReadRefusal → Type 0
   RunFails log offset limit mark handed (Damaged name at) =
       MissesMark log mark name at ⊎ MissesRun log offset limit mark handed name at
   RunFails log offset limit mark handed DiskFault = is_edge (segment_at log mark) mark ≡ true

@@ -1,8 +1,12 @@
--- How an opening refuses.
+-- How calls refuse, and what they make of how the disk refuses.
 use Rattle.std.specs.Prelude.{◌≡◌}
 use Rattle.tier_base.specs.declared.plain.FileName.TheVariants as file
 use Rattle.tier_base.specs.declared.fault.Trouble.{Trouble}
 use Rattle.tier_base.specs.declared.fault.Trouble.TheVariants as trouble
+use Rattle.local_log.specs.declared.refusal.AppendRefusal.{AppendRefusal}
+use Rattle.local_log.specs.declared.refusal.AppendRefusal.TheVariants as append
+use Rattle.local_log.specs.declared.refusal.ReadRefusal.{ReadRefusal}
+use Rattle.local_log.specs.declared.refusal.ReadRefusal.TheVariants as read
 use Rattle.local_log.specs.declared.refusal.OpenRefusal.{OpenRefusal}
 use Rattle.local_log.specs.declared.refusal.OpenRefusal.TheVariants.{DiskFault, Damaged, LastIncarnation, NoMemory}
 
@@ -31,3 +35,13 @@ IsOfManifest NoMemory = ⊥
 abbrev pub refusal_of : Trouble → OpenRefusal
 refusal_of trouble.Failed = DiskFault
 refusal_of trouble.NoMemory = NoMemory
+
+-- how it refuses an append
+abbrev pub append_refusal : Trouble → AppendRefusal
+append_refusal trouble.Failed = append.DiskFault
+append_refusal trouble.NoMemory = append.NoMemory
+
+-- how it refuses a read
+abbrev pub read_refusal : Trouble → ReadRefusal
+read_refusal trouble.Failed = read.DiskFault
+read_refusal trouble.NoMemory = read.NoMemory

@@ -7,28 +7,27 @@
 
 ghost use Rattle.std.specs.Prelude.{◌≡◌, ◌⊎◌, ◌+◌, ◌≤◌, ◌<◌, ℕ, length, false, true, OnOk, OnErr, IfOk, IsErrOf, IsTrue};
 ghost use Rattle.disk_model.specs.Content.{LeavesOnly, Image, Files, Keeps};
+ghost use Rattle.tier_base.specs.declared.fault.Trouble.TheVariants as fault;
 ghost use Rattle.tier_base.specs.Counts.{Rose};
 ghost use Rattle.tier_base.specs.Device.{Lasts};
 ghost use Rattle.epoch_line.specs.Line.{cut_end};
 ghost use Rattle.log_manifest.specs.Spelling.{manifest_bytes};
 ghost use Rattle.log_steps.specs.Opens.{Opens};
-ghost use Rattle.local_log.specs.declared.refusal.LogRefusal.TheVariants.{DiskFault, NoMemory};
 ghost use Rattle.local_log.specs.Listing.{front_to, manifest_of};
 ghost use Rattle.local_log.specs.Log.{Becomes};
 ghost use Rattle.local_log.specs.Cutting.{closed_by, open_by, cut_point, shortened, settled, cut, restarted, cut_at, IsLeftUpTo, all_of, opened_to, Cutting, OpensEither, Breaks, OpensAs, OpensAsOr};
 
 use crate::log::{LocalLog, refused};
-use crate::refusal::LogRefusal;
 use crate::trimming::{cut_point, cut_segments, listing_to, open_front, trim};
 use disk_model::{Disk, FileName};
 use log_steps::publish;
 use std::alloc::AllocError;
-use tier_base::Failed;
+use tier_base::{Failed, Trouble};
 
 impl<D: Disk> LocalLog<D> {
     /// Cuts the log to an offset, durably; where a batch holds the offset, to that batch's base. Below the local start
     /// nothing is left of it.
-    pub fn cut_to(&mut self, end: u64) -> Result<(), LogRefusal>
+    pub fn cut_to(&mut self, end: u64) -> Result<(), Trouble>
         requires unbroken { self.old.broken ≡ false }
         requires within { end ≤ self.old.end }
         ensures ok { OnOk result (Becomes D.content (cut_at self.old end) self.new) }
@@ -43,13 +42,13 @@ impl<D: Disk> LocalLog<D> {
         ensures opens { LeavesOnly (D.content self.old.disk) (D.content self.new.disk)
             (OpensAsOr (D.content self.old.disk) (all_of (cut_at self.old end))) }
 
-        ensures others { OnErr result (IsErrOf result NoMemory ⊎ IsErrOf result DiskFault) }
-        ensures no_memory { IsErrOf result NoMemory → Becomes D.content self.old self.new }
-        ensures no_image { IsErrOf result NoMemory → (c : Files) → Image (D.content self.new.disk) c → Image (D.content self.old.disk) c }
-        ensures broken { IsErrOf result DiskFault → self.new.broken ≡ true }
+        ensures others { OnErr result (IsErrOf result fault.NoMemory ⊎ IsErrOf result fault.Failed) }
+        ensures no_memory { IsErrOf result fault.NoMemory → Becomes D.content self.old self.new }
+        ensures no_image { IsErrOf result fault.NoMemory → (c : Files) → Image (D.content self.new.disk) c → Image (D.content self.old.disk) c }
+        ensures broken { IsErrOf result fault.Failed → self.new.broken ≡ true }
         ensures tells { (D.content self.new.disk).tells ≡ (D.content self.old.disk).tells }
         ensures control { Lasts (D.control self.old.disk) (D.control self.new.disk) }
-        ensures cause { IsErrOf result DiskFault → Rose (D.control self.old.disk).faults (D.control self.new.disk).faults }
+        ensures cause { IsErrOf result fault.Failed → Rose (D.control self.old.disk).faults (D.control self.new.disk).faults }
     {
         if end < self.local_start {
             self.cut_before(end)
@@ -59,7 +58,7 @@ impl<D: Disk> LocalLog<D> {
     }
 
     /// Cuts the log below its local start.
-    fn cut_before(&mut self, end: u64) -> Result<(), LogRefusal>
+    fn cut_before(&mut self, end: u64) -> Result<(), Trouble>
         requires unbroken { self.old.broken ≡ false }
         requires below { end < self.old.local_start }
         ensures ok { OnOk result (Becomes D.content (restarted self.old end (cut_end self.old.line end)) self.new) }
@@ -70,13 +69,13 @@ impl<D: Disk> LocalLog<D> {
         // Each of these images opens as an image of before does, or as the empty log.
         ensures opens { LeavesOnly (D.content self.old.disk) (D.content self.new.disk)
             (OpensAsOr (D.content self.old.disk) (all_of (restarted self.old end (cut_end self.old.line end)))) }
-        ensures others { OnErr result (IsErrOf result NoMemory ⊎ IsErrOf result DiskFault) }
-        ensures no_memory { IsErrOf result NoMemory → Becomes D.content self.old self.new }
-        ensures no_image { IsErrOf result NoMemory → (c : Files) → Image (D.content self.new.disk) c → Image (D.content self.old.disk) c }
-        ensures broken { IsErrOf result DiskFault → self.new.broken ≡ true }
+        ensures others { OnErr result (IsErrOf result fault.NoMemory ⊎ IsErrOf result fault.Failed) }
+        ensures no_memory { IsErrOf result fault.NoMemory → Becomes D.content self.old self.new }
+        ensures no_image { IsErrOf result fault.NoMemory → (c : Files) → Image (D.content self.new.disk) c → Image (D.content self.old.disk) c }
+        ensures broken { IsErrOf result fault.Failed → self.new.broken ≡ true }
         ensures tells { (D.content self.new.disk).tells ≡ (D.content self.old.disk).tells }
         ensures control { Lasts (D.control self.old.disk) (D.control self.new.disk) }
-        ensures cause { IsErrOf result DiskFault → Rose (D.control self.old.disk).faults (D.control self.new.disk).faults }
+        ensures cause { IsErrOf result fault.Failed → Rose (D.control self.old.disk).faults (D.control self.new.disk).faults }
     {
         self.stands();
         let mut line = self.line.copy(self.alloc)?;
@@ -85,7 +84,7 @@ impl<D: Disk> LocalLog<D> {
     }
 
     /// Cuts the log at or past its local start.
-    fn cut_behind(&mut self, end: u64) -> Result<(), LogRefusal>
+    fn cut_behind(&mut self, end: u64) -> Result<(), Trouble>
         requires unbroken { self.old.broken ≡ false }
         requires from { self.old.local_start ≤ end }
         requires within { end ≤ self.old.end }
@@ -98,13 +97,13 @@ impl<D: Disk> LocalLog<D> {
         // Each of these images opens as an image of before does, or as the cut log.
         ensures opens { LeavesOnly (D.content self.old.disk) (D.content self.new.disk)
             (OpensAsOr (D.content self.old.disk) (all_of (cut self.old (cut_point end self.old.closed self.old.active)))) }
-        ensures others { OnErr result (IsErrOf result NoMemory ⊎ IsErrOf result DiskFault) }
-        ensures no_memory { IsErrOf result NoMemory → Becomes D.content self.old self.new }
-        ensures no_image { IsErrOf result NoMemory → (c : Files) → Image (D.content self.new.disk) c → Image (D.content self.old.disk) c }
-        ensures broken { IsErrOf result DiskFault → self.new.broken ≡ true }
+        ensures others { OnErr result (IsErrOf result fault.NoMemory ⊎ IsErrOf result fault.Failed) }
+        ensures no_memory { IsErrOf result fault.NoMemory → Becomes D.content self.old self.new }
+        ensures no_image { IsErrOf result fault.NoMemory → (c : Files) → Image (D.content self.new.disk) c → Image (D.content self.old.disk) c }
+        ensures broken { IsErrOf result fault.Failed → self.new.broken ≡ true }
         ensures tells { (D.content self.new.disk).tells ≡ (D.content self.old.disk).tells }
         ensures control { Lasts (D.control self.old.disk) (D.control self.new.disk) }
-        ensures cause { IsErrOf result DiskFault → Rose (D.control self.old.disk).faults (D.control self.new.disk).faults }
+        ensures cause { IsErrOf result fault.Failed → Rose (D.control self.old.disk).faults (D.control self.new.disk).faults }
     {
         let point = cut_point(&self.closed, &self.active, end);
         self.cut_within(point)
@@ -124,7 +123,7 @@ impl<D: Disk> LocalLog<D> {
 
     /// Makes the manifest that lists the log up to one of its ends the present one, once the segment that it lists last is
     /// synced. The others were when they closed.
-    fn settle(&mut self, bytes: &[u8], end: u64) -> Result<(), LogRefusal>
+    fn settle(&mut self, bytes: &[u8], end: u64) -> Result<(), Trouble>
         requires unbroken { self.old.broken ≡ false }
         requires from { self.old.local_start ≤ end }
         requires within { end ≤ self.old.end }
@@ -138,14 +137,14 @@ impl<D: Disk> LocalLog<D> {
         // Each of these images opens as an image of before does, or as the cut log.
         ensures opens { LeavesOnly (D.content self.old.disk) (D.content self.new.disk)
             (OpensAsOr (D.content self.old.disk) (opened_to self.old end)) }
-        ensures others { OnErr result (IsErrOf result NoMemory ⊎ IsErrOf result DiskFault) }
-        ensures no_memory { IsErrOf result NoMemory → Becomes D.content self.old self.new }
-        ensures no_image { IsErrOf result NoMemory → (c : Files) → Image (D.content self.new.disk) c → Image (D.content self.old.disk) c }
-        ensures broken { IsErrOf result DiskFault → Breaks D.content self.old self.new }
+        ensures others { OnErr result (IsErrOf result fault.NoMemory ⊎ IsErrOf result fault.Failed) }
+        ensures no_memory { IsErrOf result fault.NoMemory → Becomes D.content self.old self.new }
+        ensures no_image { IsErrOf result fault.NoMemory → (c : Files) → Image (D.content self.new.disk) c → Image (D.content self.old.disk) c }
+        ensures broken { IsErrOf result fault.Failed → Breaks D.content self.old self.new }
         ensures room { OnOk result (D.spare self.new.disk + 1 ≡ D.spare self.old.disk) }
         ensures tells { (D.content self.new.disk).tells ≡ (D.content self.old.disk).tells }
         ensures control { Lasts (D.control self.old.disk) (D.control self.new.disk) }
-        ensures cause { IsErrOf result DiskFault → Rose (D.control self.old.disk).faults (D.control self.new.disk).faults }
+        ensures cause { IsErrOf result fault.Failed → Rose (D.control self.old.disk).faults (D.control self.new.disk).faults }
     {
         let last = open_front(&self.closed, &self.active, end);
         match publish(&mut self.disk, FileName::Log(last.base), bytes) {
@@ -158,7 +157,7 @@ impl<D: Disk> LocalLog<D> {
     }
 
     /// Drops what ends past an end at or past the stable one, on the disk and in memory. Each image opens as before.
-    fn shed(&mut self, end: u64) -> Result<(), LogRefusal>
+    fn shed(&mut self, end: u64) -> Result<(), Failed>
         requires unbroken { self.old.broken ≡ false }
         requires from { self.old.local_start ≤ end }
         requires above { self.old.stable ≤ end }
@@ -168,7 +167,6 @@ impl<D: Disk> LocalLog<D> {
         ensures ok { OnOk result (Becomes D.content (shortened self.old end) self.new) }
         ensures any_moment { LeavesOnly (D.content self.old.disk) (D.content self.new.disk) (OpensAs (D.content self.old.disk)) }
         ensures broken { OnErr result (Breaks D.content self.old self.new) }
-        ensures why { OnErr result (IsErrOf result DiskFault) }
         ensures tells { (D.content self.new.disk).tells ≡ (D.content self.old.disk).tells }
         ensures control { Lasts (D.control self.old.disk) (D.control self.new.disk) }
         ensures cause { OnErr result (Rose (D.control self.old.disk).faults (D.control self.new.disk).faults) }
@@ -181,13 +179,13 @@ impl<D: Disk> LocalLog<D> {
             }
             Err(Failed) => {
                 self.broken = true;
-                Err(LogRefusal::DiskFault)
+                Err(Failed)
             }
         }
     }
 
     /// Cuts the log to one of its ends, with the manifest that lists it.
-    fn cut_listed(&mut self, bytes: &[u8], end: u64) -> Result<(), LogRefusal>
+    fn cut_listed(&mut self, bytes: &[u8], end: u64) -> Result<(), Trouble>
         requires unbroken { self.old.broken ≡ false }
         requires from { self.old.local_start ≤ end }
         requires within { end ≤ self.old.end }
@@ -201,20 +199,20 @@ impl<D: Disk> LocalLog<D> {
         // Each of these images opens as an image of before does, or as the cut log.
         ensures opens { LeavesOnly (D.content self.old.disk) (D.content self.new.disk)
             (OpensAsOr (D.content self.old.disk) (opened_to self.old end)) }
-        ensures others { OnErr result (IsErrOf result NoMemory ⊎ IsErrOf result DiskFault) }
-        ensures no_memory { IsErrOf result NoMemory → Becomes D.content self.old self.new }
-        ensures no_image { IsErrOf result NoMemory → (c : Files) → Image (D.content self.new.disk) c → Image (D.content self.old.disk) c }
-        ensures broken { IsErrOf result DiskFault → self.new.broken ≡ true }
+        ensures others { OnErr result (IsErrOf result fault.NoMemory ⊎ IsErrOf result fault.Failed) }
+        ensures no_memory { IsErrOf result fault.NoMemory → Becomes D.content self.old self.new }
+        ensures no_image { IsErrOf result fault.NoMemory → (c : Files) → Image (D.content self.new.disk) c → Image (D.content self.old.disk) c }
+        ensures broken { IsErrOf result fault.Failed → self.new.broken ≡ true }
         ensures tells { (D.content self.new.disk).tells ≡ (D.content self.old.disk).tells }
         ensures control { Lasts (D.control self.old.disk) (D.control self.new.disk) }
-        ensures cause { IsErrOf result DiskFault → Rose (D.control self.old.disk).faults (D.control self.new.disk).faults }
+        ensures cause { IsErrOf result fault.Failed → Rose (D.control self.old.disk).faults (D.control self.new.disk).faults }
     {
         self.settle(bytes, end)?;
-        self.shed(end)
+        Ok(self.shed(end)?)
     }
 
     /// Cuts the log to one of its ends.
-    fn cut_within(&mut self, end: u64) -> Result<(), LogRefusal>
+    fn cut_within(&mut self, end: u64) -> Result<(), Trouble>
         requires unbroken { self.old.broken ≡ false }
         requires from { self.old.local_start ≤ end }
         requires within { end ≤ self.old.end }
@@ -225,13 +223,13 @@ impl<D: Disk> LocalLog<D> {
         // Each of these images opens as an image of before does, or as the cut log.
         ensures opens { LeavesOnly (D.content self.old.disk) (D.content self.new.disk)
             (OpensAsOr (D.content self.old.disk) (opened_to self.old end)) }
-        ensures others { OnErr result (IsErrOf result NoMemory ⊎ IsErrOf result DiskFault) }
-        ensures no_memory { IsErrOf result NoMemory → Becomes D.content self.old self.new }
-        ensures no_image { IsErrOf result NoMemory → (c : Files) → Image (D.content self.new.disk) c → Image (D.content self.old.disk) c }
-        ensures broken { IsErrOf result DiskFault → self.new.broken ≡ true }
+        ensures others { OnErr result (IsErrOf result fault.NoMemory ⊎ IsErrOf result fault.Failed) }
+        ensures no_memory { IsErrOf result fault.NoMemory → Becomes D.content self.old self.new }
+        ensures no_image { IsErrOf result fault.NoMemory → (c : Files) → Image (D.content self.new.disk) c → Image (D.content self.old.disk) c }
+        ensures broken { IsErrOf result fault.Failed → self.new.broken ≡ true }
         ensures tells { (D.content self.new.disk).tells ≡ (D.content self.old.disk).tells }
         ensures control { Lasts (D.control self.old.disk) (D.control self.new.disk) }
-        ensures cause { IsErrOf result DiskFault → Rose (D.control self.old.disk).faults (D.control self.new.disk).faults }
+        ensures cause { IsErrOf result fault.Failed → Rose (D.control self.old.disk).faults (D.control self.new.disk).faults }
     {
         self.stands();
         let bytes = self.listing_cut(end)?;

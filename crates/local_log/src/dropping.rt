@@ -5,27 +5,27 @@
 
 ghost use Rattle.std.specs.Prelude.{◌≡◌, ◌⊎◌, ◌+◌, ◌≤◌, ◌<◌, ◌∷◌, ℕ, [], length, false, true, OnOk, OnErr, IfOk, IsErrOf};
 ghost use Rattle.disk_model.specs.Content.{LeavesOnly, Image, Files};
+ghost use Rattle.tier_base.specs.declared.fault.Trouble.TheVariants as fault;
 ghost use Rattle.tier_base.specs.Counts.{Rose};
 ghost use Rattle.tier_base.specs.Device.{Lasts};
 ghost use Rattle.epoch_line.specs.Line.{cut_end};
 ghost use Rattle.log_manifest.specs.Spelling.{manifest_bytes};
 ghost use Rattle.log_steps.specs.Opens.{Opens};
-ghost use Rattle.local_log.specs.declared.refusal.LogRefusal.TheVariants.{DiskFault, NoMemory};
 ghost use Rattle.local_log.specs.Listing.{front_to, manifest_of};
 ghost use Rattle.local_log.specs.Log.{Becomes, stable_log};
 ghost use Rattle.local_log.specs.Cutting.{closed_by, open_by, OpensAsOr};
 ghost use Rattle.local_log.specs.Dropping.{rest_of, start_behind, IsFirstStable, SpansFirst, dropped, OpensDropped};
 
 use crate::log::{LocalLog, refused};
-use crate::refusal::LogRefusal;
 use crate::restarting::renew;
 use crate::trimming::listing_to;
 use disk_model::Disk;
 use std::alloc::AllocError;
+use tier_base::Trouble;
 
 impl<D: Disk> LocalLog<D> {
     /// Drops the first closed segment, durably, and answers its base and its last offset. The stable end stays.
-    pub fn drop_first(&mut self) -> Result<(u64, u64), LogRefusal>
+    pub fn drop_first(&mut self) -> Result<(u64, u64), Trouble>
         requires unbroken { self.old.broken ≡ false }
         requires first { IsFirstStable self.old.stable self.old.closed }
         ensures answer { IfOk result (λ answer. SpansFirst self.old.closed answer) }
@@ -38,13 +38,13 @@ impl<D: Disk> LocalLog<D> {
         ensures opens { LeavesOnly (D.content self.old.disk) (D.content self.new.disk)
             (OpensAsOr (D.content self.old.disk) (stable_log (dropped self.old))) }
 
-        ensures others { OnErr result (IsErrOf result NoMemory ⊎ IsErrOf result DiskFault) }
-        ensures no_memory { IsErrOf result NoMemory → Becomes D.content self.old self.new }
-        ensures no_image { IsErrOf result NoMemory → (c : Files) → Image (D.content self.new.disk) c → Image (D.content self.old.disk) c }
-        ensures broken { IsErrOf result DiskFault → self.new.broken ≡ true }
+        ensures others { OnErr result (IsErrOf result fault.NoMemory ⊎ IsErrOf result fault.Failed) }
+        ensures no_memory { IsErrOf result fault.NoMemory → Becomes D.content self.old self.new }
+        ensures no_image { IsErrOf result fault.NoMemory → (c : Files) → Image (D.content self.new.disk) c → Image (D.content self.old.disk) c }
+        ensures broken { IsErrOf result fault.Failed → self.new.broken ≡ true }
         ensures tells { (D.content self.new.disk).tells ≡ (D.content self.old.disk).tells }
         ensures control { Lasts (D.control self.old.disk) (D.control self.new.disk) }
-        ensures cause { IsErrOf result DiskFault → Rose (D.control self.old.disk).faults (D.control self.new.disk).faults }
+        ensures cause { IsErrOf result fault.Failed → Rose (D.control self.old.disk).faults (D.control self.new.disk).faults }
     {
         self.stands();
         let bytes = self.listing_behind()?;
@@ -78,7 +78,7 @@ impl<D: Disk> LocalLog<D> {
     }
 
     /// Makes the manifest without the first segment the present one, and removes that segment's file.
-    fn drop_listed(&mut self, bytes: &[u8]) -> Result<(u64, u64), LogRefusal>
+    fn drop_listed(&mut self, bytes: &[u8]) -> Result<(u64, u64), Trouble>
         requires unbroken { self.old.broken ≡ false }
         requires first { IsFirstStable self.old.stable self.old.closed }
         requires room { 1 ≤ D.spare self.old.disk }
@@ -94,13 +94,13 @@ impl<D: Disk> LocalLog<D> {
         // Each of these images opens as an image of before does, or as the log without the segment.
         ensures opens { LeavesOnly (D.content self.old.disk) (D.content self.new.disk)
             (OpensAsOr (D.content self.old.disk) (stable_log (dropped self.old))) }
-        ensures others { OnErr result (IsErrOf result NoMemory ⊎ IsErrOf result DiskFault) }
-        ensures no_memory { IsErrOf result NoMemory → Becomes D.content self.old self.new }
-        ensures no_image { IsErrOf result NoMemory → (c : Files) → Image (D.content self.new.disk) c → Image (D.content self.old.disk) c }
-        ensures broken { IsErrOf result DiskFault → self.new.broken ≡ true }
+        ensures others { OnErr result (IsErrOf result fault.NoMemory ⊎ IsErrOf result fault.Failed) }
+        ensures no_memory { IsErrOf result fault.NoMemory → Becomes D.content self.old self.new }
+        ensures no_image { IsErrOf result fault.NoMemory → (c : Files) → Image (D.content self.new.disk) c → Image (D.content self.old.disk) c }
+        ensures broken { IsErrOf result fault.Failed → self.new.broken ≡ true }
         ensures tells { (D.content self.new.disk).tells ≡ (D.content self.old.disk).tells }
         ensures control { Lasts (D.control self.old.disk) (D.control self.new.disk) }
-        ensures cause { IsErrOf result DiskFault → Rose (D.control self.old.disk).faults (D.control self.new.disk).faults }
+        ensures cause { IsErrOf result fault.Failed → Rose (D.control self.old.disk).faults (D.control self.new.disk).faults }
     {
         let first = &self.closed[0];
         let base = first.base();

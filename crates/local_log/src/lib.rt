@@ -26,4 +26,4 @@ mod trimming;
 pub use laws::an_image_opens_in_one_way;
 pub use log::LocalLog;
 pub use reading::RunOut;
-pub use refusal::{CreateRefusal, LogRefusal, OpenRefusal};
+pub use refusal::{AppendRefusal, CreateRefusal, OpenRefusal, ReadRefusal, RollRefusal};

@@ -15,7 +15,8 @@ ghost use Rattle.tier_base.specs.declared.plain.FileName.{FileName};
 ghost use Rattle.tier_base.specs.declared.fault.Trouble.TheVariants as fault;
 ghost use Rattle.local_log.specs.declared.refusal.CreateRefusal.TheVariants as create;
 ghost use Rattle.local_log.specs.declared.refusal.OpenRefusal.TheVariants as opening;
-ghost use Rattle.local_log.specs.declared.refusal.LogRefusal.TheVariants.{LastOffset, TooManySegments, EmptySegment, DiskFault, NoMemory};
+ghost use Rattle.local_log.specs.declared.refusal.AppendRefusal.TheVariants as append;
+ghost use Rattle.local_log.specs.declared.refusal.RollRefusal.TheVariants as roll;
 ghost use Rattle.std.specs.Option.{ForSome};
 ghost use Rattle.log_steps.specs.Fronts.{Each};
 ghost use Rattle.local_log.specs.Stored.{size_of};
@@ -30,8 +31,8 @@ ghost use Rattle.local_log.specs.Log.{IsFirst, committed, Committing, AreSetting
 
 use crate::listing::listing;
 use crate::opening::open_log;
-use crate::refusal::{CreateRefusal, LogRefusal, OpenRefusal};
-use crate::run::{LAST_OFFSET, first_asked, rolls_before, take_in};
+use crate::refusal::{AppendRefusal, CreateRefusal, OpenRefusal, RollRefusal};
+use crate::run::{first_asked, rolls_before, take_in};
 use disk_model::{Disk, FileName};
 use epoch_line::Line;
 use log_steps::publish;
@@ -39,7 +40,7 @@ use segment_file::Growing;
 use std::alloc::{AllocError, Global};
 use std::marker::Model;
 use std::mem;
-use tier_base::{Failed, Settings, Trouble};
+use tier_base::{Failed, OFFSET_LIMIT, Settings, Trouble};
 
 /// The most segments of a log.
 const MOST_SEGMENTS: usize = 4_096;
@@ -172,16 +173,17 @@ impl<D: Disk> LocalLog<D> {
         }
     }
 
-    /// Every image opens as the stable log. It does nothing: calling it cites what the type keeps of each of its values, which
-    /// no law over definitions could say, since it doesn't hold of just any `Log`.
+    /// Every image opens as the stable log. It does nothing when it runs, and stands for proofs: calling it cites what the type
+    /// keeps of each of its values. No law over definitions could say it, since it doesn't hold of just any `Log`.
     pub fn stands(&self)
         ensures { self.now.broken ≡ false → (c : Files) → Image (D.content self.now.disk) c → OpensStable self.now c }
     {
+        // What is read of a log has what its type keeps told.
         let _ = &self.active;
     }
 
     /// The batches are checked and follow one another up to the end, and a cut and a piece end where one of them does. It does
-    /// nothing, and cites what the type keeps, as `stands` does.
+    /// nothing when it runs, and cites what the type keeps, as `stands` does.
     pub fn coheres(&self)
         ensures { self.now.broken ≡ false → IsTrue (D.content self.now.disk).tells → Coheres self.now }
     {
@@ -198,7 +200,7 @@ impl<D: Disk> LocalLog<D> {
 
     /// Appends the first batches of a run that stand in one segment, and answers their first and their last offset. It
     /// rolls before them where that is due. They aren't stable before the next `flush`.
-    pub fn append(&mut self, run: &[u8]) -> Result<(u64, u64), LogRefusal>
+    pub fn append(&mut self, run: &[u8]) -> Result<(u64, u64), AppendRefusal>
         requires unbroken { self.old.broken ≡ false }
         requires run { IsRun self.old.end self.old.line run.now }
         ensures ok { IfOk result (λ answer. IsAppended D.content self.old self.new run.now answer) }
@@ -211,42 +213,42 @@ impl<D: Disk> LocalLog<D> {
         ensures opens { LeavesOnly (D.content self.old.disk) (D.content self.new.disk) (OpensAs (D.content self.old.disk)) }
 
         // Each cause, where no earlier one holds.
-        ensures last_offset { IsErrOf result LastOffset ↔ (2 ^ 62 ≤ last_of run.now) }
-        ensures many { IsErrOf result TooManySegments
+        ensures last_offset { IsErrOf result append.LastOffset ↔ (2 ^ 62 ≤ last_of run.now) }
+        ensures many { IsErrOf result append.TooManySegments
             ↔ (last_of run.now < 2 ^ 62) × IsTrue (is_due self.old run.now) × (4095 ≤ length self.old.closed) }
-        ensures others { OnErr result ((IsErrOf result LastOffset ⊎ IsErrOf result TooManySegments)
-            ⊎ (IsErrOf result NoMemory ⊎ IsErrOf result DiskFault)) }
-        ensures unchanged { (IsErrOf result LastOffset ⊎ IsErrOf result TooManySegments) → self.new ≡ self.old }
-        ensures no_memory { IsErrOf result NoMemory → Becomes D.content self.old self.new }
-        ensures broken { IsErrOf result DiskFault → Becomes D.content (record self.old { broken = true }) self.new }
+        ensures others { OnErr result ((IsErrOf result append.LastOffset ⊎ IsErrOf result append.TooManySegments)
+            ⊎ (IsErrOf result append.NoMemory ⊎ IsErrOf result append.DiskFault)) }
+        ensures unchanged { (IsErrOf result append.LastOffset ⊎ IsErrOf result append.TooManySegments) → self.new ≡ self.old }
+        ensures no_memory { IsErrOf result append.NoMemory → Becomes D.content self.old self.new }
+        ensures broken { IsErrOf result append.DiskFault → Becomes D.content (record self.old { broken = true }) self.new }
         ensures control { Lasts (D.control self.old.disk) (D.control self.new.disk) }
-        ensures cause { IsErrOf result DiskFault → Rose (D.control self.old.disk).faults (D.control self.new.disk).faults }
+        ensures cause { IsErrOf result append.DiskFault → Rose (D.control self.old.disk).faults (D.control self.new.disk).faults }
     {
         let most = self.settings.segment_bytes;
         let base = self.active.base();
         let size = self.active.size();
         let first = first_asked(run);
-        if first.last >= LAST_OFFSET {
-            return Err(LogRefusal::LastOffset);
+        if first.last >= OFFSET_LIMIT {
+            return Err(AppendRefusal::LastOffset);
         }
         if !rolls_before(most, base, size, first.size, first.last) {
-            return self.append_here(run);
+            return Ok(self.append_here(run)?);
         }
         if self.closed.len() + 1 >= MOST_SEGMENTS {
-            return Err(LogRefusal::TooManySegments);
+            return Err(AppendRefusal::TooManySegments);
         }
-        self.append_behind(run)
+        Ok(self.append_behind(run)?)
     }
 
     /// Appends to the open segment.
-    fn append_here(&mut self, run: &[u8]) -> Result<(u64, u64), LogRefusal>
+    fn append_here(&mut self, run: &[u8]) -> Result<(u64, u64), Trouble>
         requires unbroken { self.old.broken ≡ false }
         requires run { IsRun self.old.end self.old.line run.now }
         requires fits { is_due self.old run.now ≡ false }
         requires low { last_of run.now < 2 ^ 62 }
         ensures ok { IfOk result (λ answer. IsAppendedTo D.content self.old self.old self.new run.now answer) }
         ensures some { IfOk result (λ answer. answer.0 ≤ answer.1) }
-        ensures others { OnErr result (IsErrOf result NoMemory ⊎ IsErrOf result DiskFault) }
+        ensures others { OnErr result (IsErrOf result fault.NoMemory ⊎ IsErrOf result fault.Failed) }
 
         // A crash at any moment of the call leaves the stable log of before.
         ensures any_moment { LeavesOnly (D.content self.old.disk) (D.content self.new.disk)
@@ -254,10 +256,10 @@ impl<D: Disk> LocalLog<D> {
         // Each of these images opens as an image of before does.
         ensures opens { LeavesOnly (D.content self.old.disk) (D.content self.new.disk) (OpensAs (D.content self.old.disk)) }
 
-        ensures no_memory { IsErrOf result NoMemory → Becomes D.content self.old self.new }
-        ensures broken { IsErrOf result DiskFault → Becomes D.content (record self.old { broken = true }) self.new }
+        ensures no_memory { IsErrOf result fault.NoMemory → Becomes D.content self.old self.new }
+        ensures broken { IsErrOf result fault.Failed → Becomes D.content (record self.old { broken = true }) self.new }
         ensures control { Lasts (D.control self.old.disk) (D.control self.new.disk) }
-        ensures cause { IsErrOf result DiskFault → Rose (D.control self.old.disk).faults (D.control self.new.disk).faults }
+        ensures cause { IsErrOf result fault.Failed → Rose (D.control self.old.disk).faults (D.control self.new.disk).faults }
     {
         let end = self.active.end();
         let most = self.settings.segment_bytes;
@@ -275,7 +277,7 @@ impl<D: Disk> LocalLog<D> {
     }
 
     /// Closes the open segment and appends to a new one. The closing one is synced before anything is appended.
-    fn append_behind(&mut self, run: &[u8]) -> Result<(u64, u64), LogRefusal>
+    fn append_behind(&mut self, run: &[u8]) -> Result<(u64, u64), Trouble>
         requires unbroken { self.old.broken ≡ false }
         requires run { IsRun self.old.end self.old.line run.now }
         requires some { 0 < size_of self.old.active }
@@ -283,7 +285,7 @@ impl<D: Disk> LocalLog<D> {
         requires low { last_of run.now < 2 ^ 62 }
         ensures ok { IfOk result (λ answer. IsAppendedTo D.content self.old (rolled self.old) self.new run.now answer) }
         ensures some { IfOk result (λ answer. answer.0 ≤ answer.1) }
-        ensures others { OnErr result (IsErrOf result NoMemory ⊎ IsErrOf result DiskFault) }
+        ensures others { OnErr result (IsErrOf result fault.NoMemory ⊎ IsErrOf result fault.Failed) }
 
         // A crash at any moment of the call leaves the stable log of before.
         ensures any_moment { LeavesOnly (D.content self.old.disk) (D.content self.new.disk)
@@ -291,10 +293,10 @@ impl<D: Disk> LocalLog<D> {
         // Each of these images opens as an image of before does.
         ensures opens { LeavesOnly (D.content self.old.disk) (D.content self.new.disk) (OpensAs (D.content self.old.disk)) }
 
-        ensures no_memory { IsErrOf result NoMemory → Becomes D.content self.old self.new }
-        ensures broken { IsErrOf result DiskFault → Becomes D.content (record self.old { broken = true }) self.new }
+        ensures no_memory { IsErrOf result fault.NoMemory → Becomes D.content self.old self.new }
+        ensures broken { IsErrOf result fault.Failed → Becomes D.content (record self.old { broken = true }) self.new }
         ensures control { Lasts (D.control self.old.disk) (D.control self.new.disk) }
-        ensures cause { IsErrOf result DiskFault → Rose (D.control self.old.disk).faults (D.control self.new.disk).faults }
+        ensures cause { IsErrOf result fault.Failed → Rose (D.control self.old.disk).faults (D.control self.new.disk).faults }
     {
         self.closed.reserve(1)?;
         self.disk.reserve(1)?;
@@ -302,7 +304,7 @@ impl<D: Disk> LocalLog<D> {
             Ok(()) => {}
             Err(Failed) => {
                 self.broken = true;
-                return Err(LogRefusal::DiskFault);
+                return Err(Trouble::Failed);
             }
         }
         let end = self.active.end();
@@ -323,7 +325,7 @@ impl<D: Disk> LocalLog<D> {
     }
 
     /// Closes the open segment, and opens a new one.
-    pub fn roll(&mut self) -> Result<u64, LogRefusal>
+    pub fn roll(&mut self) -> Result<u64, RollRefusal>
         requires { self.old.broken ≡ false }
         ensures base { IfOk result (λ base. base ≡ self.old.end) }
         ensures ok { OnOk result (Becomes D.content (rolled self.old) self.new) }
@@ -335,21 +337,21 @@ impl<D: Disk> LocalLog<D> {
         ensures opens { LeavesOnly (D.content self.old.disk) (D.content self.new.disk) (OpensAs (D.content self.old.disk)) }
 
         // Each cause, where no earlier one holds.
-        ensures empty { IsErrOf result EmptySegment ↔ (size_of self.old.active ≡ 0) }
-        ensures many { IsErrOf result TooManySegments ↔ (0 < size_of self.old.active) × (4095 ≤ length self.old.closed) }
-        ensures others { OnErr result ((IsErrOf result EmptySegment ⊎ IsErrOf result TooManySegments)
-            ⊎ (IsErrOf result NoMemory ⊎ IsErrOf result DiskFault)) }
-        ensures unchanged { (IsErrOf result EmptySegment ⊎ IsErrOf result TooManySegments) → self.new ≡ self.old }
-        ensures no_memory { IsErrOf result NoMemory → Becomes D.content self.old self.new }
-        ensures broken { IsErrOf result DiskFault → Becomes D.content (record self.old { broken = true }) self.new }
+        ensures empty { IsErrOf result roll.EmptySegment ↔ (size_of self.old.active ≡ 0) }
+        ensures many { IsErrOf result roll.TooManySegments ↔ (0 < size_of self.old.active) × (4095 ≤ length self.old.closed) }
+        ensures others { OnErr result ((IsErrOf result roll.EmptySegment ⊎ IsErrOf result roll.TooManySegments)
+            ⊎ (IsErrOf result roll.NoMemory ⊎ IsErrOf result roll.DiskFault)) }
+        ensures unchanged { (IsErrOf result roll.EmptySegment ⊎ IsErrOf result roll.TooManySegments) → self.new ≡ self.old }
+        ensures no_memory { IsErrOf result roll.NoMemory → Becomes D.content self.old self.new }
+        ensures broken { IsErrOf result roll.DiskFault → Becomes D.content (record self.old { broken = true }) self.new }
         ensures control { Lasts (D.control self.old.disk) (D.control self.new.disk) }
-        ensures cause { IsErrOf result DiskFault → Rose (D.control self.old.disk).faults (D.control self.new.disk).faults }
+        ensures cause { IsErrOf result roll.DiskFault → Rose (D.control self.old.disk).faults (D.control self.new.disk).faults }
     {
         if self.active.size() == 0 {
-            return Err(LogRefusal::EmptySegment);
+            return Err(RollRefusal::EmptySegment);
         }
         if self.closed.len() + 1 >= MOST_SEGMENTS {
-            return Err(LogRefusal::TooManySegments);
+            return Err(RollRefusal::TooManySegments);
         }
         self.closed.reserve(1)?;
         self.disk.reserve(1)?;
@@ -363,17 +365,17 @@ impl<D: Disk> LocalLog<D> {
             }
             Err(Failed) => {
                 self.broken = true;
-                Err(LogRefusal::DiskFault)
+                Err(RollRefusal::DiskFault)
             }
         }
     }
 
     /// Makes all of the log stable, and answers its end.
-    pub fn flush(&mut self) -> Result<u64, LogRefusal>
+    pub fn flush(&mut self) -> Result<u64, Trouble>
         requires { self.old.broken ≡ false }
         ensures end { IfOk result (λ end. end ≡ self.old.end) }
         ensures ok { OnOk result (Becomes D.content (committed self.old self.old.line) self.new) }
-        ensures others { OnErr result (IsErrOf result NoMemory ⊎ IsErrOf result DiskFault) }
+        ensures others { OnErr result (IsErrOf result fault.NoMemory ⊎ IsErrOf result fault.Failed) }
         ensures durable { OnOk result ((c : Files) → Image (D.content self.new.disk) c → Opens c (stable_log self.new)) }
 
         // A crash at any moment of the call leaves the stable log of before, or all of the log.
@@ -383,24 +385,24 @@ impl<D: Disk> LocalLog<D> {
         ensures opens { LeavesOnly (D.content self.old.disk) (D.content self.new.disk)
             (OpensAsOr (D.content self.old.disk) (stable_log (committed self.old self.old.line))) }
 
-        ensures no_memory { IsErrOf result NoMemory → Becomes D.content self.old self.new }
-        ensures no_image { IsErrOf result NoMemory → (c : Files) → Image (D.content self.new.disk) c → Image (D.content self.old.disk) c }
-        ensures broken { IsErrOf result DiskFault → Becomes D.content (record self.old { broken = true }) self.new }
+        ensures no_memory { IsErrOf result fault.NoMemory → Becomes D.content self.old self.new }
+        ensures no_image { IsErrOf result fault.NoMemory → (c : Files) → Image (D.content self.new.disk) c → Image (D.content self.old.disk) c }
+        ensures broken { IsErrOf result fault.Failed → Becomes D.content (record self.old { broken = true }) self.new }
         ensures control { Lasts (D.control self.old.disk) (D.control self.new.disk) }
-        ensures cause { IsErrOf result DiskFault → Rose (D.control self.old.disk).faults (D.control self.new.disk).faults }
+        ensures cause { IsErrOf result fault.Failed → Rose (D.control self.old.disk).faults (D.control self.new.disk).faults }
     {
         let line = self.line.copy(self.alloc)?;
         self.commit(line)
     }
 
     /// Enters a leader epoch that begins at the log's end, makes all stable, and answers the end.
-    pub fn lead(&mut self, epoch: u32) -> Result<u64, LogRefusal>
+    pub fn lead(&mut self, epoch: u32) -> Result<u64, Trouble>
         requires unbroken { self.old.broken ≡ false }
         requires fits { epoch < 2 ^ 31 }
         requires above { ForSome (last_epoch self.old.line) (λ last. last < epoch) }
         ensures end { IfOk result (λ end. end ≡ self.old.end) }
         ensures ok { OnOk result (Becomes D.content (committed self.old (assign self.old.line epoch self.old.end)) self.new) }
-        ensures others { OnErr result (IsErrOf result NoMemory ⊎ IsErrOf result DiskFault) }
+        ensures others { OnErr result (IsErrOf result fault.NoMemory ⊎ IsErrOf result fault.Failed) }
         ensures durable { OnOk result ((c : Files) → Image (D.content self.new.disk) c → Opens c (stable_log self.new)) }
 
         // A crash at any moment of the call leaves the stable log of before, or all of the log with the epoch.
@@ -410,11 +412,11 @@ impl<D: Disk> LocalLog<D> {
         ensures opens { LeavesOnly (D.content self.old.disk) (D.content self.new.disk)
             (OpensAsOr (D.content self.old.disk) (stable_log (committed self.old (assign self.old.line epoch self.old.end)))) }
 
-        ensures no_memory { IsErrOf result NoMemory → Becomes D.content self.old self.new }
-        ensures no_image { IsErrOf result NoMemory → (c : Files) → Image (D.content self.new.disk) c → Image (D.content self.old.disk) c }
-        ensures broken { IsErrOf result DiskFault → Becomes D.content (record self.old { broken = true }) self.new }
+        ensures no_memory { IsErrOf result fault.NoMemory → Becomes D.content self.old self.new }
+        ensures no_image { IsErrOf result fault.NoMemory → (c : Files) → Image (D.content self.new.disk) c → Image (D.content self.old.disk) c }
+        ensures broken { IsErrOf result fault.Failed → Becomes D.content (record self.old { broken = true }) self.new }
         ensures control { Lasts (D.control self.old.disk) (D.control self.new.disk) }
-        ensures cause { IsErrOf result DiskFault → Rose (D.control self.old.disk).faults (D.control self.new.disk).faults }
+        ensures cause { IsErrOf result fault.Failed → Rose (D.control self.old.disk).faults (D.control self.new.disk).faults }
     {
         let mut line = self.line.copy(self.alloc)?;
         line.assign(epoch, self.active.end())?;
@@ -422,14 +424,14 @@ impl<D: Disk> LocalLog<D> {
     }
 
     /// Makes all of the log stable, with a line that says the same below the end.
-    fn commit(&mut self, line: Line) -> Result<u64, LogRefusal>
+    fn commit(&mut self, line: Line) -> Result<u64, Trouble>
         requires unbroken { self.old.broken ≡ false }
         requires line { IsLine line }
         requires same { cut_end line self.old.end ≡ cut_end self.old.line self.old.end }
         requires within { Each (λ (entry : ℕ × ℕ). entry.1 ≤ self.old.end) line }
         ensures end { IfOk result (λ end. end ≡ self.old.end) }
         ensures ok { OnOk result (Becomes D.content (committed self.old line) self.new) }
-        ensures others { OnErr result (IsErrOf result NoMemory ⊎ IsErrOf result DiskFault) }
+        ensures others { OnErr result (IsErrOf result fault.NoMemory ⊎ IsErrOf result fault.Failed) }
         ensures durable { OnOk result ((c : Files) → Image (D.content self.new.disk) c → Opens c (stable_log self.new)) }
 
         // A crash at any moment of the call leaves the stable log of before, or all of the log with this line.
@@ -439,11 +441,11 @@ impl<D: Disk> LocalLog<D> {
         ensures opens { LeavesOnly (D.content self.old.disk) (D.content self.new.disk)
             (OpensAsOr (D.content self.old.disk) (stable_log (committed self.old line))) }
 
-        ensures no_memory { IsErrOf result NoMemory → Becomes D.content self.old self.new }
-        ensures no_image { IsErrOf result NoMemory → (c : Files) → Image (D.content self.new.disk) c → Image (D.content self.old.disk) c }
-        ensures broken { IsErrOf result DiskFault → Becomes D.content (record self.old { broken = true }) self.new }
+        ensures no_memory { IsErrOf result fault.NoMemory → Becomes D.content self.old self.new }
+        ensures no_image { IsErrOf result fault.NoMemory → (c : Files) → Image (D.content self.new.disk) c → Image (D.content self.old.disk) c }
+        ensures broken { IsErrOf result fault.Failed → Becomes D.content (record self.old { broken = true }) self.new }
         ensures control { Lasts (D.control self.old.disk) (D.control self.new.disk) }
-        ensures cause { IsErrOf result DiskFault → Rose (D.control self.old.disk).faults (D.control self.new.disk).faults }
+        ensures cause { IsErrOf result fault.Failed → Rose (D.control self.old.disk).faults (D.control self.new.disk).faults }
     {
         self.disk.reserve(1)?;
         let bytes = listing(
@@ -561,15 +563,15 @@ fn replace_if(line: &mut Line, newer: Option<Line>, counts: bool)
 }
 
 /// The refusal of a call that the disk refused. A fault breaks the log.
-pub(crate) fn refused(broken: &mut bool, trouble: Trouble) -> LogRefusal
-    ensures fault { trouble ≡ fault.Failed → (result ≡ DiskFault) × (broken.new ≡ true) }
-    ensures memory { trouble ≡ fault.NoMemory → (result ≡ NoMemory) × (broken.new ≡ broken.old) }
+pub(crate) fn refused(broken: &mut bool, trouble: Trouble) -> Trouble
+    ensures fault { trouble ≡ fault.Failed → (result ≡ fault.Failed) × (broken.new ≡ true) }
+    ensures memory { trouble ≡ fault.NoMemory → (result ≡ fault.NoMemory) × (broken.new ≡ broken.old) }
 {
     match trouble {
         Trouble::Failed => {
             *broken = true;
-            LogRefusal::DiskFault
+            Trouble::Failed
         }
-        Trouble::NoMemory => LogRefusal::NoMemory,
+        Trouble::NoMemory => Trouble::NoMemory,
     }
 }

@@ -12,9 +12,8 @@ use log_manifest::Extent;
 use record_batch::Head;
 use segment_file::{Found, Growing, walk};
 use std::alloc::Global;
+use tier_base::OFFSET_LIMIT;
 
-/// Offsets are below 2^62.
-const LAST_OFFSET: u64 = 1 << 62;
 /// How far offsets reach past a segment's base.
 const REACH: u64 = 1 << 31;
 
@@ -86,7 +85,7 @@ fn may_stand(head: &Head, end: u64, base: u64, line: &Line) -> bool
     if last - base >= REACH {
         return false;
     }
-    if last >= LAST_OFFSET {
+    if last >= OFFSET_LIMIT {
         return false;
     }
     line.epoch_at(end) == Some(epoch)

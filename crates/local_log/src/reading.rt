@@ -6,18 +6,19 @@
 //! are tested without what memory keeps.
 
 ghost use Rattle.std.specs.Prelude.{◌≡◌, ◌<◌, ◌≤◌, ◌+◌, ℕ, option_map, min, false, true, ◌^◌, ◌↔◌, IfOk, IfErr, IfSome, IsOk, IsErrOf, IsTrue};
+ghost use Rattle.tier_base.specs.declared.fault.Trouble.TheVariants as fault;
 ghost use Rattle.tier_base.specs.Counts.{Rose};
 ghost use Rattle.tier_base.specs.Device.{Lasts};
 ghost use Rattle.tier_base.specs.declared.plain.FileName.TheVariants as file;
 ghost use Rattle.tier_base.specs.Told.{bytes_in};
 ghost use Rattle.disk_model.specs.Content.{LeavesOnly, Keeps, part_of};
-ghost use Rattle.local_log.specs.declared.refusal.LogRefusal.TheVariants.{Damaged, DiskFault, NoMemory};
+ghost use Rattle.local_log.specs.declared.refusal.ReadRefusal.TheVariants.{DiskFault};
 ghost use Rattle.local_log.specs.Log.{Becomes, OpensStable};
 ghost use Rattle.local_log.specs.Reading.{segment_at, piece_of, is_edge, IsCut, IsRunOf, IsEdge, RunFails, CutFails, IsOfDevice, IsClosedFrom, ClosedFails, IsPartOf, IsFront, FrontFails};
 
 use crate::log::LocalLog;
 use crate::piece::{Piece, first_past, is_edge, piece_at, segment_at};
-use crate::refusal::LogRefusal;
+use crate::refusal::ReadRefusal;
 use bytes::Bytes;
 use disk_model::{Disk, FileName};
 use segment_file::{Closed, ClosedRefusal, take_run};
@@ -36,7 +37,7 @@ pub struct RunOut {
 impl<D: Disk> LocalLog<D> {
     /// Reads the run at an offset: the batch that holds it, and further ones that end at or below the mark and together
     /// fit the limit, in bytes. The log is as it was also where the read failed.
-    pub fn read_run(&mut self, offset: u64, limit: u64, mark: u64) -> Result<RunOut, LogRefusal>
+    pub fn read_run(&mut self, offset: u64, limit: u64, mark: u64) -> Result<RunOut, ReadRefusal>
         requires unbroken { self.old.broken ≡ false }
         requires start { self.old.local_start ≤ offset }
         requires below { offset < mark }
@@ -63,7 +64,7 @@ impl<D: Disk> LocalLog<D> {
         let marked = segment_at(self.local_start, self.closed.as_slice(), &self.active, mark);
         let (end, at) = marked.place_of(mark);
         if end != mark {
-            return Err(LogRefusal::Damaged {
+            return Err(ReadRefusal::Damaged {
                 file: FileName::Log(marked.base()),
                 at: at as u64,
             });
@@ -81,7 +82,7 @@ impl<D: Disk> LocalLog<D> {
 
     /// Reads the first closed segment that ends past an offset. There is none where the offset lies in the open segment, or
     /// past the end.
-    pub fn closed_from(&mut self, offset: u64) -> Result<Option<Closed>, LogRefusal>
+    pub fn closed_from(&mut self, offset: u64) -> Result<Option<Closed>, ReadRefusal>
         requires { self.old.broken ≡ false }
         ensures log { Becomes D.content self.old self.new }
         ensures keeps { Keeps (D.content self.old.disk) (D.content self.new.disk) }
@@ -129,7 +130,7 @@ impl<D: Disk> LocalLog<D> {
     }
 
     /// Reads so many bytes of a segment's file from a position on.
-    fn read_part(&mut self, base: u64, from: u32, most: u64) -> Result<Option<Bytes>, LogRefusal>
+    fn read_part(&mut self, base: u64, from: u32, most: u64) -> Result<Option<Bytes>, Trouble>
         requires { self.old.broken ≡ false }
         ensures log { Becomes D.content self.old self.new }
         ensures keeps { Keeps (D.content self.old.disk) (D.content self.new.disk) }
@@ -138,20 +139,20 @@ impl<D: Disk> LocalLog<D> {
         ensures bytes { IfOk result (λ held. (D.control self.new.disk).handed ≡ bytes_in held) }
         ensures any_moment { LeavesOnly (D.content self.old.disk) (D.content self.new.disk)
             (OpensStable self.old) }
-        ensures err { IfErr result IsOfDevice }
         ensures control { Lasts (D.control self.old.disk) (D.control self.new.disk) }
-        ensures cause { IsErrOf result DiskFault → Rose (D.control self.old.disk).faults (D.control self.new.disk).faults }
+        ensures cause { IsErrOf result fault.Failed → Rose (D.control self.old.disk).faults (D.control self.new.disk).faults }
     {
-        match self.disk.read_part(FileName::Log(base), from as u64, most) {
-            Ok(file) => Ok(file),
-            Err(Trouble::Failed) => Err(LogRefusal::DiskFault),
-            Err(Trouble::NoMemory) => Err(LogRefusal::NoMemory),
-        }
+        self.disk.read_part(FileName::Log(base), from as u64, most)
     }
 }
 
 /// The closed segment in what was read of its file.
-fn closed_in(alloc: Global, base: u64, size: u64, file: Option<Bytes>) -> Result<Closed, LogRefusal>
+fn closed_in(
+    alloc: Global,
+    base: u64,
+    size: u64,
+    file: Option<Bytes>,
+) -> Result<Closed, ReadRefusal>
     requires base { base ≤ 2 ^ 62 }
     requires some { 0 < size }
     ensures ok { IfOk result (λ segment. IsFront base size (bytes_in file) segment) }
@@ -159,25 +160,26 @@ fn closed_in(alloc: Global, base: u64, size: u64, file: Option<Bytes>) -> Result
 {
     let name = FileName::Log(base);
     let Some(bytes) = file else {
-        return Err(LogRefusal::Damaged { file: name, at: 0 });
+        return Err(ReadRefusal::Damaged { file: name, at: 0 });
     };
     let len = bytes.len();
     if (len as u64) < size {
-        return Err(LogRefusal::Damaged {
+        return Err(ReadRefusal::Damaged {
             file: name,
             at: len as u64,
         });
     }
     match Closed::read(alloc, base, bytes.slice(..size as usize)?) {
         Ok(closed) => {
+            // Called for its clause `whole`, by which the proof knows that the segment is whole.
             let _whole = closed.bytes();
             Ok(closed)
         }
-        Err(ClosedRefusal::BadAt { at }) => Err(LogRefusal::Damaged {
+        Err(ClosedRefusal::BadAt { at }) => Err(ReadRefusal::Damaged {
             file: name,
             at: at as u64,
         }),
-        Err(ClosedRefusal::NoMemory) => Err(LogRefusal::NoMemory),
+        Err(ClosedRefusal::NoMemory) => Err(ReadRefusal::NoMemory),
     }
 }
 
@@ -188,7 +190,7 @@ fn run_in(
     offset: u64,
     limit: u64,
     mark: u64,
-) -> Result<RunOut, LogRefusal>
+) -> Result<RunOut, ReadRefusal>
     requires mark { offset < mark }
     requires inside { offset < piece.end }
     ensures base { IfOk result (λ run. run.base ≡ piece.base) }
@@ -197,7 +199,7 @@ fn run_in(
 {
     let from = piece.from as u64;
     let Some(bytes) = file else {
-        return Err(LogRefusal::Damaged {
+        return Err(ReadRefusal::Damaged {
             file: FileName::Log(piece.base),
             at: 0,
         });
@@ -209,7 +211,7 @@ fn run_in(
             next: cut.next,
             stop: cut.stop,
         }),
-        Err(bad) => Err(LogRefusal::Damaged {
+        Err(bad) => Err(ReadRefusal::Damaged {
             file: FileName::Log(piece.base),
             at: from + bad.at as u64,
         }),

@@ -34,19 +34,46 @@ pub enum OpenRefusal {
     NoMemory,
 }
 
-/// Why a call of an open log gave no answer. After a fault of the disk the log is broken, and may only be closed; any
-/// other refusal leaves it as it was.
+/// Why a run wasn't appended. The first of the first two causes is told, before the disk is asked. After a fault of the disk
+/// the log is broken, and may only be closed; any other refusal leaves it as it was.
 #[derive(Clone, Copy, Debug, PartialEq, Eq, Drop, Error)]
-pub enum LogRefusal {
+pub enum AppendRefusal {
     /// The first batch's last offset would be 2^62 or more.
     #[error("the offsets are at their end")]
     LastOffset,
     /// A roll is due, and there are 4,096 segments already.
     #[error("there are 4096 segments already")]
     TooManySegments,
+    /// A call of the disk failed.
+    #[error("the disk failed")]
+    DiskFault,
+    /// There was no memory.
+    #[error("out of memory")]
+    NoMemory,
+}
+
+/// Why the open segment wasn't closed. The first of the first two causes is told, before the disk is asked. After a fault of
+/// the disk the log is broken, and may only be closed; any other refusal leaves it as it was.
+#[derive(Clone, Copy, Debug, PartialEq, Eq, Drop, Error)]
+pub enum RollRefusal {
     /// The open segment has no batch, so that there is nothing to close.
     #[error("the open segment is empty")]
     EmptySegment,
+    /// There are 4,096 segments already.
+    #[error("there are 4096 segments already")]
+    TooManySegments,
+    /// A call of the disk failed.
+    #[error("the disk failed")]
+    DiskFault,
+    /// There was no memory.
+    #[error("out of memory")]
+    NoMemory,
+}
+
+/// Why nothing was read of a log. It is as it was. A mark that misses the batches' ends is told before the disk is asked, and
+/// damage of what the disk handed is found last.
+#[derive(Clone, Copy, Debug, PartialEq, Eq, Drop, Error)]
+pub enum ReadRefusal {
     /// What the disk handed of this file has no reading at this place, or a mark misses the batches' ends, and the batch
     /// that holds it begins at this place.
     #[error("{file:?} is damaged at {at}")]
@@ -92,12 +119,48 @@ impl From<Trouble> for OpenRefusal {
     }
 }
 
-impl From<AllocError> for LogRefusal {
-    ghost use Rattle.local_log.specs.declared.refusal.LogRefusal.TheVariants.{NoMemory};
+impl From<Trouble> for AppendRefusal {
+    ghost use Rattle.local_log.specs.Refusing.{append_refusal};
+
+    ghost from_gives = { λ trouble why. why ≡ append_refusal trouble };
+
+    fn from(trouble: Trouble) -> AppendRefusal {
+        match trouble {
+            Trouble::Failed => AppendRefusal::DiskFault,
+            Trouble::NoMemory => AppendRefusal::NoMemory,
+        }
+    }
+}
+
+impl From<AllocError> for RollRefusal {
+    ghost use Rattle.local_log.specs.declared.refusal.RollRefusal.TheVariants.{NoMemory};
 
     ghost from_gives = { λ _ why. why ≡ NoMemory };
 
-    fn from(_error: AllocError) -> LogRefusal {
-        LogRefusal::NoMemory
+    fn from(_error: AllocError) -> RollRefusal {
+        RollRefusal::NoMemory
+    }
+}
+
+impl From<AllocError> for ReadRefusal {
+    ghost use Rattle.local_log.specs.declared.refusal.ReadRefusal.TheVariants.{NoMemory};
+
+    ghost from_gives = { λ _ why. why ≡ NoMemory };
+
+    fn from(_error: AllocError) -> ReadRefusal {
+        ReadRefusal::NoMemory
+    }
+}
+
+impl From<Trouble> for ReadRefusal {
+    ghost use Rattle.local_log.specs.Refusing.{read_refusal};
+
+    ghost from_gives = { λ trouble why. why ≡ read_refusal trouble };
+
+    fn from(trouble: Trouble) -> ReadRefusal {
+        match trouble {
+            Trouble::Failed => ReadRefusal::DiskFault,
+            Trouble::NoMemory => ReadRefusal::NoMemory,
+        }
     }
 }

@@ -5,6 +5,7 @@
 
 ghost use Rattle.std.specs.Prelude.{◌≡◌, ◌⊎◌, ◌+◌, ◌≤◌, ◌<◌, ◌^◌, ◌++◌, ◌∷◌, ℕ, [], length, false, true, OnOk, OnErr, IsErrOf};
 ghost use Rattle.disk_model.specs.Content.{LeavesOnly, Image, Files};
+ghost use Rattle.tier_base.specs.declared.fault.Trouble.TheVariants as fault;
 ghost use Rattle.tier_base.specs.Counts.{Rose};
 ghost use Rattle.tier_base.specs.Device.{Lasts, fate_of};
 ghost use Rattle.epoch_line.specs.Line.{IsLine};
@@ -12,7 +13,6 @@ ghost use Rattle.log_manifest.specs.Spelling.{manifest_bytes};
 ghost use Rattle.log_steps.specs.Fronts.{Each};
 ghost use Rattle.log_steps.specs.Opens.{Opens};
 ghost use Rattle.log_steps.specs.Runs.{Runs};
-ghost use Rattle.local_log.specs.declared.refusal.LogRefusal.TheVariants.{DiskFault, NoMemory};
 ghost use Rattle.local_log.specs.Listing.{manifest_of};
 ghost use Rattle.local_log.specs.Log.{Becomes};
 ghost use Rattle.local_log.specs.Cutting.{names_of, restarted, all_of, OpensEither, OpensAsOr};
@@ -20,7 +20,6 @@ ghost use Rattle.local_log.specs.Renewing.{Renews};
 
 use crate::listing::listing;
 use crate::log::{LocalLog, refused};
-use crate::refusal::LogRefusal;
 use crate::trimming::remove_segments;
 use disk_model::{Disk, FileName};
 use epoch_line::Line;
@@ -46,7 +45,7 @@ pub(crate) fn renew<D: Disk>(
 
 impl<D: Disk> LocalLog<D> {
     /// Begins the log anew at an offset, empty and durable, with this line.
-    pub fn restart_at(&mut self, start: u64, line: Line) -> Result<(), LogRefusal>
+    pub fn restart_at(&mut self, start: u64, line: Line) -> Result<(), Trouble>
         requires unbroken { self.old.broken ≡ false }
         requires low { start ≤ 2 ^ 62 }
         requires within { Each (λ (entry : ℕ × ℕ). entry.1 ≤ start) line }
@@ -61,13 +60,13 @@ impl<D: Disk> LocalLog<D> {
         ensures opens { LeavesOnly (D.content self.old.disk) (D.content self.new.disk)
             (OpensAsOr (D.content self.old.disk) (all_of (restarted self.old start line))) }
 
-        ensures others { OnErr result (IsErrOf result NoMemory ⊎ IsErrOf result DiskFault) }
-        ensures no_memory { IsErrOf result NoMemory → Becomes D.content self.old self.new }
-        ensures no_image { IsErrOf result NoMemory → (c : Files) → Image (D.content self.new.disk) c → Image (D.content self.old.disk) c }
-        ensures broken { IsErrOf result DiskFault → self.new.broken ≡ true }
+        ensures others { OnErr result (IsErrOf result fault.NoMemory ⊎ IsErrOf result fault.Failed) }
+        ensures no_memory { IsErrOf result fault.NoMemory → Becomes D.content self.old self.new }
+        ensures no_image { IsErrOf result fault.NoMemory → (c : Files) → Image (D.content self.new.disk) c → Image (D.content self.old.disk) c }
+        ensures broken { IsErrOf result fault.Failed → self.new.broken ≡ true }
         ensures tells { (D.content self.new.disk).tells ≡ (D.content self.old.disk).tells }
         ensures control { Lasts (D.control self.old.disk) (D.control self.new.disk) }
-        ensures cause { IsErrOf result DiskFault → Rose (D.control self.old.disk).faults (D.control self.new.disk).faults }
+        ensures cause { IsErrOf result fault.Failed → Rose (D.control self.old.disk).faults (D.control self.new.disk).faults }
     {
         self.stands();
         let active = Growing::new(self.alloc, start, self.settings.index_interval);
@@ -78,7 +77,7 @@ impl<D: Disk> LocalLog<D> {
     }
 
     /// Makes the manifest of an empty log the present one, and drops all segments.
-    fn begin_at(&mut self, bytes: &[u8], active: Growing, line: Line) -> Result<(), LogRefusal>
+    fn begin_at(&mut self, bytes: &[u8], active: Growing, line: Line) -> Result<(), Trouble>
         requires unbroken { self.old.broken ≡ false }
         requires low { active.base ≤ 2 ^ 62 }
         requires fresh { active ≡ record { base = active.base; interval = self.old.settings.index_interval; batches = [] } }
@@ -94,13 +93,13 @@ impl<D: Disk> LocalLog<D> {
         // Each of these images opens as an image of before does, or as the empty log.
         ensures opens { LeavesOnly (D.content self.old.disk) (D.content self.new.disk)
             (OpensAsOr (D.content self.old.disk) (all_of (restarted self.old active.base line))) }
-        ensures others { OnErr result (IsErrOf result NoMemory ⊎ IsErrOf result DiskFault) }
-        ensures no_memory { IsErrOf result NoMemory → Becomes D.content self.old self.new }
-        ensures no_image { IsErrOf result NoMemory → (c : Files) → Image (D.content self.new.disk) c → Image (D.content self.old.disk) c }
-        ensures broken { IsErrOf result DiskFault → self.new.broken ≡ true }
+        ensures others { OnErr result (IsErrOf result fault.NoMemory ⊎ IsErrOf result fault.Failed) }
+        ensures no_memory { IsErrOf result fault.NoMemory → Becomes D.content self.old self.new }
+        ensures no_image { IsErrOf result fault.NoMemory → (c : Files) → Image (D.content self.new.disk) c → Image (D.content self.old.disk) c }
+        ensures broken { IsErrOf result fault.Failed → self.new.broken ≡ true }
         ensures tells { (D.content self.new.disk).tells ≡ (D.content self.old.disk).tells }
         ensures control { Lasts (D.control self.old.disk) (D.control self.new.disk) }
-        ensures cause { IsErrOf result DiskFault → Rose (D.control self.old.disk).faults (D.control self.new.disk).faults }
+        ensures cause { IsErrOf result fault.Failed → Rose (D.control self.old.disk).faults (D.control self.new.disk).faults }
     {
         match renew(&mut self.disk, bytes, &self.closed, &self.active) {
             Ok(()) => {

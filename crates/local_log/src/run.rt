@@ -16,9 +16,8 @@ use epoch_line::Line;
 use record_batch::{Head, read_head};
 use segment_file::Growing;
 use std::alloc::{AllocError, Global};
+use tier_base::OFFSET_LIMIT;
 
-/// Offsets are below 2^62.
-pub(crate) const LAST_OFFSET: u64 = 1 << 62;
 /// How far offsets reach past a segment's base.
 const REACH: u64 = 1 << 31;
 
@@ -144,7 +143,7 @@ fn stops(most: u32, segment: &Growing, batch: Asked) -> bool
         || nat_le (2 ^ 62) batch.last) }
 {
     rolls_before(most, segment.base(), segment.size(), batch.size, batch.last)
-        || batch.last >= LAST_OFFSET
+        || batch.last >= OFFSET_LIMIT
 }
 
 /// Adds as many batches of a run to a segment as stand in it. Want of memory leaves the segment as it was.

@@ -4,7 +4,7 @@
 use crate::files::{FLUSHED, LED, SEGMENT, SIZE, THREE};
 use crate::trial::{LARGE, Trial, part};
 use disk_model::{DiskCall, FileName, Planned};
-use local_log::LogRefusal;
+use local_log::{AppendRefusal, ReadRefusal, RollRefusal};
 use std::alloc::Global;
 use tier_base::Stop;
 
@@ -26,19 +26,19 @@ enum Turn {
     AddsEach(u64),
     /// A batch is appended at these offsets, or is not.
     Adds(u64, u64),
-    AddsNot(LogRefusal),
+    AddsNot(AppendRefusal),
     /// The third batch is appended and flushed, or is not.
     Third(bool),
     Flushes(u64),
     Rolls(u64),
-    RollsNot(LogRefusal),
+    RollsNot(RollRefusal),
     Leads(u32, u64),
     Cuts(u64),
     Restarts(u64),
     Drops(u64, u64),
     /// Offset, limit and mark; the part of the segment worked by hand that is read, the next offset, and why it stops.
     Reads((u64, u64, u64), (usize, usize), u64, Stop),
-    ReadsNot(u64, LogRefusal),
+    ReadsNot(u64, ReadRefusal),
     /// The closed segment from an offset on has these offsets, or there is none.
     Closed(u64, u64, u64),
     NoneClosed(u64),
@@ -425,7 +425,7 @@ static STORIES: [Story; 26] = [
         turns: &[
             Turn::Fills,
             Turn::Arms,
-            Turn::ReadsNot(2, LogRefusal::DiskFault),
+            Turn::ReadsNot(2, ReadRefusal::DiskFault),
             Turn::Reads((0, 1000, 2), (0, 138), 2, Stop::Mark),
         ],
         left: Left::Any,
@@ -443,7 +443,7 @@ static STORIES: [Story; 26] = [
             Turn::Closed(1, 1, 1),
             Turn::NoneClosed(2),
             Turn::Rolls(3),
-            Turn::RollsNot(LogRefusal::EmptySegment),
+            Turn::RollsNot(RollRefusal::EmptySegment),
             Turn::Flushes(3),
             Turn::Sizes(3, 0),
         ],
@@ -457,8 +457,8 @@ static STORIES: [Story; 26] = [
         turns: &[
             Turn::AddsEach(4096),
             Turn::Sizes(4095, 69),
-            Turn::AddsNot(LogRefusal::TooManySegments),
-            Turn::RollsNot(LogRefusal::TooManySegments),
+            Turn::AddsNot(AppendRefusal::TooManySegments),
+            Turn::RollsNot(RollRefusal::TooManySegments),
             Turn::Flushes(4096),
             Turn::Drops(0, 0),
             Turn::Adds(4096, 4096),
@@ -473,7 +473,7 @@ static STORIES: [Story; 26] = [
         turns: &[
             Turn::Restarts(LAST),
             Turn::Adds(LAST, LAST),
-            Turn::AddsNot(LogRefusal::LastOffset),
+            Turn::AddsNot(AppendRefusal::LastOffset),
             Turn::Flushes(END),
             Turn::Crashes,
             Turn::Spans(LAST, END, END),
@@ -598,21 +598,21 @@ static STORIES: [Story; 26] = [
             Turn::FillsFour,
             Turn::ReadsNot(
                 2,
-                LogRefusal::Damaged {
+                ReadRefusal::Damaged {
                     file: FileName::Log(0),
                     at: 69,
                 },
             ),
             Turn::ReadsNot(
                 6,
-                LogRefusal::Damaged {
+                ReadRefusal::Damaged {
                     file: FileName::Log(4),
                     at: 69,
                 },
             ),
             Turn::ReadsNot(
                 9,
-                LogRefusal::Damaged {
+                ReadRefusal::Damaged {
                     file: FileName::Log(4),
                     at: 154,
                 },

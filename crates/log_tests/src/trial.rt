@@ -10,12 +10,12 @@ ghost use Rattle.local_log.specs.Log.{AreSettings};
 use bytes::Bytes;
 use disk_model::{DeafDisk, Disk, FileName, MemoryDisk, Planned};
 use epoch_line::Line;
-use local_log::{CreateRefusal, LocalLog, LogRefusal, OpenRefusal};
+use local_log::{AppendRefusal, CreateRefusal, LocalLog, OpenRefusal, ReadRefusal, RollRefusal};
 use record_batch::stamp;
 use segment_file::Growing;
 use std::alloc::{AllocError, Global};
 use std::marker::Model;
-use tier_base::{Settings, Stop};
+use tier_base::{Settings, Stop, Trouble};
 
 /// A mebibyte a segment.
 pub(crate) const LARGE: u32 = 1_048_576;
@@ -74,7 +74,7 @@ impl Trial {
     }
 
     /// Appends the first batches of a run.
-    pub(crate) fn append(&mut self, run: &[u8]) -> Option<Result<(u64, u64), LogRefusal>> {
+    pub(crate) fn append(&mut self, run: &[u8]) -> Option<Result<(u64, u64), AppendRefusal>> {
         if self.log.is_broken() || !self.log.takes(run) {
             return None;
         }
@@ -88,21 +88,21 @@ impl Trial {
     }
 
     /// Appends the next batch, which is that of these bytes, stamped.
-    pub(crate) fn add(&mut self, batch: &[u8]) -> Option<Result<(u64, u64), LogRefusal>> {
+    pub(crate) fn add(&mut self, batch: &[u8]) -> Option<Result<(u64, u64), AppendRefusal>> {
         match self.next(batch) {
             Some(batch) => self.append(batch.as_slice()),
             None => None,
         }
     }
 
-    pub(crate) fn flush(&mut self) -> Option<Result<u64, LogRefusal>> {
+    pub(crate) fn flush(&mut self) -> Option<Result<u64, Trouble>> {
         if self.log.is_broken() {
             return None;
         }
         Some(self.log.flush())
     }
 
-    pub(crate) fn roll(&mut self) -> Option<Result<u64, LogRefusal>> {
+    pub(crate) fn roll(&mut self) -> Option<Result<u64, RollRefusal>> {
         if self.log.is_broken() {
             return None;
         }
@@ -137,7 +137,7 @@ impl Trial {
     }
 
     /// Drops the first segment.
-    pub(crate) fn drop_first(&mut self) -> Option<Result<(u64, u64), LogRefusal>> {
+    pub(crate) fn drop_first(&mut self) -> Option<Result<(u64, u64), Trouble>> {
         if self.log.is_broken() || !is_first_stable(self.log.closed(), self.log.stable()) {
             return None;
         }
@@ -149,7 +149,7 @@ impl Trial {
         &mut self,
         (offset, limit, mark): (u64, u64, u64),
         bytes: &[u8],
-    ) -> Option<Result<(bool, u64, Stop), LogRefusal>> {
+    ) -> Option<Result<(bool, u64, Stop), ReadRefusal>> {
         if self.log.is_broken() || offset < self.log.local_start() || mark <= offset {
             return None;
         }
@@ -160,9 +160,9 @@ impl Trial {
     }
 
     /// The first and the last offset of the closed segment from an offset on, if there is one.
-    pub(crate) fn closed_from(&mut self, offset: u64) -> Result<Option<(u64, u64)>, LogRefusal> {
+    pub(crate) fn closed_from(&mut self, offset: u64) -> Result<Option<(u64, u64)>, ReadRefusal> {
         if self.log.is_broken() {
-            return Err(LogRefusal::NoMemory);
+            return Err(ReadRefusal::NoMemory);
         }
         match self.log.closed_from(offset) {
             Ok(Some(closed)) => Ok(Some((closed.base(), closed.last()))),

@@ -9,12 +9,11 @@ ghost use Rattle.partition_turns.specs.Sound.{HeldSound};
 
 use crate::held::Held;
 use crate::roles::{acking, epoch_in, leading};
-use broker_log::LogRefusal;
 use disk_model::Disk;
 use plain_log::{Answer, Role};
 use registry::RegRefusal;
 use std::alloc::{AllocError, Global};
-use tier_base::BrokerId;
+use tier_base::{BrokerId, Trouble};
 
 /// What is answered where the registry refuses.
 fn refused(why: RegRefusal) -> Answer
@@ -105,12 +104,11 @@ impl<D: Disk> Held<D> {
                 node.known = mark.min(end);
                 Ok(Answer::Leads(epoch as u64))
             }
-            Err(LogRefusal::DiskFault) => {
+            Err(Trouble::Failed) => {
                 node.note_stop();
                 Ok(Answer::DiskFault)
             }
-            Err(LogRefusal::NoMemory) => Err(AllocError),
-            Err(_) => unreachable!(),
+            Err(Trouble::NoMemory) => Err(AllocError),
         }
     }
 

@@ -9,13 +9,14 @@ ghost use Rattle.partition_turns.specs.TurnsOfFollowers.{IsMeet, MayCut, CutRow,
 
 use crate::held::{Held, Node};
 use crate::roles::{followed, joined};
-use broker_log::LogRefusal;
+use broker_log::{AppendRefusal, ReadRefusal};
 use bytes::Bytes;
 use disk_model::Disk;
 use epoch_line::Line;
 use partition_seen::{Begun, LocalStart, Taken, Turned};
 use plain_log::{Answer, Place, Role};
 use std::alloc::{AllocError, Global};
+use tier_base::Trouble;
 
 impl<D: Disk> Node<D> {
     /// Where its log and another's meet.
@@ -68,10 +69,8 @@ impl<D: Disk> Held<D> {
             return Ok(Turned::Answers(Answer::NoLeader));
         };
         let met = node.meet(leader);
-        let (Some(wanted), Some(line)) = (leader.log.local_start(), leader.log.line()) else {
-            unreachable!()
-        };
-        let mut line = line.copy(alloc)?;
+        let wanted = leader.local_start();
+        let mut line = leader.copy_line(alloc)?;
         line.cut_end(wanted);
         let stops = node.stops;
         let start = self.registry.start;
@@ -116,12 +115,11 @@ impl<D: Disk> Held<D> {
         let node = self.nodes.at_mut(b);
         match node.log.restart_at(wanted, line) {
             Ok(()) => Ok(Answer::Rebuilt(wanted)),
-            Err(LogRefusal::DiskFault) => {
+            Err(Trouble::Failed) => {
                 node.note_stop();
                 Ok(Answer::DiskFaultAt(wanted))
             }
-            Err(LogRefusal::NoMemory) => Err(AllocError),
-            Err(_) => unreachable!(),
+            Err(Trouble::NoMemory) => Err(AllocError),
         }
     }
 
@@ -140,12 +138,11 @@ impl<D: Disk> Held<D> {
                 node.known = node.known.min(end);
                 Ok(Answer::Cut(end))
             }
-            Err(LogRefusal::DiskFault) => {
+            Err(Trouble::Failed) => {
                 node.note_stop();
                 Ok(Answer::DiskFaultAt(end))
             }
-            Err(LogRefusal::NoMemory) => Err(AllocError),
-            Err(_) => unreachable!(),
+            Err(Trouble::NoMemory) => Err(AllocError),
         }
     }
 
@@ -177,9 +174,7 @@ impl<D: Disk> Held<D> {
         if bound <= end {
             return Ok(Turned::Answers(Answer::Level));
         }
-        let Some(local) = leader.log.local_start() else {
-            unreachable!()
-        };
+        let local = leader.local_start();
         if end < local {
             return Ok(Turned::Answers(Answer::Moved(local)));
         }
@@ -211,12 +206,11 @@ impl<D: Disk> Held<D> {
                 wanted: noted.wanted,
                 line: noted.line,
             })),
-            Err(LogRefusal::DiskFault) => Ok(Turned::Answers(Answer::DiskFault)),
-            Err(LogRefusal::Damaged { file, at }) => {
+            Err(ReadRefusal::DiskFault) => Ok(Turned::Answers(Answer::DiskFault)),
+            Err(ReadRefusal::Damaged { file, at }) => {
                 Ok(Turned::Answers(Answer::Damaged(Place::File(file), at)))
             }
-            Err(LogRefusal::NoMemory) => Err(AllocError),
-            Err(_) => unreachable!(),
+            Err(ReadRefusal::NoMemory) => Err(AllocError),
         }
     }
 
@@ -255,14 +249,13 @@ impl<D: Disk> Held<D> {
         let node = self.nodes.at_mut(b);
         match node.log.append(run) {
             Ok(_) => Ok(Answer::Copied(node.end())),
-            Err(LogRefusal::LastOffset) => Ok(Answer::Passed(node.end())),
-            Err(LogRefusal::TooManySegments) => Ok(Answer::TooManySegments),
-            Err(LogRefusal::DiskFault) => {
+            Err(AppendRefusal::LastOffset) => Ok(Answer::Passed(node.end())),
+            Err(AppendRefusal::TooManySegments) => Ok(Answer::TooManySegments),
+            Err(AppendRefusal::DiskFault) => {
                 node.note_stop();
                 Ok(Answer::DiskFault)
             }
-            Err(LogRefusal::NoMemory) => Err(AllocError),
-            Err(_) => unreachable!(),
+            Err(AppendRefusal::NoMemory) => Err(AllocError),
         }
     }
 }

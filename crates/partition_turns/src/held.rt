@@ -3,11 +3,11 @@
 //! Each command has a method of its own, which makes its tests in their order. Where it finds no memory nothing that is
 //! seen has changed. A fault of a broker's disk in a write stops the broker.
 
-ghost use Rattle.std.specs.Prelude.{◌≡◌, ◌<◌, ◌≤◌, ◌+◌, ◌↔◌, length, Some, None, IfOk, IfSome, OnErr, IsTrue};
+ghost use Rattle.std.specs.Prelude.{◌≡◌, ◌<◌, ◌≤◌, ◌+◌, ◌^◌, ◌↔◌, length, Some, None, IfOk, IfSome, OnErr, IsTrue};
 ghost use Rattle.epoch_line.specs.Line.{last_epoch};
 ghost use Rattle.plain_log.specs.Orders.{IsInRange};
 ghost use Rattle.partition_seen.specs.declared.begun.Turned.TheVariants.{Answers};
-ghost use Rattle.partition_turns.specs.Held.{AtNode, CanStop, StaysHeld, stopped, is_up, end_of, stable_of, line_of};
+ghost use Rattle.partition_turns.specs.Held.{AtNode, CanStop, StaysHeld, stopped, is_up, end_of, stable_of, line_of, local_of};
 ghost use Rattle.partition_turns.specs.Turns.{IsOfTier, FirstRow};
 ghost use Rattle.partition_turns.specs.TurnsOfLog.{Notes};
 ghost use Rattle.partition_turns.specs.Sound.{HeldSound};
@@ -61,6 +61,24 @@ impl<D: Disk> Node<D> {
         ensures { result ≡ stable_of self.now }
     {
         self.log.stable().unwrap_or(0)
+    }
+
+    /// Where its local log begins, 0 while it is down.
+    pub(crate) fn local_start(&self) -> u64
+        ensures is { result ≡ local_of self.now }
+        ensures low { result ≤ 2 ^ 62 }
+    {
+        self.log.local_start().unwrap_or(0)
+    }
+
+    /// A copy of its line, the empty one while it is down.
+    pub(crate) fn copy_line(&self, alloc: Global) -> Result<Line, AllocError>
+        ensures { IfOk result (λ line. line ≡ line_of self.now) }
+    {
+        match self.log.line() {
+            Some(line) => line.copy(alloc),
+            None => Ok(Line::new(alloc)),
+        }
     }
 
     /// The last leader epoch of its line.

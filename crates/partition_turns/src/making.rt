@@ -15,10 +15,10 @@ use crate::held::{Held, Node};
 use crate::refusal::WorldRefusal;
 use broker_log::BrokerLog;
 use disk_model::Disk;
-use local_log::{CreateRefusal, LogRefusal};
+use local_log::CreateRefusal;
 use plain_log::{Registry, Role};
 use std::alloc::Global;
-use tier_base::{Row, Settings};
+use tier_base::{Row, Settings, Trouble};
 
 /// A broker that is up and has joined epoch 0, with an empty log.
 fn follower<D: Disk>(
@@ -166,9 +166,8 @@ impl<D: Disk> Node<D> {
                 self.role = Role::Leads(0);
                 Ok(())
             }
-            Err(LogRefusal::DiskFault) => Err(WorldRefusal::DiskFault),
-            Err(LogRefusal::NoMemory) => Err(WorldRefusal::NoMemory),
-            Err(_) => unreachable!(),
+            Err(Trouble::Failed) => Err(WorldRefusal::DiskFault),
+            Err(Trouble::NoMemory) => Err(WorldRefusal::NoMemory),
         }
     }
 }

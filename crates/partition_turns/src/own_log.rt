@@ -13,18 +13,16 @@ ghost use Rattle.partition_turns.specs.Sound.{HeldSound};
 
 use crate::held::Held;
 use crate::roles::leading;
-use broker_log::LogRefusal;
+use broker_log::{AppendRefusal, ReadRefusal, RollRefusal};
 use disk_model::Disk;
 use partition_seen::Turned;
 use plain_log::{Answer, Place, Tier};
 use record_batch::{
-    BatchRefusal, Rec, build, built_head_tells, check, checked_is_batch, stamp,
+    BatchRefusal, BuildRefusal, Rec, build, built_head_tells, check, checked_is_batch, stamp,
     stamp_sets_base_and_epoch, stamped_is_checked,
 };
 use std::alloc::{AllocError, Global};
-
-/// The greatest log end offset.
-const OFFSET_LIMIT: u64 = 1 << 62;
+use tier_base::{OFFSET_LIMIT, Trouble};
 
 /// Checks bytes from outside, and answers how many records the batch has.
 fn count_checked(bytes: &[u8]) -> Result<u32, BatchRefusal>
@@ -77,8 +75,10 @@ impl<D: Disk> Held<D> {
         if end > OFFSET_LIMIT {
             return Ok(Answer::LastOffset);
         }
-        let Ok(batch) = build(alloc, base, epoch, recs) else {
-            return Err(AllocError);
+        let batch = match build(alloc, base, epoch, recs) {
+            Ok(batch) => batch,
+            Err(BuildRefusal::NoMemory) => return Err(AllocError),
+            Err(BuildRefusal::NoRecords | BuildRefusal::TooLarge) => unreachable!(),
         };
         self.put(b, batch.as_slice(), base, end - 1, epoch)
     }
@@ -136,13 +136,13 @@ impl<D: Disk> Held<D> {
         let node = self.nodes.at_mut(b);
         match node.log.append(batch) {
             Ok(_) => Ok(Answer::OkSpan(base, last, epoch as u64)),
-            Err(LogRefusal::TooManySegments) => Ok(Answer::TooManySegments),
-            Err(LogRefusal::DiskFault) => {
+            Err(AppendRefusal::LastOffset) => Ok(Answer::LastOffset),
+            Err(AppendRefusal::TooManySegments) => Ok(Answer::TooManySegments),
+            Err(AppendRefusal::DiskFault) => {
                 node.note_stop();
                 Ok(Answer::DiskFault)
             }
-            Err(LogRefusal::NoMemory) => Err(AllocError),
-            Err(_) => unreachable!(),
+            Err(AppendRefusal::NoMemory) => Err(AllocError),
         }
     }
 
@@ -158,12 +158,11 @@ impl<D: Disk> Held<D> {
         let node = self.nodes.at_mut(b);
         match node.log.flush() {
             Ok(end) => Ok(Answer::OkAt(end)),
-            Err(LogRefusal::DiskFault) => {
+            Err(Trouble::Failed) => {
                 node.note_stop();
                 Ok(Answer::DiskFault)
             }
-            Err(LogRefusal::NoMemory) => Err(AllocError),
-            Err(_) => unreachable!(),
+            Err(Trouble::NoMemory) => Err(AllocError),
         }
     }
 
@@ -180,14 +179,13 @@ impl<D: Disk> Held<D> {
         let node = self.nodes.at_mut(b);
         match node.log.roll() {
             Ok(base) => Ok(Answer::OkAt(base)),
-            Err(LogRefusal::EmptySegment) => Ok(Answer::EmptySegment),
-            Err(LogRefusal::TooManySegments) => Ok(Answer::TooManySegments),
-            Err(LogRefusal::DiskFault) => {
+            Err(RollRefusal::EmptySegment) => Ok(Answer::EmptySegment),
+            Err(RollRefusal::TooManySegments) => Ok(Answer::TooManySegments),
+            Err(RollRefusal::DiskFault) => {
                 node.note_stop();
                 Ok(Answer::DiskFault)
             }
-            Err(LogRefusal::NoMemory) => Err(AllocError),
-            Err(_) => unreachable!(),
+            Err(RollRefusal::NoMemory) => Err(AllocError),
         }
     }
 
@@ -201,12 +199,11 @@ impl<D: Disk> Held<D> {
         let node = self.nodes.at_mut(b);
         match node.log.drop_first() {
             Ok((base, last)) => Ok(Answer::Dropped(base, last)),
-            Err(LogRefusal::DiskFault) => {
+            Err(Trouble::Failed) => {
                 node.note_stop();
                 Ok(Answer::DiskFault)
             }
-            Err(LogRefusal::NoMemory) => Err(AllocError),
-            Err(_) => unreachable!(),
+            Err(Trouble::NoMemory) => Err(AllocError),
         }
     }
 
@@ -237,10 +234,7 @@ impl<D: Disk> Held<D> {
         if offset >= known {
             return Ok(Turned::Answers(Answer::Empty));
         }
-        let Some(local) = node.log.local_start() else {
-            unreachable!()
-        };
-        if offset < local {
+        if offset < node.local_start() {
             return Ok(Turned::Begins(self.notes(alloc, b)));
         }
         Ok(Turned::Answers(self.give(b, offset, limit, known)?))
@@ -261,10 +255,9 @@ impl<D: Disk> Held<D> {
                 stop: run.stop,
                 bytes: run.bytes,
             }),
-            Err(LogRefusal::Damaged { file, at }) => Ok(Answer::Damaged(Place::File(file), at)),
-            Err(LogRefusal::DiskFault) => Ok(Answer::DiskFault),
-            Err(LogRefusal::NoMemory) => Err(AllocError),
-            Err(_) => unreachable!(),
+            Err(ReadRefusal::Damaged { file, at }) => Ok(Answer::Damaged(Place::File(file), at)),
+            Err(ReadRefusal::DiskFault) => Ok(Answer::DiskFault),
+            Err(ReadRefusal::NoMemory) => Err(AllocError),
         }
     }
 }

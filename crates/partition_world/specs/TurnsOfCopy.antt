@@ -18,7 +18,7 @@ use Rattle.meta_log.specs.declared.teller.Teller.{Teller}
 use Rattle.segment_file.specs.Growing.{Grown}
 use Rattle.segment_file.specs.Closed.{Whole}
 use Rattle.local_log.specs.Reading.{IsClosedFrom, ClosedFails}
-use Rattle.local_log.specs.declared.refusal.LogRefusal.TheVariants as refusal
+use Rattle.local_log.specs.declared.refusal.ReadRefusal.TheVariants as refusal
 use Rattle.remote_find.specs.Pieces.{covered_to}
 use Rattle.remote_view.specs.Fold.{Seen as View}
 use Rattle.copy_task.specs.Candidate.{candidate}

@@ -19,7 +19,7 @@ ghost use Rattle.partition_world.specs.Turns.{StaysTier};
 
 use crate::seat::{Outcome, copy_outcome};
 use crate::tier::{Side, Tier};
-use broker_log::LogRefusal;
+use broker_log::ReadRefusal;
 use copy_task::{Copying, Next, candidate, copy_turn};
 use disk_model::Disk;
 use meta_log::{MetaLog, Teller};
@@ -120,13 +120,13 @@ fn read_next<D: Disk>(
             side.count(incarnation);
             Ok(Outcome::Chose(copying))
         }
-        Err(LogRefusal::DiskFault) => Ok(Outcome::Answers(Answer::DiskFault)),
-        Err(LogRefusal::Damaged { file, at }) => {
+        Err(ReadRefusal::DiskFault) => Ok(Outcome::Answers(Answer::DiskFault)),
+        Err(ReadRefusal::Damaged { file, at }) => {
             Ok(Outcome::Answers(Answer::Damaged(Place::File(file), at)))
         }
         // No attempt follows the last one.
-        Ok(Some(_)) | Err(LogRefusal::NoMemory) => Err(AllocError),
-        Ok(None) | Err(_) => unreachable!(),
+        Ok(Some(_)) | Err(ReadRefusal::NoMemory) => Err(AllocError),
+        Ok(None) => unreachable!(),
     }
 }
 

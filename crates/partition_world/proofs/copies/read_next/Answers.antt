@@ -3,7 +3,7 @@ use Rattle.std.specs.Prelude.{unwrap_or, IfSome, IsSomeAnd, ◌^◌, ◌-◌}
 use Rattle.std.specs.declared.result.Result.TheVariants.{Err}
 use Rattle.segment_file.specs.Closed.{Whole}
 use Rattle.local_log.specs.Reading.{IsClosedFrom, ClosedFails, IsOfDevice}
-use Rattle.local_log.specs.declared.refusal.LogRefusal.{LogRefusal}
+use Rattle.local_log.specs.declared.refusal.ReadRefusal.{ReadRefusal}
 use Rattle.broker_log.specs.Seen.{Seen, Shows, WhileUp, OnDisk}
 use Rattle.broker_log.specs.Turns.{IsSegmentOf}
 use Rattle.tier_safe.specs.Views.{IsIdOf}
@@ -42,7 +42,7 @@ pub returns-in-Err-DiskFault-clause-row : goal.returns-in-Err-DiskFault-clause-r
 returns-in-Err-DiskFault-clause-row g c = (
   record {
     reads = record { kept = c.closed_from.new.self; stays = c.closed_from.ensures.stays; lasts = c.closed_from.ensures.control; after = refl };
-    cause = c.closed_from.ensures.cause (c.in-Err-DiskFault.is ∙ ap (λ (e : LogRefusal). Err e) c.in-Err-DiskFault.field-0-is);
+    cause = c.closed_from.ensures.cause (c.in-Err-DiskFault.is ∙ ap (λ (e : ReadRefusal). Err e) c.in-Err-DiskFault.field-0-is);
   },
   refl,
 )
@@ -52,8 +52,8 @@ returns-in-Err-Damaged-clause-row g c =
     let x = c.args.node.now in
     let e = c.in-Err-Damaged in
     let kept = c.closed_from.new.self in
-    let bad = subst (λ (e : LogRefusal). WhileUp x.log (λ log. OnDisk kept (λ d. ClosedFails log c.args.offset (g.D.Disk.control d).handed e))) e.field-0-is e.ensures.err in
-    let whole = subst (λ (e : LogRefusal). (s : Seen) → Shows g.D.Disk.content x.log s → IsOfDevice e) e.field-0-is e.ensures.whole in
+    let bad = subst (λ (e : ReadRefusal). WhileUp x.log (λ log. OnDisk kept (λ d. ClosedFails log c.args.offset (g.D.Disk.control d).handed e))) e.field-0-is e.ensures.err in
+    let whole = subst (λ (e : ReadRefusal). (s : Seen) → Shows g.D.Disk.content x.log s → IsOfDevice e) e.field-0-is e.ensures.whole in
     rw e.field-0-is (
       record { reads = record { kept = kept; stays = c.closed_from.ensures.stays; lasts = c.closed_from.ensures.control; after = refl }; bad = bad; unseen = whole },
       refl,

@@ -13,12 +13,12 @@ invariant_of-self g c =
     let n = c.append-outcome.new.self in
     let r = c.append-outcome.result in
     let well = well_up content c.self.inside.place o c.taken-log.ensures c.self.invariant in
-    place_well content c.placed.result c.settings-settings.result.now n c.is_fault.result c.settings-settings.ensures.fit c.placed.ensures.up c.placed.ensures.down c.placed.ensures.again
+    place_well content c.placed.result c.settings-settings.result.now n c.is_append_fault.result c.settings-settings.ensures.fit c.placed.ensures.up c.placed.ensures.down c.placed.ensures.again
     (λ clear. whole_by _ _ _ _ r c.append-outcome.ensures.ok c.append-outcome.ensures.others
     (λ answer a. appended_whole content o n c.args.run.now answer a ∙ well)
     (λ kept. ap (λ (l : Log g.row.D.Denot). l.broken) (c.append-outcome.ensures.unchanged kept) ∙ well)
     (λ dry. ap (λ (l : Log g.row.D.Denot). l.broken) (c.append-outcome.ensures.no_memory dry).fields ∙ well)
-    (λ fault. (let t = c.is_fault.ensures.1 fault in cc (t, clear))))
+    (λ fault. (let t = c.is_append_fault.ensures.1 fault in cc (t, clear))))
 
 pub returns-clause-ok : goal.returns-clause-ok
 returns-clause-ok g c =
@@ -28,7 +28,7 @@ returns-clause-ok g c =
     let r = c.append-outcome.result in
     let well = well_up content c.self.inside.place o c.taken-log.ensures c.self.invariant in
     let now_is : c.args.self.now ≡ Up o = sym c.self.view_is ∙ c.taken-log.ensures in
-    ok_open _ r c.is_fault.result c.is_fault.ensures (λ clear.
+    ok_open _ r c.is_append_fault.result c.is_append_fault.ensures (λ clear.
     rw (now_is, c.placed.ensures.up clear) (ok_both _ _ _ r
     (λ answer a up. appends_by content o n (g.met.D.Disk.lawful n.disk) (c.coheres.ensures well) c.args.run.now answer a up c.append-outcome.ensures.opens (c.placed.ensures.coheres clear))
     c.append-outcome.ensures.ok c.append-outcome.ensures.some))
@@ -41,7 +41,7 @@ returns-clause-no_memory g c =
     let r = c.append-outcome.result in
     let now_is : c.args.self.now ≡ Up o = sym c.self.view_is ∙ c.taken-log.ensures in
     λ dry.
-    let clear = dry_open r c.is_fault.result c.is_fault.ensures dry in
+    let clear = dry_open r c.is_append_fault.result c.is_append_fault.ensures dry (λ e. cc e) in
     rw (now_is, c.placed.ensures.up clear) (stays_by content o n (c.append-outcome.ensures.no_memory dry) (image_as (content o.disk) (content n.disk) (g.met.D.Disk.lawful n.disk) c.append-outcome.ensures.opens))
 
 pub returns-clause-fault : goal.returns-clause-fault
@@ -51,5 +51,5 @@ returns-clause-fault g c =
     let n = c.append-outcome.new.self in
     let now_is : c.args.self.now ≡ Up o = sym c.self.view_is ∙ c.taken-log.ensures in
     λ fault.
-    rw (now_is, c.placed.ensures.down (c.is_fault.ensures.1 fault), c.settings-settings.ensures.are)
+    rw (now_is, c.placed.ensures.down (c.is_append_fault.ensures.1 fault), c.settings-settings.ensures.are)
     (breaks_unsaved content o n (g.met.D.Disk.lawful n.disk) (c.append-outcome.ensures.broken fault).tells c.append-outcome.ensures.opens)

@@ -43,7 +43,7 @@ returns-clause-no_memory g c =
     let now_is : c.args.self.now ≡ Up o = sym c.self.view_is ∙ c.taken-log.ensures in
     λ dried.
     let dry = ended_dry r c.ended.result c.end-now.result c.ended.ensures.ok c.ended.ensures.err dried in
-    let clear = dry_open r c.is_fault.result c.is_fault.ensures dry in
+    let clear = dry_open r c.is_fault.result c.is_fault.ensures dry (λ e. cc e) in
     rw (now_is, c.placed.ensures.up clear) (stays_by content o n (c.cut_to-outcome.ensures.no_memory dry) (λ f now. (f, c.cut_to-outcome.ensures.no_image dry f now, λ p opens. opens)))
 
 pub returns-clause-fault : goal.returns-clause-fault

@@ -29,7 +29,7 @@ returns-clause-no_memory g c =
     let well = well_up content c.self.inside.place o c.taken-log.ensures c.self.invariant in
     let now_is : c.args.self.now ≡ Up o = sym c.self.view_is ∙ c.taken-log.ensures in
     λ dry.
-    let clear = dry_open r c.is_fault.result c.is_fault.ensures dry in
+    let clear = dry_open r c.is_fault.result c.is_fault.ensures dry (λ e. cc e) in
     rw (now_is, c.placed.ensures.up clear) (stays_by content o n (c.drop_first-outcome.ensures.no_memory dry) (λ f now. (f, c.drop_first-outcome.ensures.no_image dry f now, λ p opens. opens)))
 
 pub returns-clause-fault : goal.returns-clause-fault

@@ -14,7 +14,7 @@ returns-clause-ok g c =
     let n = c.roll-outcome.new.self in
     let r = c.roll-outcome.result in
     let now_is : c.args.self.now ≡ Up o = sym c.self.view_is ∙ c.taken-log.ensures in
-    on_open _ r c.is_fault.result c.is_fault.ensures (λ clear.
+    on_open _ r c.is_roll_fault.result c.is_roll_fault.ensures (λ clear.
     rw (now_is, c.placed.ensures.up clear) (on_told _ _ r
     (λ b. rolls_by content o n b (image_as (content o.disk) (content n.disk) (g.met.D.Disk.lawful n.disk) c.roll-outcome.ensures.opens) (c.placed.ensures.coheres clear))
     c.roll-outcome.ensures.ok))
@@ -27,7 +27,7 @@ returns-clause-no_memory g c =
     let r = c.roll-outcome.result in
     let now_is : c.args.self.now ≡ Up o = sym c.self.view_is ∙ c.taken-log.ensures in
     λ dry.
-    let clear = dry_open r c.is_fault.result c.is_fault.ensures dry in
+    let clear = dry_open r c.is_roll_fault.result c.is_roll_fault.ensures dry (λ e. cc e) in
     rw (now_is, c.placed.ensures.up clear) (stays_by content o n (c.roll-outcome.ensures.no_memory dry) (image_as (content o.disk) (content n.disk) (g.met.D.Disk.lawful n.disk) c.roll-outcome.ensures.opens))
 
 pub returns-clause-fault : goal.returns-clause-fault
@@ -37,7 +37,7 @@ returns-clause-fault g c =
     let n = c.roll-outcome.new.self in
     let now_is : c.args.self.now ≡ Up o = sym c.self.view_is ∙ c.taken-log.ensures in
     λ fault.
-    rw (now_is, c.placed.ensures.down (c.is_fault.ensures.1 fault), c.settings-settings.ensures.are)
+    rw (now_is, c.placed.ensures.down (c.is_roll_fault.ensures.1 fault), c.settings-settings.ensures.are)
     (breaks_unsaved content o n (g.met.D.Disk.lawful n.disk) (c.roll-outcome.ensures.broken fault).tells c.roll-outcome.ensures.opens)
 
 pub returns-clause-may : goal.returns-clause-may

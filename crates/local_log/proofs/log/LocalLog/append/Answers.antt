@@ -32,16 +32,16 @@ rolls_before-requires-clause-small g c =
     let small = c.self.invariant.segments.active_laid.small in
     omega (arith, c.size-size.ensures, c.first_asked-first.ensures.size, len, short, small)
 
-pub returns-then-first-ge-LAST_OFFSET-clause-any_moment : goal.returns-then-first-ge-LAST_OFFSET-clause-any_moment
-returns-then-first-ge-LAST_OFFSET-clause-any_moment g c =
+pub returns-then-first-ge-OFFSET_LIMIT-clause-any_moment : goal.returns-then-first-ge-OFFSET_LIMIT-clause-any_moment
+returns-then-first-ge-OFFSET_LIMIT-clause-any_moment g c =
     let s = c.self.inside in
     let d = g.D.Disk.content s.disk in
     let laws : Lawful d = g.met.D.Disk.lawful s.disk in
     let unbroken : s.broken ≡ false = ap (λ (l : Log g.row.D.Denot). l.broken) c.self.view_is ∙ c.requires.unbroken in
     rw (← c.self.view_is) (start_since d laws s.incarnation s.local_start s.closed.items s.active s.line s.stable (c.self.invariant.has unbroken))
 
-pub returns-then-first-ge-LAST_OFFSET-clause-opens : goal.returns-then-first-ge-LAST_OFFSET-clause-opens
-returns-then-first-ge-LAST_OFFSET-clause-opens g c =
+pub returns-then-first-ge-OFFSET_LIMIT-clause-opens : goal.returns-then-first-ge-OFFSET_LIMIT-clause-opens
+returns-then-first-ge-OFFSET_LIMIT-clause-opens g c =
     let s = c.self.inside in
     let d = g.D.Disk.content s.disk in
     let laws : Lawful d = g.met.D.Disk.lawful s.disk in

@@ -1,5 +1,5 @@
-use Rattle.std.proofs.Common.{◌≡◌, ◌∙◌, ◌<◌, ◌≤◌, ap, sym, ℕ, Option, Some, true, arith}
-use Rattle.std.specs.Prelude.{option_copied, unwrap_or}
+use Rattle.std.proofs.Common.{◌≡◌, ◌∙◌, ◌<◌, ◌≤◌, ap, sym, Some, true, arith}
+use Rattle.std.specs.Prelude.{option_copied}
 use Rattle.plain_log.specs.State.{joined}
 use Rattle.partition_turns.specs.Held.{is_up, end_of, local_of, the_leader}
 use Rattle.partition_turns.specs.TurnsOfLog.{Notes}
@@ -24,7 +24,7 @@ returns-clause-row g c =
     let up : is_up x ≡ true = sym c.is_up.ensures ∙ c.if-not-is_up.false in
     let fresh = c.if-epoch-self.false in
     let now : IsCurrent h (joined x.role) = some_at (λ e. h.registry.epoch ≤ e) (joined x.role) c.in-Some.epoch (sym c.joined.ensures ∙ c.in-Some.is) (omega (arith, fresh)) in
-    let local : local_of y ≡ c.in-Some-local_start.local = ap (λ (o : Option ℕ). unwrap_or o 0) (sym c.local_start.ensures.is ∙ c.in-Some-local_start.is) in
+    let local : local_of y ≡ c.local_start-local.result = sym c.local_start-local.ensures.is in
     let past = c.if-bound-end.false in
     let there = c.if-end-local.false in
     let lt : end_of x < end_of y = omega (arith, past, c.end-end.ensures, c.end-bound.ensures) in

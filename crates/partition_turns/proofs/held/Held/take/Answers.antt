@@ -5,8 +5,8 @@ use Rattle.partition_turns.proofs.Putting.{of_node}
 use Rattle.partition_turns.proofs.Staying.{at_node, stays_at}
 use Rattle.partition_turns.proofs.held.Held.take.Goals as goal
 
-pub returns-in-Err-NoMemory-clause-err : goal.returns-in-Err-NoMemory-clause-err
-returns-in-Err-NoMemory-clause-err g c =
+pub returns-clause-err : goal.returns-clause-err
+returns-clause-err g c =
     stays_at g.D.Disk.content g.D.Disk.control c.args.self.now c.args.leader c.at_mut-node.result.now c.read_run.new.self _ c.at_mut-node.ensures.value c.read_run.ensures.stays c.read_run.ensures.control refl
 
 pub returns-in-Err-Damaged-clause-row : goal.returns-in-Err-Damaged-clause-row
