@@ -2,8 +2,9 @@
 //!
 //! A piece is put behind the others, and bytes are cut off the end, without a copy of any byte. A part
 //! within one piece is shared. One that spans pieces is copied alone, so that whoever keeps it keeps
-//! no more than it. All bytes together become one piece once they are read: they are read again as
-//! they stand where a segment is copied again, and then shared.
+//! no more than it, and the pieces stay shared with their other owners. Who asks for all bytes by
+//! their number, as a copy of a segment does, may keep them, and may ask again: then they become one
+//! piece.
 
 ghost use Rattle.std.specs.Prelude.{◌≡◌, ◌≤◌, ◌<◌, ◌^◌, ◌+◌, ◌-◌, ◌++◌, ℕ, List, [], length, take, drop, IfOk, OnOk, OnErr};
 ghost use Rattle.disk_model.specs.Content.{part_of};
@@ -97,7 +98,7 @@ impl Pieces {
         ensures bytes { IfOk result (λ bytes. bytes ≡ part_of at most self.old) }
         ensures kept { self.new ≡ self.old }
     {
-        if at == 0 && self.len <= most {
+        if at == 0 && self.len == most {
             self.gather(alloc)?;
         }
         self.part(alloc, at, most)
