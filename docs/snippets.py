@@ -15,8 +15,9 @@ PROGRAM is the path of `tiered`. Four things are run, in README.md and in docs/:
   script block before it.
 
 The gate runs no document. So the refused lines stand once more in a table of the crate `run_tests`, and
-the scripts with their whole traces, those of examples/ too, in texts there. All are made here, and
-tests of that crate go over them. The rest is run here alone.
+the scripts with their whole traces, those of examples/ too, in texts there; a shell's commands that
+ask for no file of the system are rows of a table too. All are made here, and tests of that crate go
+over them. The rest is run here alone.
 """
 import glob
 import os
@@ -58,9 +59,46 @@ def as_laid_out(text):
     return re.sub(r",([\])])", r"\1", re.sub(r"\s+", "", text))
 
 
-def table(refused):
-    """The table of the gate."""
-    text = "//! What the documents show as refused. Made by docs/snippets.py, which tells where it is another.\n"
+def given(command):
+    """What a shell's command gives the program: its words, its input as texts that are repeated, and how many of the last
+    lines are shown, none for all. None where it asks for more than that."""
+    found = re.match(r"\(echo (.*?); yes '(.*)' \| head -(\d+)(?:; echo (.*))?\) \| \./tiered sim \| tail -(\d+)$", command)
+    if found:
+        first, line, many, last, tail = found.groups()
+        return ["sim"], [(1, first + "\n"), (int(many), line + "\n")] + [(1, f"{last}\n")] * (last is not None), int(tail)
+    found = re.match(r"printf '(.*)%0(\d+)d\\n' 0 \| \./tiered sim$", command)
+    if found:
+        return ["sim"], [(1, found[1]), (int(found[2]), "0"), (1, "\n")], None
+    found = re.match(r'echo ([\w ]+) \| \./tiered sim; echo "status \$\?"$', command)
+    if found:
+        return ["sim"], [(1, found[1] + "\n")], None
+    found = re.match(r'\./tiered((?: \w+)*)(?: 2>&1 \| head -n 1|; echo "status \$\?")$', command)
+    return (found[1].split(), [], None) if found else None
+
+
+def shell_row(program, command):
+    """The row of a shell's command, if the gate can run it."""
+    case = given(command)
+    if case is None:
+        return []
+    words, texts, tail = case
+    run = subprocess.run([program, *words], input="".join(text * many for many, text in texts).encode(), capture_output=True)
+    lines = run.stdout.decode().splitlines(True)
+    return [(words, texts, run.returncode, run.stderr.decode(), "".join(lines[-tail:] if tail else lines))]
+
+
+def shell_text(row):
+    """A row as it stands in the table."""
+    words, texts, status, told, end = row
+    texts = ", ".join(f"({many}, {literal(text)})" for many, text in texts)
+    return f"    (\n        &[{', '.join(map(literal, words))}],\n        &[{texts}],\n        {status},\n        {literal(told)},\n        {literal(end)},\n    ),"
+
+
+def table(refused, shell):
+    """The tables of the gate."""
+    text = "//! What the documents show as refused, and of a shell. Made by docs/snippets.py, which tells where it is another.\n"
+    text += static("Words, texts of the input, each with how often it comes, the status, what standard error has, and the end of what is written.",
+                   "SHELL", "(&[&str], &[(u32, &str)], u8, &str, &str)", [shell_text(row) for row in shell])
     text += static("The lines of a script, each with how often it stands there, and what is told of it.", "REFUSED",
                    "(&[(u32, &str)], &str)",
                    ["    (\n        &[" + ", ".join(f"({n}, {literal(line)})" for n, line in lines) + f"],\n        {literal(told)},\n    ),"
@@ -129,18 +167,19 @@ def script_block(program, text, wrong):
     return "".join(row + "\n" for row in rows), trace
 
 
-def console_block(program, text):
-    """The block with what its commands print."""
+def console_block(program, text, shell):
+    """The block with what its commands print. What the gate can run of them comes to the rows."""
     rows = []
     for command in re.findall(r"^\$ (.*)$", text, re.M):
+        shell += shell_row(program, command)
         run = subprocess.run(["bash", "-c", command.replace("./tiered", program)], cwd=TOP,
                              stdout=subprocess.PIPE, stderr=subprocess.STDOUT)
         rows += ["$ " + command] + [short(line) for line in run.stdout.decode().splitlines()]
     return "".join(row + "\n" for row in rows)
 
 
-def blocks(program, path, page, wrong, cases):
-    """The page with each block made anew. What its scripts give comes to the cases."""
+def blocks(program, path, page, wrong, cases, shell):
+    """The page with each block made anew. What its scripts give comes to the cases, and its commands to the rows of a shell."""
     last, count = [""], [0]
 
     def made(match):
@@ -151,7 +190,7 @@ def blocks(program, path, page, wrong, cases):
             count[0] += 1
             cases.append((f"{os.path.relpath(path, TOP)}, script {count[0]}", script, last[0]))
         elif kind == "console":
-            text = console_block(program, text)
+            text = console_block(program, text, shell)
         elif "".join(line.split()[0] for line in text.splitlines()) not in last[0]:
             wrong.append("bytes that the script before them wasn't given:\n" + text)
         return f"```{kind}\n{text}```"
@@ -198,11 +237,11 @@ def main():
         print(__doc__.strip())
         return 2
     word, program = sys.argv[1], os.path.abspath(sys.argv[2])
-    wrong, refused, cases, shown, rows = [], [], [], 0, 0
+    wrong, refused, cases, shell, shown, rows = [], [], [], [], 0, 0
     for path in [TOP + "/README.md"] + sorted(glob.glob(TOP + "/docs/*.md")):
         with open(path, encoding="utf-8") as f:
             page = f.read()
-        new = blocks(program, path, page, wrong, cases)
+        new = blocks(program, path, page, wrong, cases, shell)
         shown += len(BLOCK.findall(page))
         rows += refusals(program, page, wrong, refused)
         if new != page and word == "check":
@@ -211,7 +250,7 @@ def main():
             with open(path, "w", encoding="utf-8") as f:
                 f.write(new)
     cases += examples(program, wrong)
-    for path, new in {TABLE: table(refused), **runs(cases)}.items():
+    for path, new in {TABLE: table(refused, shell), **runs(cases)}.items():
         old = read_or_none(os.path.join(TOP, path))
         if as_laid_out(new) != as_laid_out(old) and word == "check":
             wrong.append(path + " isn't what the documents show")

@@ -1,4 +1,57 @@
-//! What the documents show as refused. Made by docs/snippets.py, which tells where it is another.
+//! What the documents show as refused, and of a shell. Made by docs/snippets.py, which tells where it is another.
+
+/// Words, texts of the input, each with how often it comes, the status, what standard error has, and the end of what is written.
+pub(crate) static SHELL: [(&[&str], &[(u32, &str)], u8, &str, &str); 6] = [
+    (
+        &["sim"],
+        &[
+            (1, "segment_bytes 100\n"),
+            (4097, "0 0 0 append 1000,-,:a\n"),
+        ],
+        0,
+        "",
+        "0 0 4095 = Ok 4095 4095 0\n0 0 4096 = TooManySegments\n",
+    ),
+    (
+        &["sim"],
+        &[
+            (1, "segment_bytes 100\n"),
+            (4096, "0 0 0 append 1,-,:a\n"),
+            (1, "0 0 0 roll\n"),
+        ],
+        0,
+        "",
+        "0 0 4096 = TooManySegments\n",
+    ),
+    (
+        &["sim"],
+        &[(1, "0 0 0 append 1000,-,:"), (1048576, "0"), (1, "\n")],
+        3,
+        "tiered: line 1: BatchTooLarge\n",
+        "",
+    ),
+    (
+        &[],
+        &[],
+        2,
+        "tiered: usage: tiered sim or run DIR or gen N\nfor example: tiered sim < examples/first.script\ntiered --help tells more\n",
+        "",
+    ),
+    (
+        &["gen", "01"],
+        &[],
+        2,
+        "tiered: usage: tiered sim or run DIR or gen N\nfor example: tiered sim < examples/first.script\ntiered --help tells more\n",
+        "",
+    ),
+    (
+        &["sim"],
+        &[(1, "0 0 0 frob\n")],
+        3,
+        "tiered: line 1: Word\n",
+        "",
+    ),
+];
 
 /// The lines of a script, each with how often it stands there, and what is told of it.
 pub(crate) static REFUSED: [(&[(u32, &str)], &str); 25] = [

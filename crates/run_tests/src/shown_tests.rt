@@ -1,11 +1,12 @@
-//! What the documents and the examples show: each script gives the trace that stands with it, and each line that is shown
-//! as refused is, for its cause.
+//! What the documents and the examples show: each script gives the trace that stands with it, each line that is shown as
+//! refused is, for its cause, and a shell's commands end as they are shown.
 
-use crate::shown::REFUSED;
+use crate::shown::{REFUSED, SHELL};
 use crate::shown_runs::{COUNT, PARTS, text};
 use crate::tests::{source_of, status_of, words_of};
+use broker_call::explained;
 use std::test::Fail;
-use tier_base::MemorySink;
+use tier_base::{MemorySink, MemorySource};
 
 /// What `sim` tells of a script on standard error, and what it writes.
 fn simulated(rt: HostRuntime, script: &[u8]) -> Result<(String, Vec<u8>), Fail> {
@@ -81,5 +82,42 @@ fn scripts_that_are_shown_give_their_traces(rt: HostRuntime) -> Result<(), Fail>
         all = all.wrapping_add(there);
     }
     assert_eq!(rt; all, COUNT);
+    Ok(())
+}
+
+/// The status with which a call ends, what standard error has, and whether what it writes ends so.
+fn called(
+    rt: HostRuntime,
+    list: &[&str],
+    texts: &[(u32, &str)],
+    end: &str,
+) -> Result<(u8, String, bool), Fail> {
+    let alloc = rt.alloc();
+    let words = words_of(alloc, list)?;
+    let mut input = Vec::new(alloc);
+    for (many, text) in texts {
+        for _ in 0..*many {
+            input.extend_from_slice(text.as_bytes())?;
+        }
+    }
+    let mut source = MemorySource::new(input, Vec::new(alloc));
+    let mut sink = MemorySink::new(alloc, 1_000_000, 4096, Vec::new(alloc))?;
+    let status = status_of(rt, words.as_slice(), &mut source, &mut sink)?;
+    let mut told = status.line(alloc)?;
+    told.push_str(explained(alloc, &status, &[])?.as_str())?;
+    Ok((
+        status.number(),
+        told,
+        sink.written().ends_with(end.as_bytes()),
+    ))
+}
+
+#[test]
+fn commands_of_a_shell_end_as_they_are_shown(rt: HostRuntime) -> Result<(), Fail> {
+    for (i, (words, texts, status, told, end)) in SHELL.iter().enumerate() {
+        let (number, line, is_end) = called(rt, words, texts, end)?;
+        assert_eq!(rt; (number, is_end), (*status, true), "row {i}");
+        assert_eq!(rt; line.as_str(), *told, "row {i}");
+    }
     Ok(())
 }
