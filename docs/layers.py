@@ -6,10 +6,9 @@ usage: docs/layers.py            prints the picture, the table, and the list for
        docs/layers.py write      puts the text between the marks
 
 crates.txt is in order where each crate comes after those that it stands on; each use tests that
-first, and tells of crates that are listed where nothing names them: before it proves a crate the
-toolchain sums up the sources below it along every path of crates.txt, so a line that nothing needs
-can double the time of all that stands above it. A part of a document that is made here stands between
-`<!-- layers: NAME -->` and `<!-- end -->`. The exit status is 1 where something disagrees.
+first, and tells of crates that are listed where nothing names them: a check loads all that a crate
+lists, and is done again where one of it changed. A part of a document that is made here stands
+between `<!-- layers: NAME -->` and `<!-- end -->`. The exit status is 1 where something disagrees.
 """
 import os
 import re
