@@ -1,6 +1,8 @@
 //! Worked rows, and look-ups beside a plain search. The bytes are of a segment of 150 batches of 69
 //! bytes each from offset 0 on, timestamp 1000, with an entry after more than 4096 bytes: by hand.
 
+ghost use Rattle.std.specs.Prelude.{◌≡◌, []};
+
 use crate::plain;
 use sparse_index::{IndexRefusal, OffsetIndex, TimeIndex};
 use std::alloc::{AllocError, Global};
@@ -14,29 +16,25 @@ static OFFSETS: [u8; 16] = [
 /// The bytes of its time index.
 static TIMES: [u8; 12] = [0, 0, 0, 0, 0, 0, 0x03, 0xe8, 0, 0, 0, 0];
 
-/// The offset index, entry by entry.
-fn pushed(alloc: Global) -> Result<OffsetIndex, AllocError> {
-    let mut index = OffsetIndex::new(alloc, 0);
-    index.push(60, 4140)?;
-    index.push(120, 8280)?;
-    Ok(index)
-}
-
-/// Whether the offset index is written as those bytes.
-fn is_written(alloc: Global) -> bool {
-    let index = match pushed(alloc) {
-        Ok(index) => index,
-        Err(_) => return false,
-    };
-    match index.to_bytes(alloc) {
-        Ok(bytes) => bytes.as_slice() == OFFSETS.as_slice(),
+/// Adds the two entries to an index with none.
+fn fill(index: &mut OffsetIndex) -> bool
+    requires { index.old ≡ record { base = 0; entries = [] } }
+{
+    match index.push(60, 4140) {
+        Ok(()) => index.push(120, 8280).is_ok(),
         Err(_) => false,
     }
 }
 
+/// Whether the offset index, filled entry by entry, is written as those bytes.
+fn is_written(alloc: Global) -> bool {
+    let mut index = OffsetIndex::new(alloc, 0);
+    fill(&mut index) & plain::is(index.to_bytes(alloc), OFFSETS.as_slice())
+}
+
 /// The last entry, once those at a position and past it are gone.
 fn last_below(alloc: Global, position: u32) -> Option<(u32, u32)> {
-    match pushed(alloc) {
+    match OffsetIndex::from_bytes(alloc, 0, OFFSETS.as_slice()) {
         Ok(mut index) => {
             index.cut_to(position);
             index.last()
@@ -48,13 +46,7 @@ fn last_below(alloc: Global, position: u32) -> Option<(u32, u32)> {
 /// Whether the time index is written as those bytes.
 fn is_time_written(alloc: Global) -> bool {
     let mut times = TimeIndex::new(alloc, 0);
-    if times.push(1000, 0).is_err() {
-        return false;
-    }
-    match times.to_bytes(alloc) {
-        Ok(bytes) => bytes.as_slice() == TIMES.as_slice(),
-        Err(_) => false,
-    }
+    times.push(1000, 0).is_ok() & plain::is(times.to_bytes(alloc), TIMES.as_slice())
 }
 
 /// What the offset index of those bytes finds, from a base.
@@ -114,38 +106,117 @@ fn indexes_answer_as_the_rows_say(rt: HostRuntime) {
     );
 }
 
+/// What is told of bytes that are no offset index.
+fn refusal(alloc: Global, bytes: &[u8]) -> Option<IndexRefusal> {
+    OffsetIndex::from_bytes(alloc, 0, bytes).err()
+}
+
+/// What is told of bytes that are no time index.
+fn time_refusal(alloc: Global, bytes: &[u8]) -> Option<IndexRefusal> {
+    TimeIndex::from_bytes(alloc, 0, bytes).err()
+}
+
+/// Bytes that are no offset index, and what is told.
+static BAD: [(&[u8], IndexRefusal); 4] = [
+    (
+        &[0, 0, 0, 0x3c, 0, 0, 0x10, 0x2c, 0],
+        IndexRefusal::BadLength,
+    ),
+    (
+        &[0x80, 0, 0, 0, 0, 0, 0, 0],
+        IndexRefusal::NotRising { at: 0 },
+    ),
+    (
+        &[0, 0, 0, 0, 0, 0, 0, 0, 0, 0, 0, 1, 0, 0, 0, 0],
+        IndexRefusal::NotRising { at: 1 },
+    ),
+    (
+        &[
+            0, 0, 0, 0x3c, 0, 0, 0x10, 0x2c, 0, 0, 0, 0x78, 0, 0, 0x20, 0x58, 0, 0, 0, 0x78, 0, 0,
+            0x20, 0x58,
+        ],
+        IndexRefusal::NotRising { at: 2 },
+    ),
+];
+
+/// An entry of a negative timestamp.
+static NEGATIVE: [u8; 12] = [0xff, 0xff, 0xff, 0xff, 0xff, 0xff, 0xff, 0xff, 0, 0, 0, 0];
+
 #[test]
 fn bytes_tell_their_first_bad_entry(rt: HostRuntime) {
-    let alloc = rt.alloc();
-    let rows: [(&[u8], IndexRefusal); 4] = [
-        (
-            b"\x00\x00\x00\x3c\x00\x00\x10\x2c\x00".as_slice(),
-            IndexRefusal::BadLength,
-        ),
-        (
-            b"\x80\x00\x00\x00\x00\x00\x00\x00".as_slice(),
-            IndexRefusal::NotRising { at: 0 },
-        ),
-        (
-            b"\x00\x00\x00\x00\x00\x00\x00\x00\x00\x00\x00\x01\x00\x00\x00\x00".as_slice(),
-            IndexRefusal::NotRising { at: 1 },
-        ),
-        (
-            b"\x00\x00\x00\x3c\x00\x00\x10\x2c\x00\x00\x00\x78\x00\x00\x20\x58\x00\x00\x00\x78\x00\x00\x20\x58".as_slice(),
-            IndexRefusal::NotRising { at: 2 },
-        ),
-    ];
-    for (bytes, refusal) in rows {
-        let answer = OffsetIndex::from_bytes(alloc, 0, bytes).err();
-        assert_eq!(rt; answer, Some(refusal), "{refusal}");
+    for (bytes, wanted) in &BAD {
+        let told = refusal(rt.alloc(), bytes);
+        assert_eq!(rt; told, Some(*wanted), "{wanted}");
     }
-    let negative = b"\xff\xff\xff\xff\xff\xff\xff\xff\x00\x00\x00\x00".as_slice();
-    let answer = TimeIndex::from_bytes(alloc, 0, negative).err();
     assert_eq!(rt;
-        answer,
+        time_refusal(rt.alloc(), NEGATIVE.as_slice()),
         Some(IndexRefusal::NotRising { at: 0 }),
         "a negative timestamp"
     );
+}
+
+/// Whether an index finds what a plain search does.
+fn finds(index: &OffsetIndex, top: u32) -> bool {
+    let count = plain::count_up_to(index.offsets(), top);
+    let want = match index.offsets().get(count.wrapping_sub(1)) {
+        Some(offset) => (*offset as u64, *offset),
+        None => (0, 0),
+    };
+    index.find(top as u64) == want
+}
+
+/// Whether a time index finds what a plain search does.
+fn finds_time(times: &TimeIndex, top: u32) -> bool {
+    let count = plain::count_up_to(times.offsets(), top);
+    let want = match times.offsets().get(count.wrapping_sub(1)) {
+        Some(offset) => Some((*offset as i64, *offset as u64)),
+        None => None,
+    };
+    times.find(top as i64) == want
+}
+
+/// The least top at which an index finds something else, or their number.
+fn least_wrong(index: &OffsetIndex, tops: u32) -> u32 {
+    for top in 0..tops {
+        if !finds(index, top) {
+            return top;
+        }
+    }
+    tops
+}
+
+/// The least top at which a time index finds something else, or their number.
+fn least_wrong_time(times: &TimeIndex, tops: u32) -> u32 {
+    for top in 0..tops {
+        if !finds_time(times, top) {
+            return top;
+        }
+    }
+    tops
+}
+
+/// The least top that is wrong in the offset index of these bytes.
+fn searched(alloc: Global, bytes: &[u8], tops: u32) -> u32 {
+    match OffsetIndex::from_bytes(alloc, 0, bytes) {
+        Ok(index) => least_wrong(&index, tops),
+        Err(_) => 0,
+    }
+}
+
+/// The least top that is wrong in the time index of these bytes.
+fn searched_times(alloc: Global, bytes: &[u8], tops: u32) -> u32 {
+    match TimeIndex::from_bytes(alloc, 0, bytes) {
+        Ok(times) => least_wrong_time(&times, tops),
+        Err(_) => 0,
+    }
+}
+
+/// Adds an entry of one number to the bytes of both.
+fn grow(bytes: &mut Vec<u8>, stamps: &mut Vec<u8>, number: u32) -> Result<(), AllocError> {
+    bytes.extend_from_slice(number.to_be_bytes().as_slice())?;
+    bytes.extend_from_slice(number.to_be_bytes().as_slice())?;
+    stamps.extend_from_slice((number as i64).to_be_bytes().as_slice())?;
+    stamps.extend_from_slice(number.to_be_bytes().as_slice())
 }
 
 #[test]
@@ -154,30 +225,12 @@ fn halving_finds_what_a_plain_search_does(rt: HostRuntime) -> Result<(), Fail> {
     let mut bytes = Vec::new(alloc);
     let mut stamps = Vec::new(alloc);
     for n in 0u32..150 {
-        let index = OffsetIndex::from_bytes(alloc, 0, bytes.as_slice())?;
-        let times = TimeIndex::from_bytes(alloc, 0, stamps.as_slice())?;
-        for top in 0..2 * n + 2 {
-            let count = plain::count_up_to(index.offsets(), top);
-            let want = match index.offsets().get(count.wrapping_sub(1)) {
-                Some(offset) => (*offset as u64, *offset),
-                None => (0, 0),
-            };
-            assert_eq!(rt; index.find(top as u64), want, "{n} entries, offset {top}");
-            let want = match times.offsets().get(count.wrapping_sub(1)) {
-                Some(offset) => Some((*offset as i64, *offset as u64)),
-                None => None,
-            };
-            assert_eq!(rt;
-                times.find(top as i64),
-                want,
-                "{n} entries, timestamp {top}"
-            );
-        }
-        let number = 2 * n + 1;
-        bytes.extend_from_slice(number.to_be_bytes().as_slice())?;
-        bytes.extend_from_slice(number.to_be_bytes().as_slice())?;
-        stamps.extend_from_slice((number as i64).to_be_bytes().as_slice())?;
-        stamps.extend_from_slice(number.to_be_bytes().as_slice())?;
+        let tops = 2 * n + 2;
+        let wrong = searched(alloc, bytes.as_slice(), tops);
+        assert_eq!(rt; wrong, tops, "offsets of {n} entries");
+        let wrong = searched_times(alloc, stamps.as_slice(), tops);
+        assert_eq!(rt; wrong, tops, "timestamps of {n} entries");
+        grow(&mut bytes, &mut stamps, 2 * n + 1)?;
     }
     Ok(())
 }
