@@ -2,85 +2,128 @@
 
 use index_cache::IndexCache;
 use sparse_index::OffsetIndex;
-use std::test::Fail;
+use std::alloc::Global;
 use tier_base::SegmentId;
 use uuid::Uuid;
 
 /// A call of a row.
 #[derive(Clone, Copy)]
-enum Call {
+enum Step {
     /// The index of this base is kept under an id.
-    Keep(u128, u32),
-    /// An id's index is used.
-    Get(u128),
+    Keep(u32, u32),
+    /// An id's index is used, and has this base.
+    Get(u32, Option<u64>),
+    /// So many indexes are held, of at most so many.
+    Holds(usize, usize),
 }
 
-#[test]
-fn the_index_used_least_recently_goes(rt: HostRuntime) -> Result<(), Fail> {
-    let alloc = rt.alloc();
-    // the size, the calls, and the base that each id has at the end
-    let rows: [(usize, &[Call], &[(u128, Option<u64>)], &str); 4] = [
-        (
-            1,
-            [Call::Keep(0, 10), Call::Keep(1, 11)].as_slice(),
-            [(0, None), (1, Some(11))].as_slice(),
-            "one place, two indexes",
-        ),
-        (
-            2,
-            [
-                Call::Keep(0, 10),
-                Call::Keep(1, 11),
-                Call::Get(0),
-                Call::Keep(2, 12),
-            ]
-            .as_slice(),
-            [(0, Some(10)), (1, None), (2, Some(12))].as_slice(),
-            "the older one was used since",
-        ),
-        (
-            2,
-            [Call::Keep(0, 10), Call::Keep(1, 11), Call::Keep(0, 20)].as_slice(),
-            [(0, Some(20)), (1, Some(11))].as_slice(),
-            "an id is kept again",
-        ),
-        (
-            2,
-            [
-                Call::Keep(0, 10),
-                Call::Keep(1, 11),
-                Call::Get(5),
-                Call::Keep(2, 12),
-            ]
-            .as_slice(),
-            [(0, None), (1, Some(11)), (2, Some(12))].as_slice(),
-            "an id that isn't there was asked for",
-        ),
-    ];
-    for (size, calls, answers, row) in rows {
-        let mut cache = IndexCache::new(alloc, size)?;
-        assert_eq!(rt; cache.size(), size, "{row}");
-        for call in calls {
-            match *call {
-                Call::Keep(id, base) => {
-                    cache.keep(
-                        SegmentId(Uuid::from_u128(id)),
-                        OffsetIndex::new(alloc, base as u64),
-                    )?;
-                }
-                Call::Get(id) => {
-                    let _used = cache.get(SegmentId(Uuid::from_u128(id)));
-                }
-            }
-        }
-        assert_eq!(rt; cache.len(), size, "{row}");
-        for answer in answers {
-            let (id, want) = *answer;
-            let base = cache
-                .get(SegmentId(Uuid::from_u128(id)))
-                .map(|index| index.find(0).0);
-            assert_eq!(rt; base, want, "{row}: id {id}");
+fn id(number: u32) -> SegmentId {
+    SegmentId(Uuid::from_u128(number as u128))
+}
+
+fn keep(alloc: Global, cache: &mut IndexCache, number: u32, base: u32) -> bool {
+    cache
+        .keep(id(number), OffsetIndex::new(alloc, base as u64))
+        .is_ok()
+}
+
+/// The base of an id's index.
+fn get(cache: &mut IndexCache, number: u32) -> Option<u64> {
+    match cache.get(id(number)) {
+        Some(index) => Some(index.find(0).0),
+        None => None,
+    }
+}
+
+/// Makes a call, and tells whether it went as the row says.
+fn call(alloc: Global, cache: &mut IndexCache, step: Step) -> bool {
+    match step {
+        Step::Keep(number, base) => keep(alloc, cache, number, base),
+        Step::Get(number, base) => get(cache, number) == base,
+        Step::Holds(count, size) => (cache.len(), cache.size()) == (count, size),
+    }
+}
+
+/// Makes calls, and tells how many went well at first.
+fn run(alloc: Global, cache: &mut IndexCache, calls: &[Step]) -> usize {
+    for (i, step) in calls.iter().enumerate() {
+        if !call(alloc, cache, *step) {
+            return i;
         }
     }
-    Ok(())
+    calls.len()
+}
+
+/// How many calls of a new cache went well at first.
+fn row(alloc: Global, size: usize, calls: &[Step]) -> usize {
+    match IndexCache::new(alloc, size.max(1)) {
+        Ok(mut cache) => run(alloc, &mut cache, calls),
+        Err(_) => 0,
+    }
+}
+
+/// What happens, the size and the calls.
+static ROWS: [(&str, usize, &[Step]); 4] = [
+    (
+        "one place, two indexes",
+        1,
+        &[
+            Step::Holds(0, 1),
+            Step::Keep(0, 10),
+            Step::Keep(1, 11),
+            Step::Holds(1, 1),
+            Step::Get(0, None),
+            Step::Get(1, Some(11)),
+        ],
+    ),
+    (
+        "the older one was used since",
+        2,
+        &[
+            Step::Holds(0, 2),
+            Step::Keep(0, 10),
+            Step::Keep(1, 11),
+            Step::Get(0, Some(10)),
+            Step::Keep(2, 12),
+            Step::Holds(2, 2),
+            Step::Get(0, Some(10)),
+            Step::Get(1, None),
+            Step::Get(2, Some(12)),
+        ],
+    ),
+    (
+        "an id is kept again",
+        2,
+        &[
+            Step::Holds(0, 2),
+            Step::Keep(0, 10),
+            Step::Keep(1, 11),
+            Step::Keep(0, 20),
+            Step::Holds(2, 2),
+            Step::Get(0, Some(20)),
+            Step::Get(1, Some(11)),
+        ],
+    ),
+    (
+        "an id that isn't there was asked for",
+        2,
+        &[
+            Step::Holds(0, 2),
+            Step::Keep(0, 10),
+            Step::Keep(1, 11),
+            Step::Get(5, None),
+            Step::Keep(2, 12),
+            Step::Holds(2, 2),
+            Step::Get(0, None),
+            Step::Get(1, Some(11)),
+            Step::Get(2, Some(12)),
+        ],
+    ),
+];
+
+#[test]
+fn the_index_used_least_recently_goes(rt: HostRuntime) {
+    for (name, size, calls) in &ROWS {
+        assert_eq!(rt; row(rt.alloc(), *size, calls), calls.len(), "{name}");
+    }
 }
