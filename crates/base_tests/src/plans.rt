@@ -1,11 +1,10 @@
 //! Plans of faults: what fails, done or not, and what is counted. Worked by hand.
 
-use std::alloc::{AllocError, Global};
-use std::test::Fail;
+use std::alloc::Global;
 use tier_base::{CallKind, Ending, Failed, FaultPlan, Planned, Trouble, give};
 
 /// The calls of a device with two.
-#[derive(Clone, Copy, Debug, PartialEq, Eq)]
+#[derive(Clone, Copy)]
 enum Call {
     Put,
     Get,
@@ -24,24 +23,6 @@ impl CallKind for Call {
     }
 }
 
-/// A call that is to fail.
-fn item(call: Call, number: u32, after: bool) -> Planned<Call> {
-    Planned {
-        call,
-        number,
-        after,
-    }
-}
-
-/// A plan of three items, the third of which is never looked at.
-fn three(alloc: Global) -> Result<Vec<Planned<Call>>, AllocError> {
-    let mut plan = Vec::new(alloc);
-    plan.push(item(Call::Put, 2, true))?;
-    plan.push(item(Call::Get, 1, false))?;
-    plan.push(item(Call::Put, 2, false))?;
-    Ok(plan)
-}
-
 /// Makes a call, and tells how it ended.
 fn make(faults: &mut FaultPlan<Call>, kind: Call) -> Ending {
     let ending = faults.ending(kind);
@@ -51,94 +32,221 @@ fn make(faults: &mut FaultPlan<Call>, kind: Call) -> Ending {
     }
 }
 
-#[test]
-fn planned_calls_fail_once_armed(rt: HostRuntime) -> Result<(), Fail> {
-    let mut faults = FaultPlan::new(three(rt.alloc())?);
-    assert_eq!(rt; make(&mut faults, Call::Get), Ending::Done, "not armed yet");
-    assert_eq!(rt; faults.made(Call::Get), 0);
-    assert!(rt; !faults.is_armed());
-    faults.arm();
-    faults.arm();
-    assert!(rt; faults.is_armed());
-    let rows = [
-        (Call::Put, Ending::Done),
-        (Call::Get, Ending::Undone),
-        (Call::Put, Ending::DoneAndFailed),
-        (Call::Get, Ending::Done),
-        (Call::Put, Ending::Done),
-    ];
-    for (kind, ending) in rows {
-        assert_eq!(rt; make(&mut faults, kind), ending);
-    }
-    faults.arm();
-    assert_eq!(rt; (faults.made(Call::Put), faults.made(Call::Get)), (3, 2));
-    assert_eq!(rt; faults.faults(), 2);
-    assert_eq!(rt; faults.plan().len(), 3);
-    Ok(())
+/// A call of the faults, or a look at them.
+#[derive(Clone, Copy)]
+enum Step {
+    Arm,
+    Fuse(Option<u64>),
+    /// A call of the device, and how it ends.
+    Make(Call, Ending),
+    /// How many calls of each kind were made since the faults were armed.
+    Made(u64, u64),
+    /// Whether they are armed, whether there is a fuse, and how many calls failed.
+    Tell(bool, bool, u64),
 }
 
-/// A plan whose numbers rise for each kind, the kinds mixed; or the same plan turned around.
-fn rising(alloc: Global, turned: bool) -> Result<Vec<Planned<Call>>, AllocError> {
-    let mut plan = Vec::new(alloc);
-    plan.push(item(Call::Get, 1, false))?;
-    plan.push(item(Call::Put, 2, true))?;
-    plan.push(item(Call::Get, 2, false))?;
-    plan.push(item(Call::Put, 5, false))?;
-    plan.push(item(Call::Get, 9, true))?;
-    if turned {
-        plan.reverse();
-    }
-    Ok(plan)
+fn made(faults: &FaultPlan<Call>) -> (u64, u64) {
+    (faults.made(Call::Put), faults.made(Call::Get))
 }
 
-#[test]
-fn planned_calls_fail_in_whatever_order_a_plan_names_them(rt: HostRuntime) -> Result<(), Fail> {
-    for turned in [false, true] {
-        let mut faults = FaultPlan::new(rising(rt.alloc(), turned)?);
-        faults.arm();
-        for number in 1..12u32 {
-            let put = match number {
-                2 => Ending::DoneAndFailed,
-                5 => Ending::Undone,
-                _ => Ending::Done,
-            };
-            let get = match number {
-                1 | 2 => Ending::Undone,
-                9 => Ending::DoneAndFailed,
-                _ => Ending::Done,
-            };
-            assert_eq!(rt;
-                make(&mut faults, Call::Put),
-                put,
-                "turned {} put {}",
-                turned,
-                number
-            );
-            assert_eq!(rt;
-                make(&mut faults, Call::Get),
-                get,
-                "turned {} get {}",
-                turned,
-                number
-            );
+fn tell(faults: &FaultPlan<Call>) -> (bool, bool, u64) {
+    (faults.is_armed(), faults.is_fused(), faults.faults())
+}
+
+/// Takes a step, and tells whether it comes to what it says.
+fn take(faults: &mut FaultPlan<Call>, step: Step) -> bool {
+    match step {
+        Step::Arm => {
+            faults.arm();
+            true
         }
-        assert_eq!(rt; faults.faults(), 5);
+        Step::Fuse(calls) => {
+            faults.set_fuse(calls);
+            true
+        }
+        Step::Make(kind, ending) => make(faults, kind) == ending,
+        Step::Made(put, get) => made(faults) == (put, get),
+        Step::Tell(armed, fused, failed) => tell(faults) == (armed, fused, failed),
     }
-    Ok(())
+}
+
+/// Takes steps, and tells how many come to what they say at first.
+fn run(faults: &mut FaultPlan<Call>, steps: &[Step]) -> usize {
+    for (i, step) in steps.iter().enumerate() {
+        if !take(faults, *step) {
+            return i;
+        }
+    }
+    steps.len()
+}
+
+/// How many calls are planned, and how many steps come to what they say at first.
+fn row(alloc: Global, plan: &[Planned<Call>], steps: &[Step]) -> (usize, usize) {
+    match Vec::from_slice(alloc, plan) {
+        Ok(plan) => {
+            let mut faults = FaultPlan::new(plan);
+            (faults.plan().len(), run(&mut faults, steps))
+        }
+        Err(_) => (0, 0),
+    }
+}
+
+/// A plan of three calls, the third of which is never looked at.
+static THREE: [Planned<Call>; 3] = [
+    Planned {
+        call: Call::Put,
+        number: 2,
+        after: true,
+    },
+    Planned {
+        call: Call::Get,
+        number: 1,
+        after: false,
+    },
+    Planned {
+        call: Call::Put,
+        number: 2,
+        after: false,
+    },
+];
+
+/// Planned calls fail once armed.
+static ARMED: [Step; 14] = [
+    Step::Make(Call::Get, Ending::Done),
+    Step::Made(0, 0),
+    Step::Tell(false, false, 0),
+    Step::Arm,
+    Step::Arm,
+    Step::Tell(true, false, 0),
+    Step::Make(Call::Put, Ending::Done),
+    Step::Make(Call::Get, Ending::Undone),
+    Step::Make(Call::Put, Ending::DoneAndFailed),
+    Step::Make(Call::Get, Ending::Done),
+    Step::Make(Call::Put, Ending::Done),
+    Step::Arm,
+    Step::Made(3, 2),
+    Step::Tell(true, false, 2),
+];
+
+/// A plan whose numbers rise for each kind, the kinds mixed.
+static RISING: [Planned<Call>; 5] = [
+    Planned {
+        call: Call::Get,
+        number: 1,
+        after: false,
+    },
+    Planned {
+        call: Call::Put,
+        number: 2,
+        after: true,
+    },
+    Planned {
+        call: Call::Get,
+        number: 2,
+        after: false,
+    },
+    Planned {
+        call: Call::Put,
+        number: 5,
+        after: false,
+    },
+    Planned {
+        call: Call::Get,
+        number: 9,
+        after: true,
+    },
+];
+
+/// The same plan turned around.
+static FALLING: [Planned<Call>; 5] = [
+    Planned {
+        call: Call::Get,
+        number: 9,
+        after: true,
+    },
+    Planned {
+        call: Call::Put,
+        number: 5,
+        after: false,
+    },
+    Planned {
+        call: Call::Get,
+        number: 2,
+        after: false,
+    },
+    Planned {
+        call: Call::Put,
+        number: 2,
+        after: true,
+    },
+    Planned {
+        call: Call::Get,
+        number: 1,
+        after: false,
+    },
+];
+
+/// The calls of both.
+static MIXED: [Step; 24] = [
+    Step::Arm,
+    Step::Make(Call::Put, Ending::Done),
+    Step::Make(Call::Get, Ending::Undone),
+    Step::Make(Call::Put, Ending::DoneAndFailed),
+    Step::Make(Call::Get, Ending::Undone),
+    Step::Make(Call::Put, Ending::Done),
+    Step::Make(Call::Get, Ending::Done),
+    Step::Make(Call::Put, Ending::Done),
+    Step::Make(Call::Get, Ending::Done),
+    Step::Make(Call::Put, Ending::Undone),
+    Step::Make(Call::Get, Ending::Done),
+    Step::Make(Call::Put, Ending::Done),
+    Step::Make(Call::Get, Ending::Done),
+    Step::Make(Call::Put, Ending::Done),
+    Step::Make(Call::Get, Ending::Done),
+    Step::Make(Call::Put, Ending::Done),
+    Step::Make(Call::Get, Ending::Done),
+    Step::Make(Call::Put, Ending::Done),
+    Step::Make(Call::Get, Ending::DoneAndFailed),
+    Step::Make(Call::Put, Ending::Done),
+    Step::Make(Call::Get, Ending::Done),
+    Step::Make(Call::Put, Ending::Done),
+    Step::Make(Call::Get, Ending::Done),
+    Step::Tell(true, false, 5),
+];
+
+/// A fuse fails every call from a number on.
+static FUSED: [Step; 9] = [
+    Step::Tell(false, false, 0),
+    Step::Fuse(Some(1)),
+    Step::Tell(false, true, 0),
+    Step::Make(Call::Put, Ending::Done),
+    Step::Make(Call::Get, Ending::Undone),
+    Step::Make(Call::Put, Ending::Undone),
+    Step::Fuse(None),
+    Step::Make(Call::Put, Ending::Done),
+    Step::Tell(false, false, 2),
+];
+
+#[test]
+fn planned_calls_fail_once_armed(rt: HostRuntime) {
+    assert_eq!(rt; row(rt.alloc(), &THREE, &ARMED), (THREE.len(), ARMED.len()));
+}
+
+#[test]
+fn planned_calls_fail_in_whatever_order_a_plan_names_them(rt: HostRuntime) {
+    assert_eq!(rt;
+        row(rt.alloc(), &RISING, &MIXED),
+        (RISING.len(), MIXED.len())
+    );
+    assert_eq!(rt;
+        row(rt.alloc(), &FALLING, &MIXED),
+        (FALLING.len(), MIXED.len())
+    );
 }
 
 #[test]
 fn a_fuse_fails_every_call_from_a_number_on(rt: HostRuntime) {
-    let mut faults: FaultPlan<Call> = FaultPlan::new(Vec::new(rt.alloc()));
-    assert!(rt; !faults.is_fused());
-    faults.set_fuse(Some(1));
-    assert!(rt; faults.is_fused());
-    assert_eq!(rt; make(&mut faults, Call::Put), Ending::Done);
-    assert_eq!(rt; make(&mut faults, Call::Get), Ending::Undone);
-    assert_eq!(rt; make(&mut faults, Call::Put), Ending::Undone);
-    faults.set_fuse(None);
-    assert_eq!(rt; make(&mut faults, Call::Put), Ending::Done);
-    assert_eq!(rt; faults.faults(), 2);
+    assert_eq!(rt; row(rt.alloc(), &[], &FUSED), (0, FUSED.len()));
 }
 
 #[test]
