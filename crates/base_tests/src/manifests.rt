@@ -1,5 +1,6 @@
 //! Worked rows, by hand. Each call is made once with ample memory.
 
+use crate::plain;
 use log_manifest::{Manifest, ManifestRefusal, decode, encode};
 use std::alloc::{AllocError, Global};
 use std::test::Fail;
@@ -37,10 +38,7 @@ static TWO: [u8; 72] = [
 /// Whether bytes are read as a manifest that is written so.
 fn is_written_again(alloc: Global, bytes: &[u8]) -> bool {
     match decode(alloc, bytes) {
-        Ok(manifest) => match encode(alloc, &manifest) {
-            Ok(written) => written.as_slice() == bytes,
-            Err(_) => false,
-        },
+        Ok(manifest) => plain::is(encode(alloc, &manifest), bytes),
         Err(_) => false,
     }
 }
@@ -101,10 +99,7 @@ fn with(
     at: usize,
     field: &[u8],
 ) -> Result<Option<ManifestRefusal>, AllocError> {
-    let mut bytes = Vec::new(alloc);
-    for (i, byte) in row.iter().enumerate() {
-        bytes.push(*field.get(i.wrapping_sub(at)).unwrap_or(byte))?;
-    }
+    let bytes = plain::changed(alloc, row, at, field)?;
     Ok(decode(alloc, bytes.as_slice()).err())
 }
 
@@ -172,15 +167,8 @@ fn each_broken_rule_is_told_at_its_field(rt: HostRuntime) -> Result<(), Fail> {
     Ok(())
 }
 
-/// What is told of a manifest with a byte more.
-fn with_more(alloc: Global) -> Result<Option<ManifestRefusal>, AllocError> {
-    let mut bytes = Vec::from_slice(alloc, FRESH.as_slice())?;
-    bytes.push(0)?;
-    Ok(decode(alloc, bytes.as_slice()).err())
-}
-
 #[test]
 fn a_byte_more_is_told(rt: HostRuntime) {
-    let told = with_more(rt.alloc());
+    let told = with(rt.alloc(), FRESH.as_slice(), 48, [0].as_slice());
     assert_eq!(rt; told, Ok(Some(ManifestRefusal::Bad { at: 48 })));
 }
