@@ -1,5 +1,6 @@
 //! Worked rows, by hand. Each call is made once with ample memory.
 
+use crate::plain;
 use epoch_line::{Line, TextRefusal};
 use std::alloc::{AllocError, Global};
 
@@ -16,10 +17,7 @@ fn line_of(alloc: Global, text: &str) -> Option<Line> {
 
 /// Whether a line is spelled so.
 fn is_spelled(alloc: Global, line: &Line, text: &str) -> bool {
-    match line.to_text(alloc) {
-        Ok(bytes) => bytes.as_slice() == text.as_bytes(),
-        Err(_) => false,
-    }
+    plain::is(line.to_text(alloc), text.as_bytes())
 }
 
 /// Where a log that ends there meets another one that ends at 8.
@@ -47,36 +45,53 @@ fn last_below(alloc: Global, end: u64) -> Option<(u32, u64)> {
     own.last()
 }
 
-/// Whether the part of a segment of the offsets 3 to 5 is spelled so.
-fn is_part(alloc: Global, text: &str) -> bool {
-    let Some(own) = line_of(alloc, OWN) else {
-        return false;
-    };
-    match own.within(alloc, 3, 5) {
-        Ok(part) => is_spelled(alloc, &part, text),
+/// Whether a line was made, and is spelled so.
+fn is_made(alloc: Global, line: Result<Line, AllocError>, text: &str) -> bool {
+    match line {
+        Ok(line) => is_spelled(alloc, &line, text),
         Err(_) => false,
     }
 }
 
-/// A line to which epochs are assigned, the last two at one offset, and then an entry is pushed.
-fn assigned(alloc: Global) -> Result<Line, AllocError> {
-    let mut own = Line::new(alloc);
-    own.assign(0, 0)?;
-    own.assign(1, 5)?;
-    own.assign(3, 5)?;
-    own.push(4, 9)?;
-    Ok(own)
+/// Whether the part of a segment of the offsets 3 to 5 is spelled so.
+fn is_part(alloc: Global, text: &str) -> bool {
+    match line_of(alloc, OWN) {
+        Some(own) => is_made(alloc, own.within(alloc, 3, 5), text),
+        None => false,
+    }
+}
+
+/// Whether an epoch above the last one is assigned.
+fn assigns(line: &mut Line, epoch: u16, start: u32) -> bool {
+    match line.last_epoch() {
+        Some(last) if last >= epoch as u32 => false,
+        _ => line.assign(epoch as u32, start as u64).is_ok(),
+    }
+}
+
+/// Whether an entry above the last one is added.
+fn adds(line: &mut Line, epoch: u16, start: u32) -> bool {
+    match line.last() {
+        Some((last, from)) if last >= epoch as u32 || from >= start as u64 => false,
+        _ => line.push(epoch as u32, start as u64).is_ok(),
+    }
+}
+
+/// Assigns epochs to a line, the last two at one offset, and then adds an entry.
+fn fill(line: &mut Line) -> bool {
+    let epochs = (
+        assigns(line, 0, 0),
+        assigns(line, 1, 5),
+        assigns(line, 3, 5),
+    );
+    (epochs, adds(line, 4, 9)) == ((true, true, true), true)
 }
 
 /// Whether that line and its copy are spelled so.
 fn is_assigned(alloc: Global, text: &str) -> bool {
-    let Ok(own) = assigned(alloc) else {
-        return false;
-    };
-    match own.copy(alloc) {
-        Ok(copy) => is_spelled(alloc, &own, text) & is_spelled(alloc, &copy, text),
-        Err(_) => false,
-    }
+    let mut own = Line::new(alloc);
+    let filled = fill(&mut own);
+    filled & is_spelled(alloc, &own, text) & is_made(alloc, own.copy(alloc), text)
 }
 
 #[test]
