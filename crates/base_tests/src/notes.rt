@@ -1,5 +1,6 @@
 //! Worked rows, by hand. Each call is made once with ample memory.
 
+use crate::plain;
 use segment_meta::{Entry, Note, NoteRefusal, decode, encode, next_state};
 use std::alloc::{AllocError, Global};
 use std::test::Fail;
@@ -53,10 +54,7 @@ static TWO_EPOCHS: [u8; 87] = [
 /// Whether bytes are read as a note that is written so.
 fn is_written_again(alloc: Global, bytes: &[u8]) -> bool {
     match decode(alloc, bytes) {
-        Ok(note) => match encode(alloc, &note) {
-            Ok(written) => written.as_slice() == bytes,
-            Err(_) => false,
-        },
+        Ok(note) => plain::is(encode(alloc, &note), bytes),
         Err(_) => false,
     }
 }
@@ -70,10 +68,7 @@ fn writes_finished(alloc: Global) -> bool {
         state: State::CopyFinished,
         custom: None,
     };
-    match encode(alloc, &finished) {
-        Ok(bytes) => bytes.as_slice() == FINISHED.as_slice(),
-        Err(_) => false,
-    }
+    plain::is(encode(alloc, &finished), FINISHED.as_slice())
 }
 
 /// Whether an entry says what the first row spells.
@@ -127,10 +122,7 @@ fn with(
     at: usize,
     field: &[u8],
 ) -> Result<Option<NoteRefusal>, AllocError> {
-    let mut bytes = Vec::new(alloc);
-    for (i, byte) in note.iter().enumerate() {
-        bytes.push(*field.get(i.wrapping_sub(at)).unwrap_or(byte))?;
-    }
+    let bytes = plain::changed(alloc, note, at, field)?;
     Ok(decode(alloc, bytes.as_slice()).err())
 }
 
@@ -171,13 +163,6 @@ static FRONTS: [(&[u8], NoteRefusal); 4] = [
     (&[0, 2], NoteRefusal::Bad { at: 1 }),
 ];
 
-/// What is told of a note with a byte more.
-fn with_more(alloc: Global) -> Result<Option<NoteRefusal>, AllocError> {
-    let mut bytes = Vec::from_slice(alloc, FINISHED.as_slice())?;
-    bytes.push(0)?;
-    Ok(decode(alloc, bytes.as_slice()).err())
-}
-
 #[test]
 fn each_broken_rule_is_told_at_its_place(rt: HostRuntime) -> Result<(), Fail> {
     let alloc = rt.alloc();
@@ -193,7 +178,7 @@ fn each_broken_rule_is_told_at_its_place(rt: HostRuntime) -> Result<(), Fail> {
         let told = decode(alloc, bytes).err();
         assert_eq!(rt; told, Some(*refusal), "by the first bytes");
     }
-    let told = with_more(alloc)?;
+    let told = with(alloc, FINISHED.as_slice(), 29, [0].as_slice())?;
     assert_eq!(rt; told, Some(NoteRefusal::Bad { at: 29 }), "a byte more");
     Ok(())
 }
