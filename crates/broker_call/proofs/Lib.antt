@@ -1,6 +1,3 @@
-mod MemoryDevices
 mod Numerals
-mod Opening
-mod Planning
 mod Running
 mod Telling

@@ -4,27 +4,12 @@
 use Rattle.std.specs.Prelude.{◌≡◌, ℕ, false, List, [], ◌∷◌, Some, Ok, Err}
 use Rattle.std.specs.declared.option.Option.{Option}
 use Rattle.std.specs.Io.KnownBytes.{Appends}
-use Rattle.std.specs.List.{AllByRecursion}
-use Rattle.tier_base.specs.declared.names.PartitionId.{PartitionId}
 use Rattle.tier_base.specs.Stream.{ReadsWhole, AppendsFront}
 use Rattle.disk_model.specs.declared.disk.Disk.{Ghosts as DiskGhosts}
 use Rattle.object_store.specs.declared.store.Store.{Ghosts as StoreGhosts}
 use Rattle.meta_log.specs.declared.log.MetaLog.{Ghosts as MetaGhosts}
-use Rattle.plain_log.specs.declared.command.ActorList.{ActorList}
 use Rattle.plain_log.specs.declared.command.Config.{Config}
 use Rattle.plain_log.specs.declared.journal.JournalEntry.{JournalEntry}
-use Rattle.plain_log.specs.Fresh.{fresh}
-use Rattle.command_answers.specs.Damage.{MeetsNoDamage}
-use Rattle.plain_log.specs.Runs.{IsPlainRun, IsComplete}
-use Rattle.plain_log.specs.Committed.{IsCommittedRun, IsRunOfPath}
-use Rattle.plain_log.specs.Safe.{PlainSafe}
-use Rattle.partition_world.specs.Central.{IsCentral}
-use Rattle.partition_world.specs.Whole.{Whole}
-use Rattle.partition_turns.specs.Calm.{AreFaultless}
-use Rattle.partition_world.specs.Fresh.{IsFresh, IsSeenEmpty}
-use Rattle.partition_world.specs.InTurn.{IsInTurn}
-use Rattle.partition_world.specs.Reaches.{Reaches}
-use Rattle.script_lang.specs.declared.fault.Fault.{Fault}
 use Rattle.script_lang.specs.declared.refusal.Why.{Why}
 use Rattle.script_lang.specs.declared.script.PartScript.{PartScript}
 use Rattle.script_lang.specs.declared.script.Script.{Script}
@@ -32,7 +17,7 @@ use Rattle.script_lang.specs.Script.{script_in}
 use Rattle.trace_text.specs.Trace.{trace_of}
 use Rattle.run_summary.specs.declared.told.Told.{Told}
 use Rattle.run_summary.specs.Told.{told_of, summary_text}
-use Rattle.broker_call.specs.Devices.{HaveFaults}
+use Rattle.memory_run.specs.Run.{IsRunOf}
 
 -- this is what the partition's run comes to
 abbrev pub IsTold : Config → PartScript → ℕ × List JournalEntry → Told → Type 0
@@ -45,46 +30,10 @@ AreTold config (part ∷ parts) (run ∷ runs) (one ∷ told) = IsTold config pa
 AreTold config parts runs told = ⊥
 
 module _ {D S M : Type 0} (disk : DiskGhosts D) (store : StoreGhosts S) (meta : MetaGhosts M) where
-  -- a fresh world whose logs, store and metadata log are empty, on devices of which those calls fail that the faults name
-  pub record StartsWith (partition : PartitionId) (config : Config) (lists : List ActorList) (faults : List Fault) (w : Whole D S M)
-      : Type 0 where
-    pub disks : List D
-    pub objects : S
-    pub notes : M
-    pub planned : HaveFaults disk store meta faults disks objects notes
-    pub fresh : IsFresh disk store meta partition config lists disks objects notes w
-    pub empty : IsSeenEmpty disk store meta w
-
-  -- the journal is that of a world which the partition's schedule reaches from the fresh one over its faults; in it the central
-  -- fact holds: its logs are the plain log's, and the remote tier beside them keeps its safety rules
-  pub record IsReached (config : Config) (part : PartScript) (journal : List JournalEntry) : Type 0 where
-    pub first : Whole D S M
-    pub last : Whole D S M
-    pub starts : StartsWith part.partition config part.lists part.faults first
-    pub reaches : Reaches disk store meta first part.schedule last
-    pub central : IsCentral disk store meta (fresh config) last
-    pub its : last.journal.items ≡ journal
-
-  -- a partition's number and journal: a run of the plain log over the partition's lists, by its schedule, which ends with
-  -- the safety rules; each command is answered once and in order, and begins at most once, right before its answer; each
-  -- fetch is given a part of the log of a leader epoch as the run ends, and while elections are clean of what is committed
-  -- then; no command is answered `Damaged`; no device fails unasked
-  pub record IsRunOf (config : Config) (part : PartScript) (run : ℕ × List JournalEntry) : Type 0 where
-    pub partition : run.0 ≡ part.partition.0
-    pub plain : IsPlainRun config part.lists run.1
-    pub safe : PlainSafe plain.last
-    pub complete : IsComplete part.lists run.1
-    pub in_turn : IsInTurn part.lists run.1
-    pub led : AllByRecursion (IsRunOfPath part.lists plain.last.paths) run.1
-    pub committed : plain.last.unclean ≡ false → AllByRecursion (IsCommittedRun part.lists plain.last.committed) run.1
-    pub undamaged : MeetsNoDamage run.1
-    pub faultless : part.faults ≡ [] → AreFaultless run.1
-    pub reached : IsReached config part run.1
-
   -- each partition has its run
   abbrev pub AreRunsOf : Config → List PartScript → List (ℕ × List JournalEntry) → Type 0
   AreRunsOf config [] [] = Unit {0}
-  AreRunsOf config (part ∷ parts) (run ∷ runs) = IsRunOf config part run × AreRunsOf config parts runs
+  AreRunsOf config (part ∷ parts) (run ∷ runs) = IsRunOf disk store meta config part run × AreRunsOf config parts runs
   AreRunsOf config [] (run ∷ runs) = ⊥
   AreRunsOf config (part ∷ parts) [] = ⊥
 

@@ -1,6 +1,4 @@
 pub mod Words
-pub mod Plans
-pub mod Devices
 pub mod Headline
 pub mod Running
 pub mod Telling

@@ -9,7 +9,8 @@ use Rattle.plain_log.specs.declared.journal.JournalEntry.{JournalEntry}
 use Rattle.script_lang.specs.declared.script.PartScript.{PartScript}
 use Rattle.script_lang.specs.Fit.{StepsToEnds}
 use Rattle.trace_text.specs.Trace.{journal_text, trace_of}
-use Rattle.broker_call.specs.Headline.{IsRunOf, AreRunsOf}
+use Rattle.memory_run.specs.Run.{IsRunOf}
+use Rattle.broker_call.specs.Headline.{AreRunsOf}
 
 module _ {D S M : Type 0} (disk : DiskGhosts D) (store : StoreGhosts S) (meta : MetaGhosts M) where
   -- the text of a run of the partition stands behind what stood there

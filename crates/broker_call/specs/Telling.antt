@@ -9,7 +9,8 @@ use Rattle.plain_log.specs.declared.journal.JournalEntry.{JournalEntry}
 use Rattle.run_summary.specs.declared.told.Told.{Told}
 use Rattle.script_lang.specs.declared.script.PartScript.{PartScript}
 use Rattle.script_lang.specs.Fit.{StepsToEnds}
-use Rattle.broker_call.specs.Headline.{IsRunOf, AreRunsOf, IsTold, AreTold}
+use Rattle.memory_run.specs.Run.{IsRunOf}
+use Rattle.broker_call.specs.Headline.{AreRunsOf, IsTold, AreTold}
 
 module _ {D S M : Type 0} (disk : DiskGhosts D) (store : StoreGhosts S) (meta : MetaGhosts M) where
   -- this is what a run of the partition comes to

@@ -1,16 +1,13 @@
 //! The call that the program makes: for the words `sim`, `run` and `gen`.
 //!
 //! `tiered` has the headline as its clauses. A script is read (`script_lang`), each of its partitions is run in a world of its
-//! own, over devices in memory (`partition`) or over a yard's (`run`), and the trace of the journals is written (`sim`); the
+//! own, over devices in memory (`memory_run`) or over a yard's (`run`), and the trace of the journals is written (`sim`); the
 //! script of a number is run so too, and summed up (`load`). Words, statuses and what explains a refused line stand beside it.
 #![tactic(auto)]
 
-mod devices;
 mod explaining;
 mod help;
 mod load;
-mod partition;
-mod plans;
 mod run;
 mod sim;
 mod status;

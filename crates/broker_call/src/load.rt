@@ -13,7 +13,7 @@ ghost use Rattle.broker_call.specs.Headline.{IsSummary};
 ghost use Rattle.broker_call.specs.Telling.{IsToldRun, AreToldRuns};
 ghost use Rattle.broker_call.specs.Endings.{Generates};
 
-use crate::partition::run_partition;
+use memory_run::run_partition;
 use crate::status::Status;
 use disk_model::{Disk, MemoryDisk};
 use load_gen::script_of;

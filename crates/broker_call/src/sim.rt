@@ -12,7 +12,7 @@ ghost use Rattle.broker_call.specs.Headline.{IsTrace};
 ghost use Rattle.broker_call.specs.Running.{AddsRun, IsRunText};
 ghost use Rattle.broker_call.specs.Endings.{Simulates};
 
-use crate::partition::run_partition;
+use memory_run::run_partition;
 use crate::status::Status;
 use disk_model::{Disk, MemoryDisk};
 use meta_log::{MemoryLog, MetaLog};

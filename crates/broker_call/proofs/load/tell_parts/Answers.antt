@@ -4,7 +4,7 @@ use Rattle.script_lang.specs.Fit.{StepsToEnds}
 use Rattle.script_lang.specs.declared.script.PartScript.{PartScript}
 use Rattle.broker_call.specs.Telling.{AreToldRuns}
 use Rattle.broker_call.proofs.Telling.{tells_on}
-use Rattle.broker_call.proofs.MemoryDevices.{disk, store, meta}
+use Rattle.memory_run.proofs.MemoryDevices.{disk, store, meta}
 use Rattle.broker_call.proofs.load.tell_parts.Goals as goal
 
 pub loop-part-preserved : goal.loop-part-preserved

@@ -1,5 +1,5 @@
 use Rattle.broker_call.specs.Telling.{IsToldSoFar}
-use Rattle.broker_call.proofs.MemoryDevices.{disk, store, meta}
+use Rattle.memory_run.proofs.MemoryDevices.{disk, store, meta}
 use Rattle.broker_call.proofs.load.tell_parts.Given as goal
 
 abbrev pub invariant-loop-part : goal.invariant-loop-part

@@ -3,7 +3,7 @@ use Rattle.plain_log.specs.Orders.{AreListsFor}
 use Rattle.script_lang.specs.Fit.{StepsToEnds}
 use Rattle.script_lang.specs.declared.script.PartScript.{PartScript}
 use Rattle.broker_call.proofs.Running.{goes_on}
-use Rattle.broker_call.proofs.MemoryDevices.{disk, store, meta}
+use Rattle.memory_run.proofs.MemoryDevices.{disk, store, meta}
 use Rattle.broker_call.proofs.sim.run_parts.Goals as goal
 
 pub loop-part-preserved : goal.loop-part-preserved

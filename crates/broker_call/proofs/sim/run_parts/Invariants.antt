@@ -1,5 +1,5 @@
 use Rattle.broker_call.specs.Running.{IsSoFar}
-use Rattle.broker_call.proofs.MemoryDevices.{disk, store, meta}
+use Rattle.memory_run.proofs.MemoryDevices.{disk, store, meta}
 use Rattle.broker_call.proofs.sim.run_parts.Given as goal
 
 abbrev pub invariant-loop-part : goal.invariant-loop-part

@@ -1,6 +1,0 @@
-use Rattle.std.proofs.Common.{◌≡◌, take}
-use Rattle.broker_call.specs.Plans.{meta_plan}
-use Rattle.broker_call.proofs.plans.meta_plan.Given as goal
-
-abbrev pub invariant-loop-fault : goal.invariant-loop-fault
-invariant-loop-fault l = l.plan.items ≡ meta_plan (take l.fault-index l.faults)

@@ -1,0 +1,4 @@
+mod MemoryDevices
+mod Opening
+mod Planning
+mod Running

@@ -1,0 +1,18 @@
+//! What a thread passes before it takes a lock.
+
+use tier_base::ActorId;
+
+/// Called by the thread of an actor before each of its turns, without a lock, the last call among them, which finds the
+/// list at its end. It means nothing to the run; a test holds threads there.
+pub trait Gate {
+    /// Lets the thread of an actor go on to its n-th call, counted from 1 in each partition.
+    fn pass(&self, actor: ActorId, turn: u64);
+}
+
+/// A gate that holds nobody.
+#[derive(Clone, Copy, Debug, PartialEq, Eq)]
+pub struct OpenGate;
+
+impl Gate for OpenGate {
+    fn pass(&self, _actor: ActorId, _turn: u64) {}
+}
