@@ -1,4 +1,4 @@
-mod MemoryDevices
+pub mod MemoryDevices
 mod Opening
 mod Planning
-mod Running
+pub mod Running

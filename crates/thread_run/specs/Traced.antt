@@ -51,11 +51,15 @@ module _ {D S M : Type 0} where
     pub script_is : t.script ≡ script
     pub place_is : t.place ≡ place
 
-  -- it is of the same partition, and goes on
-  pub record GoesOn (t t' : Trace D S M) : Type 0 where
+  -- it is of the same partition of the same script
+  pub record IsSamePart (t t' : Trace D S M) : Type 0 where
     pub script : t'.script ≡ t.script
     pub place : t'.place ≡ t.place
     pub partition : t'.partition ≡ t.partition
+
+  -- it is, and goes on
+  pub record GoesOn (t t' : Trace D S M) : Type 0 where
+    pub same : IsSamePart t t'
     pub goes : t'.ended ≡ false
 
 module _ {D S M : Type 0} (disk : DiskGhosts D) (store : StoreGhosts S) (meta : MetaGhosts M) where

@@ -1,11 +1,11 @@
 //! A world with what it was made of, and with the actors of its turns so far.
 
-ghost use Rattle.std.specs.Prelude.{◌≡◌, ◌≢◌, ◌++◌, ◌∷◌, ℕ, [], false, true, IsTrue, ◌↔◌, OnOk};
+ghost use Rattle.std.specs.Prelude.{◌≡◌, ◌≢◌, ◌++◌, ◌∷◌, ℕ, [], false, true, IsTrue, ◌↔◌, OnOk, IfOk};
 ghost use Rattle.partition_seen.specs.declared.seat.Stepped.TheVariants.{NoMemory};
 ghost use Rattle.partition_world.specs.Turn.{Steps, IsAtEnd};
 ghost use Rattle.partition_world.specs.Later.{IsLater};
 ghost use Rattle.partition_world.specs.Central.{KeepsCentral};
-ghost use Rattle.thread_run.specs.Traced.{LeadsFrom, IsOf, GoesOn, IsThreadedRun};
+ghost use Rattle.thread_run.specs.Traced.{LeadsFrom, IsTraced, IsOf, GoesOn, IsThreadedRun};
 
 use bytes::Bytes;
 use command_answers::runs_meet_no_damage;
@@ -17,7 +17,7 @@ use partition_world::{
     World, ends_are_complete, fresh_is_unfailing, reaches_in_turn, reaches_later,
     reaches_unfailing,
 };
-use plain_log::{fresh_is_safe, replays_keep_safe};
+use plain_log::{Journal, fresh_is_safe, replays_keep_safe};
 use std::alloc::{AllocError, Global};
 use std::marker::Model;
 use tier_base::{ActorId, PartitionId, Row};
@@ -88,7 +88,9 @@ impl<D: Disk, S: Store, M: MetaLog> Traced<D, S, M> {
 
     /// Lends the world.
     pub fn world(&self) -> &World<D, S, M>
-        ensures { result.now ≡ self.now.world }
+        ensures world { result.now ≡ self.now.world }
+        ensures leads { IsTraced D.Disk S.Store M.MetaLog self.now.script self.now.place self.now.partition self.now.world
+            self.now.turns self.now.ended }
     {
         &self.world
     }
@@ -131,8 +133,8 @@ impl<D: Disk, S: Store, M: MetaLog> Traced<D, S, M> {
 
     /// Steps an actor to the end of its list.
     fn run_actor(&mut self, alloc: Global, actor: ActorId) -> Result<(), AllocError>
-        ensures later { OnOk result (IsLater D.Disk S.Store M.MetaLog self.old.world self.new.world) }
         ensures goes_on { OnOk result (GoesOn self.old self.new) }
+        ensures later { OnOk result (IsLater D.Disk S.Store M.MetaLog self.old.world self.new.world) }
         ensures ended { OnOk result (IsAtEnd self.new.world actor.0) }
     {
         loop {
@@ -150,19 +152,21 @@ impl<D: Disk, S: Store, M: MetaLog> Traced<D, S, M> {
         ensures goes_on { OnOk result (GoesOn self.old self.new) }
         ensures ended { OnOk result ((a : ℕ) → IsAtEnd self.new.world a) }
     {
-        let count = self.world.lists().len();
+        if self.ended() {
+            return Err(AllocError);
+        }
+        let count = self.world().lists().len();
         for place in 0..count {
-            let actor = self.world.lists()[place].actor;
+            let actor = self.world().lists()[place].actor;
             self.run_actor(alloc, actor)?;
         }
         Ok(())
     }
 
-    /// Ends a run: the actors are stepped to the ends of their lists.
-    pub fn finish(&mut self, alloc: Global) -> Result<(), AllocError>
-        ensures goes_on { OnOk result (GoesOn self.old self.new) }
-        ensures run { OnOk result (IsThreadedRun D.Disk S.Store M.MetaLog self.old.script self.old.place
-            (self.old.partition.0, self.new.world.journal.items)) }
+    /// Ends a run, the actors being stepped to the ends of their lists, and lends the journal.
+    pub fn finish(&mut self, alloc: Global) -> Result<&Journal, AllocError>
+        ensures { IfOk result (λ journal. IsThreadedRun D.Disk S.Store M.MetaLog self.old.script self.old.place
+            (self.old.partition.0, journal.now.items)) }
     {
         ends_are_complete::<D, S, M>();
         reaches_later::<D, S, M>();
@@ -172,6 +176,7 @@ impl<D: Disk, S: Store, M: MetaLog> Traced<D, S, M> {
         runs_meet_no_damage::<D, S, M>();
         fresh_is_safe();
         replays_keep_safe();
-        self.run_to_end(alloc)
+        self.run_to_end(alloc)?;
+        Ok(self.world().journal())
     }
 }
