@@ -1,3 +1,4 @@
 mod Numerals
 mod Running
 mod Telling
+mod Threaded

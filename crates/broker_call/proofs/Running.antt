@@ -20,7 +20,7 @@ module _ {D S M : Type 0} (disk : DiskGhosts D) (store : StoreGhosts S) (meta : 
   runs_snoc config [] (one ∷ runs) part run are is = elim are [ ]
   runs_snoc config (first ∷ parts) [] part run are is = elim are [ ]
 
-  trace_snoc : (runs : List (ℕ × List JournalEntry)) (run : ℕ × List JournalEntry) → trace_of (runs ++ run ∷ []) ≡ trace_of runs ++ journal_text run.0 run.1
+  pub trace_snoc : (runs : List (ℕ × List JournalEntry)) (run : ℕ × List JournalEntry) → trace_of (runs ++ run ∷ []) ≡ trace_of runs ++ journal_text run.0 run.1
   trace_snoc [] run = append-nil (journal_text run.0 run.1)
   trace_snoc (one ∷ runs) run = ap (λ (t : List ℕ). journal_text one.0 one.1 ++ t) (trace_snoc runs run) ∙ sym (append_assoc (journal_text one.0 one.1) (trace_of runs) (journal_text run.0 run.1))
 

@@ -30,13 +30,12 @@ IsRefusedOrNoMemory number cause (BadScript line why) = (line ≡ number) × (wh
 IsRefusedOrNoMemory number cause NoMemory = Unit {0}
 IsRefusedOrNoMemory number cause other = ⊥
 
-module _ {D S M R W : Type 0} (disk : DiskGhosts D) (store : StoreGhosts S) (meta : MetaGhosts M) (source : SourceGhosts R)
-    (sink : SinkGhosts W) where
-  -- `sim`, from a source to a sink
+module _ {R W : Type 0} (Traces : List ℕ → List ℕ → Type 0) (source : SourceGhosts R) (sink : SinkGhosts W) where
+  -- `sim`, from a source to a sink, which writes such traces
   pub record Simulates (script script' : R) (out out' : W) (status : Status) : Type 0 where
     -- every command of the script is answered once and in order, as the plain log allows, and all of that is written
     pub trace : status ≡ Ok
-        → WritesTrace disk store meta (source.left script) (source.left script') (sink.written out) (sink.written out')
+        → WritesTrace Traces (source.left script) (source.left script') (sink.written out) (sink.written out')
     -- each other status has its cause; want of memory alone is free
     pub read_fault : status ≡ ReadFault → Rose (source.faults script) (source.faults script')
     pub long : status ≡ TooLong → source.given script' ≡ counted (source.given script) (script_limit + 1)
@@ -45,7 +44,7 @@ module _ {D S M R W : Type 0} (disk : DiskGhosts D) (store : StoreGhosts S) (met
     pub bad : (line : ℕ) (why : Why) → status ≡ BadScript line why → ReadsBad (source.left script) (source.left script') line why
     pub write_fault : status ≡ WriteFault → Rose (sink.faults out) (sink.faults out')
     pub front : status ≡ WriteFault
-        → WritesFront disk store meta (source.left script) (source.left script') (sink.written out) (sink.written out')
+        → WritesFront Traces (source.left script) (source.left script') (sink.written out) (sink.written out')
     -- where nothing fails, a script with a reading is run, unless memory runs out
     pub complete : ¬ Rose (source.faults script) (source.faults script') → ¬ Rose (sink.faults out) (sink.faults out')
         → (bytes : List ℕ) → source.left script ≡ Some bytes → length bytes ≤ script_limit → IsOk (script_in bytes)

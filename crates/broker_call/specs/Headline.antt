@@ -18,6 +18,7 @@ use Rattle.trace_text.specs.Trace.{trace_of}
 use Rattle.run_summary.specs.declared.told.Told.{Told}
 use Rattle.run_summary.specs.Told.{told_of, summary_text}
 use Rattle.memory_run.specs.Run.{IsRunOf}
+use Rattle.thread_run.specs.Traced.{IsRunByThreads}
 
 -- this is what the partition's run comes to
 abbrev pub IsTold : Config → PartScript → ℕ × List JournalEntry → Told → Type 0
@@ -45,7 +46,22 @@ module _ {D S M : Type 0} (disk : DiskGhosts D) (store : StoreGhosts S) (meta : 
     pub are : AreRunsOf script.config script.parts runs
     pub spelled : text ≡ trace_of runs
 
-  -- the same, but that the text sums the runs up
+  -- each partition has a run by a schedule that its threads made
+  abbrev pub AreRunsByThreads : Config → List PartScript → List (ℕ × List JournalEntry) → Type 0
+  AreRunsByThreads config [] [] = Unit {0}
+  AreRunsByThreads config (part ∷ parts) (run ∷ runs) = IsRunByThreads disk store meta config part run × AreRunsByThreads config parts runs
+  AreRunsByThreads config [] (run ∷ runs) = ⊥
+  AreRunsByThreads config (part ∷ parts) [] = ⊥
+
+  -- the script has a reading, and the text is the trace of such a run of each of its partitions
+  pub record IsTraceByThreads (bytes text : List ℕ) : Type 0 where
+    pub script : Script
+    pub read : script_in bytes ≡ Ok script
+    pub runs : List (ℕ × List JournalEntry)
+    pub are : AreRunsByThreads script.config script.parts runs
+    pub spelled : text ≡ trace_of runs
+
+  -- the script has a reading, and the text sums up a run of each of its partitions
   pub record IsSummary (bytes text : List ℕ) : Type 0 where
     pub script : Script
     pub read : script_in bytes ≡ Ok script
@@ -54,22 +70,6 @@ module _ {D S M : Type 0} (disk : DiskGhosts D) (store : StoreGhosts S) (meta : 
     pub told : List Told
     pub tell : AreTold script.config script.parts runs told
     pub spelled : text ≡ summary_text told
-
-  -- the source was read to its end, and a trace of what it gave was written
-  pub record WritesTrace (left_old left_new written_old written_new : Option (List ℕ)) : Type 0 where
-    pub script : List ℕ
-    pub read : ReadsWhole left_old left_new script
-    pub text : List ℕ
-    pub trace : IsTrace script text
-    pub written : Appends written_old written_new text
-
-  -- the same, but that a front of the trace was written, and not all of it
-  pub record WritesFront (left_old left_new written_old written_new : Option (List ℕ)) : Type 0 where
-    pub script : List ℕ
-    pub read : ReadsWhole left_old left_new script
-    pub text : List ℕ
-    pub trace : IsTrace script text
-    pub written : AppendsFront written_old written_new text
 
   -- a summary of the script was written
   pub record WritesSummary (script : List ℕ) (written_old written_new : Option (List ℕ)) : Type 0 where
@@ -81,6 +81,24 @@ module _ {D S M : Type 0} (disk : DiskGhosts D) (store : StoreGhosts S) (meta : 
   pub record WritesSummaryFront (script : List ℕ) (written_old written_new : Option (List ℕ)) : Type 0 where
     pub text : List ℕ
     pub summary : IsSummary script text
+    pub written : AppendsFront written_old written_new text
+
+-- a trace, of one kind or the other, of these bytes
+module _ (Traces : List ℕ → List ℕ → Type 0) where
+  -- the source was read to its end, and a trace of what it gave was written
+  pub record WritesTrace (left_old left_new written_old written_new : Option (List ℕ)) : Type 0 where
+    pub script : List ℕ
+    pub read : ReadsWhole left_old left_new script
+    pub text : List ℕ
+    pub trace : Traces script text
+    pub written : Appends written_old written_new text
+
+  -- the same, but that a front of the trace was written, and not all of it
+  pub record WritesFront (left_old left_new written_old written_new : Option (List ℕ)) : Type 0 where
+    pub script : List ℕ
+    pub read : ReadsWhole left_old left_new script
+    pub text : List ℕ
+    pub trace : Traces script text
     pub written : AppendsFront written_old written_new text
 
 -- the source was read to its end, this line of what it gave is the first without a reading, and this is why

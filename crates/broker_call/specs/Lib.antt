@@ -1,6 +1,7 @@
 pub mod Words
 pub mod Headline
 pub mod Running
+pub mod Threads
 pub mod Telling
 pub mod Endings
 pub mod Yards

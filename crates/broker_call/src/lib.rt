@@ -1,10 +1,11 @@
-//! The call that the program makes: for the words `sim`, `run` and `gen`.
+//! The call that the program makes: for the words `sim`, `sim --threads`, `run` and `gen`.
 //!
 //! `tiered` has the headline as its clauses. A script is read (`script_lang`), each of its partitions is run in a world of its
 //! own, over devices in memory (`memory_run`) or over a yard's (`run`), and the trace of the journals is written (`sim`); the
 //! script of a number is run so too, and summed up (`load`). Words, statuses and what explains a refused line stand beside it.
 #![tactic(auto)]
 
+mod by_threads;
 mod explaining;
 mod help;
 mod load;
@@ -18,5 +19,6 @@ pub use explaining::{explained, script_source};
 pub use help::printed;
 pub use script_lang::Why;
 pub use status::Status;
-pub use top::tiered;
+pub use thread_run::{Gate, OpenGate};
+pub use top::{tiered, tiered_in_order};
 pub use words::{Form, folder, form_of};

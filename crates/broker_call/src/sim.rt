@@ -46,7 +46,7 @@ fn run_part(
 }
 
 /// Puts a text behind another.
-fn joined(front: Vec<u8>, back: Vec<u8>) -> Result<Vec<u8>, AllocError>
+pub(crate) fn joined(front: Vec<u8>, back: Vec<u8>) -> Result<Vec<u8>, AllocError>
     ensures { IfOk result (λ text. text.items ≡ front.items ++ back.items) }
 {
     if front.is_empty() {
@@ -73,7 +73,7 @@ fn run_parts(alloc: Global, config: Config, parts: Row<PartScript>) -> Result<Ve
 }
 
 /// Reads a script, runs it, and answers the trace.
-fn trace_of(alloc: Global, script: &[u8]) -> Result<Vec<u8>, ScriptRefusal>
+pub(crate) fn trace_of(alloc: Global, script: &[u8]) -> Result<Vec<u8>, ScriptRefusal>
     requires { length script.now < 2 ^ 32 - 1 }
     ensures trace { IfOk result (λ text. IsTrace ⟦<MemoryDisk as Disk>⟧ ⟦<MemoryStore as Store>⟧ ⟦<MemoryLog as MetaLog>⟧
         script.now text.items) }
@@ -89,7 +89,7 @@ fn trace_of(alloc: Global, script: &[u8]) -> Result<Vec<u8>, ScriptRefusal>
 
 /// Reads a script, runs it, and writes what each of its commands was answered.
 pub fn simulate<R: Source, W: Sink>(alloc: Global, script: &mut R, out: &mut W) -> Status
-    ensures ends { Simulates ⟦<MemoryDisk as Disk>⟧ ⟦<MemoryStore as Store>⟧ ⟦<MemoryLog as MetaLog>⟧ R.Source W.Sink
+    ensures ends { Simulates (IsTrace ⟦<MemoryDisk as Disk>⟧ ⟦<MemoryStore as Store>⟧ ⟦<MemoryLog as MetaLog>⟧) R.Source W.Sink
         script.old script.new out.old out.new result }
     ensures asked { result ≢ Status.Usage }
 {

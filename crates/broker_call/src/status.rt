@@ -50,7 +50,7 @@ impl Status {
             Status::Ok => Ok(String::new(alloc)),
             Status::Usage => String::from_str(
                 alloc,
-                "tiered: usage: tiered sim or run DIR or gen N\n",
+                "tiered: usage: tiered sim [--threads] or run DIR or gen N\n",
             ),
             Status::BadScript { line, why } => format!(in alloc; "tiered: line {line}: {why}\n"),
             Status::ReadFault => String::from_str(alloc, "tiered: read fault\n"),

@@ -10,6 +10,8 @@ ghost use Rattle.broker_call.specs.Words.{form_of as form_is, number_of as numbe
 pub enum Form {
     /// `sim`: a script is read and run, and its trace is written.
     Sim,
+    /// `sim --threads`: the same, but that each actor of each partition has a thread of its own.
+    Threads,
     /// `run DIR`: a script is read and run over the devices of a folder, and its trace is written.
     Run,
     /// `gen N`: the script of a number is run, and its summary is written.
@@ -51,6 +53,7 @@ pub fn form_of(words: &[String]) -> Option<Form>
 {
     match words {
         [word] if word.as_str() == "sim" => Some(Form::Sim),
+        [word, flag] if word.as_str() == "sim" && flag.as_str() == "--threads" => Some(Form::Threads),
         [word, _] if word.as_str() == "run" => Some(Form::Run),
         [word, number] if word.as_str() == "gen" => Some(Form::Gen(number_of(number.as_str())?)),
         _ => None,

@@ -78,10 +78,13 @@ module _ {D S M : Type 0} (disk : DiskGhosts D) (store : StoreGhosts S) (meta : 
   abbrev pub IsTraced : List ℕ → ℕ → PartitionId → Whole D S M → List ActorId → Bool → Type 0
   IsTraced script place partition w turns ended = ended ≡ false → LeadsFrom script place partition turns w
 
-  -- the partition's number and journal: a run of the script's partition by a schedule that the threads made
+  -- a partition's number and journal: a run of it by a schedule that the threads made
+  abbrev pub IsRunByThreads : Config → PartScript → ℕ × List JournalEntry → Type 0
+  IsRunByThreads config part run = (schedule : List Pace) × IsRunOf disk store meta config (by_schedule schedule part) run
+
+  -- such a run of the partition that stands at this place of the script
   pub record IsThreadedRun (script : List ℕ) (place : ℕ) (run : ℕ × List JournalEntry) : Type 0 where
     pub config : Config
     pub part : PartScript
     pub is_part : IsPart script place config part
-    pub schedule : List Pace
-    pub is : IsRunOf disk store meta config (by_schedule schedule part) run
+    pub is : IsRunByThreads config part run
