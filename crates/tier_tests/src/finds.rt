@@ -1,181 +1,151 @@
-//! Worked rows, by hand. Each call is made once with ample memory.
+//! Offsets that are looked up in a view of two copies. Worked rows, by hand.
+//!
+//! No test holds a view: a story is a log's line and a table of what is asked, with the answers.
 
+use crate::given::{END, ONE_EPOCH, STATE, TWO_EPOCHS, UPDATE, id, takes};
 use epoch_line::Line;
 use remote_find::{Piece, chain, covered_to, find};
 use remote_view::View;
-use segment_meta::decode;
 use std::alloc::Global;
-use std::test::Fail;
-use tier_base::{BrokerId, PartitionId, SegmentId, segment_id};
 
-/// A copy that starts: offsets 0 to 19, epoch 0 up to offset 9 and epoch 1 from offset 10 on.
-const TWO_EPOCHS: [u8; 87] = [
-    0, 0, // version, kind
-    0, 0, 0, 0, 0, 0, 0, 1, 0, 0, 0, 0, 0, 0, 0, 0, // id
-    0, 0, // partition
-    0, 0, 0, 0, 0, 0, 0, 0, // start
-    0, 0, 0, 0, 0, 0, 0, 19, // end
-    0, 0, 0, 0, 0, 0, 0, 0, // max_ts
-    0, 0, // broker
-    0, 0, 0, 0, 0, 0, 0, 0, // event_ts
-    0, 0, 0, 0, // size
-    0, // state
-    0, 0, 0, 2, // count
-    0, 0, 0, 0, // epoch
-    0, 0, 0, 0, 0, 0, 0, 0, // its start
-    0, 0, 0, 1, // epoch
-    0, 0, 0, 0, 0, 0, 0, 10, // its start
-];
+/// What is asked of a view, each of a log that ends at the first of the offsets.
+#[derive(Clone, Copy)]
+enum Ask<'a> {
+    /// The piece that holds an offset: its attempt, from where and to where.
+    Finds(u64, u64, Option<(u64, u64, u64)>),
+    /// How far pieces reach from an offset on.
+    Covers(u64, u64, u64),
+    /// The pieces from an offset on, up to a top.
+    Chains(u64, u64, u64, &'a [(u64, u64, u64)]),
+}
 
-/// A copy that starts: offsets 0 to an end, of epoch 0 alone.
-const ONE_EPOCH: [u8; 75] = [
-    0, 0, // version, kind
-    0, 0, 0, 0, 0, 0, 0, 1, 0, 0, 0, 0, 0, 0, 0, 0, // id
-    0, 0, // partition
-    0, 0, 0, 0, 0, 0, 0, 0, // start
-    0, 0, 0, 0, 0, 0, 0, 14, // end
-    0, 0, 0, 0, 0, 0, 0, 0, // max_ts
-    0, 0, // broker
-    0, 0, 0, 0, 0, 0, 0, 0, // event_ts
-    0, 0, 0, 0, // size
-    0, // state
-    0, 0, 0, 1, // count
-    0, 0, 0, 0, // epoch
-    0, 0, 0, 0, 0, 0, 0, 0, // its start
-];
+/// Whether a piece is that of an attempt, from an offset to another one.
+fn is(piece: &Piece, (attempt, from, to): (u64, u64, u64)) -> bool {
+    (piece.id, piece.from, piece.to) == (id(attempt), from, to)
+}
 
-/// Broker 2 tells a state at 7 milliseconds.
-const UPDATE: [u8; 29] = [
-    0, 1, // version, kind
-    0, 0, 0, 0, 0, 0, 0, 1, 0, 0, 0, 0, 0, 0, 0, 0, // id
-    0, 2, // broker
-    0, 0, 0, 0, 0, 0, 0, 7, // event_ts
-    1, // state
-];
-
-/// Where an id's last byte stands, and an update's state.
-const ATTEMPT: usize = 17;
-
-const STATE: usize = 28;
-
-/// Feeds a note, of an attempt, with a byte of its own at a place.
-fn take(
-    view: &mut View,
-    alloc: Global,
-    note: &[u8],
-    attempt: u8,
-    at: usize,
-    own: u8,
-) -> Result<(), Fail> {
-    let mut bytes = Vec::new(alloc);
-    for (i, byte) in note.iter().enumerate() {
-        if i == ATTEMPT {
-            bytes.push(attempt)?;
-        } else if i == at {
-            bytes.push(own)?;
-        } else {
-            bytes.push(*byte)?;
+/// Whether pieces are these.
+fn are(pieces: &[Piece], wanted: &[(u64, u64, u64)]) -> bool {
+    for (piece, wanted) in pieces.iter().zip(wanted) {
+        if !is(piece, *wanted) {
+            return false;
         }
     }
-    let note = decode(alloc, bytes.as_slice())?;
-    view.feed(&note)?;
-    Ok(())
+    pieces.len() == wanted.len()
 }
 
-fn id(attempt: u64) -> SegmentId {
-    segment_id(PartitionId(0), BrokerId(0), 1, attempt)
+fn finds(view: &View, line: &Line, end: u64, offset: u64, wanted: Option<(u64, u64, u64)>) -> bool {
+    match (find(view, line, end, offset), wanted) {
+        (Some(piece), Some(wanted)) => is(&piece, wanted),
+        (None, None) => true,
+        _ => false,
+    }
 }
 
-/// Two copies that have finished: the first up to 19 with two epochs, the second up to 14.
-fn two_copies(alloc: Global) -> Result<View, Fail> {
+fn chains(
+    alloc: Global,
+    view: &View,
+    line: &Line,
+    (end, at, top): (u64, u64, u64),
+    wanted: &[(u64, u64, u64)],
+) -> bool {
+    match chain(alloc, view, line, end, at, top) {
+        Ok(pieces) => are(pieces.as_slice(), wanted),
+        Err(_) => false,
+    }
+}
+
+/// Whether a view answers so.
+fn answers(alloc: Global, view: &View, line: &Line, ask: Ask) -> bool {
+    match ask {
+        Ask::Finds(end, offset, wanted) => finds(view, line, end, offset, wanted),
+        Ask::Covers(end, at, to) => covered_to(view, line, end, at) == to,
+        Ask::Chains(end, at, top, wanted) => chains(alloc, view, line, (end, at, top), wanted),
+    }
+}
+
+/// How many questions a view answers so at first.
+fn answered(alloc: Global, view: &View, line: &Line, asks: &[Ask]) -> usize {
+    for (i, ask) in asks.iter().enumerate() {
+        if !answers(alloc, view, line, *ask) {
+            return i;
+        }
+    }
+    asks.len()
+}
+
+/// Whether a view is fed two copies that have finished: the first up to 19 with two epochs, the second up to 14.
+fn has_two_copies(alloc: Global, view: &mut View) -> bool {
+    let first = takes(alloc, view, &TWO_EPOCHS, 0, END, 19);
+    let first_ends = takes(alloc, view, &UPDATE, 0, STATE, 1);
+    let second = takes(alloc, view, &ONE_EPOCH, 1, END, 14);
+    let second_ends = takes(alloc, view, &UPDATE, 1, STATE, 1);
+    first & first_ends & second & second_ends
+}
+
+/// How many questions are answered so at first, of two copies and of a log's line.
+fn told(alloc: Global, line: &str, asks: &[Ask]) -> usize {
     let mut view = View::new(alloc);
-    take(&mut view, alloc, TWO_EPOCHS.as_slice(), 0, 35, 19)?;
-    take(&mut view, alloc, UPDATE.as_slice(), 0, STATE, 1)?;
-    take(&mut view, alloc, ONE_EPOCH.as_slice(), 1, 35, 14)?;
-    take(&mut view, alloc, UPDATE.as_slice(), 1, STATE, 1)?;
-    Ok(view)
-}
-
-/// A piece of an attempt.
-fn piece(attempt: u64, from: u64, to: u64) -> Piece {
-    Piece {
-        id: id(attempt),
-        from,
-        to,
+    if !has_two_copies(alloc, &mut view) {
+        return 0;
+    }
+    match Line::from_text(alloc, line.as_bytes()) {
+        Ok(line) => answered(alloc, &view, &line, asks),
+        Err(_) => 0,
     }
 }
 
+/// A log's line, and what is asked.
+static STORIES: [(&str, &str, &[Ask<'static>]); 4] = [
+    (
+        "pieces go by both lines",
+        "0\n2\n0 0\n1 12\n",
+        &[
+            // up to where epoch 0 ends in the segment
+            Ask::Finds(18, 0, Some((0, 0, 10))),
+            Ask::Finds(18, 9, Some((0, 0, 10))),
+            // up to where it ends in the line
+            Ask::Finds(18, 10, Some((1, 0, 12))),
+            // from the line's start of epoch 1 to the log's end
+            Ask::Finds(18, 12, Some((0, 12, 18))),
+            Ask::Finds(18, 17, Some((0, 12, 18))),
+            Ask::Finds(18, 18, None),
+            Ask::Covers(18, 0, 18),
+            // up to the copies' end, behind which nothing is copied
+            Ask::Covers(25, 0, 20),
+            Ask::Covers(25, 20, 20),
+        ],
+    ),
+    (
+        "another epoch is no piece",
+        "0\n2\n0 0\n2 3\n",
+        &[
+            // up to the line's next epoch, of which there is no copy
+            Ask::Finds(9, 2, Some((0, 0, 3))),
+            Ask::Finds(9, 3, None),
+            Ask::Covers(9, 0, 3),
+        ],
+    ),
+    (
+        "a log without an epoch has no piece",
+        "0\n0\n",
+        &[Ask::Finds(9, 2, None)],
+    ),
+    (
+        "a chain ends at its top",
+        "0\n2\n0 0\n1 12\n",
+        &[
+            Ask::Chains(18, 0, 18, &[(0, 0, 10), (1, 0, 12), (0, 12, 18)]),
+            // the last one ends past the top
+            Ask::Chains(18, 0, 17, &[(0, 0, 10), (1, 0, 12)]),
+            Ask::Chains(18, 18, 20, &[]),
+        ],
+    ),
+];
+
 #[test]
-fn pieces_go_by_both_lines(rt: HostRuntime) -> Result<(), Fail> {
-    let alloc = rt.alloc();
-    let view = two_copies(alloc)?;
-    let line = Line::from_text(alloc, b"0\n2\n0 0\n1 12\n".as_slice())?;
-    let rows: [(u64, Option<Piece>, &str); 6] = [
-        (
-            0,
-            Some(piece(0, 0, 10)),
-            "where epoch 0 ends in the segment",
-        ),
-        (9, Some(piece(0, 0, 10)), "its last offset"),
-        (10, Some(piece(1, 0, 12)), "where epoch 0 ends in the line"),
-        (
-            12,
-            Some(piece(0, 12, 18)),
-            "from the line's start of epoch 1 to the log's end",
-        ),
-        (17, Some(piece(0, 12, 18)), "the last offset"),
-        (18, None, "the log's end"),
-    ];
-    for (offset, found, why) in rows {
-        assert!(rt; find(&view, &line, 18, offset) == found, "{why}");
+fn questions_are_answered_as_the_stories_say(rt: HostRuntime) {
+    for (story, line, asks) in &STORIES {
+        assert_eq!(rt; told(rt.alloc(), line, asks), asks.len(), "{story}");
     }
-    assert_eq!(rt; covered_to(&view, &line, 18, 0), 18, "all of it");
-    assert_eq!(rt;
-        covered_to(&view, &line, 25, 0),
-        20,
-        "up to the copies' end"
-    );
-    assert_eq!(rt;
-        covered_to(&view, &line, 25, 20),
-        20,
-        "nothing is copied there"
-    );
-    Ok(())
-}
-
-#[test]
-fn another_epoch_is_no_piece(rt: HostRuntime) -> Result<(), Fail> {
-    let alloc = rt.alloc();
-    let view = two_copies(alloc)?;
-    let line = Line::from_text(alloc, b"0\n2\n0 0\n2 3\n".as_slice())?;
-    assert!(rt;
-        find(&view, &line, 9, 2) == Some(piece(0, 0, 3)),
-        "up to the line's next epoch"
-    );
-    assert!(rt; find(&view, &line, 9, 3).is_none(), "no copy has epoch 2");
-    assert_eq!(rt; covered_to(&view, &line, 9, 0), 3, "up to the gap");
-    let none = Line::new(alloc);
-    assert!(rt;
-        find(&view, &none, 9, 2).is_none(),
-        "the log has no epoch there"
-    );
-    Ok(())
-}
-
-#[test]
-fn a_chain_ends_at_its_top(rt: HostRuntime) -> Result<(), Fail> {
-    let alloc = rt.alloc();
-    let view = two_copies(alloc)?;
-    let line = Line::from_text(alloc, b"0\n2\n0 0\n1 12\n".as_slice())?;
-    let whole = [piece(0, 0, 10), piece(1, 0, 12), piece(0, 12, 18)];
-    let pieces = chain(alloc, &view, &line, 18, 0, 18)?;
-    assert!(rt; pieces.as_slice() == whole.as_slice(), "all pieces");
-    let pieces = chain(alloc, &view, &line, 18, 0, 17)?;
-    assert!(rt;
-        pieces.as_slice() == &whole[..2],
-        "the last one ends past the top"
-    );
-    let pieces = chain(alloc, &view, &line, 18, 18, 20)?;
-    assert!(rt; pieces.is_empty(), "nothing is left");
-    Ok(())
 }

@@ -12,6 +12,8 @@ mod fetches;
 #[cfg(test)]
 mod finds;
 #[cfg(test)]
+mod given;
+#[cfg(test)]
 mod laws;
 #[cfg(test)]
 mod rebuilds;

@@ -1,85 +1,68 @@
 //! Views that are refreshed from a metadata log in memory. Notes worked by hand.
 
-use meta_log::{MemoryLog, MetaCall, MetaLog, Planned};
+use crate::given::{END, ONE_EPOCH, STATE, UPDATE, failing_log, id, tells_with};
+use meta_log::{MemoryLog, MetaCall, MetaLog};
 use remote_view::View;
-use segment_meta::{Note, decode};
 use std::alloc::{AllocError, Global};
-use std::test::Fail;
-use tier_base::{BrokerId, PartitionId, SegmentId, State, Trouble, segment_id};
+use tier_base::{State, Trouble};
 use view_refresh::refresh;
 
-/// The copy of offsets 0 to 14 starts, of epoch 0.
-const STARTED: [u8; 75] = [
-    0, 0, // version, kind
-    0, 0, 0, 0, 0, 0, 0, 1, 0, 0, 0, 0, 0, 0, 0, 6, // id
-    0, 0, // partition
-    0, 0, 0, 0, 0, 0, 0, 0, // start
-    0, 0, 0, 0, 0, 0, 0, 14, // end
-    0, 0, 0, 0, 0, 0, 3, 0xe8, // max_ts
-    0, 0, // broker
-    0, 0, 0, 0, 0, 0, 0, 5, // event_ts
-    0, 0, 0, 0x8a, // size
-    0, // state
-    0, 0, 0, 1, // count
-    0, 0, 0, 0, // epoch
-    0, 0, 0, 0, 0, 0, 0, 0, // its start
+/// What happens to a view and its metadata log.
+#[derive(Clone, Copy)]
+enum Step {
+    /// The log is told that the copy starts, of offsets 0 to 14 of epoch 0.
+    Starts,
+    /// It is told that the copy comes to a state.
+    Comes(u8),
+    /// The view is refreshed, which ends so.
+    Looks(Result<(), Trouble>),
+    /// It has so many notes, and the copy's state.
+    Has(u64, Option<State>),
+}
+
+/// Whether a step comes to what it should.
+fn goes(alloc: Global, view: &mut View, meta: &mut MemoryLog, step: Step) -> bool {
+    match step {
+        Step::Starts => tells_with(alloc, meta, &ONE_EPOCH, 6, END, 14),
+        Step::Comes(state) => tells_with(alloc, meta, &UPDATE, 6, STATE, state),
+        Step::Looks(end) => refresh(view, meta) == end,
+        Step::Has(notes, state) => (view.seen(), view.state(id(6))) == (notes, state),
+    }
+}
+
+/// How many steps go well at first.
+fn go(alloc: Global, view: &mut View, meta: &mut MemoryLog, steps: &[Step]) -> usize {
+    for (i, step) in steps.iter().enumerate() {
+        if !goes(alloc, view, meta, *step) {
+            return i;
+        }
+    }
+    steps.len()
+}
+
+/// How many steps go well at first, where the third read of the metadata log fails.
+fn told(alloc: Global, steps: &[Step]) -> Result<usize, AllocError> {
+    let mut meta = failing_log(alloc, Some((MetaCall::Read, 3)), false)?;
+    let mut view = View::new(alloc);
+    meta.arm();
+    Ok(go(alloc, &mut view, &mut meta, steps))
+}
+
+static STEPS: [Step; 11] = [
+    Step::Looks(Ok(())),
+    Step::Has(0, None),
+    Step::Starts,
+    Step::Comes(1),
+    Step::Looks(Ok(())),
+    Step::Has(2, Some(State::CopyFinished)),
+    Step::Comes(2),
+    Step::Looks(Err(Trouble::Failed)),
+    Step::Has(2, Some(State::CopyFinished)),
+    Step::Looks(Ok(())),
+    Step::Has(3, Some(State::DeleteStarted)),
 ];
 
-/// The id of that copy.
-fn id() -> SegmentId {
-    segment_id(PartitionId(0), BrokerId(0), 1, 6)
-}
-
-/// Tells a log that the segment has another state.
-fn tell(log: &mut MemoryLog, state: State) -> Result<u64, Trouble> {
-    if state == State::CopyStarted {
-        return Err(Trouble::Failed);
-    }
-    log.append(&Note::Update {
-        id: id(),
-        broker: BrokerId(0),
-        event_ts: 7,
-        state,
-        custom: None,
-    })
-}
-
-/// A plan of one read that fails.
-fn failing(alloc: Global, number: u32) -> Result<Vec<Planned>, AllocError> {
-    let mut plan = Vec::new(alloc);
-    plan.push(Planned {
-        call: MetaCall::Read,
-        number,
-        after: false,
-    })?;
-    Ok(plan)
-}
-
 #[test]
-fn a_refreshed_view_has_all_notes(rt: HostRuntime) -> Result<(), Fail> {
-    let alloc = rt.alloc();
-    let mut log = MemoryLog::new(alloc, failing(alloc, 3)?);
-    log.arm();
-    let mut view = View::new(alloc);
-    refresh(&mut view, &mut log)?;
-    assert_eq!(rt; (view.seen(), view.state(id())), (0, None));
-    log.append(&decode(alloc, STARTED.as_slice())?)?;
-    tell(&mut log, State::CopyFinished)?;
-    refresh(&mut view, &mut log)?;
-    assert_eq!(rt;
-        (view.seen(), view.state(id())),
-        (2, Some(State::CopyFinished))
-    );
-    tell(&mut log, State::DeleteStarted)?;
-    assert_eq!(rt; refresh(&mut view, &mut log), Err(Trouble::Failed));
-    assert_eq!(rt;
-        (view.seen(), view.state(id())),
-        (2, Some(State::CopyFinished))
-    );
-    refresh(&mut view, &mut log)?;
-    assert_eq!(rt;
-        (view.seen(), view.state(id())),
-        (3, Some(State::DeleteStarted))
-    );
-    Ok(())
+fn a_refreshed_view_has_all_notes(rt: HostRuntime) {
+    assert_eq!(rt; told(rt.alloc(), &STEPS), Ok(STEPS.len()));
 }

@@ -3,87 +3,11 @@
 //! Each kind of call is a method without a contract that tells whether it answered as it should, and the plain look-up with
 //! it; a test is a table of calls and never holds a view.
 
+use crate::given::{END, ONE_EPOCH, STATE, TWO_EPOCHS, UPDATE, id, takes};
 use remote_view::View;
-use segment_meta::{Entry, decode};
-use std::alloc::{AllocError, Global};
-use tier_base::{BrokerId, PartitionId, SegmentId, State, segment_id};
-
-/// A copy that starts: offsets 0 to 19, epoch 0 up to offset 9 and epoch 1 from offset 10 on.
-static TWO_EPOCHS: [u8; 87] = [
-    0, 0, // version, kind
-    0, 0, 0, 0, 0, 0, 0, 1, 0, 0, 0, 0, 0, 0, 0, 0, // id
-    0, 0, // partition
-    0, 0, 0, 0, 0, 0, 0, 0, // start
-    0, 0, 0, 0, 0, 0, 0, 19, // end
-    0, 0, 0, 0, 0, 0, 0, 0, // max_ts
-    0, 0, // broker
-    0, 0, 0, 0, 0, 0, 0, 0, // event_ts
-    0, 0, 0, 0, // size
-    0, // state
-    0, 0, 0, 2, // count
-    0, 0, 0, 0, // epoch
-    0, 0, 0, 0, 0, 0, 0, 0, // its start
-    0, 0, 0, 1, // epoch
-    0, 0, 0, 0, 0, 0, 0, 10, // its start
-];
-
-/// A copy that starts: offsets 0 to an end, of epoch 0 alone.
-static ONE_EPOCH: [u8; 75] = [
-    0, 0, // version, kind
-    0, 0, 0, 0, 0, 0, 0, 1, 0, 0, 0, 0, 0, 0, 0, 0, // id
-    0, 0, // partition
-    0, 0, 0, 0, 0, 0, 0, 0, // start
-    0, 0, 0, 0, 0, 0, 0, 14, // end
-    0, 0, 0, 0, 0, 0, 0, 0, // max_ts
-    0, 0, // broker
-    0, 0, 0, 0, 0, 0, 0, 0, // event_ts
-    0, 0, 0, 0, // size
-    0, // state
-    0, 0, 0, 1, // count
-    0, 0, 0, 0, // epoch
-    0, 0, 0, 0, 0, 0, 0, 0, // its start
-];
-
-/// Broker 2 tells a state at 7 milliseconds.
-static UPDATE: [u8; 29] = [
-    0, 1, // version, kind
-    0, 0, 0, 0, 0, 0, 0, 1, 0, 0, 0, 0, 0, 0, 0, 0, // id
-    0, 2, // broker
-    0, 0, 0, 0, 0, 0, 0, 7, // event_ts
-    1, // state
-];
-
-/// Where an id's last byte stands in a note, an update's state, and the last byte of a copy's end.
-const ATTEMPT: usize = 17;
-
-const STATE: usize = 28;
-
-const END: usize = 35;
-
-/// The bytes of a note, of an attempt, with a byte of its own at a place.
-fn with(
-    alloc: Global,
-    note: &[u8],
-    attempt: u8,
-    at: usize,
-    own: u8,
-) -> Result<Vec<u8>, AllocError> {
-    let mut bytes = Vec::new(alloc);
-    for (i, byte) in note.iter().enumerate() {
-        if i == ATTEMPT {
-            bytes.push(attempt)?;
-        } else if i == at {
-            bytes.push(own)?;
-        } else {
-            bytes.push(*byte)?;
-        }
-    }
-    Ok(bytes)
-}
-
-fn id(attempt: u64) -> SegmentId {
-    segment_id(PartitionId(0), BrokerId(0), 1, attempt)
-}
+use segment_meta::Entry;
+use std::alloc::Global;
+use tier_base::{BrokerId, State};
 
 /// A call of a view. Copies are told apart by their attempt.
 #[derive(Clone, Copy)]
@@ -120,20 +44,9 @@ fn is_of(entry: Option<&Entry>, attempt: Option<u64>) -> bool {
 }
 
 impl Trial {
-    /// Whether a note is fed.
-    fn feeds(&mut self, note: &[u8]) -> bool {
-        match decode(self.alloc, note) {
-            Ok(note) => self.view.feed(&note).is_ok(),
-            Err(_) => false,
-        }
-    }
-
     /// Whether a note is fed, of an attempt, with a byte of its own at a place.
     fn takes(&mut self, note: &[u8], attempt: u8, at: usize, own: u8) -> bool {
-        match with(self.alloc, note, attempt, at, own) {
-            Ok(bytes) => self.feeds(bytes.as_slice()),
-            Err(_) => false,
-        }
+        takes(self.alloc, &mut self.view, note, attempt, at, own)
     }
 
     fn finds(&self, epoch: u32, offset: u64, attempt: Option<u64>) -> bool {
@@ -187,8 +100,8 @@ impl Trial {
 fn first_wrong(alloc: Global, calls: &[Call]) -> Option<usize> {
     let view = View::new(alloc);
     let mut trial = Trial { alloc, view };
-    for call in TWO_COPIES {
-        if !trial.goes(call) {
+    for call in &TWO_COPIES {
+        if !trial.goes(*call) {
             return Some(9999);
         }
     }
@@ -200,7 +113,7 @@ fn first_wrong(alloc: Global, calls: &[Call]) -> Option<usize> {
     None
 }
 
-const TWO_COPIES: [Call<'static>; 4] = [
+static TWO_COPIES: [Call<'static>; 4] = [
     Call::Starts(0, true, 19),
     Call::Comes(0, 1),
     Call::Starts(1, false, 14),
