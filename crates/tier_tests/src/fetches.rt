@@ -1,22 +1,28 @@
-//! A fetch below a local start, turn by turn. Values worked by hand.
+//! Fetches below a local start, turn by turn. Values worked by hand.
+//!
+//! No test holds a fetch: a story is a table of fetches, each with what it comes to.
 
+ghost use Rattle.std.specs.Prelude.{IsTrue};
+ghost use Rattle.tier_fetch.specs.Turns.{IsFor};
+
+use crate::given::{
+    FINISHED, PARTITION, batches, failing_log, failing_store, id, key, puts, shared, tells,
+};
 use bytes::Bytes;
 use epoch_line::Line;
 use index_cache::IndexCache;
 use meta_log::{MemoryLog, MetaCall, MetaLog};
 use object_store::{DeafStore, MemoryStore, ObjectKey, Store, StoreCall};
 use plain_log::{Answer, Place, Tier};
-use record_batch::{Rec, build};
 use remote_view::View;
-use segment_meta::decode;
 use sparse_index::OffsetIndex;
 use std::alloc::{AllocError, Global};
-use std::test::Fail;
-use tier_base::{Blob, BrokerId, Part, PartitionId, Row, SegmentId, Stop, segment_id};
+use std::marker::Model;
+use tier_base::{Part, Stop};
 use tier_fetch::{FetchTurn, Next, Wanted, fetch_turn, span_of};
 
 /// A copy of offsets 0 to 3 starts, of epoch 0: 276 bytes.
-const STARTED: [u8; 75] = [
+static STARTED: [u8; 75] = [
     0, 0, // version, kind
     0, 0, 0, 0, 0, 0, 0, 1, 0, 0, 0, 0, 0, 0, 0, 0, // id
     0, 0, // partition
@@ -32,86 +38,84 @@ const STARTED: [u8; 75] = [
     0, 0, 0, 0, 0, 0, 0, 0, // its start
 ];
 
-/// It is whole.
-const FINISHED: [u8; 29] = [
-    0, 1, // version, kind
-    0, 0, 0, 0, 0, 0, 0, 1, 0, 0, 0, 0, 0, 0, 0, 0, // id
-    0, 0, // broker
-    0, 0, 0, 0, 0, 0, 0, 5, // event_ts
-    1, // state
-];
-
 /// Its offset index at an interval of 100 bytes: the batch of offset 2 begins at 138.
-const INDEX: [u8; 8] = [0, 0, 0, 2, 0, 0, 0, 138];
+static INDEX: [u8; 8] = [0, 0, 0, 2, 0, 0, 0, 138];
 
-const PARTITION: PartitionId = PartitionId(0);
+/// The line of the reading log, which has epoch 1 from offset 3 on.
+static LINE: &str = "0\n2\n0 0\n1 3\n";
 
-/// The id of the copy.
-fn id() -> SegmentId {
-    segment_id(PARTITION, BrokerId(0), 1, 0)
+/// What a fetch came to, in short.
+#[derive(Clone, Copy, Debug, PartialEq, Eq)]
+enum Came {
+    Run(u64, Stop),
+    MetaFault,
+    StoreFault,
+    /// The metadata log is damaged behind so many notes.
+    Lost(u64),
+    /// A part of the copy is damaged at a place.
+    Damaged(Part, u64),
+    Other,
 }
 
-/// The key of a part of it.
-fn key(part: Part) -> ObjectKey {
-    ObjectKey {
-        partition: PARTITION,
-        id: id(),
-        part,
+/// What a turn of a fetch came to, in short.
+#[derive(Clone, Copy)]
+enum Turned {
+    Goes(Next),
+    Ends(Came),
+}
+
+/// What a run came to, in short: it has the segment's bytes from a place on.
+fn ran(tier: Tier, size: u64, stop: Stop, bytes: &[u8], held: &[u8]) -> Came {
+    let whole = (tier, size) == (Tier::Remote(id(0)), bytes.len() as u64);
+    if whole & held.starts_with(bytes) {
+        Came::Run(size, stop)
+    } else {
+        Came::Other
     }
 }
 
-/// The segment: batches of a letter at 0 to 3, each of 69 bytes.
-fn segment(alloc: Global) -> Result<Vec<u8>, Fail> {
-    let mut bytes = Vec::new(alloc);
-    for base in 0..4 {
-        let value = Blob::from_slice(alloc, b"a".as_slice())?;
-        let rec = Rec {
-            ts: 1000,
-            key: None,
-            value: Some(value),
-            headers: Row::new(alloc),
-        };
-        let batch = build(alloc, base, 0, [rec].as_slice())?;
-        bytes.extend_from_slice(batch.as_slice())?;
+/// What is damaged, in short.
+fn damaged(place: Place, at: u64) -> Came {
+    match place {
+        Place::Meta => Came::Lost(at),
+        Place::Key(found) if found == key(found.part) => Came::Damaged(found.part, at),
+        _ => Came::Other,
     }
-    Ok(bytes)
 }
 
-/// A metadata log that tells of it, and of which this read fails.
-fn told(alloc: Global, failing: Option<u32>) -> Result<MemoryLog, Fail> {
-    let mut plan = Vec::new(alloc);
-    if let Some(number) = failing {
-        plan.push(meta_log::Planned {
-            call: MetaCall::Read,
-            number,
-            after: false,
-        })?;
+/// What a fetch is answered, in short.
+fn answered(answer: &Answer, held: &[u8]) -> Came {
+    match answer {
+        Answer::Run {
+            tier,
+            size,
+            stop,
+            bytes,
+        } => ran(*tier, *size, *stop, bytes.as_slice(), held),
+        Answer::MetaFault => Came::MetaFault,
+        Answer::StoreFault => Came::StoreFault,
+        Answer::Damaged(place, at) => damaged(*place, *at),
+        _ => Came::Other,
     }
-    let mut meta = MemoryLog::new(alloc, plan);
-    meta.append(&decode(alloc, STARTED.as_slice())?)?;
-    meta.append(&decode(alloc, FINISHED.as_slice())?)?;
-    meta.arm();
-    Ok(meta)
 }
 
-/// A store that has its log and its index, and of which this read fails.
-fn holding(alloc: Global, failing: Option<u32>) -> Result<MemoryStore, Fail> {
-    let mut plan = Vec::new(alloc);
-    if let Some(number) = failing {
-        plan.push(object_store::Planned {
-            call: StoreCall::Get,
-            number,
-            after: false,
-        })?;
+/// What a turn of a fetch came to, in short.
+fn came_to(turn: &FetchTurn, held: &[u8]) -> Turned {
+    match turn {
+        FetchTurn::Goes(next) => Turned::Goes(*next),
+        FetchTurn::Ends(answer) => Turned::Ends(answered(answer, held)),
     }
-    let mut store = MemoryStore::new(alloc, plan);
-    store.put(&key(Part::Log), &Bytes::from_vec(segment(alloc)?)?)?;
-    store.put(
-        &key(Part::Index),
-        &Bytes::from_vec(Vec::from_slice(alloc, INDEX.as_slice())?)?,
-    )?;
-    store.arm();
-    Ok(store)
+}
+
+/// Whether a turn may be one of a fetch at an offset.
+fn is_for(offset: u64, next: Next) -> bool
+    ensures { IsTrue result → IsFor offset next }
+{
+    match next {
+        Next::Refresh => true,
+        Next::Index(piece) => offset < piece.to,
+        Next::Log(piece, _) => offset < piece.to,
+    }
 }
 
 /// What a fetch asks for.
@@ -125,265 +129,364 @@ fn wanted(offset: u64, limit: u32, mark: u64) -> Wanted {
     }
 }
 
-/// Takes turns until the fetch is answered, and counts them, where its offset is below the mark.
-fn fetch<S: Store>(
+/// What fetches change. A test knows nothing of it but what it is told.
+#[derive(Drop)]
+struct Trial<S: Store> {
     alloc: Global,
-    wanted: &Wanted,
-    view: &mut View,
-    cache: &mut IndexCache,
-    store: &mut S,
-    meta: &mut MemoryLog,
-) -> Result<(FetchTurn, u32), Fail> {
-    if wanted.offset >= wanted.mark {
-        return Ok((FetchTurn::Ends(Answer::Empty), 0));
+    view: View,
+    cache: IndexCache,
+    store: S,
+    meta: MemoryLog,
+}
+
+impl<S: Store> Model for Trial<S> {
+    ghost use Rattle.std.specs.Prelude.{ℕ};
+
+    ghost Value = { ℕ };
+
+    // Nothing is told.
+    ghost view = { λ t. 0 };
+}
+
+/// What is done over devices that have a copy, and what it should come to.
+#[derive(Clone, Copy)]
+enum Step {
+    /// The offset, the limit and the mark; what it comes to, and after how many turns.
+    Fetches(u64, u32, u64, Came, u32),
+    /// The cache has so many indexes.
+    Caches(usize),
+}
+
+/// The bytes of a segment from the batch of an offset on.
+fn behind(segment: &[u8], offset: u64) -> &[u8] {
+    let place = (offset.min(3) as usize) * 69;
+    let (_, behind) = segment.split_at(place.min(segment.len()));
+    behind
+}
+
+impl<S: Store> Trial<S> {
+    fn over(alloc: Global, store: S, meta: MemoryLog) -> Result<Trial<S>, AllocError> {
+        let cache = IndexCache::new(alloc, 64)?;
+        Ok(Trial {
+            alloc,
+            view: View::new(alloc),
+            cache,
+            store,
+            meta,
+        })
     }
-    // The reading log has epoch 1 from offset 3 on.
-    let line = Line::from_text(alloc, b"0\n2\n0 0\n1 3\n".as_slice())?;
-    match fetch_turn(
-        alloc,
-        wanted,
-        Next::Refresh,
-        &line,
-        view,
-        cache,
-        store,
-        meta,
-    )? {
-        FetchTurn::Goes(next) => {
-            match fetch_turn(alloc, wanted, next, &line, view, cache, store, meta)? {
-                FetchTurn::Goes(next) => {
-                    let third = fetch_turn(alloc, wanted, next, &line, view, cache, store, meta)?;
-                    Ok((third, 3))
-                }
-                ends => Ok((ends, 2)),
+
+    /// Whether the metadata log is told of the copy.
+    fn tells(&mut self) -> bool {
+        let started = tells(self.alloc, &mut self.meta, &STARTED);
+        let finished = tells(self.alloc, &mut self.meta, &FINISHED);
+        started & finished
+    }
+
+    /// Whether the store is given the copy's log and its index.
+    fn puts(&mut self, segment: &[u8]) -> bool {
+        let log = puts(self.alloc, &mut self.store, &key(Part::Log), segment);
+        let index = puts(self.alloc, &mut self.store, &key(Part::Index), &INDEX);
+        log & index
+    }
+
+    /// Arms both devices.
+    fn arm(&mut self) {
+        self.store.arm();
+        self.meta.arm();
+    }
+
+    /// Takes a turn. The bytes of a run are those that are held.
+    fn turn(&mut self, line: &Line, wanted: &Wanted, next: Next, held: &[u8]) -> Turned {
+        if wanted.offset >= wanted.mark || !is_for(wanted.offset, next) {
+            return Turned::Ends(Came::Other);
+        }
+        match fetch_turn(
+            self.alloc,
+            wanted,
+            next,
+            line,
+            &mut self.view,
+            &mut self.cache,
+            &mut self.store,
+            &mut self.meta,
+        ) {
+            Ok(turn) => came_to(&turn, held),
+            Err(_) => Turned::Ends(Came::Other),
+        }
+    }
+
+    /// Takes turns until the fetch is answered, four at most, and counts them.
+    fn run(&mut self, line: &Line, wanted: &Wanted, held: &[u8]) -> (Came, u32) {
+        let mut next = Next::Refresh;
+        for turns in 1..5 {
+            match self.turn(line, wanted, next, held) {
+                Turned::Goes(later) => next = later,
+                Turned::Ends(came) => return (came, turns),
             }
         }
-        ends => Ok((ends, 1)),
+        (Came::Other, 4)
+    }
+
+    /// Fetches from an offset on, with a limit and a mark.
+    fn fetch(&mut self, offset: u64, limit: u32, mark: u64, held: &[u8]) -> (Came, u32) {
+        match Line::from_text(self.alloc, LINE.as_bytes()) {
+            Ok(line) => self.run(&line, &wanted(offset, limit, mark), held),
+            Err(_) => (Came::Other, 0),
+        }
+    }
+
+    /// Whether a step comes to what it should.
+    fn goes(&mut self, step: Step, segment: &[u8]) -> bool {
+        match step {
+            Step::Fetches(offset, limit, mark, came, turns) => {
+                self.fetch(offset, limit, mark, behind(segment, offset)) == (came, turns)
+            }
+            Step::Caches(indexes) => self.cache.len() == indexes,
+        }
+    }
+
+    /// How many steps go well at first.
+    fn go(&mut self, steps: &[Step], segment: &[u8]) -> usize {
+        for (i, step) in steps.iter().enumerate() {
+            if !self.goes(*step, segment) {
+                return i;
+            }
+        }
+        steps.len()
     }
 }
 
-/// What a fetch came to, in short.
-#[derive(Clone, Copy, Debug, PartialEq, Eq)]
-enum Came {
-    Run(u64, Stop),
-    MetaFault,
-    StoreFault,
-    Damaged(Place, u64),
-    Other,
+/// A fetch over devices in memory, of which a read fails, where one is named.
+fn over_memory(
+    alloc: Global,
+    get: Option<(StoreCall, u32)>,
+    read: Option<(MetaCall, u32)>,
+) -> Result<Trial<MemoryStore>, AllocError> {
+    let store = failing_store(alloc, get, false)?;
+    let meta = failing_log(alloc, read, false)?;
+    Trial::over(alloc, store, meta)
 }
 
-/// What a fetch came to, in short. A run has the segment's bytes from a place on.
-fn came_to(turn: &FetchTurn, bytes_from: &[u8]) -> Came {
-    match turn {
-        FetchTurn::Ends(
-            Answer::Run {
-                tier,
-                size,
-                stop,
-                bytes,
-            },
-        ) => {
-            if *tier == Tier::Remote(id())
-                && *size == bytes.len() as u64
-                && bytes_from.starts_with(bytes.as_slice())
-            {
-                Came::Run(*size, *stop)
-            } else {
-                Came::Other
-            }
-        }
-        FetchTurn::Ends(Answer::MetaFault) => Came::MetaFault,
-        FetchTurn::Ends(Answer::StoreFault) => Came::StoreFault,
-        FetchTurn::Ends(Answer::Damaged(place, at)) => Came::Damaged(*place, *at),
-        FetchTurn::Ends(_) | FetchTurn::Goes(_) => Came::Other,
+/// How many steps of a story go well at first, over devices that have the copy, of which a read fails, where one is named.
+fn told(
+    alloc: Global,
+    get: Option<(StoreCall, u32)>,
+    read: Option<(MetaCall, u32)>,
+    steps: &[Step],
+) -> Result<usize, AllocError> {
+    let segment = batches(alloc, 4)?;
+    let mut trial = over_memory(alloc, get, read)?;
+    if !trial.tells() | !trial.puts(segment.as_slice()) {
+        return Ok(0);
     }
+    trial.arm();
+    Ok(trial.go(steps, segment.as_slice()))
 }
+
+/// What is told of fetches, of which a read of the store or of the metadata log fails.
+static STORIES: [(
+    &str,
+    Option<(StoreCall, u32)>,
+    Option<(MetaCall, u32)>,
+    &[Step],
+); 6] = [
+    (
+        "a run is cut out of a remote piece, which ends where the log has epoch 1",
+        None,
+        None,
+        &[
+            Step::Fetches(0, 1000, 4, Came::Run(207, Stop::Piece), 3),
+            Step::Fetches(1, 1000, 4, Came::Run(138, Stop::Piece), 3),
+            Step::Fetches(2, 1000, 4, Came::Run(69, Stop::Piece), 3),
+            Step::Fetches(0, 1000, 2, Came::Run(138, Stop::Mark), 3),
+            Step::Fetches(0, 137, 4, Came::Run(69, Stop::Limit), 3),
+            Step::Fetches(0, 138, 4, Came::Run(138, Stop::Limit), 3),
+            Step::Fetches(1, 0, 4, Came::Run(69, Stop::Limit), 3),
+            Step::Caches(1),
+        ],
+    ),
+    (
+        "an index is read once",
+        Some((StoreCall::Get, 4)),
+        None,
+        &[
+            Step::Fetches(0, 1000, 4, Came::Run(207, Stop::Piece), 3),
+            Step::Fetches(0, 1000, 4, Came::Run(207, Stop::Piece), 3),
+            Step::Fetches(0, 1000, 4, Came::StoreFault, 3),
+        ],
+    ),
+    (
+        "the metadata log fails",
+        None,
+        Some((MetaCall::Read, 1)),
+        &[Step::Fetches(0, 1000, 4, Came::MetaFault, 1)],
+    ),
+    (
+        "the store fails as the index is read",
+        Some((StoreCall::Get, 1)),
+        None,
+        &[Step::Fetches(0, 1000, 4, Came::StoreFault, 2)],
+    ),
+    (
+        "the store fails as the log is read",
+        Some((StoreCall::Get, 2)),
+        None,
+        &[Step::Fetches(0, 1000, 4, Came::StoreFault, 3)],
+    ),
+    (
+        "what was not copied is damage of the metadata",
+        None,
+        None,
+        &[Step::Fetches(3, 1000, 4, Came::Lost(2), 1)],
+    ),
+];
 
 #[test]
-fn a_run_is_cut_out_of_a_remote_piece(rt: HostRuntime) -> Result<(), Fail> {
-    let alloc = rt.alloc();
-    let mut view = View::new(alloc);
-    let mut cache = IndexCache::new(alloc, 64)?;
-    let mut store = holding(alloc, None)?;
-    let mut meta = told(alloc, None)?;
-    let segment = segment(alloc)?;
-    // Offset, limit and mark; the run's size and its stop. The piece ends where the log has epoch 1.
-    let rows = [
-        (0, 1000, 4, 207, Stop::Piece),
-        (1, 1000, 4, 138, Stop::Piece),
-        (2, 1000, 4, 69, Stop::Piece),
-        (0, 1000, 2, 138, Stop::Mark),
-        (0, 137, 4, 69, Stop::Limit),
-        (0, 138, 4, 138, Stop::Limit),
-        (1, 0, 4, 69, Stop::Limit),
-    ];
-    for (offset, limit, mark, size, stop) in rows {
-        let wanted = wanted(offset, limit, mark);
-        let (turn, turns) = fetch(alloc, &wanted, &mut view, &mut cache, &mut store, &mut meta)?;
-        let place = (offset as usize).min(3) * 69;
-        let (_, behind) = segment.as_slice().split_at(place.min(segment.len()));
-        let came = (came_to(&turn, behind), turns);
+fn fetches_go_as_they_are_told(rt: HostRuntime) {
+    for (story, get, read, steps) in &STORIES {
         assert_eq!(rt;
-            came,
-            (Came::Run(size, stop), 3),
-            "offset {offset}, limit {limit}, mark {mark}"
+            told(rt.alloc(), *get, *read, steps),
+            Ok(steps.len()),
+            "{story}"
         );
     }
-    assert_eq!(rt; cache.len(), 1);
-    Ok(())
 }
 
-#[test]
-fn an_index_is_read_once(rt: HostRuntime) -> Result<(), Fail> {
-    let alloc = rt.alloc();
-    let mut view = View::new(alloc);
-    let mut cache = IndexCache::new(alloc, 64)?;
-    let mut store = holding(alloc, Some(4))?;
-    let mut meta = told(alloc, None)?;
-    let segment = segment(alloc)?;
-    let wanted = wanted(0, 1000, 4);
-    for came in [
-        Came::Run(207, Stop::Piece),
-        Came::Run(207, Stop::Piece),
-        Came::StoreFault,
-    ] {
-        let (turn, _) = fetch(alloc, &wanted, &mut view, &mut cache, &mut store, &mut meta)?;
-        assert_eq!(rt; came_to(&turn, segment.as_slice()), came);
+/// What stands in the place of a segment's log.
+#[derive(Clone, Copy)]
+enum Log {
+    Whole,
+    /// The third batch has a wrong byte.
+    Spoilt,
+    /// It ends within the third batch.
+    Short,
+    Gone,
+}
+
+/// The bytes in the place of a segment's log.
+fn log_of(alloc: Global, log: Log) -> Result<Vec<u8>, AllocError> {
+    let mut bytes = batches(alloc, 4)?;
+    match log {
+        Log::Spoilt => {
+            if bytes.len() > 200 {
+                bytes[200] = 7;
+            }
+        }
+        Log::Short => bytes.truncate(150),
+        Log::Whole | Log::Gone => {}
     }
+    Ok(bytes)
+}
+
+/// Adds a part to the objects of a store.
+fn add(
+    alloc: Global,
+    objects: &mut Vec<(ObjectKey, Bytes)>,
+    part: Part,
+    bytes: &[u8],
+) -> Result<(), AllocError> {
+    let bytes = shared(alloc, bytes)?;
+    objects.push((key(part), bytes))?;
     Ok(())
 }
 
-#[test]
-fn a_call_that_fails_ends_the_fetch(rt: HostRuntime) -> Result<(), Fail> {
-    let alloc = rt.alloc();
-    // The read of the store or of the metadata log that fails, and the turn of it.
-    let rows = [
-        (None, Some(1), Came::MetaFault, 1),
-        (Some(1), None, Came::StoreFault, 2),
-        (Some(2), None, Came::StoreFault, 3),
-    ];
-    for (get, read, came, turn) in rows {
-        let mut view = View::new(alloc);
-        let mut cache = IndexCache::new(alloc, 64)?;
-        let mut store = holding(alloc, get)?;
-        let mut meta = told(alloc, read)?;
-        let (ends, turns) = fetch(
-            alloc,
-            &wanted(0, 1000, 4),
-            &mut view,
-            &mut cache,
-            &mut store,
-            &mut meta,
-        )?;
-        assert_eq!(rt; (came_to(&ends, &[]), turns), (came, turn));
-    }
-    Ok(())
-}
-
-#[test]
-fn what_was_not_copied_is_damage_of_the_metadata(rt: HostRuntime) -> Result<(), Fail> {
-    let alloc = rt.alloc();
-    let mut view = View::new(alloc);
-    let mut cache = IndexCache::new(alloc, 64)?;
-    let mut store = holding(alloc, None)?;
-    let mut meta = told(alloc, None)?;
-    let wanted = wanted(3, 1000, 4);
-    let (turn, turns) = fetch(alloc, &wanted, &mut view, &mut cache, &mut store, &mut meta)?;
-    assert_eq!(rt;
-        (came_to(&turn, &[]), turns),
-        (Came::Damaged(Place::Meta, 2), 1)
-    );
-    Ok(())
-}
-
-/// The objects of a store: each part that has bytes.
+/// The objects of a store: each part that stands there.
 fn objects(
     alloc: Global,
-    log: Option<&[u8]>,
+    log: Log,
     index: Option<&[u8]>,
-) -> Result<Vec<(ObjectKey, Bytes)>, Fail> {
+) -> Result<Vec<(ObjectKey, Bytes)>, AllocError> {
+    let bytes = log_of(alloc, log)?;
     let mut objects = Vec::new(alloc);
-    for (part, held) in [(Part::Log, log), (Part::Index, index)] {
-        if let Some(bytes) = held {
-            objects.push((key(part), Bytes::from_vec(Vec::from_slice(alloc, bytes)?)?))?;
-        }
+    if !matches!(log, Log::Gone) {
+        add(alloc, &mut objects, Part::Log, bytes.as_slice())?;
+    }
+    if let Some(bytes) = index {
+        add(alloc, &mut objects, Part::Index, bytes)?;
     }
     Ok(objects)
 }
 
-#[test]
-fn objects_without_a_reading_are_damaged(rt: HostRuntime) -> Result<(), Fail> {
-    let alloc = rt.alloc();
-    let whole = segment(alloc)?;
-    let mut spoilt = segment(alloc)?;
-    if spoilt.len() > 200 {
-        spoilt[200] = 7;
+/// What a fetch at offset 2 comes to, over a store that tells nothing.
+fn damage(alloc: Global, log: Log, index: Option<&[u8]>) -> Result<Came, AllocError> {
+    let objects = objects(alloc, log, index)?;
+    let meta = MemoryLog::new(alloc, Vec::new(alloc));
+    let mut trial = Trial::over(alloc, DeafStore::new(alloc, objects), meta)?;
+    if !trial.tells() {
+        return Ok(Came::Other);
     }
-    let (short, _) = whole.as_slice().split_at(whole.len().min(150));
-    let log = Place::Key(key(Part::Log));
-    let index = Place::Key(key(Part::Index));
-    // The log and the index that stand there, and what is damaged, at which place.
-    let rows: [(Option<&[u8]>, Option<&[u8]>, Place, u64); 5] = [
-        (None, Some(INDEX.as_slice()), log, 0),
-        (Some(spoilt.as_slice()), Some(INDEX.as_slice()), log, 138),
-        (Some(short), Some(INDEX.as_slice()), log, 138),
-        (Some(whole.as_slice()), None, index, 0),
-        (
-            Some(whole.as_slice()),
-            Some(b"1234567".as_slice()),
-            index,
-            0,
-        ),
-    ];
-    for (log, index, place, at) in rows {
-        let mut view = View::new(alloc);
-        let mut cache = IndexCache::new(alloc, 64)?;
-        let mut store = DeafStore::new(alloc, objects(alloc, log, index)?);
-        let mut meta = told(alloc, None)?;
-        let (turn, _) = fetch(
-            alloc,
-            &wanted(2, 1000, 4),
-            &mut view,
-            &mut cache,
-            &mut store,
-            &mut meta,
-        )?;
-        assert_eq!(rt; came_to(&turn, &[]), Came::Damaged(place, at));
-    }
-    Ok(())
+    Ok(trial.fetch(2, 1000, 4, &[]).0)
 }
 
+/// The log and the index that stand there, and what is damaged, at which place.
+static DAMAGED: [(Log, Option<&[u8]>, Part, u64); 5] = [
+    (Log::Gone, Some(&[0, 0, 0, 2, 0, 0, 0, 138]), Part::Log, 0),
+    (
+        Log::Spoilt,
+        Some(&[0, 0, 0, 2, 0, 0, 0, 138]),
+        Part::Log,
+        138,
+    ),
+    (
+        Log::Short,
+        Some(&[0, 0, 0, 2, 0, 0, 0, 138]),
+        Part::Log,
+        138,
+    ),
+    (Log::Whole, None, Part::Index, 0),
+    (Log::Whole, Some(b"1234567"), Part::Index, 0),
+];
+
 #[test]
-fn what_the_index_shows_is_read_alone(rt: HostRuntime) -> Result<(), Fail> {
-    let alloc = rt.alloc();
-    let mut index = OffsetIndex::new(alloc, 10);
-    index.push(12, 138)?;
-    index.push(14, 276)?;
-    index.push(16, 414)?;
-    // Offset, limit and the piece's end; the first byte that is needed, and the one behind the last.
-    let rows = [
-        (10, 100, 90, 0, Some(337)),
-        (12, 100, 90, 138, Some(475)),
-        (12, 200, 90, 138, Some(537)),
-        (12, 200, 14, 138, Some(337)),
-        (12, 200, 15, 138, Some(475)),
-        (14, 100, 90, 276, None),
-        (17, 100, 90, 414, None),
-        (5, 100, 90, 0, Some(337)),
-    ];
-    for (offset, limit, end, from, to) in rows {
-        if offset < end {
-            let span = span_of(&index, offset, limit, end);
-            let most = match to {
-                Some(to) => to - from,
-                None => u64::MAX - from,
-            };
-            assert_eq!(rt;
-                (span.from as u64, span.most),
-                (from, most),
-                "offset {offset}, limit {limit}, end {end}"
-            );
-        }
+fn objects_without_a_reading_are_damaged(rt: HostRuntime) {
+    for (log, index, part, at) in &DAMAGED {
+        let came = damage(rt.alloc(), *log, *index);
+        assert_eq!(rt; came, Ok(Came::Damaged(*part, *at)));
     }
-    Ok(())
+}
+
+/// The index of a segment from offset 10 on: batches of 138 bytes from 0, of two offsets each.
+static SPARSE: [u8; 24] = [
+    0, 0, 0, 2, 0, 0, 0, 138, // 12
+    0, 0, 0, 4, 0, 0, 1, 0x14, // 14, at 276
+    0, 0, 0, 6, 0, 0, 1, 0x9e, // 16, at 414
+];
+
+/// The first byte that is needed, and the one behind the last.
+fn spanned(alloc: Global, offset: u64, limit: u32, end: u64) -> Option<(u64, u64)> {
+    if offset >= end {
+        return None;
+    }
+    match OffsetIndex::from_bytes(alloc, 10, &SPARSE) {
+        Ok(index) => {
+            let span = span_of(&index, offset, limit, end);
+            let from = span.from as u64;
+            Some((from, from.saturating_add(span.most)))
+        }
+        Err(_) => None,
+    }
+}
+
+/// Offset, limit and the piece's end; the first byte that is needed, and the one behind the last, where one is known.
+static SPANS: [(u64, u32, u64, u64, u64); 8] = [
+    (10, 100, 90, 0, 337),
+    (12, 100, 90, 138, 475),
+    (12, 200, 90, 138, 537),
+    (12, 200, 14, 138, 337),
+    (12, 200, 15, 138, 475),
+    (14, 100, 90, 276, u64::MAX),
+    (17, 100, 90, 414, u64::MAX),
+    (5, 100, 90, 0, 337),
+];
+
+#[test]
+fn what_the_index_shows_is_read_alone(rt: HostRuntime) {
+    for (offset, limit, end, from, to) in &SPANS {
+        assert_eq!(rt;
+            spanned(rt.alloc(), *offset, *limit, *end),
+            Some((*from, *to)),
+            "offset {offset}, limit {limit}, end {end}"
+        );
+    }
 }

@@ -1,18 +1,19 @@
 //! The read of a rebuild's line. Values worked by hand.
+//!
+//! No test holds a view or a line: each row is a call over a store, with what it comes to.
 
+use crate::given::{FINISHED, PARTITION, failing_store, feeds, key, puts, shared};
 use bytes::Bytes;
 use epoch_line::Line;
-use object_store::{DeafStore, MemoryStore, ObjectKey, Planned, Store, StoreCall};
+use object_store::{DeafStore, ObjectKey, Store, StoreCall};
 use plain_log::{Answer, Place};
 use rebuild_task::{Next, RebuildTurn, Wanted, rebuild_turn};
 use remote_view::View;
-use segment_meta::decode;
-use std::alloc::Global;
-use std::test::Fail;
-use tier_base::{BrokerId, Part, PartitionId, SegmentId, segment_id};
+use std::alloc::{AllocError, Global};
+use tier_base::Part;
 
 /// A copy of offsets 0 to 3 starts, of epoch 0, and of epoch 1 from offset 2 on: 276 bytes.
-const STARTED: [u8; 87] = [
+static STARTED: [u8; 87] = [
     0, 0, // version, kind
     0, 0, 0, 0, 0, 0, 0, 1, 0, 0, 0, 0, 0, 0, 0, 0, // id
     0, 0, // partition
@@ -30,41 +31,8 @@ const STARTED: [u8; 87] = [
     0, 0, 0, 0, 0, 0, 0, 2, // its start
 ];
 
-/// It is whole.
-const FINISHED: [u8; 29] = [
-    0, 1, // version, kind
-    0, 0, 0, 0, 0, 0, 0, 1, 0, 0, 0, 0, 0, 0, 0, 0, // id
-    0, 0, // broker
-    0, 0, 0, 0, 0, 0, 0, 5, // event_ts
-    1, // state
-];
-
-const PARTITION: PartitionId = PartitionId(0);
-
 /// The leader's line, and the one that stands beside the copy.
-const LINE: &[u8] = b"0\n2\n0 0\n1 2\n";
-
-/// The id of the copy.
-fn id() -> SegmentId {
-    segment_id(PARTITION, BrokerId(0), 1, 0)
-}
-
-/// The key of its epochs.
-fn key() -> ObjectKey {
-    ObjectKey {
-        partition: PARTITION,
-        id: id(),
-        part: Part::Epochs,
-    }
-}
-
-/// A view that knows of it.
-fn view(alloc: Global) -> Result<View, Fail> {
-    let mut view = View::new(alloc);
-    view.feed(&decode(alloc, STARTED.as_slice())?)?;
-    view.feed(&decode(alloc, FINISHED.as_slice())?)?;
-    Ok(view)
-}
+static LINE: &str = "0\n2\n0 0\n1 2\n";
 
 /// What a rebuild came to, in short.
 #[derive(Clone, Copy, Debug, PartialEq, Eq)]
@@ -79,104 +47,192 @@ enum Came {
     Other,
 }
 
-/// What a rebuild came to, in short.
-fn came_to(alloc: Global, turn: &RebuildTurn, text: &[u8]) -> Result<Came, Fail> {
-    Ok(match turn {
-        RebuildTurn::Goes(Next::Restart(line)) => {
-            if line.to_text(alloc)?.as_slice() == text {
-                Came::Reads
-            } else {
-                Came::Other
-            }
-        }
-        RebuildTurn::Ends(Answer::StoreFault) => Came::StoreFault,
-        RebuildTurn::Ends(Answer::Damaged(Place::Key(found), 0)) if *found == key() => {
-            Came::DamagedEpochs
-        }
-        RebuildTurn::Ends(Answer::Damaged(Place::Meta, 2)) => Came::DamagedNotes,
-        RebuildTurn::Goes(Next::Epochs) | RebuildTurn::Ends(_) => Came::Other,
-    })
+/// What a line that was read comes to.
+fn read_as(alloc: Global, line: &Line, text: &str) -> Came {
+    match line.to_text(alloc) {
+        Ok(read) if read.as_slice() == text.as_bytes() => Came::Reads,
+        _ => Came::Other,
+    }
 }
 
-/// Reads the line up to an offset out of a store, by a leader's line.
-fn read<S: Store>(
+/// What is damaged, in short.
+fn damaged(place: Place, at: u64) -> Came {
+    match (place, at) {
+        (Place::Meta, 2) => Came::DamagedNotes,
+        (Place::Key(found), 0) if found == key(Part::Epochs) => Came::DamagedEpochs,
+        _ => Came::Other,
+    }
+}
+
+/// What a rebuild is answered, in short.
+fn answered(answer: &Answer) -> Came {
+    match answer {
+        Answer::StoreFault => Came::StoreFault,
+        Answer::Damaged(place, at) => damaged(*place, *at),
+        _ => Came::Other,
+    }
+}
+
+/// What a rebuild came to, in short.
+fn came_to(alloc: Global, turn: &RebuildTurn, text: &str) -> Came {
+    match turn {
+        RebuildTurn::Goes(Next::Restart(line)) => read_as(alloc, line, text),
+        RebuildTurn::Goes(Next::Epochs) => Came::Other,
+        RebuildTurn::Ends(answer) => answered(answer),
+    }
+}
+
+/// Reads the line up to an offset, by a view and a leader's line.
+fn read_by<S: Store>(
     alloc: Global,
-    offset: u64,
-    leaders: &[u8],
     store: &mut S,
-    text: &[u8],
-) -> Result<Came, Fail> {
+    offset: u64,
+    line: &Line,
+    view: &View,
+    text: &str,
+) -> Came {
     let wanted = Wanted {
         partition: PARTITION,
         offset,
     };
-    let line = Line::from_text(alloc, leaders)?;
-    let turn = rebuild_turn(alloc, wanted, &line, &view(alloc)?, store)?;
-    came_to(alloc, &turn, text)
+    match rebuild_turn(alloc, wanted, line, view, store) {
+        Ok(turn) => came_to(alloc, &turn, text),
+        Err(_) => Came::Other,
+    }
 }
 
-/// A store that holds these epochs, or none.
-fn holding(alloc: Global, epochs: Option<&[u8]>) -> Result<DeafStore, Fail> {
+/// Whether a view is fed the copy.
+fn has_copy(alloc: Global, view: &mut View) -> bool {
+    let started = feeds(alloc, view, &STARTED);
+    let finished = feeds(alloc, view, &FINISHED);
+    started & finished
+}
+
+/// Reads the line up to an offset out of a store, by a view of the copy and a leader's line.
+fn read<S: Store>(alloc: Global, store: &mut S, offset: u64, leaders: &str, text: &str) -> Came {
+    let mut view = View::new(alloc);
+    if !has_copy(alloc, &mut view) {
+        return Came::Other;
+    }
+    match Line::from_text(alloc, leaders.as_bytes()) {
+        Ok(line) => read_by(alloc, store, offset, &line, &view, text),
+        Err(_) => Came::Other,
+    }
+}
+
+/// The objects of a store that holds these epochs, or none.
+fn objects(alloc: Global, epochs: Option<&str>) -> Result<Vec<(ObjectKey, Bytes)>, AllocError> {
     let mut objects = Vec::new(alloc);
-    if let Some(bytes) = epochs {
-        objects.push((key(), Bytes::from_vec(Vec::from_slice(alloc, bytes)?)?))?;
+    if let Some(text) = epochs {
+        let bytes = shared(alloc, text.as_bytes())?;
+        objects.push((key(Part::Epochs), bytes))?;
     }
-    Ok(DeafStore::new(alloc, objects))
+    Ok(objects)
 }
 
-#[test]
-fn a_line_is_read_up_to_the_wanted_offset(rt: HostRuntime) -> Result<(), Fail> {
-    let alloc = rt.alloc();
-    // The wanted offset, the epochs that stand there, and those that are read.
-    let rows: [(u64, &[u8], &[u8]); 5] = [
-        (4, LINE, LINE),
-        (3, LINE, LINE),
-        (2, LINE, b"0\n1\n0 0\n"),
-        (1, LINE, b"0\n1\n0 0\n"),
-        (3, b"0\n3\n0 0\n1 2\n2 3\n", LINE),
-    ];
-    for (offset, epochs, text) in rows {
-        let mut store = holding(alloc, Some(epochs))?;
-        let came = read(alloc, offset, LINE, &mut store, text)?;
-        assert_eq!(rt; came, Came::Reads, "offset {offset}");
-    }
-    Ok(())
+/// Reads the line up to an offset out of a store that tells nothing and holds these epochs, or none.
+fn row(
+    alloc: Global,
+    offset: u64,
+    leaders: &str,
+    epochs: Option<&str>,
+    text: &str,
+) -> Result<Came, AllocError> {
+    let objects = objects(alloc, epochs)?;
+    let mut store = DeafStore::new(alloc, objects);
+    Ok(read(alloc, &mut store, offset, leaders, text))
 }
 
-#[test]
-fn what_is_not_there_is_damaged(rt: HostRuntime) -> Result<(), Fail> {
-    let alloc = rt.alloc();
-    // The wanted offset, the leader's line, the epochs that stand there, and what is damaged. Of the offset 4, of none below 0,
-    // and of epoch 3 there is no copy.
-    let rows: [(u64, &[u8], Option<&[u8]>, Came); 5] = [
-        (4, LINE, None, Came::DamagedEpochs),
-        (4, LINE, Some(b"0\n2\n0 0\n"), Came::DamagedEpochs),
-        (5, LINE, Some(LINE), Came::DamagedNotes),
-        (0, LINE, Some(LINE), Came::DamagedNotes),
-        (4, b"0\n2\n0 0\n3 2\n", Some(LINE), Came::DamagedNotes),
-    ];
-    for (offset, leaders, held, damaged) in rows {
-        let mut store = holding(alloc, held)?;
-        let came = read(alloc, offset, leaders, &mut store, LINE)?;
-        assert_eq!(rt; came, damaged, "offset {offset}");
-    }
-    Ok(())
-}
+/// The wanted offset, the leader's line, the epochs that stand there, and those that are read. Of the offset 4, of none below 0,
+/// and of epoch 3 there is no copy.
+static ROWS: [(u64, &str, Option<&str>, &str, Came); 10] = [
+    (
+        4,
+        "0\n2\n0 0\n1 2\n",
+        Some("0\n2\n0 0\n1 2\n"),
+        "0\n2\n0 0\n1 2\n",
+        Came::Reads,
+    ),
+    (
+        3,
+        "0\n2\n0 0\n1 2\n",
+        Some("0\n2\n0 0\n1 2\n"),
+        "0\n2\n0 0\n1 2\n",
+        Came::Reads,
+    ),
+    (
+        2,
+        "0\n2\n0 0\n1 2\n",
+        Some("0\n2\n0 0\n1 2\n"),
+        "0\n1\n0 0\n",
+        Came::Reads,
+    ),
+    (
+        1,
+        "0\n2\n0 0\n1 2\n",
+        Some("0\n2\n0 0\n1 2\n"),
+        "0\n1\n0 0\n",
+        Came::Reads,
+    ),
+    (
+        3,
+        "0\n2\n0 0\n1 2\n",
+        Some("0\n3\n0 0\n1 2\n2 3\n"),
+        "0\n2\n0 0\n1 2\n",
+        Came::Reads,
+    ),
+    (4, "0\n2\n0 0\n1 2\n", None, "", Came::DamagedEpochs),
+    (
+        4,
+        "0\n2\n0 0\n1 2\n",
+        Some("0\n2\n0 0\n"),
+        "",
+        Came::DamagedEpochs,
+    ),
+    (
+        5,
+        "0\n2\n0 0\n1 2\n",
+        Some("0\n2\n0 0\n1 2\n"),
+        "",
+        Came::DamagedNotes,
+    ),
+    (
+        0,
+        "0\n2\n0 0\n1 2\n",
+        Some("0\n2\n0 0\n1 2\n"),
+        "",
+        Came::DamagedNotes,
+    ),
+    (
+        4,
+        "0\n2\n0 0\n3 2\n",
+        Some("0\n2\n0 0\n1 2\n"),
+        "",
+        Came::DamagedNotes,
+    ),
+];
 
 #[test]
-fn a_store_that_fails_ends_the_rebuild(rt: HostRuntime) -> Result<(), Fail> {
-    let alloc = rt.alloc();
-    let mut plan = Vec::new(alloc);
-    plan.push(Planned {
-        call: StoreCall::Get,
-        number: 1,
-        after: false,
-    })?;
-    let mut store = MemoryStore::new(alloc, plan);
-    store.put(&key(), &Bytes::from_static(LINE))?;
+fn a_line_is_read_up_to_the_wanted_offset(rt: HostRuntime) {
+    for (offset, leaders, epochs, text, came) in &ROWS {
+        let told = row(rt.alloc(), *offset, leaders, *epochs, text);
+        assert_eq!(rt; told, Ok(*came), "offset {offset}");
+    }
+}
+
+/// What two reads come to, one after another, of which the store fails the first.
+fn reads(alloc: Global) -> Result<(Came, Came), AllocError> {
+    let mut store = failing_store(alloc, Some((StoreCall::Get, 1)), false)?;
+    if !puts(alloc, &mut store, &key(Part::Epochs), LINE.as_bytes()) {
+        return Ok((Came::Other, Came::Other));
+    }
     store.arm();
-    for came in [Came::StoreFault, Came::Reads] {
-        assert_eq!(rt; read(alloc, 4, LINE, &mut store, LINE)?, came);
-    }
-    Ok(())
+    let first = read(alloc, &mut store, 4, LINE, LINE);
+    let second = read(alloc, &mut store, 4, LINE, LINE);
+    Ok((first, second))
+}
+
+#[test]
+fn a_store_that_fails_ends_the_rebuild(rt: HostRuntime) {
+    assert_eq!(rt; reads(rt.alloc()), Ok((Came::StoreFault, Came::Reads)));
 }
