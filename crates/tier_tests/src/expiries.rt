@@ -1,20 +1,22 @@
 //! An expiry turn by turn, and how far retention lets a log start rise. Values worked by hand.
+//!
+//! No test holds devices, a view or pieces: each helper makes them, and tells how the calls ended.
 
-use bytes::Bytes;
+use crate::given::{FINISHED, PARTITION, failing_log, failing_store, feeds, id, puts};
 use epoch_line::Line;
 use expiry_task::{Doomed, ExpiryTurn, Next, expiry_turn, raised_to, rest_behind};
 use meta_log::{MemoryLog, MetaCall, MetaLog, Teller};
-use object_store::{MemoryStore, Store, StoreCall, keys_of};
+use object_store::{MemoryStore, ObjectKey, Store, StoreCall, keys_of};
 use plain_log::Answer;
-use remote_find::chain;
+use remote_find::{Piece, chain};
 use remote_view::View;
-use segment_meta::{Note, decode};
+use segment_meta::Note;
 use std::alloc::{AllocError, Global};
-use std::test::Fail;
-use tier_base::{BrokerId, Keep, PartitionId, SegmentId, State, Trouble, segment_id};
+use std::marker::Model;
+use tier_base::{BrokerId, Keep, State};
 
 /// A copy of offsets 0 and 1 starts, of epoch 0: 138 bytes, the latest of them at 1000 milliseconds.
-const STARTED: [u8; 75] = [
+static STARTED: [u8; 75] = [
     0, 0, // version, kind
     0, 0, 0, 0, 0, 0, 0, 1, 0, 0, 0, 0, 0, 0, 0, 0, // id
     0, 0, // partition
@@ -30,27 +32,11 @@ const STARTED: [u8; 75] = [
     0, 0, 0, 0, 0, 0, 0, 0, // its start
 ];
 
-/// It is whole.
-const FINISHED: [u8; 29] = [
-    0, 1, // version, kind
-    0, 0, 0, 0, 0, 0, 0, 1, 0, 0, 0, 0, 0, 0, 0, 0, // id
-    0, 0, // broker
-    0, 0, 0, 0, 0, 0, 0, 5, // event_ts
-    1, // state
-];
-
-const PARTITION: PartitionId = PartitionId(0);
-
 /// Broker 1 deletes at 9 milliseconds.
 const TELLER: Teller = Teller {
     broker: BrokerId(1),
     now: 9,
 };
-
-/// The id of an attempt of broker 0.
-fn id(attempt: u64) -> SegmentId {
-    segment_id(PARTITION, BrokerId(0), 1, attempt)
-}
 
 /// The segment that is to go.
 fn doomed() -> Doomed {
@@ -60,185 +46,301 @@ fn doomed() -> Doomed {
     }
 }
 
-/// What an expiry changes.
+/// What a turn of an expiry came to, in short.
+#[derive(Clone, Copy, Debug, PartialEq, Eq)]
+enum Came {
+    Goes(Next),
+    Deleted,
+    MetaFault,
+    StoreFault,
+    Other,
+}
+
+/// What an expiry is answered, in short.
+fn answered(answer: &Answer) -> Came {
+    match answer {
+        Answer::Deleted(_) => Came::Deleted,
+        Answer::MetaFault => Came::MetaFault,
+        Answer::StoreFault => Came::StoreFault,
+        _ => Came::Other,
+    }
+}
+
+/// What a turn of an expiry came to, in short.
+fn came_to(turn: &ExpiryTurn) -> Came {
+    match turn {
+        ExpiryTurn::Goes(next) => Came::Goes(*next),
+        ExpiryTurn::Ends(answer) => answered(answer),
+    }
+}
+
+/// Whether a note tells of this state.
+fn is_told(note: &Note, wanted: State) -> bool {
+    match note {
+        Note::Update {
+            broker,
+            event_ts,
+            state,
+            ..
+        } => (*broker, *event_ts, *state) == (BrokerId(1), 9, wanted),
+        Note::Add(_) => false,
+    }
+}
+
+/// Whether notes tell of these states, one after another.
+fn are_told(notes: &[Note], states: &[State]) -> bool {
+    for (note, state) in notes.iter().zip(states) {
+        if !is_told(note, *state) {
+            return false;
+        }
+    }
+    notes.len() == states.len()
+}
+
+/// Whether keys are those of an attempt's objects.
+fn are_keys(found: &[ObjectKey], attempt: u64) -> bool {
+    let keys = keys_of(PARTITION, id(attempt), false);
+    for (n, key) in (0..keys.count()).zip(found) {
+        if keys.get(n) != *key {
+            return false;
+        }
+    }
+    (keys.count(), found.len()) == (4, 4)
+}
+
+/// What an expiry changes. A test knows nothing of it but what it is told.
 #[derive(Drop)]
 struct Tiers {
     store: MemoryStore,
     meta: MemoryLog,
 }
 
+impl Model for Tiers {
+    ghost use Rattle.std.specs.Prelude.{ℕ};
+
+    ghost Value = { ℕ };
+
+    // Nothing is told.
+    ghost view = { λ t. 0 };
+}
+
+impl Tiers {
+    /// Whether the store is given the objects of an attempt.
+    fn puts(&mut self, alloc: Global, attempt: u64) -> bool {
+        let keys = keys_of(PARTITION, id(attempt), false);
+        for n in 0..keys.count() {
+            if !puts(alloc, &mut self.store, &keys.get(n), b"bytes") {
+                return false;
+            }
+        }
+        true
+    }
+
+    fn arm(&mut self) {
+        self.store.arm();
+        self.meta.arm();
+    }
+
+    /// Takes a turn.
+    fn turn(&mut self, next: Next) -> Came {
+        match expiry_turn(doomed(), next, TELLER, &mut self.store, &mut self.meta) {
+            Ok(turn) => came_to(&turn),
+            Err(_) => Came::Other,
+        }
+    }
+
+    /// Takes turns until the expiry is answered, ten at most, and counts them.
+    fn run(&mut self) -> (Came, u32) {
+        let mut next = Next::Start;
+        for turns in 1..11 {
+            match self.turn(next) {
+                Came::Goes(later) => next = later,
+                came => return (came, turns),
+            }
+        }
+        (Came::Other, 10)
+    }
+
+    /// Whether the metadata log tells of these states, one after another.
+    fn tells(&mut self, states: &[State]) -> bool {
+        match self.meta.read(0) {
+            Ok(notes) => are_told(notes.as_slice(), states),
+            Err(_) => false,
+        }
+    }
+
+    /// Whether the objects of an attempt are left alone.
+    fn leaves(&mut self, attempt: u64) -> bool {
+        match self.store.keys() {
+            Ok(keys) => are_keys(keys.as_slice(), attempt),
+            Err(_) => false,
+        }
+    }
+}
+
 /// The objects of two segments, and devices of which one call fails, which is done or not.
-fn devices(
+fn over_devices(
     alloc: Global,
     put: Option<(StoreCall, u32)>,
     note: Option<(MetaCall, u32)>,
     after: bool,
-) -> Result<Tiers, Fail> {
-    let mut puts = Vec::new(alloc);
-    if let Some((call, number)) = put {
-        puts.push(object_store::Planned {
-            call,
-            number,
-            after,
-        })?;
-    }
-    let mut notes = Vec::new(alloc);
-    if let Some((call, number)) = note {
-        notes.push(meta_log::Planned {
-            call,
-            number,
-            after,
-        })?;
-    }
-    let mut store = MemoryStore::new(alloc, puts);
-    let mut meta = MemoryLog::new(alloc, notes);
-    for attempt in 0..2 {
-        let keys = keys_of(PARTITION, id(attempt), false);
-        for n in 0..keys.count() {
-            store.put(&keys.get(n), &Bytes::from_static(b"bytes"))?;
-        }
-    }
-    store.arm();
-    meta.arm();
+) -> Result<Tiers, AllocError> {
+    let store = failing_store(alloc, put, after)?;
+    let meta = failing_log(alloc, note, after)?;
     Ok(Tiers { store, meta })
 }
 
-/// What comes next, where the expiry goes on.
-fn later(turn: &ExpiryTurn) -> Option<Next> {
-    match turn {
-        ExpiryTurn::Goes(later) => Some(*later),
-        ExpiryTurn::Ends(_) => None,
+/// What an expiry comes to of which a call fails, done or not, and after how many turns; whether the metadata log tells of
+/// both states, and the objects of the other segment are left alone.
+fn expired(
+    alloc: Global,
+    put: Option<(StoreCall, u32)>,
+    note: Option<(MetaCall, u32)>,
+    after: bool,
+) -> Result<(Came, u32, bool, bool), AllocError> {
+    let mut tiers = over_devices(alloc, put, note, after)?;
+    if !tiers.puts(alloc, 0) | !tiers.puts(alloc, 1) {
+        return Ok((Came::Other, 0, false, false));
     }
-}
-
-impl Tiers {
-    /// Takes turns until the expiry is answered, ten at most, and counts them.
-    fn run(&mut self) -> Result<(Option<ExpiryTurn>, u32), AllocError> {
-        let mut next = Next::Start;
-        for turns in 1..11 {
-            let turn = expiry_turn(doomed(), next, TELLER, &mut self.store, &mut self.meta)?;
-            match later(&turn) {
-                Some(later) => next = later,
-                None => return Ok((Some(turn), turns)),
-            }
-        }
-        Ok((None, 10))
-    }
-
-    /// Whether the metadata log tells of these states, one after another.
-    fn tells(&mut self, states: &[State]) -> Result<bool, Trouble> {
-        let notes = self.meta.read(0)?;
-        for (note, wanted) in notes.as_slice().iter().zip(states) {
-            let told = match note {
-                Note::Update {
-                    broker,
-                    event_ts,
-                    state,
-                    ..
-                } => broker.0 == 1 && *event_ts == 9 && state == wanted,
-                Note::Add(_) => false,
-            };
-            if !told {
-                return Ok(false);
-            }
-        }
-        Ok(notes.len() == states.len())
-    }
+    tiers.arm();
+    let (came, turns) = tiers.run();
+    let told = tiers.tells(&[State::DeleteStarted, State::DeleteFinished]);
+    let left = tiers.leaves(1);
+    Ok((came, turns, told, left))
 }
 
 #[test]
-fn an_expiry_takes_four_objects_away_between_two_notes(rt: HostRuntime) -> Result<(), Fail> {
-    let mut tiers = devices(rt.alloc(), None, None, false)?;
-    let (answer, turns) = tiers.run()?;
-    assert!(rt; turns == 6 && matches!(answer, Some(ExpiryTurn::Ends(Answer::Deleted(_)))));
-    assert!(rt; tiers.tells(&[State::DeleteStarted, State::DeleteFinished])?);
-    let keys = keys_of(PARTITION, id(1), false);
-    let left = [keys.get(0), keys.get(1), keys.get(2), keys.get(3)];
-    assert_eq!(rt; tiers.store.keys()?.as_slice(), left.as_slice());
-    Ok(())
+fn an_expiry_takes_four_objects_away_between_two_notes(rt: HostRuntime) {
+    assert_eq!(rt;
+        expired(rt.alloc(), None, None, false),
+        Ok((Came::Deleted, 6, true, true))
+    );
 }
+
+/// How an expiry ends of which a call fails, done or not, and after how many turns.
+fn failed(
+    alloc: Global,
+    put: Option<(StoreCall, u32)>,
+    note: Option<(MetaCall, u32)>,
+    after: bool,
+) -> Result<(Came, u32), AllocError> {
+    let (came, turns, _, _) = expired(alloc, put, note, after)?;
+    Ok((came, turns))
+}
+
+/// The call of the store or of the metadata log that fails, what the expiry comes to, and after how many turns.
+static FAILURES: [(Option<(StoreCall, u32)>, Option<(MetaCall, u32)>, Came, u32); 6] = [
+    (None, Some((MetaCall::Append, 1)), Came::MetaFault, 1),
+    (Some((StoreCall::Delete, 1)), None, Came::StoreFault, 2),
+    (Some((StoreCall::Delete, 2)), None, Came::StoreFault, 3),
+    (Some((StoreCall::Delete, 3)), None, Came::StoreFault, 4),
+    (Some((StoreCall::Delete, 4)), None, Came::StoreFault, 5),
+    (None, Some((MetaCall::Append, 2)), Came::MetaFault, 6),
+];
 
 #[test]
-fn a_call_that_fails_ends_the_expiry(rt: HostRuntime) -> Result<(), Fail> {
-    // The call of the store or of the metadata log that fails, and the turn of it.
-    let rows = [
-        (None, Some((MetaCall::Append, 1)), 1),
-        (Some((StoreCall::Delete, 1)), None, 2),
-        (Some((StoreCall::Delete, 2)), None, 3),
-        (Some((StoreCall::Delete, 3)), None, 4),
-        (Some((StoreCall::Delete, 4)), None, 5),
-        (None, Some((MetaCall::Append, 2)), 6),
-    ];
-    for (put, note, turn) in rows {
-        for after in [false, true] {
-            let mut tiers = devices(rt.alloc(), put, note, after)?;
-            let (answer, turns) = tiers.run()?;
-            let told = match answer {
-                Some(ExpiryTurn::Ends(Answer::StoreFault)) => put.is_some(),
-                Some(ExpiryTurn::Ends(Answer::MetaFault)) => note.is_some(),
-                _ => false,
-            };
-            assert!(rt; told && turns == turn, "turn {turn}, done: {after}");
-        }
+fn a_call_that_fails_ends_the_expiry(rt: HostRuntime) {
+    for (put, note, came, turns) in &FAILURES {
+        let undone = failed(rt.alloc(), *put, *note, false);
+        assert_eq!(rt; undone, Ok((*came, *turns)), "not done, turn {turns}");
+        let done = failed(rt.alloc(), *put, *note, true);
+        assert_eq!(rt; done, Ok((*came, *turns)), "done, turn {turns}");
     }
-    Ok(())
 }
 
-/// The view of one whole copy.
-fn view(alloc: Global) -> Result<View, Fail> {
+/// Whether a view is fed one whole copy.
+fn has_copy(alloc: Global, view: &mut View) -> bool {
+    let started = feeds(alloc, view, &STARTED);
+    let finished = feeds(alloc, view, &FINISHED);
+    started & finished
+}
+
+/// The pieces of a log that ends at 3, as far as is known.
+fn pieces(alloc: Global, view: &View, known: u64) -> Option<Vec<Piece>> {
+    match Line::from_text(alloc, b"0\n1\n0 0\n".as_slice()) {
+        Ok(line) => chain(alloc, view, &line, 3, 0, known).ok(),
+        Err(_) => None,
+    }
+}
+
+/// Where the log start comes to, behind whose pieces stand 69 bytes.
+fn raised_in(
+    alloc: Global,
+    view: &View,
+    known: u64,
+    now: i64,
+    keep: Keep,
+) -> Result<Option<u64>, AllocError> {
+    match pieces(alloc, view, known) {
+        Some(pieces) => {
+            let rest = rest_behind(pieces.as_slice(), 0, &[], 69, 3);
+            raised_to(alloc, view, pieces.as_slice(), rest, now, keep)
+        }
+        None => Err(AllocError),
+    }
+}
+
+/// Where the log start comes to, of one whole copy.
+fn raised(alloc: Global, known: u64, now: i64, keep: Keep) -> Result<Option<u64>, AllocError> {
     let mut view = View::new(alloc);
-    view.feed(&decode(alloc, STARTED.as_slice())?)?;
-    view.feed(&decode(alloc, FINISHED.as_slice())?)?;
-    Ok(view)
+    if !has_copy(alloc, &mut view) {
+        return Err(AllocError);
+    }
+    raised_in(alloc, &view, known, now, keep)
 }
 
+/// The known mark, the limits of age and size, and the time; where the log start comes to. Behind the copy stand 69 bytes.
+static RAISED: [(u64, i64, i64, i64, Option<u64>); 7] = [
+    (3, 10, -1, 1010, None),
+    (3, 10, -1, 1011, Some(2)),
+    (3, -1, 70, 0, None),
+    (3, -1, 69, 0, Some(2)),
+    (3, -1, -1, 9999, None),
+    (2, 10, -1, 1011, Some(2)),
+    (1, 10, -1, 1011, None),
+];
+
 #[test]
-fn a_log_start_rises_by_age_and_by_size(rt: HostRuntime) -> Result<(), Fail> {
-    let alloc = rt.alloc();
-    let view = view(alloc)?;
-    let line = Line::from_text(alloc, b"0\n1\n0 0\n".as_slice())?;
-    // The known mark, the limits of age and size, and the time; where the log start comes to. Behind the copy stand 69 bytes.
-    let rows = [
-        (3, 10, -1, 1010, None),
-        (3, 10, -1, 1011, Some(2)),
-        (3, -1, 70, 0, None),
-        (3, -1, 69, 0, Some(2)),
-        (3, -1, -1, 9999, None),
-        (2, 10, -1, 1011, Some(2)),
-        (1, 10, -1, 1011, None),
-    ];
-    for (known, ms, bytes, now, wanted) in rows {
-        let pieces = chain(alloc, &view, &line, 3, 0, known)?;
-        let rest = rest_behind(pieces.as_slice(), 0, &[], 69, 3);
-        let start = raised_to(
-            alloc,
-            &view,
-            pieces.as_slice(),
-            rest,
-            now,
-            Keep { ms, bytes },
-        )?;
+fn a_log_start_rises_by_age_and_by_size(rt: HostRuntime) {
+    for (known, ms, bytes, now, start) in &RAISED {
+        let keep = Keep {
+            ms: *ms,
+            bytes: *bytes,
+        };
         assert_eq!(rt;
-            start,
-            wanted,
+            raised(rt.alloc(), *known, *now, keep),
+            Ok(*start),
             "known {known}, {ms} ms, {bytes} bytes, at {now}"
         );
     }
-    Ok(())
 }
 
+/// The bytes behind the pieces of a log that ends there, of one whole copy, as far as it is known.
+fn rest(alloc: Global, known: u64, size: u64, end: u64) -> Option<u64> {
+    let mut view = View::new(alloc);
+    if !has_copy(alloc, &mut view) {
+        return None;
+    }
+    match pieces(alloc, &view, known) {
+        Some(pieces) => Some(rest_behind(pieces.as_slice(), 0, &[], size, end)),
+        None => None,
+    }
+}
+
+/// The known mark, the bytes of the open segment, the log's end, and the rest.
+static RESTS: [(u64, u64, u64, u64, &str); 3] = [
+    (3, 69, 3, 69, "behind the piece"),
+    (3, 69, 2, 0, "the log ends with the piece"),
+    (0, 207, 3, 207, "nothing is copied"),
+];
+
 #[test]
-fn what_is_not_copied_counts_behind_the_pieces(rt: HostRuntime) -> Result<(), Fail> {
-    let alloc = rt.alloc();
-    let view = view(alloc)?;
-    let line = Line::from_text(alloc, b"0\n1\n0 0\n".as_slice())?;
-    let pieces = chain(alloc, &view, &line, 3, 0, 3)?;
-    assert_eq!(rt; rest_behind(pieces.as_slice(), 0, &[], 69, 3), 69);
-    assert_eq!(rt;
-        rest_behind(pieces.as_slice(), 0, &[], 69, 2),
-        0,
-        "the log ends with the piece"
-    );
-    assert_eq!(rt; rest_behind(&[], 0, &[], 207, 3), 207, "nothing is copied");
-    Ok(())
+fn what_is_not_copied_counts_behind_the_pieces(rt: HostRuntime) {
+    for (known, size, end, bytes, why) in &RESTS {
+        assert_eq!(rt;
+            rest(rt.alloc(), *known, *size, *end),
+            Some(*bytes),
+            "{why}"
+        );
+    }
 }
