@@ -1,26 +1,28 @@
 //! A copy of two batches of a letter each, turn by turn, over devices in memory. Values worked by hand.
 
-ghost use Rattle.std.specs.Prelude.{◌≤◌, ◌^◌};
 ghost use Rattle.segment_meta.specs.Rules.{IsNote};
+ghost use Rattle.meta_log.specs.Content.{AreNotes};
 
+use crate::given::{
+    FINISHED, PARTITION, STATE, batch, batches, failing_log, failing_store, id, tells_with,
+};
 use bytes::Bytes;
 use copy_task::{CopyTurn, Copying, Next, candidate, copy_turn};
 use epoch_line::Line;
 use meta_log::{MemoryLog, MetaCall, MetaLog, Teller};
 use object_store::{MemoryStore, Store, StoreCall, place};
 use plain_log::{Answer, Place};
-use record_batch::{Rec, build, read_head};
+use record_batch::read_head;
 use remote_view::View;
 use segment_file::{Closed, Growing};
 use segment_meta::{Note, encode};
 use std::alloc::{AllocError, Global};
 use std::marker::Model;
-use std::test::Fail;
-use tier_base::{Blob, BrokerId, Part, PartitionId, Row, SegmentId, State, Trouble, segment_id};
+use tier_base::{BrokerId, Part, State};
 use view_refresh::refresh;
 
 /// The copy starts, at 5 milliseconds.
-const STARTED: [u8; 75] = [
+static STARTED: [u8; 75] = [
     0, 0, // version, kind
     0, 0, 0, 0, 0, 0, 0, 1, 0, 0, 0, 0, 0, 0, 0, 0, // id
     0, 0, // partition
@@ -36,13 +38,13 @@ const STARTED: [u8; 75] = [
     0, 0, 0, 0, 0, 0, 0, 0, // its start
 ];
 
-/// It is whole.
-const FINISHED: [u8; 29] = [
+/// Broker 1 tells at 6 milliseconds that it deletes the segment.
+static DELETED: [u8; 29] = [
     0, 1, // version, kind
     0, 0, 0, 0, 0, 0, 0, 1, 0, 0, 0, 0, 0, 0, 0, 0, // id
-    0, 0, // broker
-    0, 0, 0, 0, 0, 0, 0, 5, // event_ts
-    1, // state
+    0, 1, // broker
+    0, 0, 0, 0, 0, 0, 0, 6, // event_ts
+    2, // state
 ];
 
 /// Broker 0 copies at 5 milliseconds.
@@ -51,39 +53,28 @@ const TELLER: Teller = Teller {
     now: 5,
 };
 
-/// The id of the copy.
-fn id() -> SegmentId {
-    segment_id(PartitionId(0), BrokerId(0), 1, 0)
-}
-
-/// A record of a letter at 1000.
-fn letter(alloc: Global) -> Result<Rec, AllocError> {
-    let value = Blob::from_slice(alloc, b"a".as_slice())?;
-    Ok(Rec {
-        ts: 1000,
-        key: None,
-        value: Some(value),
-        headers: Row::new(alloc),
-    })
-}
-
-/// The batch of a letter at an offset.
-fn batch(alloc: Global, base: u64) -> Result<Vec<u8>, Fail> {
-    let rec = letter(alloc)?;
-    Ok(build(alloc, base, 0, [rec].as_slice())?)
-}
-
 /// The segment of the batches at 0 and 1.
-fn segment(alloc: Global) -> Result<Closed, Fail> {
-    let mut bytes = batch(alloc, 0)?;
-    bytes.extend_from_slice(batch(alloc, 1)?.as_slice())?;
-    Ok(Closed::read(alloc, 0, Bytes::from_vec(bytes)?)?)
+fn segment(alloc: Global) -> Result<Closed, AllocError> {
+    let bytes = batches(alloc, 2)?;
+    let bytes = Bytes::from_vec(bytes)?;
+    match Closed::read(alloc, 0, bytes) {
+        Ok(segment) => Ok(segment),
+        Err(_) => Err(AllocError),
+    }
 }
 
-/// Its copy.
-fn copying(alloc: Global) -> Result<Copying, Fail> {
-    let line = Line::from_text(alloc, b"0\n2\n0 0\n1 2\n".as_slice())?;
-    Ok(Copying::of(alloc, PartitionId(0), id(), segment(alloc)?, &line, 4096)?)
+/// The copy of a segment, by its log's line.
+fn copying_by(alloc: Global, line: &Line) -> Result<Copying, AllocError> {
+    let segment = segment(alloc)?;
+    Copying::of(alloc, PARTITION, id(0), segment, line, 4096)
+}
+
+/// The copy of the segment.
+fn copying(alloc: Global) -> Result<Copying, AllocError> {
+    match Line::from_text(alloc, b"0\n2\n0 0\n1 2\n".as_slice()) {
+        Ok(line) => copying_by(alloc, &line),
+        Err(_) => Err(AllocError),
+    }
 }
 
 /// A copy on trial, with what its turns change. A test knows nothing of it but what it is told.
@@ -105,40 +96,6 @@ impl Model for Trial {
     ghost view = { λ t. 0 };
 }
 
-/// A call of the store that fails, where there is one, done or not.
-fn failing_put(
-    alloc: Global,
-    put: Option<(StoreCall, u32)>,
-    after: bool,
-) -> Result<MemoryStore, AllocError> {
-    let mut plan = Vec::new(alloc);
-    if let Some((call, number)) = put {
-        plan.push(object_store::Planned {
-            call,
-            number,
-            after,
-        })?;
-    }
-    Ok(MemoryStore::new(alloc, plan))
-}
-
-/// A call of the metadata log that fails, where there is one, done or not.
-fn failing_note(
-    alloc: Global,
-    note: Option<(MetaCall, u32)>,
-    after: bool,
-) -> Result<MemoryLog, AllocError> {
-    let mut plan = Vec::new(alloc);
-    if let Some((call, number)) = note {
-        plan.push(meta_log::Planned {
-            call,
-            number,
-            after,
-        })?;
-    }
-    Ok(MemoryLog::new(alloc, plan))
-}
-
 /// What a turn of a copy came to, in short.
 #[derive(Clone, Copy, Debug, PartialEq, Eq)]
 enum Came {
@@ -151,16 +108,23 @@ enum Came {
     Other,
 }
 
+/// What a copy is answered, in short.
+fn answered(answer: &Answer) -> Came {
+    match answer {
+        Answer::CopiedSegment(_, base, last) => Came::Copied(*base, *last),
+        Answer::Overtaken(state) => Came::Overtaken(*state),
+        Answer::MetaFault => Came::MetaFault,
+        Answer::StoreFault => Came::StoreFault,
+        Answer::Damaged(Place::Meta, notes) => Came::Damaged(*notes),
+        _ => Came::Other,
+    }
+}
+
 /// What a turn of a copy came to, in short.
 fn came_to(turn: &CopyTurn) -> Came {
     match turn {
         CopyTurn::Goes(next) => Came::Goes(*next),
-        CopyTurn::Ends(Answer::CopiedSegment(_, base, last)) => Came::Copied(*base, *last),
-        CopyTurn::Ends(Answer::Overtaken(state)) => Came::Overtaken(*state),
-        CopyTurn::Ends(Answer::MetaFault) => Came::MetaFault,
-        CopyTurn::Ends(Answer::StoreFault) => Came::StoreFault,
-        CopyTurn::Ends(Answer::Damaged(Place::Meta, notes)) => Came::Damaged(*notes),
-        CopyTurn::Ends(_) => Came::Other,
+        CopyTurn::Ends(answer) => answered(answer),
     }
 }
 
@@ -174,25 +138,41 @@ fn is_spelt(alloc: Global, note: &Note, bytes: &[u8]) -> bool
     }
 }
 
+/// Whether the first of these notes is spelt with these bytes.
+fn begin_so(alloc: Global, notes: &[Note], bytes: &[u8]) -> bool
+    requires { AreNotes notes.now }
+{
+    match notes {
+        [note, ..] => is_spelt(alloc, note, bytes),
+        [] => false,
+    }
+}
+
 impl Trial {
+    /// A copy over devices, which are armed.
+    fn over(alloc: Global, copying: Copying, mut store: MemoryStore, mut meta: MemoryLog) -> Trial {
+        store.arm();
+        meta.arm();
+        Trial {
+            alloc,
+            copying,
+            view: View::new(alloc),
+            store,
+            meta,
+        }
+    }
+
     /// A copy over empty devices, of which these calls fail, done or not.
     fn new(
         alloc: Global,
         put: Option<(StoreCall, u32)>,
         note: Option<(MetaCall, u32)>,
         after: bool,
-    ) -> Result<Trial, Fail> {
-        let mut store = failing_put(alloc, put, after)?;
-        let mut meta = failing_note(alloc, note, after)?;
-        store.arm();
-        meta.arm();
-        Ok(Trial {
-            alloc,
-            copying: copying(alloc)?,
-            view: View::new(alloc),
-            store,
-            meta,
-        })
+    ) -> Result<Trial, AllocError> {
+        let store = failing_store(alloc, put, after)?;
+        let meta = failing_log(alloc, note, after)?;
+        let copying = copying(alloc)?;
+        Ok(Trial::over(alloc, copying, store, meta))
     }
 
     /// Takes a turn.
@@ -225,7 +205,7 @@ impl Trial {
 
     /// Whether an object has these bytes.
     fn holds(&mut self, part: Part, bytes: &[u8]) -> bool {
-        let Some(spot) = place(PartitionId(0), id(), false, None, part) else {
+        let Some(spot) = place(PARTITION, id(0), false, None, part) else {
             return false;
         };
         match self.store.get(&spot.key, spot.at) {
@@ -245,29 +225,15 @@ impl Trial {
     /// Whether the metadata log has the note of these bytes at a place.
     fn noted(&mut self, at: u64, bytes: &[u8]) -> bool {
         match self.meta.read(at) {
-            Ok(notes) => match notes.as_slice() {
-                [note, ..] => is_spelt(self.alloc, note, bytes),
-                [] => false,
-            },
+            Ok(notes) => begin_so(self.alloc, notes.as_slice(), bytes),
             Err(_) => false,
         }
     }
 
     /// Tells the metadata log that another broker deletes the segment, or that its objects are gone.
     fn overtake(&mut self, gone: bool) -> bool {
-        let state = if gone {
-            State::DeleteFinished
-        } else {
-            State::DeleteStarted
-        };
-        let note = Note::Update {
-            id: id(),
-            broker: BrokerId(1),
-            event_ts: 6,
-            state,
-            custom: None,
-        };
-        self.meta.append(&note).is_ok()
+        let state = if gone { 3 } else { 2 };
+        tells_with(self.alloc, &mut self.meta, &DELETED, 0, STATE, state)
     }
 
     /// Takes in what the metadata log has more.
@@ -277,15 +243,17 @@ impl Trial {
 
     /// The state of the copy's entry in the view.
     fn state(&self) -> Option<State> {
-        self.view.state(id())
+        self.view.state(id(0))
     }
 
     /// Whether the copy is of these offsets of partition 0.
     fn spans(&self, base: u64, last: u64) -> bool {
-        self.copying.id() == id()
-            && self.copying.partition() == PartitionId(0)
-            && self.copying.base() == base
-            && self.copying.last() == last
+        (
+            self.copying.id(),
+            self.copying.partition(),
+            self.copying.base(),
+            self.copying.last(),
+        ) == (id(0), PARTITION, base, last)
     }
 }
 
@@ -322,9 +290,11 @@ enum Step {
 
 impl Trial {
     /// Whether the store has the segment's bytes as the copy's log.
-    fn has_log(&mut self) -> Result<bool, Fail> {
-        let segment = segment(self.alloc)?;
-        Ok(self.holds(Part::Log, segment.bytes().as_slice()))
+    fn has_log(&mut self) -> bool {
+        match batches(self.alloc, 2) {
+            Ok(bytes) => self.holds(Part::Log, bytes.as_slice()),
+            Err(_) => false,
+        }
     }
 
     /// Whether it has the copy's indexes, of which the first is empty, and its line.
@@ -343,36 +313,36 @@ impl Trial {
     }
 
     /// Whether a step comes to what it should.
-    fn goes(&mut self, step: Step) -> Result<bool, Fail> {
+    fn goes(&mut self, step: Step) -> bool {
         match step {
-            Step::Spans(base, last) => Ok(self.spans(base, last)),
-            Step::Turns(next, came) => Ok(self.turn(next) == came),
-            Step::Runs(from, end, came, turns) => Ok(self.run(from, end) == (came, turns)),
-            Step::IsIn(state) => Ok(self.state() == Some(state)),
-            Step::HasNotes => Ok(self.has_notes()),
+            Step::Spans(base, last) => self.spans(base, last),
+            Step::Turns(next, came) => self.turn(next) == came,
+            Step::Runs(from, end, came, turns) => self.run(from, end) == (came, turns),
+            Step::IsIn(state) => self.state() == Some(state),
+            Step::HasNotes => self.has_notes(),
             Step::HasLog => self.has_log(),
-            Step::HasOthers => Ok(self.has_others()),
-            Step::Counts(objects) => Ok(self.counts(objects)),
-            Step::Overtaken(gone) => Ok(self.overtake(gone)),
-            Step::Looks => Ok(self.look()),
+            Step::HasOthers => self.has_others(),
+            Step::Counts(objects) => self.counts(objects),
+            Step::Overtaken(gone) => self.overtake(gone),
+            Step::Looks => self.look(),
         }
     }
 
     /// How many steps go well at first.
-    fn go(&mut self, steps: &[Step]) -> Result<usize, Fail> {
+    fn go(&mut self, steps: &[Step]) -> usize {
         for (i, step) in steps.iter().enumerate() {
-            if !self.goes(*step)? {
-                return Ok(i);
+            if !self.goes(*step) {
+                return i;
             }
         }
-        Ok(steps.len())
+        steps.len()
     }
 }
 
 /// How many steps of a story go well at first.
-fn told(alloc: Global, steps: &[Step]) -> Result<usize, Fail> {
+fn told(alloc: Global, steps: &[Step]) -> Result<usize, AllocError> {
     let mut trial = Trial::new(alloc, None, None, false)?;
-    trial.go(steps)
+    Ok(trial.go(steps))
 }
 
 /// What is told of a copy.
@@ -440,11 +410,10 @@ static STORIES: [(&str, &[Step]); 5] = [
 ];
 
 #[test]
-fn copies_go_as_they_are_told(rt: HostRuntime) -> Result<(), Fail> {
+fn copies_go_as_they_are_told(rt: HostRuntime) {
     for (story, steps) in &STORIES {
-        assert_eq!(rt; told(rt.alloc(), steps)?, steps.len(), "{story}");
+        assert_eq!(rt; told(rt.alloc(), steps), Ok(steps.len()), "{story}");
     }
-    Ok(())
 }
 
 /// The call of the store or of the metadata log that fails, and the turn of it.
@@ -464,79 +433,88 @@ fn failed(
     put: Option<(StoreCall, u32)>,
     note: Option<(MetaCall, u32)>,
     after: bool,
-) -> Result<(Came, u32), Fail> {
+) -> Result<(Came, u32), AllocError> {
     let mut trial = Trial::new(alloc, put, note, after)?;
     Ok(trial.run(Next::Start, Next::Start))
 }
 
 #[test]
-fn a_call_that_fails_ends_the_copy(rt: HostRuntime) -> Result<(), Fail> {
-    for (put, note, came, turn) in &FAILURES {
-        for after in [false, true] {
-            assert_eq!(rt;
-                failed(rt.alloc(), *put, *note, after)?,
-                (*came, *turn),
-                "done: {after}"
-            );
-        }
+fn a_call_that_fails_ends_the_copy(rt: HostRuntime) {
+    for (put, note, came, turns) in &FAILURES {
+        let undone = failed(rt.alloc(), *put, *note, false);
+        assert_eq!(rt; undone, Ok((*came, *turns)), "not done, turn {turns}");
+        let done = failed(rt.alloc(), *put, *note, true);
+        assert_eq!(rt; done, Ok((*came, *turns)), "done, turn {turns}");
     }
-    Ok(())
 }
 
-/// A segment of batches of a letter each, from one offset to another.
-fn growing(alloc: Global, base: u64, end: u64) -> Result<Growing, Fail>
-    requires { base ≤ 2 ^ 62 }
-{
+/// Whether a segment takes a batch.
+fn pushes(segment: &mut Growing, batch: &[u8]) -> bool {
+    match read_head(batch) {
+        Ok(head) => segment.takes(&head) && segment.push(&head).is_ok(),
+        Err(_) => false,
+    }
+}
+
+/// Whether a segment takes the batch of a letter at an offset.
+fn grows(alloc: Global, segment: &mut Growing, offset: u64) -> bool {
+    match batch(alloc, offset) {
+        Ok(batch) => pushes(segment, batch.as_slice()),
+        Err(_) => false,
+    }
+}
+
+/// Whether a segment takes the batches of a letter each, from an offset to an end.
+fn grows_to(alloc: Global, segment: &mut Growing, from: u64, end: u64) -> bool {
+    for offset in from..end {
+        if !grows(alloc, segment, offset) {
+            return false;
+        }
+    }
+    true
+}
+
+/// The base of a segment that is copied.
+fn base_of(segment: Option<&Growing>) -> Option<u64> {
+    match segment {
+        Some(segment) => Some(segment.base()),
+        None => None,
+    }
+}
+
+/// The base of the segment that is copied next, where this is the first one past the copied mark, from an offset to an end.
+fn chosen(alloc: Global, past: (u64, u64), known: u64) -> Option<u64> {
+    let (base, end) = past;
+    if base > 1 << 62 {
+        return None;
+    }
     let mut segment = Growing::new(alloc, base, 4096);
-    for offset in base..end {
-        let batch = batch(alloc, offset)?;
-        let head = read_head(batch.as_slice())?;
-        if segment.takes(&head) {
-            segment.push(&head)?;
-        }
+    if !grows_to(alloc, &mut segment, base, end) {
+        return None;
     }
-    Ok(segment)
+    base_of(candidate(Some(&segment), known))
 }
 
-/// Segments of the offsets 0 to 1, 2 to 4 and 5.
-fn closed(alloc: Global) -> Result<[Growing; 3], Fail> {
-    let first = growing(alloc, 0, 2)?;
-    let second = growing(alloc, 2, 5)?;
-    let third = growing(alloc, 5, 6)?;
-    Ok([first, second, third])
-}
-
-/// The base of the segment that is copied next.
-fn chosen(alloc: Global, copied: u64, known: u64) -> Result<Option<u64>, Fail> {
-    let closed = closed(alloc)?;
-    let past = closed.iter().find(|segment| segment.end() > copied);
-    match candidate(past, known) {
-        Some(segment) => Ok(Some(segment.base())),
-        None => Ok(None),
-    }
-}
-
-/// The copied mark and the known mark, and the base of the segment.
-static CHOSEN: [(u64, u64, Option<u64>); 9] = [
-    (0, 6, Some(0)),
-    (0, 2, Some(0)),
-    (0, 1, None),
-    (1, 9, Some(0)),
-    (2, 5, Some(2)),
-    (4, 5, Some(2)),
-    (5, 5, None),
-    (5, 6, Some(5)),
-    (6, 9, None),
+/// The first segment past the copied mark, the known mark, and the base of the one that is copied.
+static CHOSEN: [((u64, u64), u64, Option<u64>); 7] = [
+    ((0, 2), 6, Some(0)),
+    ((0, 2), 2, Some(0)),
+    ((0, 2), 1, None),
+    ((0, 2), 9, Some(0)),
+    ((2, 5), 5, Some(2)),
+    ((5, 6), 5, None),
+    ((5, 6), 6, Some(5)),
 ];
 
 #[test]
-fn the_first_segment_past_the_copied_mark_is_copied(rt: HostRuntime) -> Result<(), Fail> {
-    for (copied, known, base) in &CHOSEN {
+fn the_first_segment_past_the_copied_mark_is_copied(rt: HostRuntime) {
+    for (past, known, base) in &CHOSEN {
+        let (from, end) = *past;
         assert_eq!(rt;
-            chosen(rt.alloc(), *copied, *known)?,
+            chosen(rt.alloc(), *past, *known),
             *base,
-            "copied to {copied}, known to {known}"
+            "from {from} to {end}, known to {known}"
         );
     }
-    Ok(())
+    assert_eq!(rt; base_of(candidate(None, 9)), None, "all is copied");
 }
