@@ -97,7 +97,7 @@ impl Model for Trial {
 }
 
 /// What a turn of a copy came to, in short.
-#[derive(Clone, Copy, Debug, PartialEq, Eq)]
+#[derive(Clone, Copy, PartialEq, Eq)]
 enum Came {
     Goes(Next),
     Copied(u64, u64),
@@ -160,19 +160,6 @@ impl Trial {
             store,
             meta,
         }
-    }
-
-    /// A copy over empty devices, of which these calls fail, done or not.
-    fn new(
-        alloc: Global,
-        put: Option<(StoreCall, u32)>,
-        note: Option<(MetaCall, u32)>,
-        after: bool,
-    ) -> Result<Trial, AllocError> {
-        let store = failing_store(alloc, put, after)?;
-        let meta = failing_log(alloc, note, after)?;
-        let copying = copying(alloc)?;
-        Ok(Trial::over(alloc, copying, store, meta))
     }
 
     /// Takes a turn.
@@ -339,10 +326,30 @@ impl Trial {
     }
 }
 
-/// How many steps of a story go well at first.
-fn told(alloc: Global, steps: &[Step]) -> Result<usize, AllocError> {
-    let mut trial = Trial::new(alloc, None, None, false)?;
-    Ok(trial.go(steps))
+/// How many steps of a story go well at first, over these devices.
+fn go_over(
+    alloc: Global,
+    copying: Copying,
+    store: MemoryStore,
+    meta: MemoryLog,
+    steps: &[Step],
+) -> usize {
+    let mut trial = Trial::over(alloc, copying, store, meta);
+    trial.go(steps)
+}
+
+/// How many steps of a story go well at first, over empty devices, of which these calls fail, done or not.
+fn told(
+    alloc: Global,
+    put: Option<(StoreCall, u32)>,
+    note: Option<(MetaCall, u32)>,
+    after: bool,
+    steps: &[Step],
+) -> Result<usize, AllocError> {
+    let store = failing_store(alloc, put, after)?;
+    let meta = failing_log(alloc, note, after)?;
+    let copying = copying(alloc)?;
+    Ok(go_over(alloc, copying, store, meta, steps))
 }
 
 /// What is told of a copy.
@@ -412,7 +419,11 @@ static STORIES: [(&str, &[Step]); 5] = [
 #[test]
 fn copies_go_as_they_are_told(rt: HostRuntime) {
     for (story, steps) in &STORIES {
-        assert_eq!(rt; told(rt.alloc(), steps), Ok(steps.len()), "{story}");
+        assert_eq!(rt;
+            told(rt.alloc(), None, None, false, steps),
+            Ok(steps.len()),
+            "{story}"
+        );
     }
 }
 
@@ -427,24 +438,24 @@ static FAILURES: [(Option<(StoreCall, u32)>, Option<(MetaCall, u32)>, Came, u32)
     (None, Some((MetaCall::Read, 1)), Came::MetaFault, 7),
 ];
 
-/// How a copy ends of which a call fails, done or not, and after how many turns.
+/// Whether a copy of which a call fails, done or not, ends so after so many turns.
 fn failed(
     alloc: Global,
     put: Option<(StoreCall, u32)>,
     note: Option<(MetaCall, u32)>,
     after: bool,
-) -> Result<(Came, u32), AllocError> {
-    let mut trial = Trial::new(alloc, put, note, after)?;
-    Ok(trial.run(Next::Start, Next::Start))
+    (came, turns): (Came, u32),
+) -> bool {
+    let ends = Step::Runs(Next::Start, Next::Start, came, turns);
+    told(alloc, put, note, after, &[ends]) == Ok(1)
 }
 
 #[test]
 fn a_call_that_fails_ends_the_copy(rt: HostRuntime) {
     for (put, note, came, turns) in &FAILURES {
-        let undone = failed(rt.alloc(), *put, *note, false);
-        assert_eq!(rt; undone, Ok((*came, *turns)), "not done, turn {turns}");
-        let done = failed(rt.alloc(), *put, *note, true);
-        assert_eq!(rt; done, Ok((*came, *turns)), "done, turn {turns}");
+        let undone = failed(rt.alloc(), *put, *note, false, (*came, *turns));
+        let done = failed(rt.alloc(), *put, *note, true, (*came, *turns));
+        assert_eq!(rt; (undone, done), (true, true), "turn {turns}");
     }
 }
 
@@ -482,9 +493,8 @@ fn base_of(segment: Option<&Growing>) -> Option<u64> {
     }
 }
 
-/// The base of the segment that is copied next, where this is the first one past the copied mark, from an offset to an end.
-fn chosen(alloc: Global, past: (u64, u64), known: u64) -> Option<u64> {
-    let (base, end) = past;
+/// The base of the segment that is copied next, where the first one past the copied mark goes from an offset to an end.
+fn chosen_of(alloc: Global, base: u64, end: u64, known: u64) -> Option<u64> {
     if base > 1 << 62 {
         return None;
     }
@@ -495,26 +505,29 @@ fn chosen(alloc: Global, past: (u64, u64), known: u64) -> Option<u64> {
     base_of(candidate(Some(&segment), known))
 }
 
+/// The base of the segment that is copied next, where this is the first one past the copied mark, or none is.
+fn chosen(alloc: Global, past: Option<(u64, u64)>, known: u64) -> Option<u64> {
+    match past {
+        Some((base, end)) => chosen_of(alloc, base, end, known),
+        None => base_of(candidate(None, known)),
+    }
+}
+
 /// The first segment past the copied mark, the known mark, and the base of the one that is copied.
-static CHOSEN: [((u64, u64), u64, Option<u64>); 7] = [
-    ((0, 2), 6, Some(0)),
-    ((0, 2), 2, Some(0)),
-    ((0, 2), 1, None),
-    ((0, 2), 9, Some(0)),
-    ((2, 5), 5, Some(2)),
-    ((5, 6), 5, None),
-    ((5, 6), 6, Some(5)),
+static CHOSEN: [(Option<(u64, u64)>, u64, Option<u64>); 8] = [
+    (Some((0, 2)), 6, Some(0)),
+    (Some((0, 2)), 2, Some(0)),
+    (Some((0, 2)), 1, None),
+    (Some((0, 2)), 9, Some(0)),
+    (Some((2, 5)), 5, Some(2)),
+    (Some((5, 6)), 5, None),
+    (Some((5, 6)), 6, Some(5)),
+    (None, 9, None),
 ];
 
 #[test]
 fn the_first_segment_past_the_copied_mark_is_copied(rt: HostRuntime) {
-    for (past, known, base) in &CHOSEN {
-        let (from, end) = *past;
-        assert_eq!(rt;
-            chosen(rt.alloc(), *past, *known),
-            *base,
-            "from {from} to {end}, known to {known}"
-        );
+    for (i, (past, known, base)) in CHOSEN.iter().enumerate() {
+        assert_eq!(rt; chosen(rt.alloc(), *past, *known), *base, "row {i}");
     }
-    assert_eq!(rt; base_of(candidate(None, 9)), None, "all is copied");
 }

@@ -47,7 +47,7 @@ fn doomed() -> Doomed {
 }
 
 /// What a turn of an expiry came to, in short.
-#[derive(Clone, Copy, Debug, PartialEq, Eq)]
+#[derive(Clone, Copy, PartialEq, Eq)]
 enum Came {
     Goes(Next),
     Deleted,
@@ -100,9 +100,10 @@ fn are_told(notes: &[Note], states: &[State]) -> bool {
 /// Whether keys are those of an attempt's objects.
 fn are_keys(found: &[ObjectKey], attempt: u64) -> bool {
     let keys = keys_of(PARTITION, id(attempt), false);
-    for (n, key) in (0..keys.count()).zip(found) {
-        if keys.get(n) != *key {
-            return false;
+    for n in 0..keys.count() {
+        match found.get(n as usize) {
+            Some(key) if *key == keys.get(n) => {}
+            _ => return false,
         }
     }
     (keys.count(), found.len()) == (4, 4)
@@ -211,21 +212,21 @@ fn expired(
 
 #[test]
 fn an_expiry_takes_four_objects_away_between_two_notes(rt: HostRuntime) {
-    assert_eq!(rt;
-        expired(rt.alloc(), None, None, false),
-        Ok((Came::Deleted, 6, true, true))
-    );
+    assert!(rt; expired(rt.alloc(), None, None, false) == Ok((Came::Deleted, 6, true, true)));
 }
 
-/// How an expiry ends of which a call fails, done or not, and after how many turns.
+/// Whether an expiry of which a call fails, done or not, ends so after so many turns.
 fn failed(
     alloc: Global,
     put: Option<(StoreCall, u32)>,
     note: Option<(MetaCall, u32)>,
     after: bool,
-) -> Result<(Came, u32), AllocError> {
-    let (came, turns, _, _) = expired(alloc, put, note, after)?;
-    Ok((came, turns))
+    end: (Came, u32),
+) -> bool {
+    match expired(alloc, put, note, after) {
+        Ok((came, turns, _, _)) => (came, turns) == end,
+        Err(_) => false,
+    }
 }
 
 /// The call of the store or of the metadata log that fails, what the expiry comes to, and after how many turns.
@@ -241,10 +242,9 @@ static FAILURES: [(Option<(StoreCall, u32)>, Option<(MetaCall, u32)>, Came, u32)
 #[test]
 fn a_call_that_fails_ends_the_expiry(rt: HostRuntime) {
     for (put, note, came, turns) in &FAILURES {
-        let undone = failed(rt.alloc(), *put, *note, false);
-        assert_eq!(rt; undone, Ok((*came, *turns)), "not done, turn {turns}");
-        let done = failed(rt.alloc(), *put, *note, true);
-        assert_eq!(rt; done, Ok((*came, *turns)), "done, turn {turns}");
+        let undone = failed(rt.alloc(), *put, *note, false, (*came, *turns));
+        let done = failed(rt.alloc(), *put, *note, true, (*came, *turns));
+        assert_eq!(rt; (undone, done), (true, true), "turn {turns}");
     }
 }
 

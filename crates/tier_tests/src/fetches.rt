@@ -2,7 +2,7 @@
 //!
 //! No test holds a fetch: a story is a table of fetches, each with what it comes to.
 
-ghost use Rattle.std.specs.Prelude.{IsTrue};
+ghost use Rattle.std.specs.Prelude.{◌<◌, IsTrue};
 ghost use Rattle.tier_fetch.specs.Turns.{IsFor};
 
 use crate::given::{
@@ -45,7 +45,7 @@ static INDEX: [u8; 8] = [0, 0, 0, 2, 0, 0, 0, 138];
 static LINE: &str = "0\n2\n0 0\n1 3\n";
 
 /// What a fetch came to, in short.
-#[derive(Clone, Copy, Debug, PartialEq, Eq)]
+#[derive(Clone, Copy, PartialEq, Eq)]
 enum Came {
     Run(u64, Stop),
     MetaFault,
@@ -74,12 +74,12 @@ fn ran(tier: Tier, size: u64, stop: Stop, bytes: &[u8], held: &[u8]) -> Came {
     }
 }
 
-/// What is damaged, in short.
-fn damaged(place: Place, at: u64) -> Came {
-    match place {
-        Place::Meta => Came::Lost(at),
-        Place::Key(found) if found == key(found.part) => Came::Damaged(found.part, at),
-        _ => Came::Other,
+/// What an object comes to that is damaged at a place.
+fn damaged(found: &ObjectKey, at: u64) -> Came {
+    if *found == key(found.part) {
+        Came::Damaged(found.part, at)
+    } else {
+        Came::Other
     }
 }
 
@@ -94,7 +94,8 @@ fn answered(answer: &Answer, held: &[u8]) -> Came {
         } => ran(*tier, *size, *stop, bytes.as_slice(), held),
         Answer::MetaFault => Came::MetaFault,
         Answer::StoreFault => Came::StoreFault,
-        Answer::Damaged(place, at) => damaged(*place, *at),
+        Answer::Damaged(Place::Key(found), at) => damaged(found, *at),
+        Answer::Damaged(Place::Meta, at) => Came::Lost(*at),
         _ => Came::Other,
     }
 }
@@ -107,15 +108,17 @@ fn came_to(turn: &FetchTurn, held: &[u8]) -> Turned {
     }
 }
 
-/// Whether a turn may be one of a fetch at an offset.
-fn is_for(offset: u64, next: Next) -> bool
-    ensures { IsTrue result → IsFor offset next }
+/// Whether a turn may be one of a fetch.
+fn may_go(wanted: &Wanted, next: &Next) -> bool
+    ensures below { IsTrue result → wanted.now.offset < wanted.now.mark }
+    ensures holds { IsTrue result → IsFor wanted.now.offset next.now }
 {
-    match next {
+    let holds = match next {
         Next::Refresh => true,
-        Next::Index(piece) => offset < piece.to,
-        Next::Log(piece, _) => offset < piece.to,
-    }
+        Next::Index(piece) => wanted.offset < piece.to,
+        Next::Log(piece, _) => wanted.offset < piece.to,
+    };
+    holds && wanted.offset < wanted.mark
 }
 
 /// What a fetch asks for.
@@ -198,11 +201,12 @@ impl<S: Store> Trial<S> {
 
     /// Takes a turn. The bytes of a run are those that are held.
     fn turn(&mut self, line: &Line, wanted: &Wanted, next: Next, held: &[u8]) -> Turned {
-        if wanted.offset >= wanted.mark || !is_for(wanted.offset, next) {
+        if !may_go(wanted, &next) {
             return Turned::Ends(Came::Other);
         }
-        match fetch_turn(
-            self.alloc,
+        let alloc = self.alloc;
+        let answer = fetch_turn(
+            alloc,
             wanted,
             next,
             line,
@@ -210,7 +214,8 @@ impl<S: Store> Trial<S> {
             &mut self.cache,
             &mut self.store,
             &mut self.meta,
-        ) {
+        );
+        match answer {
             Ok(turn) => came_to(&turn, held),
             Err(_) => Turned::Ends(Came::Other),
         }
@@ -440,9 +445,9 @@ static DAMAGED: [(Log, Option<&[u8]>, Part, u64); 5] = [
 
 #[test]
 fn objects_without_a_reading_are_damaged(rt: HostRuntime) {
-    for (log, index, part, at) in &DAMAGED {
+    for (i, (log, index, part, at)) in DAMAGED.iter().enumerate() {
         let came = damage(rt.alloc(), *log, *index);
-        assert_eq!(rt; came, Ok(Came::Damaged(*part, *at)));
+        assert!(rt; came == Ok(Came::Damaged(*part, *at)), "row {i}");
     }
 }
 
