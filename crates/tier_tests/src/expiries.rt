@@ -179,35 +179,37 @@ impl Tiers {
     }
 }
 
-/// The objects of two segments, and devices of which one call fails, which is done or not.
-fn over_devices(
-    alloc: Global,
-    put: Option<(StoreCall, u32)>,
-    note: Option<(MetaCall, u32)>,
-    after: bool,
-) -> Result<Tiers, AllocError> {
-    let store = failing_store(alloc, put, after)?;
-    let meta = failing_log(alloc, note, after)?;
-    Ok(Tiers { store, meta })
+impl Tiers {
+    /// What an expiry comes to, once the objects of two segments stand, and after how many turns; whether the metadata log
+    /// tells of both states, and the objects of the other segment are left alone.
+    fn expire(&mut self, alloc: Global) -> (Came, u32, bool, bool) {
+        if !self.puts(alloc, 0) | !self.puts(alloc, 1) {
+            return (Came::Other, 0, false, false);
+        }
+        self.arm();
+        let (came, turns) = self.run();
+        let told = self.tells(&[State::DeleteStarted, State::DeleteFinished]);
+        let left = self.leaves(1);
+        (came, turns, told, left)
+    }
 }
 
-/// What an expiry comes to of which a call fails, done or not, and after how many turns; whether the metadata log tells of
-/// both states, and the objects of the other segment are left alone.
+/// What an expiry comes to over these devices.
+fn expired_over(alloc: Global, store: MemoryStore, meta: MemoryLog) -> (Came, u32, bool, bool) {
+    let mut tiers = Tiers { store, meta };
+    tiers.expire(alloc)
+}
+
+/// What an expiry comes to over devices of which a call fails, done or not.
 fn expired(
     alloc: Global,
     put: Option<(StoreCall, u32)>,
     note: Option<(MetaCall, u32)>,
     after: bool,
 ) -> Result<(Came, u32, bool, bool), AllocError> {
-    let mut tiers = over_devices(alloc, put, note, after)?;
-    if !tiers.puts(alloc, 0) | !tiers.puts(alloc, 1) {
-        return Ok((Came::Other, 0, false, false));
-    }
-    tiers.arm();
-    let (came, turns) = tiers.run();
-    let told = tiers.tells(&[State::DeleteStarted, State::DeleteFinished]);
-    let left = tiers.leaves(1);
-    Ok((came, turns, told, left))
+    let store = failing_store(alloc, put, after)?;
+    let meta = failing_log(alloc, note, after)?;
+    Ok(expired_over(alloc, store, meta))
 }
 
 #[test]

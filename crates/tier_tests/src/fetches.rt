@@ -168,15 +168,14 @@ fn behind(segment: &[u8], offset: u64) -> &[u8] {
 }
 
 impl<S: Store> Trial<S> {
-    fn over(alloc: Global, store: S, meta: MemoryLog) -> Result<Trial<S>, AllocError> {
-        let cache = IndexCache::new(alloc, 64)?;
-        Ok(Trial {
+    fn over(alloc: Global, cache: IndexCache, store: S, meta: MemoryLog) -> Trial<S> {
+        Trial {
             alloc,
             view: View::new(alloc),
             cache,
             store,
             meta,
-        })
+        }
     }
 
     /// Whether the metadata log is told of the copy.
@@ -262,18 +261,31 @@ impl<S: Store> Trial<S> {
     }
 }
 
-/// A fetch over devices in memory, of which a read fails, where one is named.
-fn over_memory(
-    alloc: Global,
-    get: Option<(StoreCall, u32)>,
-    read: Option<(MetaCall, u32)>,
-) -> Result<Trial<MemoryStore>, AllocError> {
-    let store = failing_store(alloc, get, false)?;
-    let meta = failing_log(alloc, read, false)?;
-    Trial::over(alloc, store, meta)
+impl Trial<MemoryStore> {
+    /// How many steps go well at first, once the devices have the copy.
+    fn goes_on(&mut self, segment: &[u8], steps: &[Step]) -> usize {
+        if !self.tells() | !self.puts(segment) {
+            return 0;
+        }
+        self.arm();
+        self.go(steps, segment)
+    }
 }
 
-/// How many steps of a story go well at first, over devices that have the copy, of which a read fails, where one is named.
+/// How many steps go well at first, over these devices.
+fn go_over(
+    alloc: Global,
+    cache: IndexCache,
+    store: MemoryStore,
+    meta: MemoryLog,
+    segment: &[u8],
+    steps: &[Step],
+) -> usize {
+    let mut trial = Trial::over(alloc, cache, store, meta);
+    trial.goes_on(segment, steps)
+}
+
+/// How many steps of a story go well at first, over devices of which a read fails, where one is named.
 fn told(
     alloc: Global,
     get: Option<(StoreCall, u32)>,
@@ -281,12 +293,10 @@ fn told(
     steps: &[Step],
 ) -> Result<usize, AllocError> {
     let segment = batches(alloc, 4)?;
-    let mut trial = over_memory(alloc, get, read)?;
-    if !trial.tells() | !trial.puts(segment.as_slice()) {
-        return Ok(0);
-    }
-    trial.arm();
-    Ok(trial.go(steps, segment.as_slice()))
+    let store = failing_store(alloc, get, false)?;
+    let meta = failing_log(alloc, read, false)?;
+    let cache = IndexCache::new(alloc, 64)?;
+    Ok(go_over(alloc, cache, store, meta, segment.as_slice(), steps))
 }
 
 /// What is told of fetches, of which a read of the store or of the metadata log fails.
@@ -413,15 +423,29 @@ fn objects(
     Ok(objects)
 }
 
-/// What a fetch at offset 2 comes to, over a store that tells nothing.
+impl Trial<DeafStore> {
+    /// What a fetch at offset 2 comes to, once the metadata log is told of the copy.
+    fn comes(&mut self) -> Came {
+        if !self.tells() {
+            return Came::Other;
+        }
+        self.fetch(2, 1000, 4, &[]).0
+    }
+}
+
+/// What a fetch comes to over a store that tells nothing and has these objects.
+fn damage_in(alloc: Global, cache: IndexCache, objects: Vec<(ObjectKey, Bytes)>) -> Came {
+    let store = DeafStore::new(alloc, objects);
+    let meta = MemoryLog::new(alloc, Vec::new(alloc));
+    let mut trial = Trial::over(alloc, cache, store, meta);
+    trial.comes()
+}
+
+/// What a fetch comes to, by what stands in the place of the log and of the index.
 fn damage(alloc: Global, log: Log, index: Option<&[u8]>) -> Result<Came, AllocError> {
     let objects = objects(alloc, log, index)?;
-    let meta = MemoryLog::new(alloc, Vec::new(alloc));
-    let mut trial = Trial::over(alloc, DeafStore::new(alloc, objects), meta)?;
-    if !trial.tells() {
-        return Ok(Came::Other);
-    }
-    Ok(trial.fetch(2, 1000, 4, &[]).0)
+    let cache = IndexCache::new(alloc, 64)?;
+    Ok(damage_in(alloc, cache, objects))
 }
 
 /// The log and the index that stand there, and what is damaged, at which place.
