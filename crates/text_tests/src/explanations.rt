@@ -3,7 +3,6 @@
 use script_help::{KeptSource, explanation};
 use script_lang::{ScriptRefusal, Why, parse};
 use std::alloc::{AllocError, Global};
-use std::test::Fail;
 use tier_base::{MemorySource, Source};
 
 /// Scripts without a reading, and what is told of them.
@@ -223,28 +222,56 @@ fn told_of(alloc: Global, text: &str) -> Result<String, AllocError> {
     }
 }
 
-#[test]
-fn refused_lines_are_explained(rt: HostRuntime) -> Result<(), Fail> {
-    for (name, text, told) in &ROWS {
-        assert_eq!(rt; told_of(rt.alloc(), text)?.as_str(), *told, "{name}");
+/// Whether this is told of a script that has no reading.
+fn is_told(alloc: Global, text: &str, told: &str) -> bool {
+    match told_of(alloc, text) {
+        Ok(found) => found.as_str() == told,
+        Err(_) => false,
     }
-    for (name, text, line, why, told) in &GIVEN {
-        let found = explanation(rt.alloc(), text.as_bytes(), *line, *why)?;
-        assert_eq!(rt; found.as_str(), *told, "{name}");
-    }
-    Ok(())
 }
 
-/// How many bytes a source gives at its first two reads of three bytes, and whether it has kept these.
-fn keeps(alloc: Global, wanted: &[u8]) -> Result<(usize, usize, bool), AllocError> {
-    let bytes = Vec::from_slice(alloc, b"0 0 0 up".as_slice())?;
+/// Whether this is told of a line for a cause.
+fn is_explained(alloc: Global, text: &str, line: u32, why: Why, told: &str) -> bool {
+    match explanation(alloc, text.as_bytes(), line, why) {
+        Ok(found) => found.as_str() == told,
+        Err(_) => false,
+    }
+}
+
+#[test]
+fn refused_lines_are_explained(rt: HostRuntime) {
+    for (name, text, told) in &ROWS {
+        assert!(rt; is_told(rt.alloc(), text, told), "{name}");
+    }
+}
+
+#[test]
+fn a_given_cause_is_explained(rt: HostRuntime) {
+    for (name, text, line, why, told) in &GIVEN {
+        assert!(rt; is_explained(rt.alloc(), text, *line, *why, told), "{name}");
+    }
+}
+
+/// How many bytes a source gives at a read of three, or 9 where it fails.
+fn read<S: Source>(source: &mut S) -> usize {
+    let mut room = [0; 3];
+    source.read(&mut room).unwrap_or(9)
+}
+
+/// A source whose second read fails.
+fn failing(alloc: Global) -> Result<MemorySource, AllocError> {
     let mut plan = Vec::new(alloc);
     plan.push(2)?;
-    let mut source = KeptSource::new(alloc, MemorySource::new(bytes, plan));
-    let mut room = [0; 3];
-    let first = source.read(&mut room).unwrap_or(0);
-    let failed = source.read(&mut room).unwrap_or(9);
-    let _third = source.read(&mut room);
+    let bytes = Vec::from_slice(alloc, b"0 0 0 up".as_slice())?;
+    Ok(MemorySource::new(bytes, plan))
+}
+
+/// How many bytes a source gives at its first two reads of three bytes, and whether it has kept these after a third.
+fn keeps(alloc: Global, wanted: &[u8]) -> Result<(usize, usize, bool), AllocError> {
+    let mut source = KeptSource::new(alloc, failing(alloc)?);
+    let first = read(&mut source);
+    let failed = read(&mut source);
+    let _third = read(&mut source);
     Ok((first, failed, source.kept() == wanted))
 }
 
@@ -253,14 +280,17 @@ fn keeps(alloc: Global, wanted: &[u8]) -> Result<(usize, usize, bool), AllocErro
 fn passes(alloc: Global) -> Result<(usize, bool), AllocError> {
     let bytes = Vec::from_slice(alloc, b"0 0 0 up".as_slice())?;
     let mut source = KeptSource::passing(MemorySource::new(bytes, Vec::new(alloc)));
-    let mut room = [0; 3];
-    let given = source.read(&mut room).unwrap_or(9);
+    let given = read(&mut source);
     Ok((given, source.kept().is_empty()))
 }
 
 #[test]
-fn what_is_given_is_kept(rt: HostRuntime) -> Result<(), Fail> {
-    assert_eq!(rt; keeps(rt.alloc(), b"0 0 0 ".as_slice())?, (3, 9, true));
-    assert_eq!(rt; passes(rt.alloc())?, (3, true));
-    Ok(())
+fn what_is_given_is_kept(rt: HostRuntime) {
+    let came = keeps(rt.alloc(), b"0 0 0 ".as_slice());
+    assert_eq!(rt; came, Ok((3, 9, true)));
+}
+
+#[test]
+fn what_is_passed_on_is_not_kept(rt: HostRuntime) {
+    assert_eq!(rt; passes(rt.alloc()), Ok((3, true)));
 }

@@ -3,7 +3,6 @@
 use crate::scripts::read;
 use script_lang::{PartScript, Script};
 use std::alloc::{AllocError, Global};
-use std::test::Fail;
 
 /// Lines, and the command or the fault that they name; or that what they ask for isn't built.
 static FORMS: [(&str, &str); 35] = [
@@ -108,10 +107,17 @@ fn told(alloc: Global, line: &str) -> Result<String, AllocError> {
     }
 }
 
-#[test]
-fn each_form_is_read(rt: HostRuntime) -> Result<(), Fail> {
-    for (line, wanted) in &FORMS {
-        assert_eq!(rt; told(rt.alloc(), line)?.as_str(), *wanted);
+/// Whether a script of this line says this.
+fn says(alloc: Global, line: &str, wanted: &str) -> bool {
+    match told(alloc, line) {
+        Ok(found) => found.as_str() == wanted,
+        Err(_) => false,
     }
-    Ok(())
+}
+
+#[test]
+fn each_form_is_read(rt: HostRuntime) {
+    for (line, wanted) in &FORMS {
+        assert!(rt; says(rt.alloc(), line, wanted), "{line}");
+    }
 }

@@ -6,7 +6,6 @@ ghost use Rattle.plain_machine.specs.Fits.{AreFor, IsFor};
 use plain_log::{ActorList, Answer, Command, Config, Event, JournalEntry, Order};
 use plain_machine::{Plain, first_refused, is_complete, is_complete_run, is_run};
 use std::alloc::{AllocError, Global};
-use std::test::Fail;
 use tier_base::{ActorId, BrokerId, Keep, Row, Settings};
 
 /// Two brokers.
@@ -114,49 +113,48 @@ static ROWS: [(Step, bool); 6] = [
     ),
 ];
 
-/// Goes over the rows, and answers the first that went wrong.
-fn first_wrong(alloc: Global, rows: &[(Step, bool)]) -> Result<Option<usize>, AllocError> {
-    let mut plain = Plain::fresh(alloc, &config())?;
+/// How many of the rows went as they should at first.
+fn run(alloc: Global, plain: &mut Plain, rows: &[(Step, bool)]) -> usize {
     for (i, (step, taken)) in rows.iter().enumerate() {
-        if take(alloc, &mut plain, *step)? != *taken {
-            return Ok(Some(i));
+        if take(alloc, plain, *step) != Ok(*taken) {
+            return i;
         }
     }
-    Ok(None)
+    rows.len()
 }
 
-/// What is told of a fresh state: the first end, the first known mark, the mark, the log start, an actor's number, and
-/// how many brokers there are.
-fn told(alloc: Global) -> Result<(u128, u64, u64, u64, u32, usize), AllocError> {
-    let plain = Plain::fresh(alloc, &config())?;
-    if plain.count() == 0 {
-        return Ok((1, 1, 1, 1, 1, 0));
+/// How many of the rows went as they should at first, of a fresh state.
+fn run_fresh(alloc: Global, rows: &[(Step, bool)]) -> usize {
+    match Plain::fresh(alloc, &config()) {
+        Ok(mut plain) => run(alloc, &mut plain, rows),
+        Err(_) => 0,
     }
-    let first = BrokerId(0);
-    Ok((
-        plain.end(first),
-        plain.known(first),
+}
+
+/// The first end, and the first known mark.
+fn first_of(plain: &Plain) -> Option<(u128, u64)> {
+    if plain.count() == 0 {
+        return None;
+    }
+    Some((plain.end(BrokerId(0)), plain.known(BrokerId(0))))
+}
+
+/// The mark, the log start, an actor's number, and how many brokers there are.
+fn told(plain: &Plain) -> (u64, u64, u32, usize) {
+    (
         plain.mark(),
         plain.start(),
         plain.number(ActorId(3)),
         plain.count(),
-    ))
+    )
 }
 
-/// A journal without lists: of an entry, or of none.
-fn verdict(alloc: Global, entries: u32) -> Result<(Option<usize>, bool), AllocError> {
-    let lists: Row<ActorList> = Row::new(alloc);
-    let mut journal = Row::new(alloc);
-    for number in 0..entries {
-        journal.push(JournalEntry {
-            actor: ActorId(0),
-            number,
-            event: Event::Answers(Answer::Ok),
-        })?;
+/// What is told of a fresh state.
+fn told_fresh(alloc: Global) -> Option<(Option<(u128, u64)>, (u64, u64, u32, usize))> {
+    match Plain::fresh(alloc, &config()) {
+        Ok(plain) => Some((first_of(&plain), told(&plain))),
+        Err(_) => None,
     }
-    let place = first_refused(alloc, &config(), lists.as_slice(), journal.as_slice())?;
-    let is = is_run(alloc, &config(), lists.as_slice(), journal.as_slice())?;
-    Ok((place, is))
 }
 
 /// An actor's flushes of broker 1.
@@ -250,51 +248,60 @@ static JOURNALS: [Case; 8] = [
     },
 ];
 
-/// Whether a journal is told as its row has it.
-fn is_told(alloc: Global, case: &Case) -> Result<bool, AllocError> {
-    let lists = lists(alloc)?;
-    let journal = journal(alloc, case.answers)?;
-    let (lists, journal) = (lists.as_slice(), journal.as_slice());
+/// Whether a journal of these lists is a run, whether it is complete, and whether it is both.
+fn verdict(
+    alloc: Global,
+    lists: &[ActorList],
+    journal: &[JournalEntry],
+) -> Result<(bool, bool, bool), AllocError>
+    requires { AreFor lists.now }
+{
     let run = is_run(alloc, &config(), lists, journal)?;
     let complete = is_complete(alloc, lists, journal)?;
     let both = is_complete_run(alloc, &config(), lists, journal)?;
-    Ok(run == case.is_run && complete == case.is_complete && both == (run && complete))
+    Ok((run, complete, both))
 }
 
-/// Goes over journals, and answers the first that went wrong.
-fn first_mistold(alloc: Global, journals: &[Case]) -> Result<Option<usize>, AllocError> {
-    for (i, case) in journals.iter().enumerate() {
-        if !is_told(alloc, case)? {
-            return Ok(Some(i));
-        }
+/// What a journal of the two lists is.
+fn verdict_of(
+    alloc: Global,
+    answers: &[(u16, u32, u64)],
+) -> Result<(bool, bool, bool), AllocError> {
+    let lists = lists(alloc)?;
+    match journal(alloc, answers) {
+        Ok(journal) => verdict(alloc, lists.as_slice(), journal.as_slice()),
+        Err(refusal) => Err(refusal),
     }
-    Ok(None)
 }
 
 #[test]
-fn a_complete_run_is_told(rt: HostRuntime) -> Result<(), Fail> {
-    assert_eq!(rt;
-        first_mistold(rt.alloc(), JOURNALS.as_slice())?,
-        None,
-        "a journal of the table"
-    );
-    Ok(())
+fn a_complete_run_is_told(rt: HostRuntime) {
+    for case in &JOURNALS {
+        let both = case.is_run & case.is_complete;
+        let wanted = (case.is_run, case.is_complete, both);
+        assert_eq!(rt; verdict_of(rt.alloc(), case.answers), Ok(wanted));
+    }
 }
 
 #[test]
-fn steps_are_taken_in_order(rt: HostRuntime) -> Result<(), Fail> {
-    assert_eq!(rt;
-        first_wrong(rt.alloc(), ROWS.as_slice())?,
-        None,
-        "a row of the table"
-    );
-    assert_eq!(rt; told(rt.alloc())?, (0, 0, 0, 0, 0, 2));
-    Ok(())
+fn steps_are_taken_in_order(rt: HostRuntime) {
+    assert_eq!(rt; run_fresh(rt.alloc(), &ROWS), ROWS.len());
 }
 
 #[test]
-fn an_entry_of_no_list_is_refused(rt: HostRuntime) -> Result<(), Fail> {
-    assert_eq!(rt; verdict(rt.alloc(), 0)?, (None, true));
-    assert_eq!(rt; verdict(rt.alloc(), 1)?, (Some(0), false));
-    Ok(())
+fn a_fresh_state_is_told(rt: HostRuntime) {
+    let told = told_fresh(rt.alloc());
+    assert_eq!(rt; told, Some((Some((0, 0)), (0, 0, 0, 2))));
+}
+
+/// Where a journal without lists is refused.
+fn refused_at(alloc: Global, answers: &[(u16, u32, u64)]) -> Result<Option<usize>, AllocError> {
+    let journal = journal(alloc, answers)?;
+    first_refused(alloc, &config(), &[], journal.as_slice())
+}
+
+#[test]
+fn an_entry_of_no_list_is_refused(rt: HostRuntime) {
+    assert_eq!(rt; refused_at(rt.alloc(), &[]), Ok(None));
+    assert_eq!(rt; refused_at(rt.alloc(), &[(0, 0, 0)]), Ok(Some(0)));
 }

@@ -6,7 +6,6 @@ ghost use Rattle.plain_machine.specs.Fits.{AreFor, IsFor};
 use plain_log::{ActorList, Answer, Command, Config, Event, JournalEntry, Order};
 use run_summary::{End, Given, Told, summary, tell};
 use std::alloc::{AllocError, Global};
-use std::test::Fail;
 use tier_base::{ActorId, BrokerId, Keep, PartitionId, Row, Settings};
 
 /// Two brokers.
@@ -57,32 +56,56 @@ fn lists(alloc: Global) -> Result<Row<ActorList>, AllocError>
     Ok(lists)
 }
 
-/// What a fetch and a flush with this end come to: how many answers, bytes, and the log end, or nothing.
+/// An answer to the actor.
+fn entry(number: u32, answer: Answer) -> JournalEntry {
+    JournalEntry {
+        actor: ActorId(0),
+        number,
+        event: Event::Answers(answer),
+    }
+}
+
+/// The answers to the fetch and to the flush, which has this end.
+fn journal(alloc: Global, flushed: u64) -> Result<Row<JournalEntry>, AllocError> {
+    let mut journal = Row::new(alloc);
+    journal.push(entry(0, Answer::Empty))?;
+    journal.push(entry(1, Answer::OkAt(flushed)))?;
+    Ok(journal)
+}
+
+/// How many answers, bytes, and the log end.
+fn counts(told: &Told) -> (usize, u64, u128) {
+    (told.answers.len(), told.bytes, told.end.log_end)
+}
+
+/// What a journal of these lists comes to, or nothing where it is no run of them.
+fn counts_of(
+    alloc: Global,
+    lists: &[ActorList],
+    journal: &[JournalEntry],
+) -> Result<Option<(usize, u64, u128)>, AllocError>
+    requires { AreFor lists.now }
+{
+    match tell(alloc, &config(), PartitionId(3), lists, journal) {
+        Ok(Some(told)) => Ok(Some(counts(&told))),
+        Ok(None) => Ok(None),
+        Err(refusal) => Err(refusal),
+    }
+}
+
+/// What a fetch and a flush with this end come to.
 fn first_answers(alloc: Global, flushed: u64) -> Result<Option<(usize, u64, u128)>, AllocError> {
     let lists = lists(alloc)?;
-    let mut journal = Row::new(alloc);
-    for (number, answer) in vec![in alloc; (0, Answer::Empty), (1, Answer::OkAt(flushed))]? {
-        journal.push(JournalEntry {
-            actor: ActorId(0),
-            number,
-            event: Event::Answers(answer),
-        })?;
+    match journal(alloc, flushed) {
+        Ok(journal) => counts_of(alloc, lists.as_slice(), journal.as_slice()),
+        Err(refusal) => Err(refusal),
     }
-    let told = tell(
-        alloc,
-        &config(),
-        PartitionId(3),
-        lists.as_slice(),
-        journal.as_slice(),
-    )?;
-    Ok(told.map(|told| (told.answers.len(), told.bytes, told.end.log_end)))
 }
 
 #[test]
-fn a_journal_is_told(rt: HostRuntime) -> Result<(), Fail> {
-    assert_eq!(rt; first_answers(rt.alloc(), 0)?, Some((2, 0, 0)));
-    assert_eq!(rt; first_answers(rt.alloc(), 1)?, None, "no run");
-    Ok(())
+fn a_journal_is_told(rt: HostRuntime) {
+    assert_eq!(rt; first_answers(rt.alloc(), 0), Ok(Some((2, 0, 0))));
+    assert_eq!(rt; first_answers(rt.alloc(), 1), Ok(None), "no run");
 }
 
 /// Commands and their answers, in the order in which they came.
@@ -114,28 +137,30 @@ fn part(
     })
 }
 
+const FIRST: End = End {
+    partition: PartitionId(0),
+    log_end: 3,
+    mark: 2,
+    start: 1,
+};
+
+const SECOND: End = End {
+    partition: PartitionId(1),
+    log_end: 0,
+    mark: 0,
+    start: 0,
+};
+
 /// Two partitions.
 fn parts(alloc: Global) -> Result<Row<Told>, AllocError> {
-    let first = End {
-        partition: PartitionId(0),
-        log_end: 3,
-        mark: 2,
-        start: 1,
-    };
-    let second = End {
-        partition: PartitionId(1),
-        log_end: 0,
-        mark: 0,
-        start: 0,
-    };
     let mut parts = Row::new(alloc);
-    parts.push(part(alloc, &ANSWERS, 207, first)?)?;
-    parts.push(part(alloc, &ANSWERS[5..], 138, second)?)?;
+    parts.push(part(alloc, &ANSWERS, 207, FIRST)?)?;
+    parts.push(part(alloc, &ANSWERS[5..], 138, SECOND)?)?;
     Ok(parts)
 }
 
 /// Their summary.
-const TEXT: &[u8] = b"\
+static TEXT: &str = "\
     append Down 1\n\
     append Ok 3\n\
     fetch Empty 1\n\
@@ -144,10 +169,23 @@ const TEXT: &[u8] = b"\
     partition 0 end 3 mark 2 start 1\n\
     partition 1 end 0 mark 0 start 0\n";
 
+/// Whether this is a summary of parts.
+fn is_summed(alloc: Global, parts: &[Told], wanted: &str) -> bool {
+    match summary(alloc, parts) {
+        Ok(text) => text.as_slice() == wanted.as_bytes(),
+        Err(_) => false,
+    }
+}
+
+/// Whether this is the summary of the two.
+fn sums_up(alloc: Global, wanted: &str) -> bool {
+    match parts(alloc) {
+        Ok(parts) => is_summed(alloc, parts.as_slice(), wanted),
+        Err(_) => false,
+    }
+}
+
 #[test]
-fn a_summary_is_worked_out(rt: HostRuntime) -> Result<(), Fail> {
-    let parts = parts(rt.alloc())?;
-    let text = summary(rt.alloc(), parts.as_slice())?;
-    assert_eq!(rt; text.as_slice(), TEXT, "the summary");
-    Ok(())
+fn a_summary_is_worked_out(rt: HostRuntime) {
+    assert!(rt; sums_up(rt.alloc(), TEXT));
 }
