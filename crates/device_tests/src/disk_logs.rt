@@ -1,16 +1,16 @@
 //! Metadata logs on trial: calls over a disk in memory, each with what it is to give, what the files then have, and what a
 //! crash leaves of them. Values worked by hand.
 //!
-//! Each kind of call is a method without a contract that tells whether it went as it should; a test is a table of calls and
-//! never holds a log.
+//! A test is a table of calls and never holds a log.
 
+use crate::ends::{End, right, troubled};
+use crate::log_calls::{append, arm};
 use bytes::Bytes;
 use disk_model::{DeafDisk, Disk, DiskCall, FileName, MemoryDisk, Planned};
 use meta_file::{DiskLog, NotesRefusal, files_open_once};
 use meta_log::MetaLog;
-use segment_meta::{Note, decode};
+use segment_meta::{Entry, Note};
 use std::alloc::{AllocError, Global};
-use tier_base::Trouble;
 
 /// The copy of offsets 0 and 1 starts, of epoch 0: 75 bytes.
 static STARTED: [u8; 75] = [
@@ -38,80 +38,69 @@ static FINISHED: [u8; 29] = [
     1, // state
 ];
 
-/// A log on trial.
-#[derive(Drop)]
-struct Trial {
-    alloc: Global,
-    log: DiskLog<MemoryDisk>,
-}
-
 /// A call of a log, with what it comes to.
 #[derive(Clone, Copy)]
 enum Turn {
-    /// The first or the second note goes to the end, at this place, or fails.
-    Starts(Option<u64>),
-    Finishes(Option<u64>),
-    /// From a place on there are so many notes, or the read fails.
-    Reads(u64, Option<usize>),
+    /// The first or the second note goes to the end, at this place.
+    Starts(u64),
+    Finishes(u64),
+    /// The first note's append fails.
+    FailsToStart,
+    /// From a place on there are so many notes.
+    Reads(u64, usize),
     Arms,
     /// How many calls failed, and whether it is armed.
     Tells(u64, bool),
 }
 
-/// The place that an append answered, if it didn't fail; nothing where it found no memory.
-fn ended(answer: Result<u64, Trouble>) -> Option<Option<u64>> {
-    match answer {
-        Ok(place) => Some(Some(place)),
-        Err(Trouble::Failed) => Some(None),
-        Err(Trouble::NoMemory) => None,
-    }
+/// Whether an entry says what the first row spells.
+fn is_first(entry: &Entry) -> bool {
+    let span = (entry.start, entry.end, entry.max_ts, entry.size) == (0, 1, 1000, 138);
+    span & (entry.map.entries() == [(0, 0)].as_slice())
 }
 
-/// Whether the first of these notes adds an entry, and there are so many.
+/// Whether the first of these notes says what its row spells where it adds an entry, and there are so many.
 fn are_notes(notes: &[Note], many: usize) -> bool {
     match notes.first() {
         None | Some(Note::Update { .. }) => notes.len() == many,
-        Some(Note::Add(entry)) => {
-            (entry.start, entry.end) == (0, 1)
-                && (entry.max_ts, entry.size) == (1000, 138)
-                && entry.map.entries() == [(0, 0)].as_slice()
-                && notes.len() == many
-        }
+        Some(Note::Add(entry)) => is_first(entry) & (notes.len() == many),
     }
 }
 
-impl Trial {
-    fn appends(&mut self, bytes: &[u8], place: Option<u64>) -> bool {
-        match decode(self.alloc, bytes) {
-            Ok(note) => ended(self.log.append(&note)) == Some(place),
-            Err(_) => false,
+/// How a read from a place on ends, which is to give so many notes.
+fn read_notes<M: MetaLog>(log: &mut M, at: u64, many: usize) -> End {
+    match log.read(at) {
+        Ok(notes) => right(are_notes(notes.as_slice(), many)),
+        Err(trouble) => troubled(trouble),
+    }
+}
+
+/// What a log tells.
+fn told(log: &DiskLog<MemoryDisk>) -> (u64, bool) {
+    (log.faults(), log.is_armed())
+}
+
+/// How a turn ends, and how it should.
+fn take(alloc: Global, log: &mut DiskLog<MemoryDisk>, turn: Turn) -> (End, End) {
+    match turn {
+        Turn::Starts(place) => (append(alloc, log, &STARTED, place), End::Well),
+        Turn::Finishes(place) => (append(alloc, log, &FINISHED, place), End::Well),
+        Turn::FailsToStart => (append(alloc, log, &STARTED, 0), End::Fault),
+        Turn::Reads(at, many) => (read_notes(log, at, many), End::Well),
+        Turn::Arms => (arm(log), End::Well),
+        Turn::Tells(faults, armed) => (right(told(log) == (faults, armed)), End::Well),
+    }
+}
+
+/// How many turns go as they should at first.
+fn live(alloc: Global, log: &mut DiskLog<MemoryDisk>, turns: &[Turn]) -> usize {
+    for (i, turn) in turns.iter().enumerate() {
+        let (end, wanted) = take(alloc, log, *turn);
+        if end != wanted {
+            return i;
         }
     }
-
-    fn reads(&mut self, at: u64, many: Option<usize>) -> bool {
-        match (self.log.read(at), many) {
-            (Ok(notes), Some(many)) => are_notes(notes.as_slice(), many),
-            (Err(trouble), None) => trouble == Trouble::Failed,
-            _ => false,
-        }
-    }
-
-    fn arms(&mut self) -> bool {
-        self.log.arm();
-        true
-    }
-
-    fn goes(&mut self, turn: Turn) -> bool {
-        match turn {
-            Turn::Starts(place) => self.appends(&STARTED, place),
-            Turn::Finishes(place) => self.appends(&FINISHED, place),
-            Turn::Reads(at, many) => self.reads(at, many),
-            Turn::Arms => self.arms(),
-            Turn::Tells(faults, armed) => {
-                self.log.faults() == faults && self.log.is_armed() == armed
-            }
-        }
-    }
+    turns.len()
 }
 
 /// What a log goes through: the call of its disk that is to fail, the calls, the bytes of `notes` then, its gate, and how
@@ -124,16 +113,6 @@ struct Story {
     size: usize,
     gate: [u8; 8],
     left: usize,
-}
-
-/// The number of the first turn that doesn't go as it should.
-fn first_wrong(trial: &mut Trial, turns: &[Turn]) -> Option<usize> {
-    for (i, turn) in turns.iter().enumerate() {
-        if !trial.goes(*turn) {
-            return Some(i);
-        }
-    }
-    None
 }
 
 /// Whether a file has these bytes.
@@ -152,53 +131,57 @@ fn size_of(disk: &mut MemoryDisk, name: FileName) -> Option<usize> {
     }
 }
 
-/// How many notes are left after a crash.
-fn left_of(alloc: Global, disk: MemoryDisk) -> Option<usize> {
-    let mut disk = disk;
-    disk.crash();
+/// How many notes a log over a disk has.
+fn count_notes(alloc: Global, disk: MemoryDisk) -> Option<usize> {
     match DiskLog::open(alloc, disk) {
-        Ok(mut log) => match log.read(0) {
-            Ok(notes) => Some(notes.len()),
-            Err(_) => None,
-        },
+        Ok(mut log) => count_read(&mut log),
         Err(_) => None,
     }
 }
 
-/// What went wrong in a story, if anything did: a turn's number, or 100 and more for what stands then.
-fn wrong(alloc: Global, story: &Story) -> Option<usize> {
+/// How many notes a log gives.
+fn count_read<M: MetaLog>(log: &mut M) -> Option<usize> {
+    match log.read(0) {
+        Ok(notes) => Some(notes.len()),
+        Err(_) => None,
+    }
+}
+
+/// How many bytes the notes have, whether this is their gate, and how many notes a crash leaves.
+fn left_of(alloc: Global, disk: MemoryDisk, gate: &[u8]) -> (Option<usize>, bool, Option<usize>) {
+    let mut disk = disk;
+    let size = size_of(&mut disk, FileName::Notes);
+    let same = has(&mut disk, FileName::Gate, gate);
+    disk.crash();
+    (size, same, count_notes(alloc, disk))
+}
+
+/// What a log comes to: how many turns go as they should at first, and what is left then.
+type Came = (usize, (Option<usize>, bool, Option<usize>));
+
+/// What a log comes to.
+fn came_of(alloc: Global, log: DiskLog<MemoryDisk>, story: &Story) -> Came {
+    let mut log = log;
+    let lived = live(alloc, &mut log, story.turns);
+    (lived, left_of(alloc, log.close(), &story.gate))
+}
+
+/// What a log over a disk with the story's fault comes to.
+fn came(alloc: Global, story: &Story) -> Option<Came> {
     let Ok(plan) = story.plan.to_vec(alloc) else {
-        return Some(1000);
+        return None;
     };
-    let Ok(log) = DiskLog::open(alloc, MemoryDisk::new(alloc, plan)) else {
-        return Some(1001);
-    };
-    let mut trial = Trial { alloc, log };
-    if let Some(turn) = first_wrong(&mut trial, story.turns) {
-        return Some(turn);
+    match DiskLog::open(alloc, MemoryDisk::new(alloc, plan)) {
+        Ok(log) => Some(came_of(alloc, log, story)),
+        Err(_) => None,
     }
-    let mut disk = trial.log.close();
-    if size_of(&mut disk, FileName::Notes) != Some(story.size) {
-        return Some(100);
-    }
-    if !has(&mut disk, FileName::Gate, &story.gate) {
-        return Some(101);
-    }
-    if left_of(alloc, disk) != Some(story.left) {
-        return Some(102);
-    }
-    None
 }
 
 static STORIES: [Story; 5] = [
     Story {
         name: "a note stands behind its length, and the gate behind it",
         plan: &[],
-        turns: &[
-            Turn::Reads(0, Some(0)),
-            Turn::Starts(Some(0)),
-            Turn::Tells(0, false),
-        ],
+        turns: &[Turn::Reads(0, 0), Turn::Starts(0), Turn::Tells(0, false)],
         size: 79,
         gate: [0, 0, 0, 0, 0, 0, 0, 0x4f],
         left: 1,
@@ -207,12 +190,12 @@ static STORIES: [Story; 5] = [
         name: "notes are read from a number on",
         plan: &[],
         turns: &[
-            Turn::Starts(Some(0)),
-            Turn::Finishes(Some(1)),
-            Turn::Reads(0, Some(2)),
-            Turn::Reads(1, Some(1)),
-            Turn::Reads(2, Some(0)),
-            Turn::Reads(u64::MAX, Some(0)),
+            Turn::Starts(0),
+            Turn::Finishes(1),
+            Turn::Reads(0, 2),
+            Turn::Reads(1, 1),
+            Turn::Reads(2, 0),
+            Turn::Reads(u64::MAX, 0),
         ],
         size: 112,
         gate: [0, 0, 0, 0, 0, 0, 0, 0x70],
@@ -227,11 +210,11 @@ static STORIES: [Story; 5] = [
         }],
         turns: &[
             Turn::Arms,
-            Turn::Starts(Some(0)),
-            Turn::Starts(None),
+            Turn::Starts(0),
+            Turn::FailsToStart,
             Turn::Tells(1, true),
-            Turn::Reads(0, Some(1)),
-            Turn::Starts(Some(1)),
+            Turn::Reads(0, 1),
+            Turn::Starts(1),
         ],
         size: 158,
         gate: [0, 0, 0, 0, 0, 0, 0, 0x9e],
@@ -246,10 +229,10 @@ static STORIES: [Story; 5] = [
         }],
         turns: &[
             Turn::Arms,
-            Turn::Starts(Some(0)),
-            Turn::Starts(None),
-            Turn::Reads(0, Some(2)),
-            Turn::Finishes(Some(2)),
+            Turn::Starts(0),
+            Turn::FailsToStart,
+            Turn::Reads(0, 2),
+            Turn::Finishes(2),
         ],
         size: 191,
         gate: [0, 0, 0, 0, 0, 0, 0, 0xbf],
@@ -264,10 +247,10 @@ static STORIES: [Story; 5] = [
         }],
         turns: &[
             Turn::Arms,
-            Turn::Starts(Some(0)),
-            Turn::Starts(None),
-            Turn::Reads(0, Some(1)),
-            Turn::Finishes(Some(1)),
+            Turn::Starts(0),
+            Turn::FailsToStart,
+            Turn::Reads(0, 1),
+            Turn::Finishes(1),
         ],
         size: 112,
         gate: [0, 0, 0, 0, 0, 0, 0, 0x70],
@@ -278,8 +261,9 @@ static STORIES: [Story; 5] = [
 #[test]
 fn logs_go_through_their_stories(rt: HostRuntime) {
     for story in &STORIES {
-        let wrong = wrong(rt.alloc(), story);
-        assert_eq!(rt; wrong, None, "{}", story.name);
+        let left = (Some(story.size), true, Some(story.left));
+        let wanted = (story.turns.len(), left);
+        assert_eq!(rt; came(rt.alloc(), story), Some(wanted), "{}", story.name);
     }
 }
 
@@ -302,46 +286,57 @@ fn damage(alloc: Global, notes: &[u8], gate: &[u8]) -> Option<u64> {
     }
 }
 
+/// The end of a copy behind its length.
+static UPDATE: [u8; 33] = [
+    0, 0, 0, 29, // length
+    0, 1, // version, kind
+    0, 0, 0, 0, 0, 0, 0, 1, 0, 0, 0, 0, 0, 0, 0, 0, // id
+    0, 2, // broker
+    0, 0, 0, 0, 0, 0, 0, 7, // event_ts
+    1, // state
+];
+
+/// How many bytes of it there are, the gate, and where the log is damaged.
+static GATES: [(&str, usize, &[u8], Option<u64>); 6] = [
+    (
+        "a gate of seven bytes",
+        33,
+        &[0, 0, 0, 0, 0, 0, 33],
+        Some(0),
+    ),
+    ("one note", 33, &[0, 0, 0, 0, 0, 0, 0, 33], None),
+    ("none counts", 33, &[0, 0, 0, 0, 0, 0, 0, 0], None),
+    (
+        "a gate inside a note",
+        33,
+        &[0, 0, 0, 0, 0, 0, 0, 32],
+        Some(0),
+    ),
+    (
+        "a gate past the file",
+        33,
+        &[0, 0, 0, 0, 0, 0, 0, 34],
+        Some(33),
+    ),
+    ("a cut note", 30, &[0, 0, 0, 0, 0, 0, 0, 33], Some(0)),
+];
+
+/// Where a log of so many bytes of a note is damaged.
+fn damage_of(alloc: Global, bytes: usize, gate: &[u8]) -> Option<u64> {
+    match UPDATE.get(..bytes) {
+        Some(notes) => damage(alloc, notes, gate),
+        None => None,
+    }
+}
+
 #[test]
 fn damage_is_found_where_it_stands(rt: HostRuntime) {
-    let alloc = rt.alloc();
-    let update: [u8; 33] = [
-        0, 0, 0, 29, // length
-        0, 1, // version, kind
-        0, 0, 0, 0, 0, 0, 0, 1, 0, 0, 0, 0, 0, 0, 0, 0, // id
-        0, 2, // broker
-        0, 0, 0, 0, 0, 0, 0, 7, // event_ts
-        1, // state
-    ];
-    assert_eq!(rt;
-        damage(alloc, &update, &[0, 0, 0, 0, 0, 0, 33]),
-        Some(0),
-        "a gate of seven bytes"
-    );
-    assert_eq!(rt;
-        damage(alloc, &update, &[0, 0, 0, 0, 0, 0, 0, 33]),
-        None,
-        "one note"
-    );
-    assert_eq!(rt;
-        damage(alloc, &update, &[0, 0, 0, 0, 0, 0, 0, 0]),
-        None,
-        "none counts"
-    );
-    assert_eq!(rt;
-        damage(alloc, &update, &[0, 0, 0, 0, 0, 0, 0, 32]),
-        Some(0),
-        "a gate inside a note"
-    );
-    assert_eq!(rt;
-        damage(alloc, &update, &[0, 0, 0, 0, 0, 0, 0, 34]),
-        Some(33),
-        "a gate past the file"
-    );
-    assert_eq!(rt;
-        damage(alloc, &update[..30], &[0, 0, 0, 0, 0, 0, 0, 33]),
-        Some(0),
-        "a cut note"
-    );
+    for (name, bytes, gate, at) in &GATES {
+        assert_eq!(rt; damage_of(rt.alloc(), *bytes, gate), *at, "{name}");
+    }
+}
+
+#[test]
+fn each_file_is_opened_once(_rt: HostRuntime) {
     files_open_once();
 }

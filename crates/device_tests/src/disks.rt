@@ -1,155 +1,14 @@
 //! Disks on trial: lists of calls, each with what it is to give. Values worked by hand.
 //!
-//! Each kind of call is a function of its own, without a contract, that tells how the call ended. A
-//! test is a table of such lists and never holds a disk.
+//! A test is a table of such lists and never holds a disk.
 
+use crate::disk_calls::{Step, call, run};
+use crate::ends::End;
 use bytes::Bytes;
-use disk_model::{DeafDisk, Disk, DiskCall, FileName, MemoryDisk, Planned};
+use disk_model::{DeafDisk, DiskCall, FileName, MemoryDisk, Planned};
 use std::alloc::{AllocError, Global};
-use tier_base::{Failed, Trouble};
 
 const LOG: FileName = FileName::Log(7);
-
-/// A call of a disk.
-#[derive(Clone, Copy)]
-enum Step<'a> {
-    Append(FileName, &'a [u8]),
-    Sync(FileName),
-    Cut(FileName, u64),
-    Replace(FileName, &'a [u8]),
-    Remove(FileName),
-    /// A read from a place on, and the bytes that it gives.
-    Read(FileName, u64, &'a [u8]),
-    /// A read of at most so many bytes from a place on, and those that it gives.
-    Part(FileName, u64, u64, &'a [u8]),
-    /// A read of a file that isn't there.
-    Miss(FileName),
-    /// The names that are listed.
-    List(&'a [FileName]),
-    Arm,
-}
-
-/// How a call ended.
-#[derive(Clone, Copy, Debug, PartialEq, Eq)]
-enum End {
-    Well,
-    Fault,
-    NoMemory,
-    /// It gave something else.
-    Other,
-}
-
-/// How a call that gives this ended.
-fn right(given: bool) -> End {
-    if given { End::Well } else { End::Other }
-}
-
-/// How a call with this trouble ended.
-fn troubled(trouble: Trouble) -> End {
-    match trouble {
-        Trouble::Failed => End::Fault,
-        Trouble::NoMemory => End::NoMemory,
-    }
-}
-
-/// How a call that gives nothing ended.
-fn ended(answer: Result<(), Trouble>) -> End {
-    match answer {
-        Ok(()) => End::Well,
-        Err(trouble) => troubled(trouble),
-    }
-}
-
-/// How a call that takes no memory ended.
-fn done(answer: Result<(), Failed>) -> End {
-    match answer {
-        Ok(()) => End::Well,
-        Err(_) => End::Fault,
-    }
-}
-
-fn sync<D: Disk>(disk: &mut D, name: FileName) -> End {
-    match disk.reserve(1) {
-        Ok(()) => done(disk.sync(name)),
-        Err(_) => End::NoMemory,
-    }
-}
-
-fn cut<D: Disk>(disk: &mut D, name: FileName, len: u64) -> End {
-    match disk.reserve(1) {
-        Ok(()) => done(disk.cut(name, len)),
-        Err(_) => End::NoMemory,
-    }
-}
-
-fn remove<D: Disk>(disk: &mut D, name: FileName) -> End {
-    match disk.reserve(1) {
-        Ok(()) => done(disk.remove(name)),
-        Err(_) => End::NoMemory,
-    }
-}
-
-/// Whether a read gave these bytes.
-fn is_given(given: Option<Bytes>, wanted: Option<&[u8]>) -> bool {
-    match (given, wanted) {
-        (Some(bytes), Some(wanted)) => bytes.as_slice() == wanted,
-        (None, None) => true,
-        _ => false,
-    }
-}
-
-fn read<D: Disk>(disk: &mut D, name: FileName, at: u64, wanted: Option<&[u8]>) -> End {
-    match disk.read(name, at) {
-        Ok(given) => right(is_given(given, wanted)),
-        Err(trouble) => troubled(trouble),
-    }
-}
-
-fn read_part<D: Disk>(disk: &mut D, name: FileName, at: u64, most: u64, wanted: &[u8]) -> End {
-    match disk.read_part(name, at, most) {
-        Ok(given) => right(is_given(given, Some(wanted))),
-        Err(trouble) => troubled(trouble),
-    }
-}
-
-fn list<D: Disk>(disk: &mut D, wanted: &[FileName]) -> End {
-    match disk.list() {
-        Ok(names) => right(names.as_slice() == wanted),
-        Err(trouble) => troubled(trouble),
-    }
-}
-
-fn arm<D: Disk>(disk: &mut D) -> End {
-    disk.arm();
-    End::Well
-}
-
-/// Makes a call.
-fn call<D: Disk>(disk: &mut D, step: Step) -> End {
-    match step {
-        Step::Append(name, bytes) => ended(disk.append(name, bytes)),
-        Step::Sync(name) => sync(disk, name),
-        Step::Cut(name, len) => cut(disk, name, len),
-        Step::Replace(name, bytes) => ended(disk.replace(name, bytes)),
-        Step::Remove(name) => remove(disk, name),
-        Step::Read(name, at, bytes) => read(disk, name, at, Some(bytes)),
-        Step::Part(name, at, most, bytes) => read_part(disk, name, at, most, bytes),
-        Step::Miss(name) => read(disk, name, 0, None),
-        Step::List(names) => list(disk, names),
-        Step::Arm => arm(disk),
-    }
-}
-
-/// Makes calls, and tells how many end well at first, and how the next one ends.
-fn run<D: Disk>(disk: &mut D, steps: &[Step]) -> (usize, End) {
-    for (i, step) in steps.iter().enumerate() {
-        let end = call(disk, *step);
-        if end != End::Well {
-            return (i, end);
-        }
-    }
-    (steps.len(), End::Well)
-}
 
 /// The work of a disk: each call, with each kind of file.
 static WORK: [Step<'static>; 24] = [
@@ -248,19 +107,25 @@ fn goes(alloc: Global, disk: &mut MemoryDisk, turn: Turn) -> bool {
     }
 }
 
-/// The number of the first turn that doesn't go as it should.
-fn first_wrong(
-    alloc: Global,
-    plan: &[Planned],
-    turns: &[Turn],
-) -> Result<Option<usize>, AllocError> {
-    let mut disk = MemoryDisk::new(alloc, plan.to_vec(alloc)?);
+/// How many turns go as they should at first.
+fn live(alloc: Global, disk: &mut MemoryDisk, turns: &[Turn]) -> usize {
     for (i, turn) in turns.iter().enumerate() {
-        if !goes(alloc, &mut disk, *turn) {
-            return Ok(Some(i));
+        if !goes(alloc, disk, *turn) {
+            return i;
         }
     }
-    Ok(None)
+    turns.len()
+}
+
+/// How many turns of a disk with these planned faults go as they should at first.
+fn lived(alloc: Global, plan: &[Planned], turns: &[Turn]) -> Result<usize, AllocError> {
+    match plan.to_vec(alloc) {
+        Ok(plan) => {
+            let mut disk = MemoryDisk::new(alloc, plan);
+            Ok(live(alloc, &mut disk, turns))
+        }
+        Err(refusal) => Err(refusal),
+    }
 }
 
 /// What disks in memory go through, with the calls that are planned to fail.
@@ -468,7 +333,7 @@ static STORIES: [(&str, &[Planned], &[Turn<'static>]); 14] = [
 #[test]
 fn disks_in_memory_go_through_their_stories(rt: HostRuntime) {
     for (story, plan, turns) in &STORIES {
-        let wrong = first_wrong(rt.alloc(), plan, turns);
-        assert_eq!(rt; wrong, Ok(None), "{story}");
+        let lived = lived(rt.alloc(), plan, turns);
+        assert_eq!(rt; lived, Ok(turns.len()), "{story}");
     }
 }

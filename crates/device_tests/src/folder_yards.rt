@@ -1,17 +1,16 @@
 //! Stores, metadata logs and yards over folders that a test makes. Values worked by hand.
 //!
-//! Each kind of call is a function of its own, without a contract, that tells whether it went as it should; a test is a list
-//! of them.
+//! Each kind of call is a function of its own, without a contract, that tells whether it went as it should, and is generic
+//! over the device. A test never holds one.
 
+use crate::yard_calls::{
+    disk_grows, is_named, log_grows, log_reads, name_fails, store_fails, store_fills,
+};
 use bytes::Bytes;
 use device_yard::Yard;
-use disk_model::{Disk, FileName};
 use folder_yard::{FolderStore, FolderYard};
-use meta_log::MetaLog;
 use object_store::{ObjectKey, Part, Store};
-use segment_meta::decode;
-use std::alloc::Global;
-use std::test::Fail;
+use std::alloc::{AllocError, Global};
 use std::{fs, io};
 use tier_base::{BrokerId, PartitionId, Trouble, segment_id};
 
@@ -26,11 +25,8 @@ fn key(part: Part) -> ObjectKey {
     }
 }
 
-fn put<S: Store>(alloc: Global, store: &mut S, part: Part, bytes: &[u8]) -> bool {
-    match Bytes::copy_from_slice(alloc, bytes) {
-        Ok(bytes) => store.put(&key(part), &bytes).is_ok(),
-        Err(_) => false,
-    }
+fn put<S: Store>(store: &mut S, part: Part, bytes: &'static [u8]) -> bool {
+    store.put(&key(part), &Bytes::from_static(bytes)).is_ok()
 }
 
 /// Whether an object has these bytes from a place on, so many of them.
@@ -49,44 +45,54 @@ fn misses<S: Store>(store: &mut S, part: Part) -> bool {
     }
 }
 
-/// Whether there are so many objects, and the one of a part is the last that is named.
-fn has_keys<S: Store>(store: &mut S, many: usize, part: Part) -> bool {
+/// Whether the only object is that of this part.
+fn has_key<S: Store>(store: &mut S, part: Part) -> bool {
     match store.keys() {
-        Ok(keys) => keys.len() == many && keys.as_slice().contains(&key(part)),
+        Ok(keys) => keys.as_slice() == [key(part)].as_slice(),
         Err(_) => false,
     }
 }
 
-/// What the calls of a store over a folder come to.
-fn store_in(rt: HostRuntime, path: &str) -> Result<[bool; 7], Trouble> {
-    let alloc = rt.alloc();
-    let mut store = FolderStore::open(rt, path, PARTITION)?;
-    let first = put(alloc, &mut store, Part::Log, b"old");
-    let again = put(alloc, &mut store, Part::Log, b"batches");
-    let index = put(alloc, &mut store, Part::Index, b"entries");
-    let part = gives(&mut store, Part::Log, 2, 3, b"tch");
-    let gone = store.delete(&key(Part::Index)).is_ok() && misses(&mut store, Part::Index);
-    let keys = has_keys(&mut store, 1, Part::Log);
-    Ok([first, again, index, part, gone, keys, store.faults() == 0])
+/// What the calls of a store come to.
+fn store_calls<S: Store>(store: &mut S) -> [bool; 7] {
+    let first = put(store, Part::Log, b"old");
+    let again = put(store, Part::Log, b"batches");
+    let index = put(store, Part::Index, b"entries");
+    let part = gives(store, Part::Log, 2, 3, b"tch");
+    let deleted = store.delete(&key(Part::Index)).is_ok();
+    let missed = misses(store, Part::Index);
+    let left = has_key(store, Part::Log);
+    [first, again, index, part, deleted, missed, left]
 }
 
-#[test]
-fn objects_are_files_of_a_folder(rt: HostRuntime) -> Result<(), Fail> {
-    let _ = fs::remove_dir_all(&rt, "yard_store");
+/// What they come to of a store over a folder, and its faults.
+fn store_in(rt: HostRuntime, path: &str) -> Result<([bool; 7], u64), Trouble> {
+    match FolderStore::open(rt, path, PARTITION) {
+        Ok(mut store) => {
+            let came = store_calls(&mut store);
+            Ok((came, store.faults()))
+        }
+        Err(trouble) => Err(trouble),
+    }
+}
+
+/// Makes a folder with a stranger's file, and an object that was never put in its place.
+fn make_store(rt: HostRuntime) -> io::Result<()> {
     fs::create_dir(&rt, "yard_store")?;
-    // A stranger's file, and an object that was never put in its place.
     fs::write(&rt, "yard_store/letter.new", b"dear".as_slice())?;
     fs::write(
         &rt,
         "yard_store/00030002-0000-0001-0000-000000000000.index.new",
         b"half".as_slice(),
-    )?;
-    assert_eq!(rt; store_in(rt, "yard_store"), Ok([true; 7]));
-    assert_eq!(rt; names_in(rt, "yard_store")?, 2);
-    assert!(rt; fs::metadata(&rt, "yard_store/letter.new").is_ok());
-    assert!(rt; fs::metadata(&rt, "yard_store/00030002-0000-0001-0000-000000000000.log").is_ok());
-    fs::remove_dir_all(&rt, "yard_store")?;
-    Ok(())
+    )
+}
+
+/// How long a file is.
+fn size_of(rt: HostRuntime, path: &str) -> Option<u64> {
+    match fs::metadata(&rt, path) {
+        Ok(found) => Some(found.len()),
+        Err(_) => None,
+    }
 }
 
 /// How many names a folder has.
@@ -99,6 +105,28 @@ fn names_in(rt: HostRuntime, path: &str) -> io::Result<usize> {
     Ok(many)
 }
 
+/// How many names the store's folder has, and how long two files there are.
+fn left_of_store(rt: HostRuntime) -> (Option<usize>, Option<u64>, Option<u64>) {
+    let letter = size_of(rt, "yard_store/letter.new");
+    let log = size_of(rt, "yard_store/00030002-0000-0001-0000-000000000000.log");
+    match names_in(rt, "yard_store") {
+        Ok(many) => (Some(many), letter, log),
+        Err(_) => (None, letter, log),
+    }
+}
+
+#[test]
+fn objects_are_files_of_a_folder(rt: HostRuntime) {
+    let _ = fs::remove_dir_all(&rt, "yard_store");
+    let made = make_store(rt).is_ok();
+    let came = store_in(rt, "yard_store");
+    let left = left_of_store(rt);
+    let _ = fs::remove_dir_all(&rt, "yard_store");
+    assert!(rt; made);
+    assert_eq!(rt; came, Ok(([true; 7], 0)));
+    assert_eq!(rt; left, (Some(2), Some(4), Some(7)));
+}
+
 /// A segment's copy has finished, told by broker 2 at 7 milliseconds: 29 bytes.
 static FINISHED: [u8; 29] = [
     0, 1, // version, kind
@@ -108,115 +136,74 @@ static FINISHED: [u8; 29] = [
     1, // state
 ];
 
-/// Whether a note goes to this place.
-fn appends<M: MetaLog>(alloc: Global, log: &mut M, place: u64) -> bool {
-    match decode(alloc, &FINISHED) {
-        Ok(note) => log.append(&note) == Ok(place),
-        Err(_) => false,
+/// What the calls of a yard come to.
+fn yard_calls<Y: Yard>(alloc: Global, yard: &mut Y) -> [bool; 7] {
+    let empty = is_named(yard, None);
+    let disk = disk_grows(yard, PARTITION, BrokerId(1), 0);
+    let store = store_fills(yard, PARTITION, &key(Part::Epochs), b"0\n0\n");
+    let none = log_reads(yard, PARTITION, 0);
+    let first = log_grows(alloc, yard, PARTITION, &FINISHED, 0);
+    let second = log_grows(alloc, yard, PARTITION, &FINISHED, 1);
+    let named = is_named(yard, Some("p3"));
+    [empty, disk, store, none, first, second, named]
+}
+
+/// What a yard is asked.
+#[derive(Clone, Copy)]
+enum Ask<'a> {
+    /// Each call.
+    Calls,
+    /// Whether this is its first name.
+    Name(Option<&'a str>),
+    /// Whether the first name and a store fail.
+    Fails,
+}
+
+/// Whether a call of each of two kinds fails.
+fn fails<Y: Yard>(yard: &mut Y) -> bool {
+    let named = name_fails(yard);
+    named & store_fails(yard)
+}
+
+/// Whether a yard is as it is asked.
+fn answers<Y: Yard>(alloc: Global, yard: &mut Y, ask: Ask) -> bool {
+    match ask {
+        Ask::Calls => yard_calls(alloc, yard) == [true; 7],
+        Ask::Name(wanted) => is_named(yard, wanted),
+        Ask::Fails => fails(yard),
     }
 }
 
-/// Whether there are so many notes.
-fn reads<M: MetaLog>(log: &mut M, many: usize) -> bool {
-    match log.read(0) {
-        Ok(notes) => notes.len() == many,
-        Err(_) => false,
-    }
-}
-
-/// Whether the yard's first name is this one.
-fn is_named<Y: Yard>(yard: &mut Y, wanted: Option<&[u8]>) -> bool {
-    match (yard.first_name(), wanted) {
-        (Ok(Some(name)), Some(wanted)) => name.as_slice() == wanted,
-        (Ok(None), None) => true,
-        _ => false,
-    }
-}
-
-/// Whether a broker's disk is handed out, takes bytes, and comes back.
-fn disk_goes<Y: Yard>(yard: &mut Y) -> bool {
-    match yard.disk(PARTITION, BrokerId(1)) {
-        Ok(mut disk) => {
-            let went = disk.append(FileName::Manifest, b"m").is_ok();
-            yard.keep_disk(PARTITION, BrokerId(1), disk);
-            went
+/// Whether a yard over a folder is as it is asked, how many devices came back then, and how many faults there are.
+fn yard_in(rt: HostRuntime, dir: &str, ask: Ask) -> Result<(bool, usize, u64), AllocError> {
+    match FolderYard::new(rt, dir) {
+        Ok(mut yard) => {
+            let is = answers(rt.alloc(), &mut yard, ask);
+            Ok((is, yard.returned().len(), yard.faults()))
         }
-        Err(_) => false,
+        Err(refusal) => Err(refusal),
     }
 }
 
-/// Whether a partition's store does so.
-fn store_goes<Y: Yard>(alloc: Global, yard: &mut Y) -> bool {
-    match yard.store(PARTITION) {
-        Ok(mut store) => {
-            let went = put(alloc, &mut store, Part::Epochs, b"0\n0\n");
-            yard.keep_store(PARTITION, store);
-            went
-        }
-        Err(_) => false,
-    }
-}
-
-/// Whether a partition's metadata log, which has so many notes, does so.
-fn log_goes<Y: Yard>(alloc: Global, yard: &mut Y, many: u64) -> bool {
-    match yard.meta(PARTITION) {
-        Ok(mut log) => {
-            let went = reads(&mut log, many as usize) && appends(alloc, &mut log, many);
-            yard.keep_meta(PARTITION, log);
-            went
-        }
-        Err(_) => false,
-    }
-}
-
-/// What the calls of a yard over a folder come to.
-fn yard_in(rt: HostRuntime, dir: &str) -> Result<[bool; 8], Fail> {
-    let alloc = rt.alloc();
-    let mut yard = FolderYard::new(rt, dir)?;
-    let empty = is_named(&mut yard, None);
-    let disk = disk_goes(&mut yard);
-    let store = store_goes(alloc, &mut yard);
-    let log = log_goes(alloc, &mut yard, 0);
-    let again = log_goes(alloc, &mut yard, 1);
-    let named = is_named(&mut yard, Some(b"p3"));
-    let back = yard.returned().len() == 4;
-    Ok([
-        empty,
-        disk,
-        store,
-        log,
-        again,
-        named,
-        back,
-        yard.faults() == 0,
-    ])
-}
-
-/// How long a file is.
-fn size_of(rt: HostRuntime, path: &str) -> Option<u64> {
-    match fs::metadata(&rt, path) {
-        Ok(found) => Some(found.len()),
-        Err(_) => None,
-    }
-}
+/// Files of a yard's devices, and how long they are.
+static SIZES: [(&str, u64); 4] = [
+    ("yard_whole/p3/b1/manifest", 1),
+    ("yard_whole/p3/meta/notes", 66),
+    ("yard_whole/p3/meta/gate", 8),
+    (
+        "yard_whole/p3/store/00030002-0000-0001-0000-000000000000.epochs",
+        4,
+    ),
+];
 
 #[test]
-fn devices_stand_under_the_yards_folder(rt: HostRuntime) -> Result<(), Fail> {
+fn devices_stand_under_the_yards_folder(rt: HostRuntime) {
     let _ = fs::remove_dir_all(&rt, "yard_whole");
-    assert_eq!(rt; yard_in(rt, "yard_whole")?, [true; 8]);
-    for (path, size) in [
-        ("yard_whole/p3/b1/manifest", 1),
-        ("yard_whole/p3/meta/notes", 66),
-        ("yard_whole/p3/meta/gate", 8),
-        (
-            "yard_whole/p3/store/00030002-0000-0001-0000-000000000000.epochs",
-            4,
-        ),
-    ] {
-        assert_eq!(rt; size_of(rt, path), Some(size), "{path}");
+    assert_eq!(rt; yard_in(rt, "yard_whole", Ask::Calls), Ok((true, 5, 0)));
+    for (path, size) in &SIZES {
+        assert_eq!(rt; size_of(rt, path), Some(*size), "{path}");
     }
-    fs::remove_dir_all(&rt, "yard_whole")?;
-    Ok(())
+    let _ = fs::remove_dir_all(&rt, "yard_whole");
 }
 
 /// Folders and files that stand in a yard's folder, and the first name there.
@@ -241,52 +228,53 @@ static STANDING: [(&[&str], &[&str], Option<&str>); 8] = [
     (&["/p0"], &["/p1"], Some("p1")),
 ];
 
-/// What stands at a path in the folder.
-fn path_in(alloc: Global, dir: &str, rest: &str) -> Result<String, Fail> {
-    let mut path = String::new(alloc);
-    write!(path, "{dir}{rest}")?;
-    Ok(path)
+/// A path in a folder.
+fn path_in(alloc: Global, dir: &str, rest: &str) -> Result<String, AllocError> {
+    format!(in alloc; "{dir}{rest}")
 }
 
-/// Whether a yard over a folder with these has this first name.
-fn names(
-    rt: HostRuntime,
-    dir: &str,
-    folders: &[&str],
-    files: &[&str],
-    wanted: Option<&str>,
-) -> Result<bool, Fail> {
-    let _ = fs::remove_dir_all(&rt, dir);
-    fs::create_dir(&rt, dir)?;
+fn make_folder(rt: HostRuntime, dir: &str, rest: &str) -> bool {
+    match path_in(rt.alloc(), dir, rest) {
+        Ok(path) => fs::create_dir(&rt, path.as_str()).is_ok(),
+        Err(_) => false,
+    }
+}
+
+fn make_file(rt: HostRuntime, dir: &str, rest: &str) -> bool {
+    match path_in(rt.alloc(), dir, rest) {
+        Ok(path) => fs::write(&rt, path.as_str(), b"x".as_slice()).is_ok(),
+        Err(_) => false,
+    }
+}
+
+/// Whether these folders and files are made in a folder.
+fn make(rt: HostRuntime, dir: &str, folders: &[&str], files: &[&str]) -> bool {
+    let mut made = make_folder(rt, dir, "");
     for folder in folders {
-        let path = path_in(rt.alloc(), dir, folder)?;
-        fs::create_dir(&rt, path.as_str())?;
+        made &= make_folder(rt, dir, folder);
     }
     for file in files {
-        let path = path_in(rt.alloc(), dir, file)?;
-        fs::write(&rt, path.as_str(), b"x".as_slice())?;
+        made &= make_file(rt, dir, file);
     }
-    let mut yard = FolderYard::new(rt, dir)?;
-    let answer = is_named(&mut yard, wanted.map(|name| name.as_bytes()));
-    fs::remove_dir_all(&rt, dir)?;
-    Ok(answer)
+    made
 }
 
 #[test]
-fn a_partition_without_files_is_no_name(rt: HostRuntime) -> Result<(), Fail> {
+fn a_partition_without_files_is_no_name(rt: HostRuntime) {
     for (folders, files, wanted) in &STANDING {
-        assert!(rt; names(rt, "yard_names", folders, files, *wanted)?);
+        let _ = fs::remove_dir_all(&rt, "yard_names");
+        let made = make(rt, "yard_names", folders, files);
+        let named = yard_in(rt, "yard_names", Ask::Name(*wanted));
+        assert!(rt; made, "{wanted:?}");
+        assert_eq!(rt; named, Ok((true, 0, 0)), "{wanted:?}");
     }
-    Ok(())
+    let _ = fs::remove_dir_all(&rt, "yard_names");
 }
 
 #[test]
-fn a_yard_over_a_file_fails(rt: HostRuntime) -> Result<(), Fail> {
-    fs::write(&rt, "yard_file", b"no folder".as_slice())?;
-    let mut yard = FolderYard::new(rt, "yard_file")?;
-    let named = yard.first_name().is_err();
-    let made = yard.store(PARTITION).is_err();
-    assert_eq!(rt; (named, made, yard.faults()), (true, true, 2));
-    fs::remove_file(&rt, "yard_file")?;
-    Ok(())
+fn a_yard_over_a_file_fails(rt: HostRuntime) {
+    let written = fs::write(&rt, "yard_file", b"no folder".as_slice());
+    assert!(rt; written.is_ok());
+    assert_eq!(rt; yard_in(rt, "yard_file", Ask::Fails), Ok((true, 0, 2)));
+    let _ = fs::remove_file(&rt, "yard_file");
 }

@@ -6,13 +6,19 @@
 #[cfg(test)]
 mod counts;
 #[cfg(test)]
+mod disk_calls;
+#[cfg(test)]
 mod disk_logs;
 #[cfg(test)]
 mod disks;
 #[cfg(test)]
+mod ends;
+#[cfg(test)]
 mod folder_disks;
 #[cfg(test)]
 mod folder_yards;
+#[cfg(test)]
+mod log_calls;
 #[cfg(test)]
 mod memory_logs;
 #[cfg(test)]
@@ -21,3 +27,5 @@ mod memory_yards;
 mod stores;
 #[cfg(test)]
 mod tallies;
+#[cfg(test)]
+mod yard_calls;

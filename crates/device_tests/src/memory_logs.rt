@@ -1,12 +1,13 @@
 //! Metadata logs on trial: calls, each with what it is to give. Values worked by hand.
 //!
-//! Each kind of call is a method without a contract that tells whether it went as it should; a test is a table of calls and
-//! never holds a log.
+//! A test is a table of calls and never holds a log.
 
+use crate::ends::{End, right, troubled};
+use crate::log_calls::{append, arm};
 use meta_log::{MemoryLog, MetaCall, MetaLog, Planned};
-use segment_meta::{Note, decode};
-use std::alloc::Global;
-use tier_base::{State, Trouble};
+use segment_meta::{Entry, Note};
+use std::alloc::{AllocError, Global};
+use tier_base::State;
 
 /// The copy of offsets 0 to 14 starts, of epoch 0 up to 9 and of epoch 1 from 10 on.
 static STARTED: [u8; 87] = [
@@ -36,15 +37,18 @@ static FINISHED: [u8; 29] = [
     1, // state
 ];
 
+/// Whether an entry says what the first row spells.
+fn is_first(entry: &Entry) -> bool {
+    let span = (entry.start, entry.end, entry.max_ts, entry.event_ts) == (0, 14, 1000, 5);
+    let rest = (entry.broker.0, entry.size) == (1, 138);
+    let map = entry.map.entries() == [(0, 0), (1, 10)].as_slice();
+    span & rest & map
+}
+
 /// Whether a note says what the first row spells.
 fn is_started(note: &Note) -> bool {
     match note {
-        Note::Add(entry) => {
-            (entry.start, entry.end) == (0, 14)
-                && (entry.max_ts, entry.event_ts) == (1000, 5)
-                && (entry.broker.0, entry.size) == (1, 138)
-                && entry.map.entries() == [(0, 0), (1, 10)].as_slice()
-        }
+        Note::Add(entry) => is_first(entry),
         Note::Update { .. } => false,
     }
 }
@@ -60,26 +64,23 @@ fn is_finished(note: &Note) -> bool {
             custom,
             ..
         } => {
-            (broker.0, *event_ts) == (2, 7) && *state == State::CopyFinished && custom.is_none()
+            let told = (broker.0, *event_ts, *state) == (2, 7, State::CopyFinished);
+            told & custom.is_none()
         }
     }
-}
-
-/// A log on trial.
-#[derive(Drop)]
-struct Trial {
-    alloc: Global,
-    log: MemoryLog,
 }
 
 /// A call of a log, with what it comes to.
 #[derive(Clone, Copy)]
 enum Turn {
-    /// The first or the second note goes to the end, at this place, or fails.
-    Starts(Option<u64>),
-    Finishes(Option<u64>),
-    /// From a place on there are so many notes, or the read fails.
-    Reads(u64, Option<usize>),
+    /// The first or the second note goes to the end, at this place.
+    Starts(u64),
+    Finishes(u64),
+    /// From a place on there are so many notes.
+    Reads(u64, usize),
+    /// The second note's append fails, or a read does.
+    FailsToFinish,
+    FailsToRead,
     Arms,
     Renews,
     /// How many calls failed and how many are planned, and whether it is armed.
@@ -97,74 +98,60 @@ fn are_last(notes: &[Note], many: usize) -> bool {
     }
 }
 
-impl Trial {
-    fn appends(&mut self, bytes: &[u8], place: Option<u64>) -> bool {
-        match decode(self.alloc, bytes) {
-            Ok(note) => ended(self.log.append(&note)) == Some(place),
-            Err(_) => false,
-        }
+/// How a read from a place on ends, which is to give the last of both notes, so many.
+fn read_last<M: MetaLog>(log: &mut M, at: u64, many: usize) -> End {
+    match log.read(at) {
+        Ok(notes) => right(are_last(notes.as_slice(), many)),
+        Err(trouble) => troubled(trouble),
     }
+}
 
-    fn reads(&mut self, at: u64, many: Option<usize>) -> bool {
-        match (self.log.read(at), many) {
-            (Ok(notes), Some(many)) => are_last(notes.as_slice(), many),
-            (Err(trouble), None) => trouble == Trouble::Failed,
-            _ => false,
-        }
-    }
+fn renew(alloc: Global, log: &mut MemoryLog) -> End {
+    log.renew(Vec::new(alloc));
+    End::Well
+}
 
-    fn arms(&mut self) -> bool {
-        self.log.arm();
-        true
-    }
+/// What a log tells.
+fn told(log: &MemoryLog) -> (u64, usize, bool) {
+    (log.faults(), log.plan().len(), log.is_armed())
+}
 
-    fn renews(&mut self) -> bool {
-        self.log.renew(Vec::new(self.alloc));
-        true
-    }
-
-    fn told(&self) -> (u64, usize, bool) {
-        (
-            self.log.faults(),
-            self.log.plan().len(),
-            self.log.is_armed(),
-        )
-    }
-
-    fn goes(&mut self, turn: Turn) -> bool {
-        match turn {
-            Turn::Starts(place) => self.appends(&STARTED, place),
-            Turn::Finishes(place) => self.appends(&FINISHED, place),
-            Turn::Reads(at, many) => self.reads(at, many),
-            Turn::Arms => self.arms(),
-            Turn::Renews => self.renews(),
-            Turn::Tells(faults, planned, armed) => self.told() == (faults, planned, armed),
+/// How a turn ends, and how it should.
+fn take(alloc: Global, log: &mut MemoryLog, turn: Turn) -> (End, End) {
+    match turn {
+        Turn::Starts(place) => (append(alloc, log, &STARTED, place), End::Well),
+        Turn::Finishes(place) => (append(alloc, log, &FINISHED, place), End::Well),
+        Turn::Reads(at, many) => (read_last(log, at, many), End::Well),
+        Turn::FailsToFinish => (append(alloc, log, &FINISHED, 0), End::Fault),
+        Turn::FailsToRead => (read_last(log, 0, 0), End::Fault),
+        Turn::Arms => (arm(log), End::Well),
+        Turn::Renews => (renew(alloc, log), End::Well),
+        Turn::Tells(faults, planned, armed) => {
+            (right(told(log) == (faults, planned, armed)), End::Well)
         }
     }
 }
 
-/// The place that an append answered, if it didn't fail; nothing where it found no memory.
-fn ended(answer: Result<u64, Trouble>) -> Option<Option<u64>> {
-    match answer {
-        Ok(place) => Some(Some(place)),
-        Err(Trouble::Failed) => Some(None),
-        Err(Trouble::NoMemory) => None,
-    }
-}
-
-/// The number of the first turn that doesn't go as it should, of a log with these planned faults.
-fn first_wrong(alloc: Global, plan: &[Planned], turns: &[Turn]) -> Option<usize> {
-    let log = match plan.to_vec(alloc) {
-        Ok(plan) => MemoryLog::new(alloc, plan),
-        Err(_) => return Some(1000),
-    };
-    let mut trial = Trial { alloc, log };
+/// How many turns go as they should at first.
+fn live(alloc: Global, log: &mut MemoryLog, turns: &[Turn]) -> usize {
     for (i, turn) in turns.iter().enumerate() {
-        if !trial.goes(*turn) {
-            return Some(i);
+        let (end, wanted) = take(alloc, log, *turn);
+        if end != wanted {
+            return i;
         }
     }
-    None
+    turns.len()
+}
+
+/// How many turns of a log with these planned faults go as they should at first.
+fn lived(alloc: Global, plan: &[Planned], turns: &[Turn]) -> Result<usize, AllocError> {
+    match plan.to_vec(alloc) {
+        Ok(plan) => {
+            let mut log = MemoryLog::new(alloc, plan);
+            Ok(live(alloc, &mut log, turns))
+        }
+        Err(refusal) => Err(refusal),
+    }
 }
 
 /// What logs go through, with the call that is planned to fail.
@@ -173,12 +160,12 @@ static STORIES: [(&str, &[Planned], &[Turn]); 4] = [
         "a log gives what was appended",
         &[],
         &[
-            Turn::Starts(Some(0)),
-            Turn::Finishes(Some(1)),
-            Turn::Reads(0, Some(2)),
-            Turn::Reads(1, Some(1)),
-            Turn::Reads(2, Some(0)),
-            Turn::Reads(u64::MAX, Some(0)),
+            Turn::Starts(0),
+            Turn::Finishes(1),
+            Turn::Reads(0, 2),
+            Turn::Reads(1, 1),
+            Turn::Reads(2, 0),
+            Turn::Reads(u64::MAX, 0),
             Turn::Tells(0, 0, false),
         ],
     ),
@@ -190,14 +177,14 @@ static STORIES: [(&str, &[Planned], &[Turn]); 4] = [
             after: false,
         }],
         &[
-            Turn::Starts(Some(0)),
+            Turn::Starts(0),
             Turn::Arms,
-            Turn::Finishes(None),
-            Turn::Reads(0, Some(1)),
+            Turn::FailsToFinish,
+            Turn::Reads(0, 1),
             Turn::Tells(1, 1, true),
             Turn::Renews,
             Turn::Tells(0, 0, false),
-            Turn::Finishes(Some(1)),
+            Turn::Finishes(1),
         ],
     ),
     (
@@ -208,10 +195,10 @@ static STORIES: [(&str, &[Planned], &[Turn]); 4] = [
             after: true,
         }],
         &[
-            Turn::Starts(Some(0)),
+            Turn::Starts(0),
             Turn::Arms,
-            Turn::Finishes(None),
-            Turn::Reads(0, Some(2)),
+            Turn::FailsToFinish,
+            Turn::Reads(0, 2),
         ],
     ),
     (
@@ -222,12 +209,12 @@ static STORIES: [(&str, &[Planned], &[Turn]); 4] = [
             after: true,
         }],
         &[
-            Turn::Starts(Some(0)),
+            Turn::Starts(0),
             Turn::Arms,
-            Turn::Finishes(Some(1)),
-            Turn::Reads(0, Some(2)),
-            Turn::Reads(0, None),
-            Turn::Reads(0, Some(2)),
+            Turn::Finishes(1),
+            Turn::Reads(0, 2),
+            Turn::FailsToRead,
+            Turn::Reads(0, 2),
         ],
     ),
 ];
@@ -235,7 +222,7 @@ static STORIES: [(&str, &[Planned], &[Turn]); 4] = [
 #[test]
 fn logs_go_through_their_stories(rt: HostRuntime) {
     for (story, plan, turns) in &STORIES {
-        let wrong = first_wrong(rt.alloc(), plan, turns);
-        assert_eq!(rt; wrong, None, "{story}");
+        let lived = lived(rt.alloc(), plan, turns);
+        assert_eq!(rt; lived, Ok(turns.len()), "{story}");
     }
 }

@@ -2,13 +2,14 @@
 //!
 //! A story is a list of steps, each a call of the yard and what it should come to. No test holds a device.
 
-use device_yard::Yard;
-use disk_model::{Disk, FileName};
+use crate::yard_calls::{
+    disk_fails, disk_goes, disk_grows, is_named, log_fails, log_reads, name_fails, store_fails,
+    store_fills,
+};
 use memory_yard::MemoryYard;
-use meta_log::MetaLog;
-use object_store::{ObjectKey, Part, Store};
-use std::alloc::Global;
-use tier_base::{Blob, BrokerId, PartitionId, Trouble, segment_id};
+use object_store::{ObjectKey, Part};
+use std::alloc::{AllocError, Global};
+use tier_base::{Blob, BrokerId, PartitionId, segment_id};
 
 /// A call of a yard. Each device that is handed out comes back.
 #[derive(Clone, Copy)]
@@ -27,143 +28,93 @@ enum Step<'a> {
     Fails,
 }
 
-/// Whether a disk has so many bytes. One more is added.
-fn grows<D: Disk>(disk: &mut D, many: usize) -> bool {
-    let has = match disk.read(FileName::Manifest, 0) {
-        Ok(Some(bytes)) => bytes.len() == many,
-        Ok(None) => many == 0,
-        Err(_) => false,
-    };
-    has && disk.append(FileName::Manifest, b"x").is_ok()
+/// Whether a disk has so many bytes, takes one more, and is held then.
+fn disk(yard: &mut MemoryYard, partition: PartitionId, broker: BrokerId, many: usize) -> bool {
+    let went = disk_grows(yard, partition, broker, many);
+    went & yard.held_disk(partition, broker).is_some()
 }
 
-fn disk(yard: &mut MemoryYard, partition: u16, broker: u16, many: usize) -> bool {
-    let (partition, broker) = (PartitionId(partition), BrokerId(broker));
-    match yard.disk(partition, broker) {
-        Ok(mut disk) => {
-            let went = grows(&mut disk, many);
-            disk.arm();
-            yard.keep_disk(partition, broker, disk);
-            went && yard.held_disk(partition, broker).is_some()
-        }
-        Err(_) => false,
-    }
-}
-
-fn empty(yard: &mut MemoryYard, partition: u16, broker: u16) -> bool {
-    let (partition, broker) = (PartitionId(partition), BrokerId(broker));
-    match yard.disk(partition, broker) {
-        Ok(disk) => {
-            yard.keep_disk(partition, broker, disk);
-            true
-        }
-        Err(_) => false,
-    }
-}
-
-/// Whether a store takes an object.
-fn fills<S: Store>(alloc: Global, store: &mut S, partition: PartitionId) -> bool {
+/// Whether a store takes an object, and is held then.
+fn store(yard: &mut MemoryYard, partition: PartitionId) -> bool {
     let key = ObjectKey {
         partition,
         id: segment_id(partition, BrokerId(0), 0, 0),
         part: Part::Log,
     };
-    match bytes::Bytes::copy_from_slice(alloc, b"x") {
-        Ok(bytes) => store.put(&key, &bytes).is_ok(),
-        Err(_) => false,
-    }
+    let went = store_fills(yard, partition, &key, b"x");
+    went & yard.held_store(partition).is_some()
 }
 
-fn store(alloc: Global, yard: &mut MemoryYard, partition: u16) -> bool {
-    let partition = PartitionId(partition);
-    match yard.store(partition) {
-        Ok(mut store) => {
-            let went = fills(alloc, &mut store, partition);
-            yard.keep_store(partition, store);
-            went && yard.held_store(partition).is_some()
-        }
-        Err(_) => false,
-    }
-}
-
-/// Whether a metadata log has so many notes.
-fn reads<M: MetaLog>(log: &mut M, many: usize) -> bool {
-    match log.read(0) {
-        Ok(notes) => notes.len() == many,
-        Err(_) => false,
-    }
-}
-
-fn log(yard: &mut MemoryYard, partition: u16, many: usize) -> bool {
-    let partition = PartitionId(partition);
-    match yard.meta(partition) {
-        Ok(mut log) => {
-            let went = reads(&mut log, many);
-            yard.keep_meta(partition, log);
-            went && yard.held_log(partition).is_some()
-        }
-        Err(_) => false,
-    }
-}
-
-fn is_named(yard: &mut MemoryYard, wanted: Option<&str>) -> bool {
-    match (yard.first_name(), wanted) {
-        (Ok(Some(name)), Some(wanted)) => name.as_slice() == wanted.as_bytes(),
-        (Ok(None), None) => true,
-        _ => false,
-    }
+/// Whether a metadata log has so many notes, and is held then.
+fn log(yard: &mut MemoryYard, partition: PartitionId, many: usize) -> bool {
+    let went = log_reads(yard, partition, many);
+    went & yard.held_log(partition).is_some()
 }
 
 /// Whether a call of each kind fails.
 fn fails(yard: &mut MemoryYard) -> bool {
-    let named = matches!(yard.first_name(), Err(Trouble::Failed));
-    let disk = matches!(yard.disk(PartitionId(0), BrokerId(0)), Err(Trouble::Failed));
-    let store = matches!(yard.store(PartitionId(0)), Err(Trouble::Failed));
-    let log = matches!(yard.meta(PartitionId(0)), Err(Trouble::Failed));
-    (named, disk, store, log) == (true, true, true, true)
+    let named = name_fails(yard);
+    let disk = disk_fails(yard);
+    let store = store_fails(yard);
+    let log = log_fails(yard);
+    named & disk & store & log
 }
 
 /// Makes a call, and answers whether it came to what it should.
-fn call(alloc: Global, yard: &mut MemoryYard, step: Step) -> bool {
+fn call(yard: &mut MemoryYard, step: Step) -> bool {
     match step {
         Step::Name(wanted) => is_named(yard, wanted),
-        Step::Disk(partition, broker, many) => disk(yard, partition, broker, many),
-        Step::Empty(partition, broker) => empty(yard, partition, broker),
-        Step::Store(partition) => store(alloc, yard, partition),
-        Step::Log(partition, many) => log(yard, partition, many),
+        Step::Disk(partition, broker, many) => {
+            disk(yard, PartitionId(partition), BrokerId(broker), many)
+        }
+        Step::Empty(partition, broker) => {
+            disk_goes(yard, PartitionId(partition), BrokerId(broker))
+        }
+        Step::Store(partition) => store(yard, PartitionId(partition)),
+        Step::Log(partition, many) => log(yard, PartitionId(partition), many),
         Step::Fails => fails(yard),
     }
 }
 
-/// The strays of a yard.
-fn strays(alloc: Global, names: &[&str]) -> Option<Vec<Blob>> {
-    let mut strays = Vec::new(alloc);
-    for name in names {
-        let Ok(stray) = Blob::from_slice(alloc, name.as_bytes()) else {
-            return None;
-        };
-        if strays.push(stray).is_err() {
-            return None;
+/// Makes calls, and answers how many come to what they should at first.
+fn run(yard: &mut MemoryYard, steps: &[Step]) -> usize {
+    for (i, step) in steps.iter().enumerate() {
+        if !call(yard, *step) {
+            return i;
         }
     }
-    Some(strays)
+    steps.len()
 }
 
-/// Makes the calls of a story over a yard, and answers how many went as they should, how many faults it has, and how many
-/// devices came back.
-fn run(alloc: Global, names: &[&str], plan: &[u32], steps: &[Step]) -> Option<(usize, u64, usize)> {
-    let Ok(plan) = Vec::from_slice(alloc, plan) else {
-        return None;
-    };
-    let mut yard = MemoryYard::new(alloc, strays(alloc, names)?, plan);
-    let mut went = 0usize;
-    for step in steps {
-        if !call(alloc, &mut yard, *step) {
-            break;
-        }
-        went = went.saturating_add(1);
+/// The strays of a yard.
+fn strays(alloc: Global, names: &[&str]) -> Result<Vec<Blob>, AllocError> {
+    let mut strays = Vec::new(alloc);
+    for name in names {
+        strays.push(Blob::from_slice(alloc, name.as_bytes())?)?;
     }
-    Some((went, yard.faults(), yard.returned().len()))
+    Ok(strays)
+}
+
+/// What the calls of a story come to: how many went as they should, how many faults the yard has, and how many devices came
+/// back.
+fn came(alloc: Global, strays: Vec<Blob>, plan: Vec<u32>, steps: &[Step]) -> (usize, u64, usize) {
+    let mut yard = MemoryYard::new(alloc, strays, plan);
+    let went = run(&mut yard, steps);
+    (went, yard.faults(), yard.returned().len())
+}
+
+/// What they come to over a yard with these strays and these planned faults.
+fn came_of(
+    alloc: Global,
+    names: &[&str],
+    plan: &[u32],
+    steps: &[Step],
+) -> Result<(usize, u64, usize), AllocError> {
+    let plan = Vec::from_slice(alloc, plan)?;
+    match strays(alloc, names) {
+        Ok(strays) => Ok(came(alloc, strays, plan, steps)),
+        Err(refusal) => Err(refusal),
+    }
 }
 
 static BACK: [Step<'static>; 11] = [
@@ -191,21 +142,17 @@ static PLANNED: [Step<'static>; 3] = [Step::Empty(0, 0), Step::Fails, Step::Log(
 
 #[test]
 fn devices_come_back_and_go_out_again(rt: HostRuntime) {
-    assert_eq!(rt; run(rt.alloc(), &[], &[], &BACK), Some((11, 0, 7)));
+    assert_eq!(rt; came_of(rt.alloc(), &[], &[], &BACK), Ok((11, 0, 7)));
 }
 
 #[test]
 fn strays_are_names_too(rt: HostRuntime) {
-    assert_eq!(rt;
-        run(rt.alloc(), &["x", "p05", "p1"], &[], &STRAYS),
-        Some((4, 0, 2))
-    );
+    let came = came_of(rt.alloc(), &["x", "p05", "p1"], &[], &STRAYS);
+    assert_eq!(rt; came, Ok((4, 0, 2)));
 }
 
 #[test]
 fn planned_calls_fail_and_no_others(rt: HostRuntime) {
-    assert_eq!(rt;
-        run(rt.alloc(), &[], &[5, 4, 3, 2], &PLANNED),
-        Some((3, 4, 2))
-    );
+    let came = came_of(rt.alloc(), &[], &[5, 4, 3, 2], &PLANNED);
+    assert_eq!(rt; came, Ok((3, 4, 2)));
 }

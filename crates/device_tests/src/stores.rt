@@ -4,13 +4,13 @@
 //! Each kind of call is a function of its own, without a contract, that tells how the call ended. A
 //! test is a table of such lists and never holds a store.
 
+use crate::ends::{End, done, ended, gave, right, troubled};
 use bytes::Bytes;
 use object_store::{
     DeafStore, MemoryStore, ObjectKey, Part, Planned, Spot, Store, StoreCall, keys_of, place,
 };
 use std::alloc::{AllocError, Global};
-use std::test::Fail;
-use tier_base::{Blob, BrokerId, Failed, PartitionId, SegmentId, Trouble, segment_id};
+use tier_base::{Blob, BrokerId, PartitionId, SegmentId, segment_id};
 
 /// The id of an attempt of broker 0.
 fn id(attempt: u64) -> SegmentId {
@@ -54,65 +54,16 @@ enum Step {
     Arm,
 }
 
-/// How a call ended.
-#[derive(Clone, Copy, Debug, PartialEq, Eq)]
-enum End {
-    Well,
-    Fault,
-    NoMemory,
-    /// It gave something else.
-    Other,
-}
-
-/// How a call that gives this ended.
-fn right(given: bool) -> End {
-    if given { End::Well } else { End::Other }
-}
-
-/// How a call with this trouble ended.
-fn troubled(trouble: Trouble) -> End {
-    match trouble {
-        Trouble::Failed => End::Fault,
-        Trouble::NoMemory => End::NoMemory,
-    }
-}
-
 fn put<S: Store>(store: &mut S, of: Of, bytes: &'static [u8]) -> End {
-    match store.put(&key(of), &Bytes::from_static(bytes)) {
-        Ok(()) => End::Well,
-        Err(trouble) => troubled(trouble),
-    }
-}
-
-/// How a call that takes no memory ended.
-fn done(answer: Result<(), Failed>) -> End {
-    match answer {
-        Ok(()) => End::Well,
-        Err(_) => End::Fault,
-    }
-}
-
-/// Whether a read gave these bytes.
-fn is_given(given: Option<Bytes>, wanted: Option<&[u8]>) -> bool {
-    match (given, wanted) {
-        (Some(bytes), Some(wanted)) => bytes.as_slice() == wanted,
-        (None, None) => true,
-        _ => false,
-    }
+    ended(store.put(&key(of), &Bytes::from_static(bytes)))
 }
 
 fn get<S: Store>(store: &mut S, of: Of, at: u64, wanted: Option<&[u8]>) -> End {
-    match store.get(&key(of), at) {
-        Ok(given) => right(is_given(given, wanted)),
-        Err(trouble) => troubled(trouble),
-    }
+    gave(store.get(&key(of), at), wanted)
 }
 
 fn get_part<S: Store>(store: &mut S, of: Of, at: u64, most: u64, wanted: Option<&[u8]>) -> End {
-    match store.get_part(&key(of), at, most) {
-        Ok(given) => right(is_given(given, wanted)),
-        Err(trouble) => troubled(trouble),
-    }
+    gave(store.get_part(&key(of), at, most), wanted)
 }
 
 /// Whether these are the keys of those parts.
@@ -242,19 +193,25 @@ fn goes(alloc: Global, store: &mut MemoryStore, turn: Turn) -> bool {
     }
 }
 
-/// The number of the first turn that doesn't go as it should, of a store with these planned faults.
-fn first_wrong(
-    alloc: Global,
-    plan: &[Planned],
-    turns: &[Turn],
-) -> Result<Option<usize>, AllocError> {
-    let mut store = MemoryStore::new(alloc, plan.to_vec(alloc)?);
+/// How many turns go as they should at first.
+fn live(alloc: Global, store: &mut MemoryStore, turns: &[Turn]) -> usize {
     for (i, turn) in turns.iter().enumerate() {
-        if !goes(alloc, &mut store, *turn) {
-            return Ok(Some(i));
+        if !goes(alloc, store, *turn) {
+            return i;
         }
     }
-    Ok(None)
+    turns.len()
+}
+
+/// How many turns of a store with these planned faults go as they should at first.
+fn lived(alloc: Global, plan: &[Planned], turns: &[Turn]) -> Result<usize, AllocError> {
+    match plan.to_vec(alloc) {
+        Ok(plan) => {
+            let mut store = MemoryStore::new(alloc, plan);
+            Ok(live(alloc, &mut store, turns))
+        }
+        Err(refusal) => Err(refusal),
+    }
 }
 
 /// What stores in memory go through, with the calls that are planned to fail.
@@ -365,8 +322,8 @@ static STORIES: [(&str, &[Planned], &[Turn]); 7] = [
 #[test]
 fn stores_in_memory_go_through_their_stories(rt: HostRuntime) {
     for (story, plan, turns) in &STORIES {
-        let wrong = first_wrong(rt.alloc(), plan, turns);
-        assert_eq!(rt; wrong, Ok(None), "{story}");
+        let lived = lived(rt.alloc(), plan, turns);
+        assert_eq!(rt; lived, Ok(turns.len()), "{story}");
     }
 }
 
@@ -413,50 +370,65 @@ fn is_spelt(alloc: Global, key: ObjectKey, part: Part, text: &str) -> Result<boo
     Ok(same & (spot_of(part) == Some(whole)))
 }
 
-#[test]
-fn the_parts_of_a_segment_have_four_keys(rt: HostRuntime) -> Result<(), Fail> {
-    let mut number: u8 = 0;
-    for (part, text) in &PARTS {
-        let spelt = match key_of(number) {
-            Some(key) => is_spelt(rt.alloc(), key, *part, text)?,
-            None => false,
-        };
-        assert!(rt; spelt, "{text}");
-        number = number.saturating_add(1);
+/// Whether the key of that number is spelt so, and a part stands there whole.
+fn stands(alloc: Global, number: u8, part: Part, text: &str) -> bool {
+    match key_of(number) {
+        Some(key) => is_spelt(alloc, key, part, text) == Ok(true),
+        None => false,
     }
-    assert_eq!(rt; key_of(number), None, "a fifth");
-    Ok(())
 }
 
-/// Where a part of a packed segment stands.
-fn packed_spot(alloc: Global, part: Part) -> Result<Option<Spot>, AllocError> {
+#[test]
+fn the_parts_of_a_segment_have_four_keys(rt: HostRuntime) {
+    let mut number: u8 = 0;
+    for (part, text) in &PARTS {
+        assert!(rt; stands(rt.alloc(), number, *part, text), "{text}");
+        number = number.saturating_add(1);
+    }
+    assert!(rt; key_of(number).is_none(), "a fifth");
+}
+
+/// Whether a part of a packed segment stands nowhere.
+fn is_nowhere(alloc: Global, part: Part) -> Result<bool, AllocError> {
     let custom = Blob::from_slice(alloc, b"custom".as_slice())?;
-    Ok(place(PartitionId(0), id(1), true, Some(&custom), part))
+    Ok(place(PartitionId(0), id(1), true, Some(&custom), part).is_none())
 }
 
 #[test]
 fn nothing_stands_of_a_packed_segment(rt: HostRuntime) {
-    for (part, _) in &PARTS {
-        assert_eq!(rt; packed_spot(rt.alloc(), *part), Ok(None), "{part:?}");
+    for (part, text) in &PARTS {
+        assert_eq!(rt; is_nowhere(rt.alloc(), *part), Ok(true), "{text}");
     }
 }
 
-/// Whether the object of another partition stays where one is deleted.
-fn stays(alloc: Global) -> bool {
-    let ours = keys_of(PartitionId(0), id(1), false).get(0);
-    let theirs = keys_of(PartitionId(1), id(1), false).get(0);
+/// The log of a partition's first segment.
+fn log_of(partition: PartitionId) -> ObjectKey {
+    keys_of(partition, id(1), false).get(0)
+}
+
+fn put_log<S: Store>(store: &mut S, partition: PartitionId) -> End {
+    ended(store.put(&log_of(partition), &Bytes::from_static(b"x")))
+}
+
+/// Whether this partition's log is the only object.
+fn has_log<S: Store>(store: &mut S, partition: PartitionId) -> End {
+    match store.keys() {
+        Ok(keys) => right(keys.as_slice() == [log_of(partition)].as_slice()),
+        Err(trouble) => troubled(trouble),
+    }
+}
+
+/// How the logs of two partitions are put, one of them is deleted, and the other stays.
+fn stays(alloc: Global) -> [End; 4] {
     let mut store = MemoryStore::new(alloc, Vec::new(alloc));
-    let mine = store.put(&ours, &Bytes::from_static(b"x")).is_ok();
-    let other = store.put(&theirs, &Bytes::from_static(b"x")).is_ok();
-    let deleted = store.delete(&ours).is_ok();
-    let left = match store.keys() {
-        Ok(keys) => keys.as_slice() == [theirs].as_slice(),
-        Err(_) => false,
-    };
-    mine & other & deleted & left
+    let ours = put_log(&mut store, PartitionId(0));
+    let theirs = put_log(&mut store, PartitionId(1));
+    let deleted = done(store.delete(&log_of(PartitionId(0))));
+    let left = has_log(&mut store, PartitionId(1));
+    [ours, theirs, deleted, left]
 }
 
 #[test]
 fn objects_of_other_partitions_stay(rt: HostRuntime) {
-    assert!(rt; stays(rt.alloc()));
+    assert_eq!(rt; stays(rt.alloc()), [End::Well; 4]);
 }
