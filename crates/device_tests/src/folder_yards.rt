@@ -137,15 +137,16 @@ static FINISHED: [u8; 29] = [
 ];
 
 /// What the calls of a yard come to.
-fn yard_calls<Y: Yard>(alloc: Global, yard: &mut Y) -> [bool; 7] {
+fn yard_calls<Y: Yard>(alloc: Global, yard: &mut Y) -> [bool; 8] {
     let empty = is_named(yard, None);
     let disk = disk_grows(yard, PARTITION, BrokerId(1), 0);
     let store = store_fills(yard, PARTITION, &key(Part::Epochs), b"0\n0\n");
     let none = log_reads(yard, PARTITION, 0);
     let first = log_grows(alloc, yard, PARTITION, &FINISHED, 0);
+    let one = log_reads(yard, PARTITION, 1);
     let second = log_grows(alloc, yard, PARTITION, &FINISHED, 1);
     let named = is_named(yard, Some("p3"));
-    [empty, disk, store, none, first, second, named]
+    [empty, disk, store, none, first, one, second, named]
 }
 
 /// What a yard is asked.
@@ -168,7 +169,7 @@ fn fails<Y: Yard>(yard: &mut Y) -> bool {
 /// Whether a yard is as it is asked.
 fn answers<Y: Yard>(alloc: Global, yard: &mut Y, ask: Ask) -> bool {
     match ask {
-        Ask::Calls => yard_calls(alloc, yard) == [true; 7],
+        Ask::Calls => yard_calls(alloc, yard) == [true; 8],
         Ask::Name(wanted) => is_named(yard, wanted),
         Ask::Fails => fails(yard),
     }
@@ -199,7 +200,7 @@ static SIZES: [(&str, u64); 4] = [
 #[test]
 fn devices_stand_under_the_yards_folder(rt: HostRuntime) {
     let _ = fs::remove_dir_all(&rt, "yard_whole");
-    assert_eq!(rt; yard_in(rt, "yard_whole", Ask::Calls), Ok((true, 5, 0)));
+    assert_eq!(rt; yard_in(rt, "yard_whole", Ask::Calls), Ok((true, 6, 0)));
     for (path, size) in &SIZES {
         assert_eq!(rt; size_of(rt, path), Some(*size), "{path}");
     }
