@@ -1,11 +1,144 @@
-//! The happy path of each public call, and streams that fail in mid-stream.
+//! The happy path of each public call, and streams that fail in mid-stream. Worked by hand.
 
 use std::alloc::{AllocError, Global};
-use std::test::Fail;
+use std::io::Write;
 use tier_base::{
     Blob, Failed, MemorySink, MemorySource, ReadRefusal, Roll, Row, Sink, Source, StdSink,
     StdSource, Trouble, read_all, write_all,
 };
+
+/// A call of a list, or a look at it.
+#[derive(Clone, Copy)]
+enum Step {
+    Push(u64),
+    /// An item in the place of another, which is answered.
+    Replace(usize, u64, u64),
+    /// A place is written through what is lent.
+    Write(usize, u64),
+    Get(usize, u64),
+    Pop(Option<u64>),
+    Holds(&'static [u64]),
+}
+
+fn replace(row: &mut Row<u64>, i: usize, item: u64) -> Option<u64> {
+    if i >= row.len() {
+        return None;
+    }
+    Some(row.replace(i, item))
+}
+
+fn write(row: &mut Row<u64>, i: usize, item: u64) -> bool {
+    if i >= row.len() {
+        return false;
+    }
+    *row.at_mut(i) = item;
+    true
+}
+
+fn get(row: &Row<u64>, i: usize) -> Option<u64> {
+    if i >= row.len() {
+        return None;
+    }
+    Some(*row.get(i))
+}
+
+fn is_row(row: &Row<u64>, items: &[u64]) -> bool {
+    let counted = (row.len(), row.is_empty()) == (items.len(), items.is_empty());
+    counted & (row.as_slice() == items)
+}
+
+/// Makes a call, and tells whether it went as the row says.
+fn call(row: &mut Row<u64>, step: Step) -> bool {
+    match step {
+        Step::Push(item) => row.push(item).is_ok(),
+        Step::Replace(i, item, old) => replace(row, i, item) == Some(old),
+        Step::Write(i, item) => write(row, i, item),
+        Step::Get(i, item) => get(row, i) == Some(item),
+        Step::Pop(item) => row.pop() == item,
+        Step::Holds(items) => is_row(row, items),
+    }
+}
+
+/// Makes calls, and tells how many went well at first.
+fn run(row: &mut Row<u64>, steps: &[Step]) -> usize {
+    for (i, step) in steps.iter().enumerate() {
+        if !call(row, *step) {
+            return i;
+        }
+    }
+    steps.len()
+}
+
+/// Makes calls of a new list, and tells how many went well at first, and how many items are handed
+/// on.
+fn run_new(alloc: Global, steps: &[Step]) -> (usize, usize) {
+    let mut row = Row::new(alloc);
+    let well = run(&mut row, steps);
+    (well, Row::from_vec(row.into_vec()).len())
+}
+
+/// The calls of a list.
+static STEPS: [Step; 10] = [
+    Step::Holds(&[]),
+    Step::Pop(None),
+    Step::Push(5),
+    Step::Push(6),
+    Step::Push(7),
+    Step::Replace(1, 60, 6),
+    Step::Write(0, 50),
+    Step::Get(0, 50),
+    Step::Pop(Some(7)),
+    Step::Holds(&[50, 60]),
+];
+
+#[test]
+fn a_row_holds_what_it_is_given(rt: HostRuntime) {
+    assert_eq!(rt; run_new(rt.alloc(), &STEPS), (STEPS.len(), 2));
+}
+
+/// Puts two items into the room that is made for them.
+fn put_two(roll: &mut Roll<u64>) -> bool {
+    match roll.reserve(2) {
+        Ok(()) => {
+            roll.put(8);
+            roll.put(9);
+            true
+        }
+        Err(_) => false,
+    }
+}
+
+/// Whether a list takes two items.
+fn takes_two(alloc: Global) -> (bool, usize, bool) {
+    let mut roll = Roll::new(alloc);
+    let put = put_two(&mut roll);
+    (put, roll.len(), roll.items() == [8, 9].as_slice())
+}
+
+#[test]
+fn a_roll_takes_what_it_has_room_for(rt: HostRuntime) {
+    assert_eq!(rt; takes_two(rt.alloc()), (true, 2, true));
+}
+
+/// Whether a blob's bytes are these, also when it is handed on.
+fn is_blob(blob: Blob, bytes: &[u8]) -> (usize, bool, bool, bool) {
+    let told = (blob.len(), blob.is_empty(), blob.as_slice() == bytes);
+    let again = Blob::from_vec(blob.into_vec());
+    (told.0, told.1, told.2, again.as_slice() == bytes)
+}
+
+/// The length of a blob of these bytes, whether it is empty, and whether they are its own.
+fn blob_of(alloc: Global, bytes: &[u8]) -> Option<(usize, bool, bool, bool)> {
+    match Blob::from_slice(alloc, bytes) {
+        Ok(blob) => Some(is_blob(blob, bytes)),
+        Err(_) => None,
+    }
+}
+
+#[test]
+fn a_blob_is_its_bytes(rt: HostRuntime) {
+    assert_eq!(rt; blob_of(rt.alloc(), b"key"), Some((3, false, true, true)));
+}
 
 /// So many bytes, no two neighbours alike.
 fn ramp(alloc: Global, count: u32) -> Result<Vec<u8>, AllocError> {
@@ -16,150 +149,191 @@ fn ramp(alloc: Global, count: u32) -> Result<Vec<u8>, AllocError> {
     Ok(bytes)
 }
 
-#[test]
-fn a_row_holds_what_it_is_given(rt: HostRuntime) -> Result<(), Fail> {
-    let mut row: Row<u64> = Row::new(rt.alloc());
-    assert!(rt; row.is_empty());
-    row.push(5)?;
-    row.push(6)?;
-    row.push(7)?;
-    assert_eq!(rt; row.len(), 3);
-    assert_eq!(rt; row.replace(1, 60), 6);
-    *row.at_mut(0) = 50;
-    assert_eq!(rt; *row.get(0), 50);
-    assert_eq!(rt; row.pop(), Some(7));
-    assert_eq!(rt; row.as_slice(), [50, 60].as_slice());
-    let again = Row::from_vec(row.into_vec());
-    assert_eq!(rt; again.len(), 2);
-    Ok(())
-}
-
-#[test]
-fn a_roll_takes_what_it_has_room_for(rt: HostRuntime) -> Result<(), Fail> {
-    let mut roll: Roll<u64> = Roll::new(rt.alloc());
-    roll.reserve(2)?;
-    roll.put(8);
-    roll.put(9);
-    assert_eq!(rt; roll.len(), 2);
-    assert_eq!(rt; roll.items(), [8, 9].as_slice());
-    Ok(())
-}
-
-#[test]
-fn a_blob_is_its_bytes(rt: HostRuntime) -> Result<(), Fail> {
-    let blob = Blob::from_slice(rt.alloc(), b"key")?;
-    assert_eq!(rt; blob.len(), 3);
-    assert!(rt; !blob.is_empty());
-    assert_eq!(rt; blob.as_slice(), b"key".as_slice());
-    let again = Blob::from_vec(blob.into_vec());
-    assert_eq!(rt; again.as_slice(), b"key".as_slice());
-    Ok(())
-}
-
-/// What `read_all` answers over a source in memory of so many bytes.
-fn read_ramp(
-    alloc: Global,
-    count: u32,
-    plan: Vec<u32>,
-    limit: u32,
-) -> Result<Result<Vec<u8>, ReadRefusal>, AllocError> {
-    let mut source = MemorySource::new(ramp(alloc, count)?, plan);
-    Ok(read_all(alloc, &mut source, limit as usize))
-}
-
-#[test]
-fn a_source_is_read_to_its_end(rt: HostRuntime) -> Result<(), Fail> {
-    let alloc = rt.alloc();
-    for (count, limit) in [
-        (0, 0),
-        (1, 1),
-        (65536, 65536),
-        (200000, 200000),
-        (200000, 300000),
-    ] {
-        let bytes = read_ramp(alloc, count, Vec::new(alloc), limit)??;
-        assert!(rt;
-            bytes == ramp(alloc, count)?,
-            "{count} bytes within {limit}"
-        );
+/// Whether bytes are a ramp.
+fn is_ramp(bytes: &[u8], count: u32) -> bool {
+    for (i, byte) in bytes.iter().enumerate() {
+        if *byte != (i % 251) as u8 {
+            return false;
+        }
     }
-    Ok(())
+    bytes.len() == count as usize
 }
 
-#[test]
-fn a_source_over_the_limit_is_too_long(rt: HostRuntime) -> Result<(), Fail> {
-    let alloc = rt.alloc();
-    for (count, limit) in [(1, 0), (5, 4), (65537, 65536), (200000, 199999)] {
-        let refusal = read_ramp(alloc, count, Vec::new(alloc), limit)?.err();
-        assert_eq!(rt;
-            refusal,
-            Some(ReadRefusal::TooLong),
-            "{count} bytes within {limit}"
-        );
+/// A source of a ramp whose calls of these numbers fail.
+fn source_of(alloc: Global, count: u32, plan: &[u32]) -> Option<MemorySource> {
+    match (ramp(alloc, count), plan.to_vec(alloc)) {
+        (Ok(bytes), Ok(plan)) => Some(MemorySource::new(bytes, plan)),
+        _ => None,
     }
-    Ok(())
 }
 
+/// What `read_all` answers over a source: whether it is the whole ramp.
+fn read_ramp(alloc: Global, count: u32, plan: &[u32], limit: u32) -> Result<bool, ReadRefusal> {
+    let mut source = match source_of(alloc, count, plan) {
+        Some(source) => source,
+        None => return Err(ReadRefusal::NoMemory),
+    };
+    match read_all(alloc, &mut source, limit as usize) {
+        Ok(bytes) => Ok(is_ramp(bytes.as_slice(), count)),
+        Err(refusal) => Err(refusal),
+    }
+}
+
+/// The bytes of a source, its calls that fail, a limit, and what `read_all` answers.
+static READS: [(u32, &[u32], u32, Result<bool, ReadRefusal>); 10] = [
+    (0, &[], 0, Ok(true)),
+    (1, &[], 1, Ok(true)),
+    (65536, &[], 65536, Ok(true)),
+    (200000, &[], 200000, Ok(true)),
+    (200000, &[], 300000, Ok(true)),
+    (1, &[], 0, Err(ReadRefusal::TooLong)),
+    (5, &[], 4, Err(ReadRefusal::TooLong)),
+    (65537, &[], 65536, Err(ReadRefusal::TooLong)),
+    (200000, &[], 199999, Err(ReadRefusal::TooLong)),
+    (200000, &[2, 2], 200000, Err(ReadRefusal::Failed)),
+];
+
 #[test]
-fn a_read_fault_in_mid_stream_is_told(rt: HostRuntime) -> Result<(), Fail> {
-    let alloc = rt.alloc();
-    let second = vec![in alloc; 2]?;
-    let refusal = read_ramp(alloc, 200000, second, 200000)?.err();
-    assert_eq!(rt; refusal, Some(ReadRefusal::Failed));
-    let mut source = MemorySource::new(b"abc".to_vec(alloc)?, vec![in alloc; 1]?);
+fn a_source_is_read_to_its_end_or_limit(rt: HostRuntime) {
+    for (count, plan, limit, wanted) in &READS {
+        let read = read_ramp(rt.alloc(), *count, plan, *limit);
+        assert_eq!(rt; read, *wanted, "{count} bytes within {limit}");
+    }
+}
+
+/// A read of two bytes, and the second of them.
+fn read_two(source: &mut MemorySource) -> Result<(usize, u8), Failed> {
     let mut buf = [0u8; 2];
-    assert_eq!(rt; source.read(&mut buf), Err(Failed));
-    assert_eq!(rt; source.read(&mut buf), Ok(2));
-    assert_eq!(rt; buf.as_slice(), b"ab".as_slice());
-    Ok(())
+    match source.read(&mut buf) {
+        Ok(count) => Ok((count, buf[1])),
+        Err(failed) => Err(failed),
+    }
+}
+
+/// Two reads of a source whose first call fails.
+fn read_twice(alloc: Global) -> Option<(Result<(usize, u8), Failed>, Result<(usize, u8), Failed>)> {
+    match source_of(alloc, 3, &[1]) {
+        Some(mut source) => Some((read_two(&mut source), read_two(&mut source))),
+        None => None,
+    }
 }
 
 #[test]
-fn a_piece_is_written_in_several_calls(rt: HostRuntime) -> Result<(), Fail> {
-    let alloc = rt.alloc();
-    let mut sink = MemorySink::new(alloc, 10, 4, Vec::new(alloc))?;
-    assert_eq!(rt; sink.write(b"0123456789"), Ok(4));
-    assert_eq!(rt; write_all(&mut sink, b"456789"), Ok(()));
-    assert_eq!(rt; write_all(&mut sink, b""), Ok(()));
-    assert_eq!(rt;
-        write_all(&mut sink, b"a"),
-        Err(Failed),
-        "the room is used up"
-    );
-    assert_eq!(rt; sink.written(), b"0123456789".as_slice());
-    Ok(())
+fn a_failed_read_takes_no_bytes(rt: HostRuntime) {
+    assert_eq!(rt; read_twice(rt.alloc()), Some((Err(Failed), Ok((2, 1)))));
 }
 
-#[test]
-fn a_write_fault_in_mid_stream_leaves_a_front(rt: HostRuntime) -> Result<(), Fail> {
-    let alloc = rt.alloc();
-    let mut sink = MemorySink::new(alloc, 100, 4, vec![in alloc; 2]?)?;
-    assert_eq!(rt; write_all(&mut sink, b"0123456789"), Err(Failed));
-    assert_eq!(rt; sink.written(), b"0123".as_slice());
-    assert_eq!(rt; write_all(&mut sink, b"456"), Ok(()));
-    assert_eq!(rt; sink.written(), b"0123456".as_slice());
-    Ok(())
+/// A call of a sink and its answer, or a look at it.
+#[derive(Clone, Copy)]
+enum Piece {
+    One(&'static [u8], Result<usize, Failed>),
+    All(&'static [u8], Result<(), Failed>),
+    Wrote(&'static [u8]),
 }
 
+fn give(sink: &mut MemorySink, piece: Piece) -> bool {
+    match piece {
+        Piece::One(bytes, answer) => sink.write(bytes) == answer,
+        Piece::All(bytes, answer) => write_all(sink, bytes) == answer,
+        Piece::Wrote(bytes) => sink.written() == bytes,
+    }
+}
+
+/// Makes calls, and tells how many went well at first.
+fn give_each(sink: &mut MemorySink, pieces: &[Piece]) -> usize {
+    for (i, piece) in pieces.iter().enumerate() {
+        if !give(sink, *piece) {
+            return i;
+        }
+    }
+    pieces.len()
+}
+
+/// A sink with so much room that takes four bytes a call, and whose calls of these numbers fail.
+fn sink_of(alloc: Global, room: usize, plan: &[u32]) -> Option<MemorySink> {
+    match plan.to_vec(alloc) {
+        Ok(plan) => MemorySink::new(alloc, room, 4, plan).ok(),
+        Err(_) => None,
+    }
+}
+
+/// How many calls of a sink went well at first.
+fn given(alloc: Global, room: usize, plan: &[u32], pieces: &[Piece]) -> usize {
+    match sink_of(alloc, room, plan) {
+        Some(mut sink) => give_each(&mut sink, pieces),
+        None => 0,
+    }
+}
+
+/// What happens, the room, the calls that fail, and those that are made.
+static WRITES: [(&str, usize, &[u32], &[Piece]); 2] = [
+    (
+        "a piece is written in several calls, until the room is used up",
+        10,
+        &[],
+        &[
+            Piece::One(b"0123456789", Ok(4)),
+            Piece::All(b"456789", Ok(())),
+            Piece::All(b"", Ok(())),
+            Piece::All(b"a", Err(Failed)),
+            Piece::Wrote(b"0123456789"),
+        ],
+    ),
+    (
+        "a fault in mid-stream leaves a front",
+        100,
+        &[2, 2],
+        &[
+            Piece::All(b"0123456789", Err(Failed)),
+            Piece::Wrote(b"0123"),
+            Piece::All(b"456", Ok(())),
+            Piece::Wrote(b"0123456"),
+        ],
+    ),
+];
+
 #[test]
-fn streams_of_std_carry_bytes(rt: HostRuntime) -> Result<(), Fail> {
-    let alloc = rt.alloc();
-    let mut source = StdSource::new(b"some bytes".as_slice());
-    let bytes = read_all(alloc, &mut source, 10)?;
-    assert_eq!(rt; bytes.as_slice(), b"some bytes".as_slice());
+fn pieces_are_written_as_the_rows_say(rt: HostRuntime) {
+    for (name, room, plan, pieces) in &WRITES {
+        let well = given(rt.alloc(), *room, plan, pieces);
+        assert_eq!(rt; well, pieces.len(), "{name}");
+    }
+}
+
+/// Whether a source over these bytes is read as they are.
+fn reads_std(alloc: Global, text: &[u8]) -> bool {
+    let mut source = StdSource::new(text);
+    match read_all(alloc, &mut source, 10) {
+        Ok(bytes) => bytes.as_slice() == text,
+        Err(_) => false,
+    }
+}
+
+/// Writes a text to a writer of std.
+fn write_std<W: Write + Drop>(writer: W, text: &[u8]) -> Result<(), Failed> {
+    let mut sink = StdSink::new(writer);
+    write_all(&mut sink, text)
+}
+
+/// Whether a text is written to a vector as it is.
+fn writes_vec(alloc: Global, text: &[u8]) -> (bool, bool) {
     let mut written: Vec<u8> = Vec::new(alloc);
-    let mut sink = StdSink::new(&mut written);
-    assert_eq!(rt; write_all(&mut sink, bytes.as_slice()), Ok(()));
-    drop(sink);
-    assert_eq!(rt; written.as_slice(), b"some bytes".as_slice());
+    let well = write_std(&mut written, text).is_ok();
+    (well, written.as_slice() == text)
+}
+
+/// Writes two bytes where there is room for one.
+fn overfill() -> Result<(), Failed> {
     let mut one = [0u8; 1];
-    let mut full = StdSink::new(one.as_mut_slice());
-    assert_eq!(rt;
-        write_all(&mut full, b"ab"),
-        Err(Failed),
-        "nothing more is taken"
-    );
-    Ok(())
+    write_std(one.as_mut_slice(), b"ab")
+}
+
+#[test]
+fn streams_of_std_carry_bytes(rt: HostRuntime) {
+    assert!(rt; reads_std(rt.alloc(), b"some bytes"), "what is read");
+    let wrote = writes_vec(rt.alloc(), b"some bytes");
+    assert_eq!(rt; wrote, (true, true), "what is written");
+    assert_eq!(rt; overfill(), Err(Failed), "nothing more is taken");
 }
 
 /// Fails by the one or the other cause.
