@@ -27,10 +27,9 @@ fn met(alloc: Global, end: u64) -> Option<u64> {
     Some(own.meet(end, &other, 8))
 }
 
-/// The epochs of the offsets 4 and 5.
-fn epochs(alloc: Global) -> Option<(Option<u32>, Option<u32>)> {
-    let own = line_of(alloc, OWN)?;
-    Some((own.epoch_at(4), own.epoch_at(5)))
+/// The epoch of an offset.
+fn epoch_at(alloc: Global, offset: u64) -> Option<u32> {
+    line_of(alloc, OWN)?.epoch_at(offset)
 }
 
 /// Where an epoch ends in a log that ends at 9.
@@ -94,25 +93,53 @@ fn is_assigned(alloc: Global, text: &str) -> bool {
     filled & is_spelled(alloc, &own, text) & is_made(alloc, own.copy(alloc), text)
 }
 
+/// A call of the first line, and its answer.
+#[derive(Clone, Copy)]
+enum Call {
+    /// Where a log that ends there meets the other one.
+    Meet(u64, u64),
+    EpochAt(u64, u32),
+    EndOf(u32, Option<u64>),
+    /// The last entry, once the log is cut at an offset.
+    Cut(u64, (u32, u64)),
+    Within(&'static str),
+    Assign(&'static str),
+}
+
+/// Whether a call is answered so.
+fn is_answered(alloc: Global, call: Call) -> bool {
+    match call {
+        Call::Meet(end, at) => met(alloc, end) == Some(at),
+        Call::EpochAt(offset, epoch) => epoch_at(alloc, offset) == Some(epoch),
+        Call::EndOf(epoch, end) => end_of(alloc, epoch) == end,
+        Call::Cut(end, last) => last_below(alloc, end) == Some(last),
+        Call::Within(text) => is_part(alloc, text),
+        Call::Assign(text) => is_assigned(alloc, text),
+    }
+}
+
+/// What is answered, and its call.
+static ANSWERS: [(&str, Call); 10] = [
+    ("the epochs differ from 3 on", Call::Meet(9, 3)),
+    ("one log ends first", Call::Meet(2, 2)),
+    ("the last of epoch 0", Call::EpochAt(4, 0)),
+    ("behind it", Call::EpochAt(5, 1)),
+    ("where the next epoch starts", Call::EndOf(0, Some(5))),
+    ("the log's end", Call::EndOf(1, Some(9))),
+    ("no such epoch", Call::EndOf(2, None)),
+    ("the cut", Call::Cut(5, (0, 0))),
+    ("a segment's part", Call::Within("0\n2\n0 3\n1 5\n")),
+    (
+        "epoch 1 has no offset",
+        Call::Assign("0\n3\n0 0\n3 5\n4 9\n"),
+    ),
+];
+
 #[test]
 fn calls_answer_as_the_rows_say(rt: HostRuntime) {
-    let alloc = rt.alloc();
-    assert_eq!(rt; met(alloc, 9), Some(3), "the epochs differ from 3 on");
-    assert_eq!(rt; met(alloc, 2), Some(2), "one log ends first");
-    assert_eq!(rt;
-        epochs(alloc),
-        Some((Some(0), Some(1))),
-        "of the last of epoch 0, and behind it"
-    );
-    assert_eq!(rt; end_of(alloc, 0), Some(5), "where the next epoch starts");
-    assert_eq!(rt; end_of(alloc, 1), Some(9), "the log's end");
-    assert_eq!(rt; end_of(alloc, 2), None, "no such epoch");
-    assert_eq!(rt; last_below(alloc, 5), Some((0, 0)), "the cut");
-    assert!(rt; is_part(alloc, "0\n2\n0 3\n1 5\n"), "a segment's part");
-    assert!(rt;
-        is_assigned(alloc, "0\n3\n0 0\n3 5\n4 9\n"),
-        "epoch 1 has no offset"
-    );
+    for (name, call) in &ANSWERS {
+        assert!(rt; is_answered(rt.alloc(), *call), "{name}");
+    }
 }
 
 /// Texts that spell no line, and the first line that is bad.
@@ -139,16 +166,23 @@ fn is_spelled_again(alloc: Global, text: &str) -> bool {
     }
 }
 
+/// Why a text spells no line.
+fn refusal(alloc: Global, text: &str) -> Option<TextRefusal> {
+    Line::from_text(alloc, text.as_bytes()).err()
+}
+
 #[test]
 fn a_text_tells_its_first_bad_line(rt: HostRuntime) {
     for (text, line) in &BAD {
-        let refusal = Line::from_text(rt.alloc(), text.as_bytes()).err();
         let wanted = TextRefusal::BadText { line: *line };
-        assert_eq!(rt; refusal, Some(wanted), "at line {line}");
+        assert_eq!(rt; refusal(rt.alloc(), text), Some(wanted), "at line {line}");
     }
-    let greatest = "0\n2\n0 0\n2147483647 4611686018427387904\n";
-    assert!(rt;
-        is_spelled_again(rt.alloc(), greatest),
-        "what is written is read again"
-    );
+}
+
+/// The greatest epoch and offset.
+static GREATEST: &str = "0\n2\n0 0\n2147483647 4611686018427387904\n";
+
+#[test]
+fn what_is_written_is_read_again(rt: HostRuntime) {
+    assert!(rt; is_spelled_again(rt.alloc(), GREATEST));
 }
