@@ -2,12 +2,11 @@
 //!
 //! The batches' bytes come from a writer of record batches that was made apart from this repository.
 
-use crate::tests::{source_of, status_of, words_of};
-use std::test::Fail;
-use tier_base::MemorySink;
+use crate::tests::{Wanted, called, simulated, well};
+use std::alloc::{AllocError, Global};
 
 /// Scripts and the traces that they give.
-const ROWS: [(&str, &str, &str); 12] = [
+static ROWS: [(&str, &str, &str); 12] = [
     (
         "a leader stops, is elected again, and its follower is cut to where their logs meet",
         "brokers 2\n0 0 0 append 1000,-,:a\n0 0 0 append 1000,-,:b\n0 0 0 flush\n0 0 0 append 1000,-,:c\n1 0 1 follow 1000\n0 0 0 stop\n0 0 0 up\n0 0 0 learn\n0 0 0 elect\n0 0 0 learn\n0 0 0 append 1000,-,:d\n1 0 1 learn\n1 0 1 join\n1 0 1 follow 1000\n",
@@ -71,7 +70,7 @@ const ROWS: [(&str, &str, &str); 12] = [
 ];
 
 /// Scripts whose disks fail, and the traces that they give.
-const FAULTS: [(&str, &str, &str); 11] = [
+static FAULTS: [(&str, &str, &str); 11] = [
     (
         "a failed append that was done is gone",
         "fault 0 disk 0 append 1 after\n0 0 0 append 1000,-,:a\n0 0 0 up\n0 0 0 learn\n0 0 0 elect\n0 0 0 learn\n0 0 0 append 1000,-,:b\n0 0 0 flush\n",
@@ -130,42 +129,68 @@ const FAULTS: [(&str, &str, &str); 11] = [
 ];
 
 #[test]
-fn scripts_of_several_brokers_give_their_traces(rt: HostRuntime) -> Result<(), Fail> {
-    let alloc = rt.alloc();
-    let words = words_of(alloc, &["sim"])?;
-    for (name, script, trace) in ROWS.iter().chain(FAULTS.iter()) {
-        let mut source = source_of(alloc, script.as_bytes(), &[])?;
-        let mut sink = MemorySink::new(alloc, 10_000, 7, Vec::new(alloc))?;
-        let status = status_of(rt, words.as_slice(), &mut source, &mut sink)?;
-        assert_eq!(rt; status.number(), 0, "{name}");
-        assert_eq!(rt; sink.written(), trace.as_bytes(), "{name}");
+fn scripts_of_several_brokers_give_their_traces(rt: HostRuntime) {
+    for (name, script, trace) in &ROWS {
+        assert_eq!(rt; simulated(rt, script, trace), well(0), "{name}");
     }
-    Ok(())
 }
 
-/// A log has 4,096 segments at most. Of a segment's size each of these batches takes more than a half.
 #[test]
-fn segments_are_counted(rt: HostRuntime) -> Result<(), Fail> {
-    let alloc = rt.alloc();
-    let words = words_of(alloc, &["sim"])?;
-    let mut script = Vec::from_slice(alloc, b"segment_bytes 100\n")?;
-    let mut trace = Vec::new(alloc);
-    for number in 0..4098 {
-        script.extend_from_slice(b"0 0 0 append 1000,-,:a\n")?;
-        let line = if number < 4096 {
-            format!(in alloc; "0 0 {number} = Ok {number} {number} 0\n")?
-        } else {
-            format!(in alloc; "0 0 {number} = TooManySegments\n")?
-        };
-        trace.extend_from_slice(line.as_bytes())?;
+fn scripts_whose_disks_fail_give_their_traces(rt: HostRuntime) {
+    for (name, script, trace) in &FAULTS {
+        assert_eq!(rt; simulated(rt, script, trace), well(0), "{name}");
     }
-    let mut source = source_of(alloc, script.as_slice(), &[])?;
-    let mut sink = MemorySink::new(alloc, 200_000, 65_536, Vec::new(alloc))?;
-    let status = status_of(rt, words.as_slice(), &mut source, &mut sink)?;
-    assert_eq!(rt; status.number(), 0, "4,098 appends");
-    assert!(rt;
-        sink.written() == trace.as_slice(),
-        "the trace of 4,098 appends"
-    );
-    Ok(())
+}
+
+/// Adds the line of an append to a script.
+fn append(script: &mut String) -> Result<(), AllocError> {
+    script.push_str("0 0 0 append 1000,-,:a\n")
+}
+
+/// A script of so many appends, each of more than half of a segment's size.
+fn appends(alloc: Global, many: u32) -> Result<String, AllocError> {
+    let mut script = String::from_str(alloc, "segment_bytes 100\n")?;
+    for _ in 0..many {
+        append(&mut script)?;
+    }
+    Ok(script)
+}
+
+/// Adds the line of an answer to a trace. A log has 4,096 segments at most.
+fn answer(alloc: Global, trace: &mut String, number: u32) -> Result<(), AllocError> {
+    let line = if number < 4096 {
+        format!(in alloc; "0 0 {number} = Ok {number} {number} 0\n")?
+    } else {
+        format!(in alloc; "0 0 {number} = TooManySegments\n")?
+    };
+    trace.push_str(line.as_str())
+}
+
+/// The trace of so many appends.
+fn answers(alloc: Global, many: u32) -> Result<String, AllocError> {
+    let mut trace = String::new(alloc);
+    for number in 0..many {
+        answer(alloc, &mut trace, number)?;
+    }
+    Ok(trace)
+}
+
+/// Simulates a script, in pieces of 65,536 bytes.
+fn simulated_whole(rt: HostRuntime, script: &str, trace: &str) -> Option<(u8, bool, bool)> {
+    let wanted = Wanted::Whole("", trace.as_bytes());
+    let input = (script.as_bytes(), [].as_slice());
+    called(rt, &["sim"], input, (200_000, 65_536, &[]), wanted)
+}
+
+/// Simulates so many appends.
+fn counted(rt: HostRuntime, many: u32) -> Option<(u8, bool, bool)> {
+    match (appends(rt.alloc(), many), answers(rt.alloc(), many)) {
+        (Ok(script), Ok(trace)) => simulated_whole(rt, script.as_str(), trace.as_str()),
+        _ => None,
+    }
+}
+
+#[test]
+fn segments_are_counted(rt: HostRuntime) {
+    assert_eq!(rt; counted(rt, 4098), well(0), "4,098 appends");
 }

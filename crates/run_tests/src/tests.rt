@@ -4,38 +4,169 @@
 
 use broker_call::{Form, Status, Why, explained, folder, form_of, printed, script_source, tiered};
 use folder_yard::FolderYard;
-use std::alloc::Global;
+use std::alloc::{AllocError, Global};
 use std::fs;
-use std::test::Fail;
 use tier_base::{Blob, MemorySink, MemorySource};
 
+/// Adds a word.
+fn add(alloc: Global, words: &mut Vec<String>, word: &str) -> bool {
+    match String::from_str(alloc, word) {
+        Ok(word) => words.push(word).is_ok(),
+        Err(_) => false,
+    }
+}
+
 /// The words of a call.
-pub(crate) fn words_of(alloc: Global, list: &[&str]) -> Result<Vec<String>, Fail> {
+fn words_of(alloc: Global, list: &[&str]) -> Option<Vec<String>> {
     let mut words = Vec::new(alloc);
     for word in list {
-        words.push(String::from_str(alloc, word)?)?;
+        if !add(alloc, &mut words, word) {
+            return None;
+        }
     }
-    Ok(words)
+    Some(words)
 }
 
 /// A source of these bytes, whose calls of the plan fail.
-pub(crate) fn source_of(alloc: Global, bytes: &[u8], plan: &[u32]) -> Result<MemorySource, Fail> {
-    Ok(MemorySource::new(bytes.to_vec(alloc)?, plan.to_vec(alloc)?))
+fn source_of(alloc: Global, bytes: &[u8], plan: &[u32]) -> Option<MemorySource> {
+    match (bytes.to_vec(alloc), plan.to_vec(alloc)) {
+        (Ok(bytes), Ok(plan)) => Some(MemorySource::new(bytes, plan)),
+        _ => None,
+    }
 }
 
-/// What a call of the program comes to, as its number, with a yard over the folder that the words name.
-pub(crate) fn status_of(
+/// Where a call writes: how much room there is, how many bytes are taken at a time, and which calls fail.
+pub(crate) type Room<'a> = (usize, usize, &'a [u32]);
+
+fn sink_of(alloc: Global, (room, most, plan): Room) -> Option<MemorySink> {
+    match plan.to_vec(alloc) {
+        Ok(plan) => MemorySink::new(alloc, room, most.max(1), plan).ok(),
+        Err(_) => None,
+    }
+}
+
+/// What a call is to tell on standard error, and to write.
+#[derive(Clone, Copy)]
+pub(crate) enum Wanted<'a> {
+    /// The line of its status, and all that is written.
+    Whole(&'a str, &'a [u8]),
+    /// The line with what explains it, and the end of what is written.
+    Shown(&'a str, &'a [u8]),
+}
+
+fn is_text(text: Result<String, AllocError>, wanted: &str) -> bool {
+    match text {
+        Ok(text) => text.as_str() == wanted,
+        Err(AllocError) => false,
+    }
+}
+
+/// Whether a text with another one behind it is this.
+fn is_joined(text: String, more: &str, wanted: &str) -> bool {
+    let mut text = text;
+    match text.push_str(more) {
+        Ok(()) => text.as_str() == wanted,
+        Err(_) => false,
+    }
+}
+
+/// Whether a status's line with what explains it is this text.
+fn is_explained(alloc: Global, status: &Status, wanted: &str) -> bool {
+    match (status.line(alloc), explained(alloc, status, &[])) {
+        (Ok(line), Ok(more)) => is_joined(line, more.as_str(), wanted),
+        _ => false,
+    }
+}
+
+/// Whether a status is told, and bytes are written, as they should be.
+fn is_wanted(alloc: Global, status: &Status, written: &[u8], wanted: Wanted) -> (bool, bool) {
+    match wanted {
+        Wanted::Whole(line, bytes) => (is_text(status.line(alloc), line), written == bytes),
+        Wanted::Shown(told, end) => (is_explained(alloc, status, told), written.ends_with(end)),
+    }
+}
+
+/// What a call of the program comes to, with a yard over the folder that the words name.
+fn made(
     rt: HostRuntime,
     words: &[String],
     script: &mut MemorySource,
     out: &mut MemorySink,
-) -> Result<Status, Fail> {
-    let mut yard = FolderYard::new(rt, folder(words))?;
-    Ok(tiered(&rt, words, script, &mut yard, out))
+) -> Option<Status> {
+    match FolderYard::new(rt, folder(words)) {
+        Ok(mut yard) => Some(tiered(&rt, words, script, &mut yard, out)),
+        Err(_) => None,
+    }
+}
+
+/// The number of a call's status, and whether what is told and written is as it should be.
+fn ended(
+    rt: HostRuntime,
+    words: &[String],
+    script: &mut MemorySource,
+    out: &mut MemorySink,
+    wanted: Wanted,
+) -> Option<(u8, bool, bool)> {
+    match made(rt, words, script, out) {
+        Some(status) => {
+            let (is_told, is_written) = is_wanted(rt.alloc(), &status, out.written(), wanted);
+            Some((status.number(), is_told, is_written))
+        }
+        None => None,
+    }
+}
+
+/// The same, of a call with these words.
+fn ended_of(
+    rt: HostRuntime,
+    list: &[&str],
+    script: &mut MemorySource,
+    out: &mut MemorySink,
+    wanted: Wanted,
+) -> Option<(u8, bool, bool)> {
+    match words_of(rt.alloc(), list) {
+        Some(words) => ended(rt, words.as_slice(), script, out, wanted),
+        None => None,
+    }
+}
+
+/// Makes a call with these words and this input, whose calls of the plan fail: the number of its status, and whether what is
+/// told and written is as it should be.
+pub(crate) fn called(
+    rt: HostRuntime,
+    list: &[&str],
+    (input, plan): (&[u8], &[u32]),
+    room: Room,
+    wanted: Wanted,
+) -> Option<(u8, bool, bool)> {
+    match (
+        source_of(rt.alloc(), input, plan),
+        sink_of(rt.alloc(), room),
+    ) {
+        (Some(mut script), Some(mut out)) => { ended_of(rt, list, &mut script, &mut out, wanted) }
+        _ => None,
+    }
+}
+
+/// A call that ends with this number, and tells and writes what it should.
+pub(crate) fn well(number: u8) -> Option<(u8, bool, bool)> {
+    Some((number, true, true))
+}
+
+/// Simulates a script, in pieces of 7 bytes.
+pub(crate) fn simulated(rt: HostRuntime, script: &str, trace: &str) -> Option<(u8, bool, bool)> {
+    let wanted = Wanted::Whole("", trace.as_bytes());
+    called(
+        rt,
+        &["sim"],
+        (script.as_bytes(), &[]),
+        (10_000, 7, &[]),
+        wanted,
+    )
 }
 
 /// Scripts and the traces that they give.
-const ROWS: [(&str, &str, &str); 6] = [
+static ROWS: [(&str, &str, &str); 6] = [
     ("an empty script", "", ""),
     (
         "all three batches",
@@ -65,7 +196,7 @@ const ROWS: [(&str, &str, &str); 6] = [
 ];
 
 /// Scripts with batches from outside and records in full, and the traces that they give.
-const RAW_ROWS: [(&str, &str, &str); 17] = [
+static RAW_ROWS: [(&str, &str, &str); 17] = [
     (
         "a batch from outside is placed, and else left as it was given",
         "0 0 0 raw 000000000000006300000039000000050228835a5e00000000000000000000000003e800000000000003e80000000000000007ffffffffffff000000010e00000001026100\n0 0 0 flush\n0 0 0 ack\n0 0 0 fetch 0 1000\n",
@@ -154,7 +285,7 @@ const RAW_ROWS: [(&str, &str, &str); 17] = [
 ];
 
 /// The examples of the remote tier.
-const REMOTE_ROWS: [(&str, &str, &str); 3] = [
+static REMOTE_ROWS: [(&str, &str, &str); 3] = [
     (
         "the example of copies",
         "# A leader copies its closed log segments to the remote tier, the oldest first.\nsegment_bytes 200\n\n# A segment holds two of these batches. The seventh batch stands in the open segment.\n0 0 0 append 1000,-,:a\n0 0 0 append 1000,-,:b\n0 0 0 append 1000,-,:c\n0 0 0 append 1000,-,:d\n0 0 0 append 1000,-,:e\n0 0 0 append 1000,-,:f\n0 0 0 append 1000,-,:g\n\n# What isn't committed isn't copied.\n0 0 0 copy\n0 0 0 flush\n0 0 0 ack\n\n# Each copy takes the first closed segment that isn't copied yet, and tells its id, its first and\n# its last offset. The open segment isn't copied.\n0 0 0 copy\n0 0 0 copy\n0 0 0 copy\n0 0 0 copy\n\n# A roll closes it.\n0 0 0 roll\n0 0 0 copy\n\n# An id names the broker, how often its log was opened, and the copies that it began since then.\n0 0 0 append 1000,-,:h\n0 0 0 roll\n0 0 0 flush\n0 0 0 ack\n0 0 0 stop\n0 0 0 up\n0 0 0 learn\n0 0 0 elect\n0 0 0 learn\n0 0 0 ack\n0 0 0 copy\n0 0 0 copy\n",
@@ -173,136 +304,184 @@ const REMOTE_ROWS: [(&str, &str, &str); 3] = [
 ];
 
 #[test]
-fn scripts_give_their_traces(rt: HostRuntime) -> Result<(), Fail> {
-    let alloc = rt.alloc();
-    let words = words_of(alloc, &["sim"])?;
-    for rows in [ROWS.as_slice(), RAW_ROWS.as_slice(), REMOTE_ROWS.as_slice()] {
-        for (name, script, trace) in rows {
-            let mut source = source_of(alloc, script.as_bytes(), &[])?;
-            let mut sink = MemorySink::new(alloc, 10_000, 7, Vec::new(alloc))?;
-            let status = status_of(rt, words.as_slice(), &mut source, &mut sink)?;
-            assert_eq!(rt; status.number(), 0, "{name}");
-            assert_eq!(rt; sink.written(), trace.as_bytes(), "{name}");
-        }
+fn scripts_give_their_traces(rt: HostRuntime) {
+    for (name, script, trace) in &ROWS {
+        assert_eq!(rt; simulated(rt, script, trace), well(0), "{name}");
     }
-    Ok(())
 }
 
 #[test]
-fn statuses_tell_their_causes(rt: HostRuntime) -> Result<(), Fail> {
-    let alloc = rt.alloc();
-    let script = ROWS[1].1.as_bytes();
-    let rows: [(&[&str], &[u8], &[u32], &str, u8); 7] = [
-        (
-            &["sim"],
-            b"0 0 - pack 1\n",
-            &[],
-            "tiered: line 1: Unbuilt\n",
-            3,
-        ),
-        (
-            &["sim"],
-            b"# c\n0 0 0 frob\n",
-            &[],
-            "tiered: line 2: Word\n",
-            3,
-        ),
-        (
-            &["sim"],
-            b"0 0 0 fetch 0 268435457\n",
-            &[],
-            "tiered: line 1: FetchSum\n",
-            3,
-        ),
-        (&["sim"], script, &[1], "tiered: read fault\n", 4),
-        (
-            &["sim", "x"],
-            script,
-            &[],
-            "tiered: usage: tiered sim or run DIR or gen N\n",
-            2,
-        ),
-        (
-            &["run", "broker_none"],
-            b"frob",
-            &[],
-            "tiered: line 1: Word\n",
-            3,
-        ),
-        (&["sim"], script, &[], "", 0),
-    ];
-    for (list, bytes, plan, line, number) in rows {
-        let words = words_of(alloc, list)?;
-        let mut source = source_of(alloc, bytes, plan)?;
-        let mut sink = MemorySink::new(alloc, 10_000, 100, Vec::new(alloc))?;
-        let status = status_of(rt, words.as_slice(), &mut source, &mut sink)?;
-        assert_eq!(rt; status.line(alloc)?.as_str(), line);
-        assert_eq!(rt; status.number(), number);
-        assert_eq!(rt; sink.written().is_empty(), number != 0);
+fn batches_from_outside_give_their_traces(rt: HostRuntime) {
+    for (name, script, trace) in &RAW_ROWS {
+        assert_eq!(rt; simulated(rt, script, trace), well(0), "{name}");
     }
-    Ok(())
 }
 
 #[test]
-fn each_status_has_its_number_and_line(rt: HostRuntime) -> Result<(), Fail> {
-    let bad = Status::BadScript {
-        line: 12,
-        why: Why::Unbuilt,
-    };
-    let named = Status::NotEmpty {
-        name: Blob::from_slice(rt.alloc(), b"x")?,
-    };
-    let rows = [
-        (Status::Ok, 0, ""),
-        (
-            Status::Usage,
-            2,
-            "tiered: usage: tiered sim or run DIR or gen N\n",
-        ),
-        (bad, 3, "tiered: line 12: Unbuilt\n"),
-        (Status::ReadFault, 4, "tiered: read fault\n"),
-        (Status::WriteFault, 5, "tiered: write fault\n"),
-        (Status::NoMemory, 6, "tiered: out of memory\n"),
-        (Status::TooLong, 7, "tiered: script over 16777216 bytes\n"),
-        (Status::YardFault, 8, "tiered: folder fault\n"),
-        (named, 9, "tiered: folder not empty: x\n"),
-    ];
-    for (status, number, line) in rows {
-        assert_eq!(rt; status.number(), number);
-        assert_eq!(rt; status.line(rt.alloc())?.as_str(), line);
+fn examples_of_the_remote_tier_give_their_traces(rt: HostRuntime) {
+    for (name, script, trace) in &REMOTE_ROWS {
+        assert_eq!(rt; simulated(rt, script, trace), well(0), "{name}");
     }
-    Ok(())
 }
 
-/// The bytes that were kept of a script whose second line has a word without a reading, and what follows the status's line.
-static EXPLAINED: [(&str, &str); 2] = [
+/// Words, the input, its calls that fail, the status's line, what is written, and the status's number.
+static STATUSES: [(&[&str], &str, &[u32], &str, &str, u8); 7] = [
     (
+        &["sim"],
+        "0 0 - pack 1\n",
+        &[],
+        "tiered: line 1: Unbuilt\n",
+        "",
+        3,
+    ),
+    (
+        &["sim"],
+        "# c\n0 0 0 frob\n",
+        &[],
+        "tiered: line 2: Word\n",
+        "",
+        3,
+    ),
+    (
+        &["sim"],
+        "0 0 0 fetch 0 268435457\n",
+        &[],
+        "tiered: line 1: FetchSum\n",
+        "",
+        3,
+    ),
+    (
+        &["sim"],
+        "0 0 0 flush\n",
+        &[1],
+        "tiered: read fault\n",
+        "",
+        4,
+    ),
+    (
+        &["sim", "x"],
+        "0 0 0 flush\n",
+        &[],
+        "tiered: usage: tiered sim or run DIR or gen N\n",
+        "",
+        2,
+    ),
+    (
+        &["run", "broker_none"],
+        "frob",
+        &[],
+        "tiered: line 1: Word\n",
+        "",
+        3,
+    ),
+    (&["sim"], "0 0 0 flush\n", &[], "", "0 0 0 = Ok 0\n", 0),
+];
+
+#[test]
+fn statuses_tell_their_causes(rt: HostRuntime) {
+    for (words, script, plan, line, written, number) in &STATUSES {
+        let wanted = Wanted::Whole(line, written.as_bytes());
+        let end = called(
+            rt,
+            words,
+            (script.as_bytes(), plan),
+            (10_000, 100, &[]),
+            wanted,
+        );
+        assert_eq!(rt; end, well(*number), "status {number}");
+    }
+}
+
+/// A call's status, of which one names a file.
+fn status(alloc: Global, number: u8) -> Option<Status> {
+    match number {
+        0 => Some(Status::Ok),
+        2 => Some(Status::Usage),
+        3 => Some(Status::BadScript {
+            line: 12,
+            why: Why::Unbuilt,
+        }),
+        4 => Some(Status::ReadFault),
+        5 => Some(Status::WriteFault),
+        6 => Some(Status::NoMemory),
+        7 => Some(Status::TooLong),
+        8 => Some(Status::YardFault),
+        _ => named(alloc),
+    }
+}
+
+fn named(alloc: Global) -> Option<Status> {
+    match Blob::from_slice(alloc, b"x") {
+        Ok(name) => Some(Status::NotEmpty { name }),
+        Err(_) => None,
+    }
+}
+
+/// The number of a status, and whether its line is this one.
+fn told(alloc: Global, number: u8, line: &str) -> Option<(u8, bool)> {
+    match status(alloc, number) {
+        Some(status) => Some((status.number(), is_text(status.line(alloc), line))),
+        None => None,
+    }
+}
+
+/// The number and the line of each status.
+static LINES: [(u8, &str); 9] = [
+    (0, ""),
+    (2, "tiered: usage: tiered sim or run DIR or gen N\n"),
+    (3, "tiered: line 12: Unbuilt\n"),
+    (4, "tiered: read fault\n"),
+    (5, "tiered: write fault\n"),
+    (6, "tiered: out of memory\n"),
+    (7, "tiered: script over 16777216 bytes\n"),
+    (8, "tiered: folder fault\n"),
+    (9, "tiered: folder not empty: x\n"),
+];
+
+#[test]
+fn each_status_has_its_number_and_line(rt: HostRuntime) {
+    for (number, line) in &LINES {
+        let status = told(rt.alloc(), *number, line);
+        assert_eq!(rt; status, Some((*number, true)), "status {number}");
+    }
+}
+
+/// A status's number, bytes that were kept of a script, and what follows the status's line. Of a bad script the second line
+/// has a word without a reading.
+static EXPLAINED: [(u8, &str, &str); 4] = [
+    (
+        3,
         "# c\n0 0 0 flush x\n",
         "    0 0 0 flush x\n                ^\nthis is a word too many\nexpected the line's end\nsee docs/SCRIPT.md, \"flush\"\n",
     ),
-    ("", ""),
+    (3, "", ""),
+    (
+        2,
+        "",
+        "for example: tiered sim < examples/first.script\ntiered --help tells more\n",
+    ),
+    (0, "0 0 0 up\n", ""),
 ];
 
 /// Whether this follows a status's line.
-fn follows(alloc: Global, status: Status, script: &str, told: &str) -> Result<bool, Fail> {
-    let text = explained(alloc, &status, script.as_bytes())?;
-    Ok(text.as_str() == told)
+fn follows(alloc: Global, number: u8, script: &str, told: &str) -> bool {
+    let status = match number {
+        0 => Status::Ok,
+        2 => Status::Usage,
+        _ => Status::BadScript {
+            line: 2,
+            why: Why::Word,
+        },
+    };
+    is_text(explained(alloc, &status, script.as_bytes()), told)
 }
 
 #[test]
-fn a_kept_script_is_explained(rt: HostRuntime) -> Result<(), Fail> {
-    let alloc = rt.alloc();
-    for (script, told) in &EXPLAINED {
-        let bad = Status::BadScript {
-            line: 2,
-            why: Why::Word,
-        };
-        assert!(rt; follows(alloc, bad, script, told)?);
+fn a_kept_script_is_explained(rt: HostRuntime) {
+    for (number, script, told) in &EXPLAINED {
+        let is_so = follows(rt.alloc(), *number, script, told);
+        assert!(rt; is_so, "{script}");
     }
-    let example = "for example: tiered sim < examples/first.script\ntiered --help tells more\n";
-    assert!(rt; follows(alloc, Status::Usage, "", example)?);
-    assert!(rt; follows(alloc, Status::Ok, "0 0 0 up\n", "")?);
-    Ok(())
 }
 
 /// Words, and the form that they have.
@@ -325,18 +504,19 @@ static FORMS: [(&[&str], Option<Form>); 15] = [
 ];
 
 /// Whether words have this form.
-fn have_form(alloc: Global, list: &[&str], want: Option<Form>) -> Result<bool, Fail> {
-    let words = words_of(alloc, list)?;
-    Ok(form_of(words.as_slice()) == want)
+fn have_form(alloc: Global, list: &[&str], want: Option<Form>) -> bool {
+    match words_of(alloc, list) {
+        Some(words) => form_of(words.as_slice()) == want,
+        None => false,
+    }
 }
 
 #[test]
-fn form_rows(rt: HostRuntime) -> Result<(), Fail> {
+fn form_rows(rt: HostRuntime) {
     for (i, (list, form)) in FORMS.iter().enumerate() {
-        let is = have_form(rt.alloc(), list, *form)?;
-        assert!(rt; is, "row {i}");
+        let is_so = have_form(rt.alloc(), list, *form);
+        assert!(rt; is_so, "row {i}");
     }
-    Ok(())
 }
 
 /// The summary of the script of 1, as a simulator made apart from this repository gives it.
@@ -365,22 +545,18 @@ static SUMMARY: &str = "\
     partition 3 end 1493 mark 1455 start 1059\n\
 ";
 
-/// Whether a load of this number, in pieces of 100 bytes, is summed up so.
-fn sums_up(rt: HostRuntime, number: &str, want: &str) -> Result<(u8, bool), Fail> {
-    let alloc = rt.alloc();
-    let words = words_of(alloc, &["gen", number])?;
-    let mut source = source_of(alloc, b"0 0 0 flush\n", &[1])?;
-    let mut sink = MemorySink::new(alloc, 10_000, 100, Vec::new(alloc))?;
-    let status = status_of(rt, words.as_slice(), &mut source, &mut sink)?;
-    Ok((status.number(), sink.written() == want.as_bytes()))
-}
-
-/// It takes longer than `rt try` waits for a test.
+/// It takes longer than `rt try` waits for a test. The input isn't read.
 #[test]
-fn a_load_is_summed_up(rt: HostRuntime) -> Result<(), Fail> {
-    let told = sums_up(rt, "1", SUMMARY)?;
-    assert!(rt; told == (0, true));
-    Ok(())
+fn a_load_is_summed_up(rt: HostRuntime) {
+    let wanted = Wanted::Whole("", SUMMARY.as_bytes());
+    let end = called(
+        rt,
+        &["gen", "1"],
+        (b"0 0 0 flush\n", &[1]),
+        (10_000, 100, &[]),
+        wanted,
+    );
+    assert_eq!(rt; end, well(0));
 }
 
 /// A script over two brokers, a follower among them, and a copy to the remote tier.
@@ -390,76 +566,104 @@ static FOLDER_SCRIPT: &str =
 static FOLDER_TRACE: &str =
     "0 0 0 = Ok 0 0 0\n0 0 1 = Ok 1 1 0\n0 0 2 = Ok 2\n0 1 0 begin\n0 1 0 = Copied 1\n0 1 1 = Ok 1\n0 1 2 = Ok 0\n0 0 3 = Ok 1\n0 0 4 begin\n0 0 4 = Copied 00000000-0000-0001-0000-000000000000 0 0\n";
 
-/// What a run over a folder comes to, and what it writes.
-fn runs_over(rt: HostRuntime, dir: &str, script: &str) -> Result<(u8, String, Vec<u8>), Fail> {
-    let alloc = rt.alloc();
-    let words = words_of(alloc, &["run", dir])?;
-    let mut source = source_of(alloc, script.as_bytes(), &[])?;
-    let mut sink = MemorySink::new(alloc, 10_000, 100, Vec::new(alloc))?;
-    let status = status_of(rt, words.as_slice(), &mut source, &mut sink)?;
-    Ok((
-        status.number(),
-        status.line(alloc)?,
-        sink.written().to_vec(alloc)?,
-    ))
+/// Runs the script over a folder.
+fn runs_over(rt: HostRuntime, dir: &str, wanted: Wanted) -> Option<(u8, bool, bool)> {
+    let script = (FOLDER_SCRIPT.as_bytes(), [].as_slice());
+    called(rt, &["run", dir], script, (10_000, 100, &[]), wanted)
 }
 
-#[test]
-fn a_folder_is_run_over_once(rt: HostRuntime) -> Result<(), Fail> {
-    let _ = fs::remove_dir_all(&rt, "broker_run");
-    let (number, _, written) = runs_over(rt, "broker_run", FOLDER_SCRIPT)?;
-    assert_eq!(rt; number, 0);
-    assert_eq!(rt; written.as_slice(), FOLDER_TRACE.as_bytes());
-    for path in [
-        "broker_run/p0/b0/manifest",
-        "broker_run/p0/b1/manifest",
-        "broker_run/p0/meta/notes",
-        "broker_run/p0/store/00000000-0000-0001-0000-000000000000.log",
-    ] {
-        assert!(rt; fs::metadata(&rt, path).is_ok(), "{path}");
+/// Files that stand in the folder then.
+static FILES: [&str; 4] = [
+    "broker_run/p0/b0/manifest",
+    "broker_run/p0/b1/manifest",
+    "broker_run/p0/meta/notes",
+    "broker_run/p0/store/00000000-0000-0001-0000-000000000000.log",
+];
+
+/// The first of the files that isn't there.
+fn first_missing(rt: HostRuntime) -> Option<&'static str> {
+    for path in &FILES {
+        if fs::metadata(&rt, path).is_err() {
+            return Some(path);
+        }
     }
-    let (number, line, written) = runs_over(rt, "broker_run", FOLDER_SCRIPT)?;
-    assert_eq!(rt; (number, written.len()), (9, 0));
-    assert_eq!(rt; line.as_str(), "tiered: folder not empty: p0\n");
-    fs::remove_dir_all(&rt, "broker_run")?;
-    Ok(())
+    None
 }
 
 #[test]
-fn help_and_version_are_words_of_their_own(rt: HostRuntime) -> Result<(), Fail> {
-    let alloc = rt.alloc();
-    assert!(rt; printed(words_of(alloc, &["--help"])?.as_slice()).is_some());
-    assert_eq!(rt;
-        printed(words_of(alloc, &["--version"])?.as_slice()),
-        Some("tiered 0.1.0\n")
+fn a_folder_is_run_over_once(rt: HostRuntime) {
+    let _ = fs::remove_dir_all(&rt, "broker_run");
+    let first = runs_over(rt, "broker_run", Wanted::Whole("", FOLDER_TRACE.as_bytes()));
+    let missing = first_missing(rt);
+    let refused = Wanted::Whole("tiered: folder not empty: p0\n", b"");
+    let second = runs_over(rt, "broker_run", refused);
+    let removed = fs::remove_dir_all(&rt, "broker_run").is_ok();
+    assert_eq!(rt; (first, missing), (well(0), None), "the first run");
+    assert_eq!(rt; (second, removed), (well(9), true), "the second run");
+}
+
+/// Whether words print this text, or nothing, without a call.
+fn is_printed(alloc: Global, list: &[&str], text: Option<&str>) -> bool {
+    match words_of(alloc, list) {
+        Some(words) => printed(words.as_slice()) == text,
+        None => false,
+    }
+}
+
+/// Whether words print the help.
+fn is_help(alloc: Global, list: &[&str]) -> bool {
+    match words_of(alloc, list) {
+        Some(words) => printed(words.as_slice()).is_some(),
+        None => false,
+    }
+}
+
+/// Words, and what they print.
+static PRINTED: [(&[&str], Option<&str>); 3] = [
+    (&["--version"], Some("tiered 0.1.0\n")),
+    (&["sim"], None),
+    (&["--help", "x"], None),
+];
+
+#[test]
+fn help_and_version_are_words_of_their_own(rt: HostRuntime) {
+    assert!(rt; is_help(rt.alloc(), &["--help"]));
+    for (i, (list, text)) in PRINTED.iter().enumerate() {
+        let is_so = is_printed(rt.alloc(), list, *text);
+        assert!(rt; is_so, "row {i}");
+    }
+}
+
+#[test]
+fn a_failed_write_leaves_a_front(rt: HostRuntime) {
+    let wanted = Wanted::Whole("tiered: write fault\n", b"0 0 ");
+    let end = called(
+        rt,
+        &["sim"],
+        (b"0 0 0 flush\n", &[]),
+        (10_000, 4, &[2]),
+        wanted,
     );
-    assert!(rt; printed(words_of(alloc, &["sim"])?.as_slice()).is_none());
-    assert!(rt; printed(words_of(alloc, &["--help", "x"])?.as_slice()).is_none());
-    Ok(())
+    assert_eq!(rt; end, well(5));
+}
+
+/// Simulates a script of so many bytes.
+fn simulated_long(rt: HostRuntime, bytes: usize) -> Option<(u8, bool, bool)> {
+    let mut script = Vec::new(rt.alloc());
+    let wanted = Wanted::Whole("tiered: script over 16777216 bytes\n", b"");
+    match script.resize(bytes, b'#') {
+        Ok(()) => called(
+            rt,
+            &["sim"],
+            (script.as_slice(), &[]),
+            (100, 100, &[]),
+            wanted,
+        ),
+        Err(_) => None,
+    }
 }
 
 #[test]
-fn a_failed_write_leaves_a_front(rt: HostRuntime) -> Result<(), Fail> {
-    let alloc = rt.alloc();
-    let words = words_of(alloc, &["sim"])?;
-    let mut source = source_of(alloc, ROWS[1].1.as_bytes(), &[])?;
-    let mut sink = MemorySink::new(alloc, 10_000, 4, [2].as_slice().to_vec(alloc)?)?;
-    let status = status_of(rt, words.as_slice(), &mut source, &mut sink)?;
-    assert_eq!(rt; status.number(), 5);
-    assert_eq!(rt; sink.written(), b"0 0 ".as_slice());
-    Ok(())
-}
-
-#[test]
-fn a_script_past_the_limit_is_too_long(rt: HostRuntime) -> Result<(), Fail> {
-    let alloc = rt.alloc();
-    let words = words_of(alloc, &["sim"])?;
-    let mut bytes = Vec::new(alloc);
-    bytes.resize(16_777_217, b'#')?;
-    let mut source = MemorySource::new(bytes, Vec::new(alloc));
-    let mut sink = MemorySink::new(alloc, 100, 100, Vec::new(alloc))?;
-    let status = status_of(rt, words.as_slice(), &mut source, &mut sink)?;
-    assert_eq!(rt; status.number(), 7);
-    assert_eq!(rt; sink.written().is_empty(), true);
-    Ok(())
+fn a_script_past_the_limit_is_too_long(rt: HostRuntime) {
+    assert_eq!(rt; simulated_long(rt, 16_777_217), well(7));
 }
