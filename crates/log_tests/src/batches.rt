@@ -4,7 +4,6 @@
 use crate::vectors::{FIRST, HEADER, SECOND, THREE, WRAPPED};
 use record_batch::{BuildRefusal, Rec, build, check, records, stamp};
 use std::alloc::{AllocError, Global};
-use std::test::Fail;
 use tier_base::{Blob, Row};
 
 /// The worked batches, in order.
@@ -97,34 +96,47 @@ fn is_built(alloc: Global, batch: &[u8], base: u64, epoch: u32) -> bool {
     }
 }
 
-#[test]
-fn worked_batches_go_both_ways(rt: HostRuntime) -> Result<(), Fail> {
-    for (number, (base, epoch, recs)) in WORKED.iter().enumerate() {
-        let batch = worked(number);
-        assert_eq!(rt; shown(rt.alloc(), batch)?.as_str(), *recs, "{number}");
-        assert!(rt; is_built(rt.alloc(), batch, *base, *epoch), "{number}");
+/// Whether a batch's records are shown so.
+fn is_shown(alloc: Global, batch: &[u8], recs: &str) -> bool {
+    match shown(alloc, batch) {
+        Ok(text) => text.as_str() == recs,
+        Err(AllocError) => false,
     }
-    Ok(())
 }
 
-/// A record whose value has so many bytes.
-fn rec_of(alloc: Global, bytes: usize) -> Result<Rec, AllocError> {
+/// The number of the first worked batch that doesn't go both ways.
+fn first_wrong(alloc: Global) -> Option<usize> {
+    for (number, (base, epoch, recs)) in WORKED.iter().enumerate() {
+        let batch = worked(number);
+        let read = is_shown(alloc, batch, recs);
+        if !(read & is_built(alloc, batch, *base, *epoch)) {
+            return Some(number);
+        }
+    }
+    None
+}
+
+#[test]
+fn worked_batches_go_both_ways(rt: HostRuntime) {
+    assert_eq!(rt; first_wrong(rt.alloc()), None);
+}
+
+/// So many bytes.
+fn blob_of(alloc: Global, bytes: usize) -> Option<Blob> {
     let mut value = Vec::new(alloc);
-    value.resize(bytes, 7u8)?;
-    let value = Blob::from_slice(alloc, value.as_slice())?;
-    Ok(Rec {
+    match value.resize(bytes, 7u8) {
+        Ok(()) => Some(Blob::from_vec(value)),
+        Err(AllocError) => None,
+    }
+}
+
+/// A record of a value.
+fn rec_of(alloc: Global, value: Blob) -> Rec {
+    Rec {
         ts: 0,
         key: None,
         value: Some(value),
         headers: Row::new(alloc),
-    })
-}
-
-/// The size of a batch of one record whose value has so many bytes.
-fn size_of(alloc: Global, bytes: usize) -> Result<usize, BuildRefusal> {
-    match rec_of(alloc, bytes) {
-        Ok(rec) => size_of_built(alloc, rec),
-        Err(AllocError) => Err(BuildRefusal::NoMemory),
     }
 }
 
@@ -135,11 +147,29 @@ fn size_of_built(alloc: Global, rec: Rec) -> Result<usize, BuildRefusal> {
     }
 }
 
+/// The size of a batch of one record whose value has so many bytes.
+fn size_of(alloc: Global, bytes: usize) -> Result<usize, BuildRefusal> {
+    match blob_of(alloc, bytes) {
+        Some(value) => size_of_built(alloc, rec_of(alloc, value)),
+        None => Err(BuildRefusal::NoMemory),
+    }
+}
+
 /// A batch has 61 bytes before its one record, and that has 11 bytes beside a value of about a million.
 #[test]
 fn largest_batch_is_built_and_a_byte_more_is_not(rt: HostRuntime) {
-    let alloc = rt.alloc();
-    assert_eq!(rt; size_of(alloc, 1_048_504).ok(), Some(1_048_576));
-    assert!(rt; matches!(size_of(alloc, 1_048_505), Err(BuildRefusal::TooLarge)));
-    assert!(rt; matches!(build(alloc, 0, 0, &[]), Err(BuildRefusal::NoRecords)));
+    let largest = size_of(rt.alloc(), 1_048_504).ok();
+    let larger = size_of(rt.alloc(), 1_048_505).err();
+    let wanted = (Some(1_048_576), Some(BuildRefusal::TooLarge));
+    assert_eq!(rt; (largest, larger), wanted);
+}
+
+/// Why there is no batch of no records.
+fn refusal_of_none(alloc: Global) -> Option<BuildRefusal> {
+    build(alloc, 0, 0, &[]).err()
+}
+
+#[test]
+fn a_batch_has_a_record(rt: HostRuntime) {
+    assert_eq!(rt; refusal_of_none(rt.alloc()), Some(BuildRefusal::NoRecords));
 }

@@ -1,15 +1,15 @@
 //! A broker's log over a disk in memory: stories, each a list of turns with what they come to. Worked by hand. A batch of
 //! one record of a letter has 69 bytes, and two of them don't stand in a segment of 100.
 //!
-//! Each call is a method without a contract that asks first whether the call may be made. A test never holds a log.
+//! Each call is a function without a contract that asks first whether the call may be made. A test never holds a log.
 
+use crate::trial::stamped;
+use crate::vectors::FIRST;
 use broker_log::BrokerLog;
 use disk_model::MemoryDisk;
 use epoch_line::Line;
-use record_batch::{Rec, build};
-use std::alloc::{AllocError, Global};
-use std::marker::Model;
-use tier_base::{Blob, Row, Settings, Stop};
+use std::alloc::Global;
+use tier_base::{Settings, Stop};
 
 /// A call of a broker's log, and what it comes to.
 #[derive(Clone, Copy)]
@@ -35,188 +35,193 @@ enum Turn {
     Closed(u64, usize),
     Restart(u64),
     Arm,
-    /// The end, the stable end, the local start, how often it was opened, and how many segments are closed.
-    Tell(Option<u64>, Option<u64>, Option<u64>, Option<u32>, usize),
+    /// What it tells.
+    Tell(Told),
 }
 
-/// A broker's log on trial.
-#[derive(Drop)]
-struct Trial {
-    alloc: Global,
-    log: BrokerLog<MemoryDisk>,
+/// What a broker's log tells: the end, the stable end, the local start, how often it was opened, and how many segments are
+/// closed.
+type Told = (Option<u64>, Option<u64>, Option<u64>, Option<u32>, usize);
+
+/// A log over a disk in memory.
+type Log = BrokerLog<MemoryDisk>;
+
+/// Whether a run is taken.
+fn append(log: &mut Log, run: &[u8]) -> bool {
+    if !log.is_up() || !log.takes(run) {
+        return false;
+    }
+    log.append(run).is_ok()
 }
 
-impl Model for Trial {
-    ghost use Rattle.std.specs.Prelude.{ℕ};
-
-    ghost Value = { ℕ };
-
-    // Nothing is told.
-    ghost view = { λ t. 0 };
+/// Whether the batch of this base offset and epoch is taken.
+fn put(alloc: Global, log: &mut Log, base: u64, epoch: u32) -> Option<bool> {
+    match stamped(alloc, FIRST.as_slice(), base, epoch) {
+        Some(run) => Some(append(log, run.as_slice())),
+        None => None,
+    }
 }
 
-/// The bytes of a batch of one record.
-fn batch(alloc: Global, base: u64, epoch: u32) -> Option<Vec<u8>> {
-    let value = match Blob::from_slice(alloc, b"a".as_slice()) {
-        Ok(value) => value,
-        Err(AllocError) => return None,
-    };
-    let record = Rec {
-        ts: 1000,
-        key: None,
-        value: Some(value),
-        headers: Row::new(alloc),
-    };
-    build(alloc, base, epoch, [record].as_slice()).ok()
+/// Enters an epoch, where the log was in none.
+fn lead(log: &mut Log, epoch: u32) -> Option<u64> {
+    if !log.is_up() || epoch >= 1 << 31 {
+        return None;
+    }
+    match log.line() {
+        Some(line) if line.last_epoch().is_none() => {}
+        _ => return None,
+    }
+    log.lead(epoch).ok()
 }
 
-impl Trial {
-    /// Makes an empty log.
-    fn create(alloc: Global) -> Option<Trial> {
-        let settings = Settings {
-            segment_bytes: 100,
-            index_interval: 0,
-        };
-        match BrokerLog::create(alloc, MemoryDisk::new(alloc, Vec::new(alloc)), settings) {
-            Ok(log) => Some(Trial { alloc, log }),
-            Err(_) => None,
-        }
+fn flush(log: &mut Log) -> Option<u64> {
+    if !log.is_up() {
+        return None;
     }
+    log.flush().ok()
+}
 
-    fn put(&mut self, run: &[u8]) -> bool {
-        if !self.log.is_up() || !self.log.takes(run) {
-            return false;
-        }
-        self.log.append(run).is_ok()
+fn roll(log: &mut Log) -> Option<u64> {
+    if !log.is_up() {
+        return None;
     }
+    log.roll().ok()
+}
 
-    fn lead(&mut self, epoch: u32, end: u64) -> bool {
-        let last = match self.log.line() {
-            Some(line) => line.last_epoch(),
-            None => return false,
-        };
-        if !self.log.is_up() || epoch >= 1 << 31 || last.is_some() {
-            return false;
-        }
-        self.log.lead(epoch) == Ok(end)
+fn stop(log: &mut Log) -> bool {
+    if !log.is_up() {
+        return false;
     }
+    log.stop();
+    !log.is_up()
+}
 
-    fn flush(&mut self, end: u64) -> bool {
-        self.log.is_up() && self.log.flush() == Ok(end)
+fn up(log: &mut Log) -> Option<u64> {
+    if log.is_up() {
+        return None;
     }
+    log.up().ok()
+}
 
-    fn roll(&mut self, base: u64) -> bool {
-        self.log.is_up() && self.log.roll() == Ok(base)
+/// Reads a run: where the next one begins, why it ends, and how many bytes it has.
+fn read(log: &mut Log, offset: u64, mark: u64) -> Option<(u64, Stop, usize)> {
+    match log.local_start() {
+        Some(start) if start <= offset && offset < mark => {}
+        _ => return None,
     }
-
-    fn stop(&mut self) -> bool {
-        if !self.log.is_up() {
-            return false;
-        }
-        self.log.stop();
-        !self.log.is_up()
+    match log.read_run(offset, 1000, mark) {
+        Ok(run) => Some((run.next, run.stop, run.bytes.len())),
+        Err(_) => None,
     }
+}
 
-    fn up(&mut self, end: u64) -> bool {
-        if self.log.is_up() {
-            return false;
-        }
-        match self.log.up() {
-            Ok(up) => up == end,
-            Err(_) => false,
-        }
+/// Cuts the log to an offset: the end that is told before, and that of the cut.
+fn cut(log: &mut Log, to: u64) -> Option<(u64, Option<u64>)> {
+    match log.end() {
+        Some(now) if to <= now => {}
+        _ => return None,
     }
+    let end = log.end_up_to(to);
+    Some((end, log.cut_to(to).ok()))
+}
 
-    fn read(&mut self, offset: u64, mark: u64, next: u64, stop: Stop) -> bool {
-        match self.log.local_start() {
-            Some(start) if start <= offset && offset < mark => {}
-            _ => return false,
-        }
-        match self.log.read_run(offset, 1000, mark) {
-            Ok(run) => run.next == next && run.stop == stop && run.bytes.len() == 69,
-            Err(_) => false,
-        }
+fn drop_first(log: &mut Log) -> Option<(u64, u64)> {
+    if !log.may_drop() {
+        return None;
     }
+    log.drop_first().ok()
+}
 
-    fn cut(&mut self, to: u64, end: u64) -> bool {
-        match self.log.end() {
-            Some(now) if to <= now => {}
-            _ => return false,
-        }
-        self.log.end_up_to(to) == end && self.log.cut_to(to) == Ok(end)
+/// How many bytes the closed segment from an offset on has.
+fn closed(log: &mut Log, offset: u64) -> Option<usize> {
+    if !log.is_up() {
+        return None;
     }
-
-    fn drop_first(&mut self, base: u64, last: u64) -> bool {
-        self.log.may_drop() && self.log.drop_first() == Ok((base, last))
+    match log.closed_from(offset) {
+        Ok(Some(segment)) => Some(segment.bytes().len()),
+        _ => None,
     }
+}
 
-    fn closed(&mut self, offset: u64, bytes: usize) -> bool {
-        if !self.log.is_up() {
-            return false;
-        }
-        match self.log.closed_from(offset) {
-            Ok(Some(segment)) => segment.bytes().len() == bytes,
-            _ => false,
-        }
+fn restart(alloc: Global, log: &mut Log, start: u64) -> bool {
+    if !log.is_up() || start > 1 << 62 {
+        return false;
     }
+    log.restart_at(start, Line::new(alloc)).is_ok()
+}
 
-    fn restart(&mut self, start: u64) -> bool {
-        if !self.log.is_up() || start > 1 << 62 {
-            return false;
-        }
-        self.log.restart_at(start, Line::new(self.alloc)).is_ok()
+fn arm(log: &mut Log) -> bool {
+    log.arm();
+    true
+}
+
+fn told(log: &Log) -> Told {
+    (
+        log.end(),
+        log.stable(),
+        log.local_start(),
+        log.incarnation(),
+        log.closed().len(),
+    )
+}
+
+/// Whether a look at the log comes to what it says.
+fn looks(log: &mut Log, turn: Turn) -> bool {
+    match turn {
+        Turn::Read(offset, mark, next, stop) => read(log, offset, mark) == Some((next, stop, 69)),
+        Turn::Hold => !log.may_drop(),
+        Turn::Closed(offset, bytes) => closed(log, offset) == Some(bytes),
+        Turn::Tell(wanted) => told(log) == wanted,
+        _ => false,
     }
+}
 
-    fn arm(&mut self) -> bool {
-        self.log.arm();
-        true
-    }
-
-    /// Whether a turn comes to what it says.
-    fn goes(&mut self, turn: Turn) -> bool {
-        match turn {
-            Turn::Put(base, epoch) => match batch(self.alloc, base, epoch) {
-                Some(run) => self.put(run.as_slice()),
-                None => false,
-            },
-            Turn::Leave(base, epoch) => match batch(self.alloc, base, epoch) {
-                Some(run) => !self.put(run.as_slice()),
-                None => false,
-            },
-            Turn::Lead(epoch, end) => self.lead(epoch, end),
-            Turn::Flush(end) => self.flush(end),
-            Turn::Roll(base) => self.roll(base),
-            Turn::Stop => self.stop(),
-            Turn::Up(end) => self.up(end),
-            Turn::Read(offset, mark, next, stop) => self.read(offset, mark, next, stop),
-            Turn::Cut(to, end) => self.cut(to, end),
-            Turn::Hold => !self.log.may_drop(),
-            Turn::Drop(base, last) => self.drop_first(base, last),
-            Turn::Closed(offset, bytes) => self.closed(offset, bytes),
-            Turn::Restart(start) => self.restart(start),
-            Turn::Arm => self.arm(),
-            Turn::Tell(end, stable, start, opened, closed) => {
-                self.log.end() == end
-                    && self.log.stable() == stable
-                    && self.log.local_start() == start
-                    && self.log.incarnation() == opened
-                    && self.log.closed().len() == closed
-            }
-        }
+/// Whether a turn comes to what it says.
+fn goes(alloc: Global, log: &mut Log, turn: Turn) -> bool {
+    match turn {
+        Turn::Put(base, epoch) => put(alloc, log, base, epoch) == Some(true),
+        Turn::Leave(base, epoch) => put(alloc, log, base, epoch) == Some(false),
+        Turn::Lead(epoch, end) => lead(log, epoch) == Some(end),
+        Turn::Flush(end) => flush(log) == Some(end),
+        Turn::Roll(base) => roll(log) == Some(base),
+        Turn::Stop => stop(log),
+        Turn::Up(end) => up(log) == Some(end),
+        Turn::Cut(to, end) => cut(log, to) == Some((end, Some(end))),
+        Turn::Drop(base, last) => drop_first(log) == Some((base, last)),
+        Turn::Restart(start) => restart(alloc, log, start),
+        Turn::Arm => arm(log),
+        _ => looks(log, turn),
     }
 }
 
 /// The number of the first turn that comes to something else.
-fn first_wrong(alloc: Global, turns: &[Turn]) -> Option<usize> {
-    let Some(mut trial) = Trial::create(alloc) else {
-        return Some(turns.len());
-    };
+fn run(alloc: Global, log: &mut Log, turns: &[Turn]) -> Option<usize> {
     for (i, turn) in turns.iter().enumerate() {
-        if !trial.goes(*turn) {
+        if !goes(alloc, log, *turn) {
             return Some(i);
         }
     }
     None
+}
+
+/// The number of the first turn that comes to something else. The log is closed then.
+fn run_and_close(alloc: Global, log: Log, turns: &[Turn]) -> Option<usize> {
+    let mut log = log;
+    let wrong = run(alloc, &mut log, turns);
+    log.close();
+    wrong
+}
+
+/// The number of the first turn of a new log that comes to something else.
+fn first_wrong(alloc: Global, turns: &[Turn]) -> Option<usize> {
+    let settings = Settings {
+        segment_bytes: 100,
+        index_interval: 0,
+    };
+    match BrokerLog::create(alloc, MemoryDisk::new(alloc, Vec::new(alloc)), settings) {
+        Ok(log) => run_and_close(alloc, log, turns),
+        Err((_disk, _)) => Some(turns.len()),
+    }
 }
 
 /// What brokers' logs go through.
@@ -231,11 +236,11 @@ static STORIES: [(&str, &[Turn]); 4] = [
             Turn::Put(1, 3),
             Turn::Flush(2),
             Turn::Put(2, 3),
-            Turn::Tell(Some(3), Some(2), Some(0), Some(1), 2),
+            Turn::Tell((Some(3), Some(2), Some(0), Some(1), 2)),
             Turn::Stop,
-            Turn::Tell(None, None, None, None, 0),
+            Turn::Tell((None, None, None, None, 0)),
             Turn::Up(2),
-            Turn::Tell(Some(2), Some(2), Some(0), Some(2), 1),
+            Turn::Tell((Some(2), Some(2), Some(0), Some(2), 1)),
         ],
     ),
     (
@@ -249,7 +254,7 @@ static STORIES: [(&str, &[Turn]); 4] = [
             Turn::Closed(1, 69),
             Turn::Read(1, 3, 2, Stop::Piece),
             Turn::Cut(1, 1),
-            Turn::Tell(Some(1), Some(1), Some(0), Some(1), 1),
+            Turn::Tell((Some(1), Some(1), Some(0), Some(1), 1)),
         ],
     ),
     (
@@ -261,12 +266,12 @@ static STORIES: [(&str, &[Turn]); 4] = [
             Turn::Hold,
             Turn::Flush(3),
             Turn::Drop(0, 0),
-            Turn::Tell(Some(3), Some(3), Some(1), Some(1), 1),
+            Turn::Tell((Some(3), Some(3), Some(1), Some(1), 1)),
             Turn::Stop,
             Turn::Up(3),
-            Turn::Tell(Some(3), Some(3), Some(1), Some(2), 1),
+            Turn::Tell((Some(3), Some(3), Some(1), Some(2), 1)),
             Turn::Cut(0, 0),
-            Turn::Tell(Some(0), Some(0), Some(0), Some(2), 0),
+            Turn::Tell((Some(0), Some(0), Some(0), Some(2), 0)),
         ],
     ),
     (
@@ -274,7 +279,7 @@ static STORIES: [(&str, &[Turn]); 4] = [
         &[
             Turn::Put(0, 0),
             Turn::Restart(7),
-            Turn::Tell(Some(7), Some(7), Some(7), Some(1), 0),
+            Turn::Tell((Some(7), Some(7), Some(7), Some(1), 0)),
             Turn::Put(7, 1),
             Turn::Flush(8),
             Turn::Read(7, 8, 8, Stop::Mark),
@@ -282,9 +287,17 @@ static STORIES: [(&str, &[Turn]); 4] = [
     ),
 ];
 
+/// The name of the first story that comes to something else, and the number of its turn.
+fn first_wrong_story(alloc: Global) -> Option<(&'static str, usize)> {
+    for (story, turns) in &STORIES {
+        if let Some(turn) = first_wrong(alloc, turns) {
+            return Some((*story, turn));
+        }
+    }
+    None
+}
+
 #[test]
 fn brokers_logs_go_through_stories(rt: HostRuntime) {
-    for (story, turns) in STORIES {
-        assert_eq!(rt; first_wrong(rt.alloc(), turns), None, "{story}");
-    }
+    assert_eq!(rt; first_wrong_story(rt.alloc()), None);
 }

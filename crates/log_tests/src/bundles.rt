@@ -1,38 +1,62 @@
 //! Worked rows, by hand. A batch of one record of a letter has 69 bytes.
 
+use crate::trial::stamped;
+use crate::vectors::FIRST;
 use bytes::Bytes;
 use epoch_line::Line;
-use record_batch::{Rec, build};
 use segment_bundle::Bundle;
 use segment_file::Closed;
-use std::alloc::{AllocError, Global};
-use std::test::Fail;
-use tier_base::{Blob, Part, Row};
+use std::alloc::Global;
+use tier_base::Part;
 
-/// A record of the letter `a`.
-fn letter(alloc: Global) -> Result<Rec, AllocError> {
-    let value = Blob::from_slice(alloc, b"a".as_slice())?;
-    Ok(Rec {
-        ts: 1000,
-        key: None,
-        value: Some(value),
-        headers: Row::new(alloc),
-    })
+/// Adds the batch of a base offset to the bytes of a segment.
+fn grow(alloc: Global, bytes: &mut Vec<u8>, base: u64) -> bool {
+    match stamped(alloc, FIRST.as_slice(), base, 0) {
+        Some(batch) => bytes.extend_from_slice(batch.as_slice()).is_ok(),
+        None => false,
+    }
 }
 
-/// A segment of so many batches of one record each, from offset 0 on.
-fn segment(alloc: Global, count: u64) -> Result<Closed, Fail> {
+/// The bytes of so many batches of one record each, from offset 0 on.
+fn bytes_of(alloc: Global, count: u64) -> Option<Vec<u8>> {
     let mut bytes = Vec::new(alloc);
     for base in 0..count {
-        let rec = letter(alloc)?;
-        let batch = build(alloc, base, 0, [rec].as_slice())?;
-        bytes.extend_from_slice(batch.as_slice())?;
+        if !grow(alloc, &mut bytes, base) {
+            return None;
+        }
     }
-    Ok(Closed::read(alloc, 0, Bytes::from_vec(bytes)?)?)
+    Some(bytes)
+}
+
+/// The closed segment of these bytes.
+fn closed_of(alloc: Global, bytes: Vec<u8>) -> Option<Closed> {
+    match Bytes::from_vec(bytes) {
+        Ok(bytes) => Closed::read(alloc, 0, bytes).ok(),
+        Err(_) => None,
+    }
+}
+
+/// A segment of so many batches.
+fn segment(alloc: Global, count: u64) -> Option<Closed> {
+    match bytes_of(alloc, count) {
+        Some(bytes) => closed_of(alloc, bytes),
+        None => None,
+    }
+}
+
+/// The bundle of a segment and its log's line, at an interval of 4096 bytes.
+fn bundle_of(alloc: Global, closed: &Closed, line: &str) -> Option<Bundle> {
+    match Line::from_text(alloc, line.as_bytes()) {
+        Ok(line) => Bundle::of(alloc, closed, &line, 4096).ok(),
+        Err(_) => None,
+    }
 }
 
 /// The line of the log, of which the last entry starts behind the segment.
 static LINE: &str = "0\n3\n0 0\n1 149\n2 150\n";
+
+/// The entries of that line.
+static ENTRIES: [(u32, u64); 3] = [(0, 0), (1, 149), (2, 150)];
 
 /// The line of the segment.
 static EPOCHS: &str = "0\n2\n0 0\n1 149\n";
@@ -45,52 +69,86 @@ static INDEX: [u8; 16] = [
 /// Its time index.
 static TIMES: [u8; 12] = [0, 0, 0, 0, 0, 0, 0x03, 0xe8, 0, 0, 0, 0];
 
-/// Whether the parts of a segment of 150 batches have the bytes that they should.
-fn has_parts(alloc: Global) -> Result<[bool; 4], Fail> {
-    let closed = segment(alloc, 150)?;
-    let line = Line::from_text(alloc, LINE.as_bytes())?;
-    let bundle = Bundle::of(alloc, &closed, &line, 4096)?;
-    Ok([
+/// Whether a bundle's log part and its source are the segment's bytes, and its line and its interval those it was made of.
+fn keeps(bundle: &Bundle, closed: &Closed) -> (bool, bool, bool, u32) {
+    (
         bundle.part(Part::Log).as_slice() == closed.bytes().as_slice(),
+        bundle.source().as_slice() == closed.bytes().as_slice(),
+        bundle.line().entries() == ENTRIES.as_slice(),
+        bundle.interval(),
+    )
+}
+
+/// Whether a bundle's other parts have the bytes that they should.
+fn has_parts(bundle: &Bundle) -> (bool, bool, bool) {
+    (
         bundle.part(Part::Index).as_slice() == INDEX.as_slice(),
         bundle.part(Part::TimeIndex).as_slice() == TIMES.as_slice(),
         bundle.part(Part::Epochs).as_slice() == EPOCHS.as_bytes(),
-    ])
+    )
 }
 
-/// Whether the bundle keeps the segment's bytes, the whole line and the interval.
-fn keeps_its_source(alloc: Global) -> Result<[bool; 3], Fail> {
-    let closed = segment(alloc, 150)?;
-    let line = Line::from_text(alloc, LINE.as_bytes())?;
-    let bundle = Bundle::of(alloc, &closed, &line, 4096)?;
-    Ok([
-        bundle.source().as_slice() == closed.bytes().as_slice(),
-        bundle.line().entries() == line.entries(),
-        bundle.interval() == 4096,
-    ])
-}
-
-/// How long the parts of a segment of two batches are.
-fn lengths(alloc: Global) -> Result<[usize; 4], Fail> {
-    let closed = segment(alloc, 2)?;
-    let bundle = Bundle::of(alloc, &closed, closed.epochs(), 4096)?;
-    Ok([
+/// How long the parts of a bundle are.
+fn lengths(bundle: &Bundle) -> [usize; 4] {
+    [
         bundle.part(Part::Log).len(),
         bundle.part(Part::Index).len(),
         bundle.part(Part::TimeIndex).len(),
         bundle.part(Part::Epochs).len(),
-    ])
+    ]
+}
+
+/// What the bundle of a segment keeps.
+fn kept_of(alloc: Global, closed: &Closed) -> Option<(bool, bool, bool, u32)> {
+    match bundle_of(alloc, closed, LINE) {
+        Some(bundle) => Some(keeps(&bundle, closed)),
+        None => None,
+    }
+}
+
+/// What the bundle of 150 batches keeps.
+fn kept(alloc: Global) -> Option<(bool, bool, bool, u32)> {
+    match segment(alloc, 150) {
+        Some(closed) => kept_of(alloc, &closed),
+        None => None,
+    }
+}
+
+/// The bundle of a segment of so many batches.
+fn bundle(alloc: Global, count: u64, line: &str) -> Option<Bundle> {
+    match segment(alloc, count) {
+        Some(closed) => bundle_of(alloc, &closed, line),
+        None => None,
+    }
+}
+
+/// Whether the bundle of 150 batches has its parts.
+fn parts(alloc: Global) -> Option<(bool, bool, bool)> {
+    match bundle(alloc, 150, LINE) {
+        Some(bundle) => Some(has_parts(&bundle)),
+        None => None,
+    }
+}
+
+/// How long the parts of the bundle of two batches are.
+fn short(alloc: Global) -> Option<[usize; 4]> {
+    match bundle(alloc, 2, "0\n1\n0 0\n") {
+        Some(bundle) => Some(lengths(&bundle)),
+        None => None,
+    }
 }
 
 #[test]
-fn a_bundle_has_four_parts(rt: HostRuntime) -> Result<(), Fail> {
-    assert_eq!(rt; has_parts(rt.alloc())?, [true; 4]);
-    assert_eq!(rt; keeps_its_source(rt.alloc())?, [true; 3]);
-    Ok(())
+fn a_bundle_has_four_parts(rt: HostRuntime) {
+    assert!(rt; parts(rt.alloc()) == Some((true, true, true)));
 }
 
 #[test]
-fn a_short_segment_has_a_time_entry_alone(rt: HostRuntime) -> Result<(), Fail> {
-    assert_eq!(rt; lengths(rt.alloc())?, [138, 0, 12, 8]);
-    Ok(())
+fn a_bundle_keeps_what_it_was_made_of(rt: HostRuntime) {
+    assert!(rt; kept(rt.alloc()) == Some((true, true, true, 4096)));
+}
+
+#[test]
+fn a_short_segment_has_a_time_entry_alone(rt: HostRuntime) {
+    assert_eq!(rt; short(rt.alloc()), Some([138, 0, 12, 8]));
 }

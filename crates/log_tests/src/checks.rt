@@ -3,33 +3,45 @@
 //! A changed batch has the bytes of a worked one but for a few places, and a checksum of its own, which is that of a
 //! program that was written apart from this one.
 
-use crate::vectors::{FIRST, FOREIGN, SECOND, THREE};
-use record_batch::{BatchRefusal, HeadRefusal, check, read_head, records, stamp};
+use crate::files::SEGMENT;
+use crate::trial::part;
+use crate::vectors::{FIRST, FOREIGN, THREE};
+use record_batch::{BatchRefusal, HeadRefusal, Rec, check, read_head, records, stamp};
 use std::alloc::{AllocError, Global};
-use std::test::Fail;
 
-fn put(bytes: &mut Vec<u8>, at: usize, byte: u8) {
+/// Puts a byte at a place, where there is one.
+pub(crate) fn put(bytes: &mut Vec<u8>, at: usize, byte: u8) {
     if at < bytes.len() {
         bytes[at] = byte;
     }
 }
 
+/// Puts a checksum and other bytes into a batch.
+fn change(bytes: &mut Vec<u8>, changes: &[(usize, u8)], crc: u32) {
+    let [a, b, c, d] = crc.to_be_bytes();
+    put(bytes, 17, a);
+    put(bytes, 18, b);
+    put(bytes, 19, c);
+    put(bytes, 20, d);
+    for (at, byte) in changes {
+        put(bytes, *at, *byte);
+    }
+}
+
+/// A batch with these changes and this checksum.
 fn changed(
     alloc: Global,
     batch: &[u8],
     changes: &[(usize, u8)],
     crc: u32,
 ) -> Result<Vec<u8>, AllocError> {
-    let mut bytes = Vec::from_slice(alloc, batch)?;
-    let [a, b, c, d] = crc.to_be_bytes();
-    put(&mut bytes, 17, a);
-    put(&mut bytes, 18, b);
-    put(&mut bytes, 19, c);
-    put(&mut bytes, 20, d);
-    for (at, byte) in changes {
-        put(&mut bytes, *at, *byte);
+    match Vec::from_slice(alloc, batch) {
+        Ok(mut bytes) => {
+            change(&mut bytes, changes, crc);
+            Ok(bytes)
+        }
+        Err(AllocError) => Err(AllocError),
     }
-    Ok(bytes)
 }
 
 /// Changed batches: whether of `THREE` or of `FIRST`, the changes, the checksum, and why the batch is refused, if it is.
@@ -173,75 +185,124 @@ fn refusal_of(
     } else {
         FIRST.as_slice()
     };
-    let bytes = changed(alloc, batch, changes, crc)?;
-    Ok(check(bytes.as_slice()).err())
+    match changed(alloc, batch, changes, crc) {
+        Ok(bytes) => Ok(check(bytes.as_slice()).err()),
+        Err(AllocError) => Err(AllocError),
+    }
 }
 
-/// What says nothing is read over: a record's attributes, bits 6 to 15 of the batch's.
-#[test]
-fn changed_batches_are_refused_or_taken(rt: HostRuntime) -> Result<(), Fail> {
+/// The name of the first changed batch of which something else is told. What says nothing is read over: a record's attributes,
+/// bits 6 to 15 of the batch's.
+fn first_wrong_change(alloc: Global) -> Option<&'static str> {
     for (name, of_three, changes, crc, want) in &CHANGED {
-        let found = refusal_of(rt.alloc(), *of_three, changes, *crc)?;
-        assert_eq!(rt; found, *want, "{name}");
+        if refusal_of(alloc, *of_three, changes, *crc) != Ok(*want) {
+            return Some(*name);
+        }
     }
-    Ok(())
-}
-
-/// Why the first bytes of `FIRST` and of another batch are refused.
-fn refusal_of_front(alloc: Global, size: usize) -> Result<Option<BatchRefusal>, AllocError> {
-    let mut bytes = Vec::new(alloc);
-    for byte in FIRST.iter().chain(SECOND.iter()).take(size) {
-        bytes.push(*byte)?;
-    }
-    Ok(check(bytes.as_slice()).err())
+    None
 }
 
 #[test]
-fn a_batch_ends_with_its_bytes(rt: HostRuntime) -> Result<(), Fail> {
-    let rows = [
-        (60, Some(BatchRefusal::Short)),
-        (68, Some(BatchRefusal::Short)),
-        (69, None),
-        (70, Some(BatchRefusal::BadLength)),
-    ];
-    for (size, want) in rows {
-        assert_eq!(rt; refusal_of_front(rt.alloc(), size)?, want, "{size} bytes");
+fn changed_batches_are_refused_or_taken(rt: HostRuntime) {
+    assert_eq!(rt; first_wrong_change(rt.alloc()), None);
+}
+
+/// Why the first bytes of two batches, one behind the other, are no batch.
+fn refusal_of_front(size: usize) -> Option<BatchRefusal> {
+    check(part(SEGMENT.as_slice(), 0, size)).err()
+}
+
+/// How many bytes there are of the two, and why they are no batch.
+static FRONTS: [(usize, Option<BatchRefusal>); 4] = [
+    (60, Some(BatchRefusal::Short)),
+    (68, Some(BatchRefusal::Short)),
+    (69, None),
+    (70, Some(BatchRefusal::BadLength)),
+];
+
+/// The first number of bytes of which something else is told.
+fn first_wrong_front() -> Option<usize> {
+    for (size, want) in &FRONTS {
+        if refusal_of_front(*size) != *want {
+            return Some(*size);
+        }
     }
-    assert_eq!(rt; read_head(&FIRST[..60]).err(), Some(HeadRefusal::Short));
-    assert!(rt; read_head(&FIRST[..61]).is_ok());
-    Ok(())
+    None
 }
 
 #[test]
-fn a_batch_of_another_base_is_stamped(rt: HostRuntime) -> Result<(), Fail> {
-    let head = check(FOREIGN.as_slice())?;
-    assert_eq!(rt; head.base_offset, 99);
-    assert_eq!(rt; head.leader_epoch, 5);
-    assert_eq!(rt; head.producer_id, 7);
-    let mut bytes = FOREIGN;
+fn a_batch_ends_with_its_bytes(rt: HostRuntime) {
+    assert_eq!(rt; first_wrong_front(), None);
+}
+
+/// Why the first bytes of a batch have no head.
+fn head_refusal(size: usize) -> Option<HeadRefusal> {
+    read_head(part(FIRST.as_slice(), 0, size)).err()
+}
+
+#[test]
+fn a_head_has_61_bytes(rt: HostRuntime) {
+    let told = (head_refusal(60), head_refusal(61));
+    assert!(rt; told == (Some(HeadRefusal::Short), None));
+}
+
+/// The base offset, the leader epoch and the producer of a batch.
+fn placed(batch: &[u8]) -> Option<(i64, i32, i64)> {
+    match check(batch) {
+        Ok(head) => Some((head.base_offset, head.leader_epoch, head.producer_id)),
+        Err(_) => None,
+    }
+}
+
+/// What a batch of another base says once it is stamped, and whether all else is as it was.
+fn stamped(batch: &[u8; 69]) -> (Option<(i64, i32, i64)>, bool, bool) {
+    let mut bytes = *batch;
     stamp(bytes.as_mut_slice(), 0, 0);
-    let head = check(bytes.as_slice())?;
-    assert_eq!(rt; head.base_offset, 0);
-    assert_eq!(rt; head.leader_epoch, 0);
-    assert_eq!(rt; &bytes[8..12], &FOREIGN[8..12]);
-    assert_eq!(rt; &bytes[16..], &FOREIGN[16..]);
-    Ok(())
+    (
+        placed(bytes.as_slice()),
+        part(bytes.as_slice(), 8, 12) == part(batch.as_slice(), 8, 12),
+        part(bytes.as_slice(), 16, 69) == part(batch.as_slice(), 16, 69),
+    )
 }
 
-/// The times of the first batch and of its records, where its bit 3 is set: each record has the time at which the batch was
-/// appended, here 2000.
-fn times(alloc: Global) -> Result<Option<(i64, i64)>, AllocError> {
-    let changes = [(22, 8), (41, 7), (42, 0xd0)];
-    let bytes = changed(alloc, FIRST.as_slice(), changes.as_slice(), 0xf6fa_1937)?;
-    let head = match check(bytes.as_slice()) {
-        Ok(head) => head,
-        Err(_) => return Ok(None),
+#[test]
+fn a_batch_of_another_base_is_stamped(rt: HostRuntime) {
+    let told = (placed(FOREIGN.as_slice()), stamped(&FOREIGN));
+    assert!(rt; told == (Some((99, 5, 7)), (Some((0, 0, 7)), true, true)));
+}
+
+/// The time of the first record.
+fn first_ts(recs: &[Rec]) -> Option<i64> {
+    match recs.first() {
+        Some(rec) => Some(rec.ts),
+        None => None,
+    }
+}
+
+/// The times of a batch and of its first record.
+fn times_of(alloc: Global, batch: &[u8]) -> Option<(i64, Option<i64>)> {
+    let base_ts = match check(batch) {
+        Ok(head) => head.base_ts,
+        Err(_) => return None,
     };
-    let recs = records(alloc, bytes.as_slice())?;
-    Ok(recs.first().map(|rec| (head.base_ts, rec.ts)))
+    match records(alloc, batch) {
+        Ok(recs) => Some((base_ts, first_ts(recs.as_slice()))),
+        Err(_) => None,
+    }
+}
+
+/// The first batch's bit 3 is set, and it was appended at 2000.
+static APPENDED: [(usize, u8); 3] = [(22, 8), (41, 7), (42, 0xd0)];
+
+/// The times of the first batch and of its records, where each record has the time at which the batch was appended.
+fn times(alloc: Global) -> Option<(i64, Option<i64>)> {
+    match changed(alloc, FIRST.as_slice(), &APPENDED, 0xf6fa_1937) {
+        Ok(batch) => times_of(alloc, batch.as_slice()),
+        Err(AllocError) => None,
+    }
 }
 
 #[test]
 fn append_time_is_each_record_s(rt: HostRuntime) {
-    assert_eq!(rt; times(rt.alloc()), Ok(Some((1000, 2000))));
+    assert_eq!(rt; times(rt.alloc()), Some((1000, Some(2000))));
 }

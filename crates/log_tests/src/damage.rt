@@ -15,23 +15,36 @@ type Opened = Result<u64, OpenRefusal>;
 /// A file that is no log's.
 const OTHER: FileName = FileName::Notes;
 
+/// Two files.
+fn both(
+    alloc: Global,
+    manifest: Bytes,
+    name: FileName,
+    bytes: Bytes,
+) -> Option<Vec<(FileName, Bytes)>> {
+    vec![in alloc; (FileName::Manifest, manifest), (name, bytes)].ok()
+}
+
 /// The manifest and another file.
 fn files(
     alloc: Global,
     manifest: &[u8],
     name: FileName,
     bytes: &[u8],
-) -> Result<Vec<(FileName, Bytes)>, AllocError> {
-    let manifest = Bytes::copy_from_slice(alloc, manifest)?;
-    let bytes = Bytes::copy_from_slice(alloc, bytes)?;
-    Ok(vec![in alloc; (FileName::Manifest, manifest), (name, bytes)]?)
+) -> Option<Vec<(FileName, Bytes)>> {
+    let manifest = Bytes::copy_from_slice(alloc, manifest);
+    let bytes = Bytes::copy_from_slice(alloc, bytes);
+    match (manifest, bytes) {
+        (Ok(manifest), Ok(bytes)) => both(alloc, manifest, name, bytes),
+        _ => None,
+    }
 }
 
 /// What the opening of these files comes to.
 fn open(alloc: Global, manifest: &[u8], name: FileName, bytes: &[u8]) -> Opened {
     match files(alloc, manifest, name, bytes) {
-        Ok(files) => open_files(alloc, files),
-        Err(AllocError) => Err(OpenRefusal::NoMemory),
+        Some(files) => open_files(alloc, files),
+        None => Err(OpenRefusal::NoMemory),
     }
 }
 
@@ -57,35 +70,50 @@ fn damaged(file: FileName, at: u64) -> Opened {
     Err(OpenRefusal::Damaged { file, at })
 }
 
-#[test]
-fn openings_tell_their_causes(rt: HostRuntime) {
-    let alloc = rt.alloc();
-    let opened = open(alloc, FLUSHED.as_slice(), LOG, SEGMENT.as_slice());
-    assert_eq!(rt; opened, Ok(2));
-    let opened = open(alloc, FLUSHED.as_slice(), OTHER, SEGMENT.as_slice());
-    assert_eq!(rt; opened, damaged(LOG, 0), "no segment");
-    let opened = open(alloc, b"TLM2", OTHER, b"");
-    assert_eq!(rt; opened, damaged(FileName::Manifest, 0), "another kind");
-    let opened = open_with(alloc, 4, [0xff; 4].as_slice());
-    assert_eq!(rt; opened, Err(OpenRefusal::LastIncarnation));
+/// What an opening comes to of the log's segment, of no segment, of another kind of manifest, and of the last incarnation.
+fn openings(alloc: Global) -> (Opened, Opened, Opened, Opened) {
+    (
+        open(alloc, FLUSHED.as_slice(), LOG, SEGMENT.as_slice()),
+        open(alloc, FLUSHED.as_slice(), OTHER, SEGMENT.as_slice()),
+        open(alloc, b"TLM2", OTHER, b""),
+        open_with(alloc, 4, [0xff; 4].as_slice()),
+    )
 }
 
-/// Whether an opening gave a log or told a place.
-fn is_told(opened: Opened) -> bool {
-    matches!(opened, Ok(_) | Err(OpenRefusal::Damaged { .. }))
+#[test]
+fn openings_tell_their_causes(rt: HostRuntime) {
+    let wanted = (
+        Ok(2),
+        damaged(LOG, 0),
+        damaged(FileName::Manifest, 0),
+        Err(OpenRefusal::LastIncarnation),
+    );
+    assert!(rt; openings(rt.alloc()) == wanted);
+}
+
+/// Whether an opening with another byte at a place tells what it should: the manifest's kind, a log of another incarnation,
+/// or else a log or a place.
+fn is_told(at: usize, opened: Opened) -> bool {
+    match at {
+        0..=3 => opened == damaged(FileName::Manifest, 0),
+        4..=7 => opened == Ok(2),
+        _ => matches!(opened, Ok(_) | Err(OpenRefusal::Damaged { .. })),
+    }
+}
+
+/// The first place at which another byte isn't told as it should be.
+fn first_untold(alloc: Global) -> Option<usize> {
+    for at in 0..FLUSHED.len() {
+        if !is_told(at, open_with(alloc, at, [0xff].as_slice())) {
+            return Some(at);
+        }
+    }
+    None
 }
 
 #[test]
 fn each_spoilt_byte_is_told_or_passes(rt: HostRuntime) {
-    for at in 0..FLUSHED.len() {
-        let opened = open_with(rt.alloc(), at, [0xff].as_slice());
-        assert!(rt; is_told(opened), "ff at {at}");
-        assert!(rt;
-            at >= 4 || opened == damaged(FileName::Manifest, 0),
-            "ff at {at}"
-        );
-        assert!(rt; at < 4 || at >= 8 || opened == Ok(2), "ff at {at}");
-    }
+    assert_eq!(rt; first_untold(rt.alloc()), None);
 }
 
 /// Whether an opening told a place in a file of the log.
@@ -93,30 +121,52 @@ fn is_damaged(opened: Opened, name: FileName) -> bool {
     matches!(opened, Err(OpenRefusal::Damaged { file, .. }) if file == name)
 }
 
-#[test]
-fn each_cut_file_is_told(rt: HostRuntime) {
+/// The first number of bytes of the manifest that isn't told.
+fn first_cut_manifest(alloc: Global) -> Option<usize> {
     for len in 0..FLUSHED.len() {
-        let opened = open(rt.alloc(), &FLUSHED[..len], LOG, SEGMENT.as_slice());
-        assert!(rt; is_damaged(opened, FileName::Manifest), "{len} bytes");
+        let opened = open(alloc, &FLUSHED[..len], LOG, SEGMENT.as_slice());
+        if !is_damaged(opened, FileName::Manifest) {
+            return Some(len);
+        }
     }
-    for len in 0..SEGMENT.len() {
-        let opened = open(rt.alloc(), FLUSHED.as_slice(), LOG, &SEGMENT[..len]);
-        assert!(rt; is_damaged(opened, LOG), "{len} bytes");
-    }
+    None
 }
 
-/// The files of the log, and a segment that the manifest doesn't list.
-fn with_stray(alloc: Global) -> Result<Vec<(FileName, Bytes)>, AllocError> {
-    let mut files = files(alloc, FLUSHED.as_slice(), LOG, SEGMENT.as_slice())?;
-    files.push((FileName::Log(2), Bytes::from_static(b"stray")))?;
-    Ok(files)
+/// The first number of bytes of the segment that isn't told.
+fn first_cut_segment(alloc: Global) -> Option<usize> {
+    for len in 0..SEGMENT.len() {
+        let opened = open(alloc, FLUSHED.as_slice(), LOG, &SEGMENT[..len]);
+        if !is_damaged(opened, LOG) {
+            return Some(len);
+        }
+    }
+    None
+}
+
+#[test]
+fn each_cut_manifest_is_told(rt: HostRuntime) {
+    assert_eq!(rt; first_cut_manifest(rt.alloc()), None);
+}
+
+#[test]
+fn each_cut_segment_is_told(rt: HostRuntime) {
+    assert_eq!(rt; first_cut_segment(rt.alloc()), None);
+}
+
+/// Adds a segment that the manifest doesn't list, and tells whether the opened log leaves these names.
+fn leaves_with_stray(alloc: Global, files: Vec<(FileName, Bytes)>, names: &[FileName]) -> bool {
+    let mut files = files;
+    match files.push((FileName::Log(2), Bytes::from_static(b"stray"))) {
+        Ok(()) => leaves_names(alloc, files, names),
+        Err(_) => false,
+    }
 }
 
 /// Whether the opened log leaves these names of the files with a stray segment.
 fn leaves_of_stray(alloc: Global, names: &[FileName]) -> bool {
-    match with_stray(alloc) {
-        Ok(files) => leaves_names(alloc, files, names),
-        Err(AllocError) => false,
+    match files(alloc, FLUSHED.as_slice(), LOG, SEGMENT.as_slice()) {
+        Some(files) => leaves_with_stray(alloc, files, names),
+        None => false,
     }
 }
 

@@ -3,47 +3,59 @@
 //! A segment on trial is a type of its own whose methods have no contracts, so a test knows nothing of it but what it is
 //! told.
 
+use crate::checks::put;
 use bytes::Bytes;
-use record_batch::{BuildRefusal, Head, Rec, build};
+use record_batch::{Head, Rec, build};
 use segment_file::{BadAt, Closed, ClosedRefusal, Found, Growing, take_run, walk};
 use std::alloc::{AllocError, Global};
-use std::test::Fail;
 use tier_base::{Row, Stop};
 
-/// The batch of a base offset, an epoch and a timestamp: one record, with neither key nor value.
-fn batch(alloc: Global, (base, epoch, ts): (u64, u32, i64)) -> Result<Vec<u8>, BuildRefusal> {
-    let rec = Rec {
+/// The record of a timestamp, with neither key nor value.
+fn rec_of(alloc: Global, ts: i64) -> Rec {
+    Rec {
         ts,
         key: None,
         value: None,
         headers: Row::new(alloc),
-    };
-    build(alloc, base, epoch, [rec].as_slice())
+    }
+}
+
+/// The batch of a base offset, an epoch and a timestamp: one record, with neither key nor value.
+fn batch(alloc: Global, (base, epoch, ts): (u64, u32, i64)) -> Option<Vec<u8>> {
+    build(alloc, base, epoch, [rec_of(alloc, ts)].as_slice()).ok()
+}
+
+/// Adds a batch to bytes.
+fn grow(alloc: Global, bytes: &mut Vec<u8>, row: (u64, u32, i64)) -> bool {
+    match batch(alloc, row) {
+        Some(batch) => bytes.extend_from_slice(batch.as_slice()).is_ok(),
+        None => false,
+    }
 }
 
 /// The batches of these base offsets, epochs and timestamps.
-fn batches(alloc: Global, rows: &[(u64, u32, i64)]) -> Result<Vec<u8>, Fail> {
+fn batches(alloc: Global, rows: &[(u64, u32, i64)]) -> Option<Vec<u8>> {
     let mut bytes = Vec::new(alloc);
     for row in rows {
-        bytes.extend_from_slice(batch(alloc, *row)?.as_slice())?;
+        if !grow(alloc, &mut bytes, *row) {
+            return None;
+        }
     }
-    Ok(bytes)
+    Some(bytes)
 }
 
 /// The batches at 5, 6, 7 and 8.
-const FOUR: [(u64, u32, i64); 4] = [(5, 0, 1000), (6, 0, 1000), (7, 0, 1000), (8, 0, 1000)];
+static FOUR: [(u64, u32, i64); 4] = [(5, 0, 1000), (6, 0, 1000), (7, 0, 1000), (8, 0, 1000)];
 
 /// The batches at 5, 6, 7 and 8, of which one byte is another, where there is such a place.
-fn spoilt(alloc: Global, at: usize, byte: u8) -> Result<Vec<u8>, Fail> {
-    let mut bytes = Vec::new(alloc);
-    for (i, old) in batches(alloc, FOUR.as_slice())?
-        .as_slice()
-        .iter()
-        .enumerate()
-    {
-        bytes.push(if i == at { byte } else { *old })?;
+fn spoilt(alloc: Global, at: usize, byte: u8) -> Option<Vec<u8>> {
+    match batches(alloc, FOUR.as_slice()) {
+        Some(mut bytes) => {
+            put(&mut bytes, at, byte);
+            Some(bytes)
+        }
+        None => None,
     }
-    Ok(bytes)
 }
 
 /// No place in the bytes.
@@ -61,7 +73,7 @@ fn head_at(bytes: &[u8], at: usize) -> Option<Head> {
 }
 
 /// What stands at the place 0 of the first bytes, in short.
-#[derive(Clone, Copy, Debug, PartialEq, Eq)]
+#[derive(Clone, Copy, PartialEq, Eq)]
 enum Stands {
     Batch(i64),
     End,
@@ -91,18 +103,31 @@ static STANDS: [(usize, u8, usize, Stands); 9] = [
     (9, 1, 272, Stands::Cut(0)),
 ];
 
-#[test]
-fn a_cut_batch_differs_from_a_bad_one(rt: HostRuntime) -> Result<(), Fail> {
-    for (at, byte, len, wanted) in &STANDS {
-        let bytes = spoilt(rt.alloc(), *at, *byte)?;
-        let found = first_of(bytes.as_slice(), *len);
-        assert_eq!(rt; found, *wanted, "{byte} at {at}, {len} bytes");
+/// What stands at the front of the four batches.
+fn first_of_spoilt(alloc: Global, at: usize, byte: u8, len: usize) -> Option<Stands> {
+    match spoilt(alloc, at, byte) {
+        Some(bytes) => Some(first_of(bytes.as_slice(), len)),
+        None => None,
     }
-    Ok(())
+}
+
+/// The number of the first row at whose front something else stands.
+fn first_wrong_front(alloc: Global) -> Option<usize> {
+    for (i, (at, byte, len, wanted)) in STANDS.iter().enumerate() {
+        if first_of_spoilt(alloc, *at, *byte, *len) != Some(*wanted) {
+            return Some(i);
+        }
+    }
+    None
+}
+
+#[test]
+fn a_cut_batch_differs_from_a_bad_one(rt: HostRuntime) {
+    assert_eq!(rt; first_wrong_front(rt.alloc()), None);
 }
 
 /// A run: where it begins and ends, the next offset, and why it stops; or the bad place.
-#[derive(Clone, Copy, Debug, PartialEq, Eq)]
+#[derive(Clone, Copy, PartialEq, Eq)]
 enum Run {
     Of(usize, usize, u64, Stop),
     Bad(usize),
@@ -146,14 +171,27 @@ static RUNS: [(usize, u8, (u64, u64, u64, u64), Run); 15] = [
     (143, 9, (5, 1000, 9, 9), Run::Bad(136)),
 ];
 
-#[test]
-fn a_run_ends_at_mark_piece_or_limit(rt: HostRuntime) -> Result<(), Fail> {
-    for (at, byte, asked, wanted) in &RUNS {
-        let bytes = spoilt(rt.alloc(), *at, *byte)?;
-        let run = run_of(bytes.as_slice(), *asked);
-        assert_eq!(rt; run, *wanted, "{byte} at {at}, {asked:?}");
+/// The run of the four batches.
+fn run_of_spoilt(alloc: Global, at: usize, byte: u8, asked: (u64, u64, u64, u64)) -> Option<Run> {
+    match spoilt(alloc, at, byte) {
+        Some(bytes) => Some(run_of(bytes.as_slice(), asked)),
+        None => None,
     }
-    Ok(())
+}
+
+/// The number of the first row that has another run.
+fn first_wrong_run(alloc: Global) -> Option<usize> {
+    for (i, (at, byte, asked, wanted)) in RUNS.iter().enumerate() {
+        if run_of_spoilt(alloc, *at, *byte, *asked) != Some(*wanted) {
+            return Some(i);
+        }
+    }
+    None
+}
+
+#[test]
+fn a_run_ends_at_mark_piece_or_limit(rt: HostRuntime) {
+    assert_eq!(rt; first_wrong_run(rt.alloc()), None);
 }
 
 /// A turn of a segment that grows, with what it comes to.
@@ -188,14 +226,20 @@ impl Trial {
         self.segment.takes(head) && self.segment.push(head).is_ok()
     }
 
+    /// Whether the batch at a place is taken.
+    fn takes_at(&mut self, bytes: &[u8], at: usize) -> bool {
+        match head_at(bytes, at) {
+            Some(head) => self.takes(&head),
+            None => false,
+        }
+    }
+
     /// Counts the batches that are taken.
     fn push_all(&mut self, bytes: &[u8]) -> u32 {
         let mut count: u32 = 0;
         for at in (0..bytes.len()).step_by(68) {
-            if let Some(head) = head_at(bytes, at) {
-                if self.takes(&head) {
-                    count = count.saturating_add(1);
-                }
+            if self.takes_at(bytes, at) {
+                count = count.saturating_add(1);
             }
         }
         count
@@ -240,7 +284,7 @@ impl Trial {
 }
 
 /// The number of the first turn that doesn't come to what it should, of a segment that is given these batches.
-fn first_wrong(alloc: Global, bytes: &[u8], turns: &[Turn]) -> Option<usize> {
+fn first_wrong_in(alloc: Global, bytes: &[u8], turns: &[Turn]) -> Option<usize> {
     let mut trial = Trial::new(alloc);
     for (i, turn) in turns.iter().enumerate() {
         if !trial.goes(bytes, *turn) {
@@ -251,12 +295,22 @@ fn first_wrong(alloc: Global, bytes: &[u8], turns: &[Turn]) -> Option<usize> {
 }
 
 /// So many batches from offset 0 on.
-fn alike(alloc: Global, count: u64) -> Result<Vec<u8>, Fail> {
+fn alike(alloc: Global, count: u64) -> Option<Vec<u8>> {
     let mut bytes = Vec::new(alloc);
     for base in 0..count {
-        bytes.extend_from_slice(batch(alloc, (base, 0, 1000))?.as_slice())?;
+        if !grow(alloc, &mut bytes, (base, 0, 1000)) {
+            return None;
+        }
     }
-    Ok(bytes)
+    Some(bytes)
+}
+
+/// The number of the first turn that doesn't come to what it should, of a segment that is given 150 batches.
+fn first_wrong(alloc: Global, turns: &[Turn]) -> Option<usize> {
+    match alike(alloc, 150) {
+        Some(bytes) => first_wrong_in(alloc, bytes.as_slice(), turns),
+        None => Some(turns.len()),
+    }
 }
 
 /// A segment of 150 batches, cut twice.
@@ -288,17 +342,8 @@ static GROWING: [Turn; 21] = [
 ];
 
 #[test]
-fn a_growing_segment_finds_and_is_cut(rt: HostRuntime) -> Result<(), Fail> {
-    let bytes = alike(rt.alloc(), 150)?;
-    let wrong = first_wrong(rt.alloc(), bytes.as_slice(), GROWING.as_slice());
-    assert_eq!(rt; wrong, None);
-    Ok(())
-}
-
-/// A closed segment on trial.
-#[derive(Drop)]
-struct Whole {
-    segment: Closed,
+fn a_growing_segment_finds_and_is_cut(rt: HostRuntime) {
+    assert_eq!(rt; first_wrong(rt.alloc(), GROWING.as_slice()), None);
 }
 
 /// Reads a closed segment, where its base is no offset past the last.
@@ -312,37 +357,43 @@ fn read(alloc: Global, base: u64, bytes: Vec<u8>) -> Result<Closed, ClosedRefusa
     }
 }
 
-impl Whole {
-    fn read(alloc: Global, base: u64, bytes: Vec<u8>) -> Result<Whole, ClosedRefusal> {
-        match read(alloc, base, bytes) {
-            Ok(segment) => Ok(Whole { segment }),
-            Err(refusal) => Err(refusal),
+/// The closed segment of these bytes.
+fn closed_of(alloc: Global, base: u64, bytes: Option<Vec<u8>>) -> Option<Closed> {
+    match bytes {
+        Some(bytes) => read(alloc, base, bytes).ok(),
+        None => None,
+    }
+}
+
+/// A closed segment's first offset, its last one, its greatest timestamp and its bytes.
+fn told(segment: &Closed) -> (u64, u64, i64, usize) {
+    (
+        segment.base(),
+        segment.last(),
+        segment.max_ts(),
+        segment.bytes().len(),
+    )
+}
+
+/// Whether a segment's leader epochs start there.
+fn has_epochs(segment: &Closed, entries: &[(u32, u64)]) -> bool {
+    segment.epochs().entries() == entries
+}
+
+/// Whether a segment's indexes have these bytes.
+fn has_indexes(
+    alloc: Global,
+    segment: &Closed,
+    interval: u32,
+    offsets: &[u8],
+    times: &[u8],
+) -> bool {
+    match segment.indexes(alloc, interval) {
+        Ok((by_offset, by_time)) => {
+            let spelt = is_spelt(by_offset.to_bytes(alloc), offsets);
+            spelt & is_spelt(by_time.to_bytes(alloc), times)
         }
-    }
-
-    /// Its first offset, its last one, its greatest timestamp and its bytes.
-    fn told(&self) -> (u64, u64, i64, usize) {
-        (
-            self.segment.base(),
-            self.segment.last(),
-            self.segment.max_ts(),
-            self.segment.bytes().len(),
-        )
-    }
-
-    fn has_epochs(&self, entries: &[(u32, u64)]) -> bool {
-        self.segment.epochs().entries() == entries
-    }
-
-    /// Whether its indexes have these bytes.
-    fn has_indexes(&self, alloc: Global, interval: u32, offsets: &[u8], times: &[u8]) -> bool {
-        match self.segment.indexes(alloc, interval) {
-            Ok((by_offset, by_time)) => {
-                is_spelt(by_offset.to_bytes(alloc), offsets)
-                    && is_spelt(by_time.to_bytes(alloc), times)
-            }
-            Err(_) => false,
-        }
+        Err(_) => false,
     }
 }
 
@@ -353,36 +404,69 @@ fn is_spelt(bytes: Result<Vec<u8>, AllocError>, wanted: &[u8]) -> bool {
     }
 }
 
+/// The batches of two epochs, from 5 on.
+static EPOCHS: [(u64, u32, i64); 4] = [(5, 1, 30), (6, 1, 50), (7, 3, 50), (8, 3, 40)];
+
+/// What the closed segment of two epochs tells, whether its epochs start there, and whether its indexes are right: an entry of
+/// the third batch, before which stand more than 100 bytes, and the first batch of the greatest timestamp.
+fn of_epochs(alloc: Global) -> Option<((u64, u64, i64, usize), bool, bool)> {
+    let offsets = b"\x00\x00\x00\x02\x00\x00\x00\x88";
+    let times = b"\x00\x00\x00\x00\x00\x00\x00\x32\x00\x00\x00\x01";
+    match closed_of(alloc, 5, batches(alloc, EPOCHS.as_slice())) {
+        Some(segment) => Some((
+            told(&segment),
+            has_epochs(&segment, &[(1, 5), (3, 7)]),
+            has_indexes(alloc, &segment, 100, offsets, times),
+        )),
+        None => None,
+    }
+}
+
+/// Whether the indexes of 150 batches are right.
+fn of_alike(alloc: Global) -> bool {
+    let offsets = b"\x00\x00\x00\x3d\x00\x00\x10\x34\x00\x00\x00\x7a\x00\x00\x20\x68";
+    let times = b"\x00\x00\x00\x00\x00\x00\x03\xe8\x00\x00\x00\x00";
+    match closed_of(alloc, 0, alike(alloc, 150)) {
+        Some(segment) => has_indexes(alloc, &segment, 4096, offsets, times),
+        None => false,
+    }
+}
+
 #[test]
-fn a_closed_segment_tells_its_batches(rt: HostRuntime) -> Result<(), Fail> {
-    let alloc = rt.alloc();
-    let rows = [(5, 1, 30), (6, 1, 50), (7, 3, 50), (8, 3, 40)];
-    let segment = Whole::read(alloc, 5, batches(alloc, rows.as_slice())?)?;
-    assert_eq!(rt; segment.told(), (5, 8, 50, 272));
-    assert!(rt; segment.has_epochs([(1, 5), (3, 7)].as_slice()));
-    // An entry of the third batch, before which stand more than 100 bytes; the first batch of the greatest timestamp.
-    let offsets = b"\x00\x00\x00\x02\x00\x00\x00\x88".as_slice();
-    let times = b"\x00\x00\x00\x00\x00\x00\x00\x32\x00\x00\x00\x01".as_slice();
-    assert!(rt; segment.has_indexes(alloc, 100, offsets, times));
-    let segment = Whole::read(alloc, 0, alike(alloc, 150)?)?;
-    let offsets = b"\x00\x00\x00\x3d\x00\x00\x10\x34\x00\x00\x00\x7a\x00\x00\x20\x68".as_slice();
-    let times = b"\x00\x00\x00\x00\x00\x00\x03\xe8\x00\x00\x00\x00".as_slice();
-    assert!(rt; segment.has_indexes(alloc, 4096, offsets, times));
-    Ok(())
+fn a_closed_segment_tells_its_batches(rt: HostRuntime) {
+    let wanted = Some(((5, 8, 50, 272), true, true));
+    assert!(rt; of_epochs(rt.alloc()) == wanted);
+}
+
+#[test]
+fn a_closed_segment_of_150_batches_has_its_indexes(rt: HostRuntime) {
+    assert!(rt; of_alike(rt.alloc()));
+}
+
+/// Adds a tail to bytes.
+fn with_tail(bytes: Option<Vec<u8>>, tail: &[u8]) -> Option<Vec<u8>> {
+    match bytes {
+        Some(mut bytes) => match bytes.extend_from_slice(tail) {
+            Ok(()) => Some(bytes),
+            Err(_) => None,
+        },
+        None => None,
+    }
+}
+
+/// Where no batch goes on the segment of these bytes.
+fn bad_in(alloc: Global, base: u64, bytes: Vec<u8>) -> Option<usize> {
+    match read(alloc, base, bytes) {
+        Err(ClosedRefusal::BadAt { at }) => Some(at),
+        _ => None,
+    }
 }
 
 /// Where no batch goes on the segment of these batches and a tail.
-fn bad_at(
-    alloc: Global,
-    base: u64,
-    rows: &[(u64, u32, i64)],
-    tail: &[u8],
-) -> Result<Option<usize>, Fail> {
-    let mut bytes = batches(alloc, rows)?;
-    bytes.extend_from_slice(tail)?;
-    match read(alloc, base, bytes) {
-        Err(ClosedRefusal::BadAt { at }) => Ok(Some(at)),
-        _ => Ok(None),
+fn bad_at(alloc: Global, base: u64, rows: &[(u64, u32, i64)], tail: &[u8]) -> Option<usize> {
+    match with_tail(batches(alloc, rows), tail) {
+        Some(bytes) => bad_in(alloc, base, bytes),
+        None => None,
     }
 }
 
@@ -402,11 +486,17 @@ static BAD: [(u64, &[(u64, u32, i64)], &[u8], usize); 7] = [
     (0, &[(0, 0, 1), (1, 0, 1)], b"\0", 136),
 ];
 
-#[test]
-fn the_first_bad_place_is_told(rt: HostRuntime) -> Result<(), Fail> {
-    for (base, rows, tail, at) in &BAD {
-        let found = bad_at(rt.alloc(), *base, rows, tail)?;
-        assert_eq!(rt; found, Some(*at), "base {base}");
+/// The number of the first segment whose bad place isn't told.
+fn first_untold(alloc: Global) -> Option<usize> {
+    for (i, (base, rows, tail, at)) in BAD.iter().enumerate() {
+        if bad_at(alloc, *base, rows, tail) != Some(*at) {
+            return Some(i);
+        }
     }
-    Ok(())
+    None
+}
+
+#[test]
+fn the_first_bad_place_is_told(rt: HostRuntime) {
+    assert_eq!(rt; first_untold(rt.alloc()), None);
 }

@@ -68,6 +68,12 @@ impl Trial {
         }
     }
 
+    /// Closes the log.
+    pub(crate) fn close(self) -> bool {
+        self.log.close();
+        true
+    }
+
     /// Whether the closed log leaves a file of these bytes.
     pub(crate) fn leaves(self, name: FileName, bytes: &[u8]) -> bool {
         holds(self.log.close(), name, bytes)
@@ -249,7 +255,7 @@ fn settings(segment_bytes: u32) -> Settings
 }
 
 /// The bytes of a batch, with another base offset and leader epoch.
-fn stamped(alloc: Global, batch: &[u8], base: u64, epoch: u32) -> Option<Vec<u8>> {
+pub(crate) fn stamped(alloc: Global, batch: &[u8], base: u64, epoch: u32) -> Option<Vec<u8>> {
     let mut bytes = match batch.to_vec(alloc) {
         Ok(bytes) => bytes,
         Err(_) => return None,
@@ -275,7 +281,11 @@ fn open_deaf(
 /// The end of the log that these files are.
 pub(crate) fn open_files(alloc: Global, files: Vec<(FileName, Bytes)>) -> Result<u64, OpenRefusal> {
     match open_deaf(alloc, files) {
-        Ok(log) => Ok(log.end()),
+        Ok(log) => {
+            let end = log.end();
+            log.close();
+            Ok(end)
+        }
         Err(why) => Err(why),
     }
 }
