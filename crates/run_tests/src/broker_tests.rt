@@ -2,11 +2,11 @@
 //!
 //! The batches' bytes come from a writer of record batches that was made apart from this repository.
 
-use crate::tests::{Wanted, called, simulated, well};
+use crate::tests::{Row, Wanted, called, first_wrong, well};
 use std::alloc::{AllocError, Global};
 
 /// Scripts and the traces that they give.
-static ROWS: [(&str, &str, &str); 12] = [
+static ROWS: [Row; 12] = [
     (
         "a leader stops, is elected again, and its follower is cut to where their logs meet",
         "brokers 2\n0 0 0 append 1000,-,:a\n0 0 0 append 1000,-,:b\n0 0 0 flush\n0 0 0 append 1000,-,:c\n1 0 1 follow 1000\n0 0 0 stop\n0 0 0 up\n0 0 0 learn\n0 0 0 elect\n0 0 0 learn\n0 0 0 append 1000,-,:d\n1 0 1 learn\n1 0 1 join\n1 0 1 follow 1000\n",
@@ -70,7 +70,7 @@ static ROWS: [(&str, &str, &str); 12] = [
 ];
 
 /// Scripts whose disks fail, and the traces that they give.
-static FAULTS: [(&str, &str, &str); 11] = [
+static FAULTS: [Row; 11] = [
     (
         "a failed append that was done is gone",
         "fault 0 disk 0 append 1 after\n0 0 0 append 1000,-,:a\n0 0 0 up\n0 0 0 learn\n0 0 0 elect\n0 0 0 learn\n0 0 0 append 1000,-,:b\n0 0 0 flush\n",
@@ -130,16 +130,12 @@ static FAULTS: [(&str, &str, &str); 11] = [
 
 #[test]
 fn scripts_of_several_brokers_give_their_traces(rt: HostRuntime) {
-    for (name, script, trace) in &ROWS {
-        assert_eq!(rt; simulated(rt, script, trace), well(0), "{name}");
-    }
+    assert_eq!(rt; first_wrong(rt, ROWS.as_slice()), None);
 }
 
 #[test]
 fn scripts_whose_disks_fail_give_their_traces(rt: HostRuntime) {
-    for (name, script, trace) in &FAULTS {
-        assert_eq!(rt; simulated(rt, script, trace), well(0), "{name}");
-    }
+    assert_eq!(rt; first_wrong(rt, FAULTS.as_slice()), None);
 }
 
 /// Adds the line of an append to a script.
@@ -192,5 +188,5 @@ fn counted(rt: HostRuntime, many: u32) -> Option<(u8, bool, bool)> {
 
 #[test]
 fn segments_are_counted(rt: HostRuntime) {
-    assert_eq!(rt; counted(rt, 4098), well(0), "4,098 appends");
+    assert!(rt; counted(rt, 4098) == well(0));
 }

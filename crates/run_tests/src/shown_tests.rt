@@ -36,11 +36,19 @@ fn refused(rt: HostRuntime, lines: &[(u32, &str)], line: &str) -> Option<(u8, bo
     }
 }
 
+/// The number of the first row that isn't refused so.
+fn first_not_refused(rt: HostRuntime) -> Option<usize> {
+    for (i, (lines, line)) in REFUSED.iter().enumerate() {
+        if refused(rt, lines, line) != well(3) {
+            return Some(i);
+        }
+    }
+    None
+}
+
 #[test]
 fn lines_that_are_shown_as_refused_are(rt: HostRuntime) {
-    for (i, (lines, line)) in REFUSED.iter().enumerate() {
-        assert_eq!(rt; refused(rt, lines, line), well(3), "row {i}");
-    }
+    assert_eq!(rt; first_not_refused(rt), None);
 }
 
 /// Whether a script ends with status 0 and gives this trace.
@@ -64,9 +72,9 @@ fn counted(rt: HostRuntime, script: &[u8], trace: &[u8], (well, there): (u32, u3
     (well, there.wrapping_add(1))
 }
 
-/// Runs the scripts of a text, and counts those at the front that give their traces, and those that are there.
-fn run_all(rt: HostRuntime, text: &[u8]) -> (u32, u32) {
-    let mut counts = (0u32, 0u32);
+/// Runs the scripts of a text, and goes on to count those at the front that give their traces, and those that are there.
+fn run_all(rt: HostRuntime, text: &[u8], counts: (u32, u32)) -> (u32, u32) {
+    let mut counts = counts;
     let mut from = 0usize;
     let mut end = None;
     for (at, byte) in text.iter().enumerate() {
@@ -86,15 +94,18 @@ fn run_all(rt: HostRuntime, text: &[u8]) -> (u32, u32) {
     counts
 }
 
+/// How many scripts at the front of all parts give their traces, and how many are there.
+fn run_parts(rt: HostRuntime) -> (u32, u32) {
+    let mut counts = (0u32, 0u32);
+    for part in 0..PARTS {
+        counts = run_all(rt, text(part).as_bytes(), counts);
+    }
+    counts
+}
+
 #[test]
 fn scripts_that_are_shown_give_their_traces(rt: HostRuntime) {
-    let mut all = 0u32;
-    for part in 0..PARTS {
-        let (well, there) = run_all(rt, text(part).as_bytes());
-        assert_eq!(rt; well, there, "part {part}");
-        all = all.wrapping_add(there);
-    }
-    assert_eq!(rt; all, COUNT);
+    assert_eq!(rt; run_parts(rt), (COUNT, COUNT));
 }
 
 /// What a call comes to with these words and texts.
@@ -113,10 +124,18 @@ fn shown(
     }
 }
 
-#[test]
-fn commands_of_a_shell_end_as_they_are_shown(rt: HostRuntime) {
+/// The number of the first command that doesn't end as it is shown.
+fn first_wrong_command(rt: HostRuntime) -> Option<usize> {
     for (i, (words, texts, status, told, end)) in SHELL.iter().enumerate() {
         let wanted = Wanted::Shown(told, end.as_bytes());
-        assert_eq!(rt; shown(rt, words, texts, wanted), well(*status), "row {i}");
+        if shown(rt, words, texts, wanted) != well(*status) {
+            return Some(i);
+        }
     }
+    None
+}
+
+#[test]
+fn commands_of_a_shell_end_as_they_are_shown(rt: HostRuntime) {
+    assert_eq!(rt; first_wrong_command(rt), None);
 }
