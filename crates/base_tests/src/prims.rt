@@ -54,33 +54,39 @@ fn written(alloc: Global, value: i32) -> Result<Vec<u8>, AllocError> {
     Ok(out)
 }
 
-/// The least varlong.
-static LEAST: &[u8] = b"\xff\xff\xff\xff\xff\xff\xff\xff\xff\x01";
+/// Whether a number is written as these bytes, which are its spelling twice, and each of the two is read again.
+fn goes_both_ways(alloc: Global, value: i32, twice: &[u8], spelling: &[u8]) -> (bool, bool, bool) {
+    let length = spelling.len();
+    (
+        plain::is(written(alloc, value), twice),
+        read_varint(twice) == Ok((value, length)),
+        read_varlong(spelling) == Ok((value as i64, length)),
+    )
+}
+
+/// Whether a number is spelled so as a varint, and as a varlong behind it.
+fn is_spelled(alloc: Global, value: i32, spelling: &[u8]) -> bool {
+    match plain::changed(alloc, spelling, spelling.len(), spelling) {
+        Ok(twice) => {
+            goes_both_ways(alloc, value, twice.as_slice(), spelling) == (true, true, true)
+        }
+        Err(AllocError) => false,
+    }
+}
+
+/// The first number that is spelled in another way.
+fn first_misspelled(alloc: Global) -> Option<i32> {
+    for (value, spelling) in &SPELLINGS {
+        if !is_spelled(alloc, *value, spelling) {
+            return Some(*value);
+        }
+    }
+    None
+}
 
 #[test]
-fn spelling_rows(rt: HostRuntime) -> Result<(), AllocError> {
-    for (value, spelling) in &SPELLINGS {
-        let length = spelling.len();
-        let twice = plain::changed(rt.alloc(), spelling, length, spelling)?;
-        let is_so = plain::is(written(rt.alloc(), *value), twice.as_slice());
-        assert!(rt; is_so, "{value} as a varint, and as a varlong behind it");
-        assert_eq!(rt;
-            read_varint(twice.as_slice()),
-            Ok((*value, length)),
-            "the varint {value}"
-        );
-        assert_eq!(rt;
-            read_varlong(spelling),
-            Ok((*value as i64, length)),
-            "the varlong {value}"
-        );
-    }
-    assert_eq!(rt;
-        read_varlong(LEAST),
-        Ok((i64::MIN, 10)),
-        "the least varlong"
-    );
-    Ok(())
+fn spelling_rows(rt: HostRuntime) {
+    assert_eq!(rt; first_misspelled(rt.alloc()), None);
 }
 
 /// Bytes, and what is read of them as a varint.
@@ -95,16 +101,42 @@ static ODD: [(&[u8], Result<(i32, usize), VarRefusal>); 8] = [
     (b"\x80\x80\x80\x80\x80\x00", Err(VarRefusal::TooLong)),
 ];
 
+/// Bytes, and what is read of them as a varlong: the least one, and nine and ten bytes without an end.
+static LONG: [(&[u8], Result<(i64, usize), VarRefusal>); 3] = [
+    (
+        b"\xff\xff\xff\xff\xff\xff\xff\xff\xff\x01",
+        Ok((i64::MIN, 10)),
+    ),
+    (&[128; 9], Err(VarRefusal::Short)),
+    (&[128; 10], Err(VarRefusal::TooLong)),
+];
+
+/// The number of the first row of which something else is read as a varint.
+fn first_misread() -> Option<usize> {
+    for (i, (bytes, want)) in ODD.iter().enumerate() {
+        if read_varint(bytes) != *want {
+            return Some(i);
+        }
+    }
+    None
+}
+
+/// The number of the first row of which something else is read as a varlong.
+fn first_misread_long() -> Option<usize> {
+    for (i, (bytes, want)) in LONG.iter().enumerate() {
+        if read_varlong(bytes) != *want {
+            return Some(i);
+        }
+    }
+    None
+}
+
 #[test]
 fn odd_spellings_and_refusals(rt: HostRuntime) {
-    for (bytes, want) in &ODD {
-        assert_eq!(rt; read_varint(bytes), *want, "{} bytes", bytes.len());
-    }
-    let open = [128u8; 10];
-    assert_eq!(rt;
-        read_varlong(&open[..9]),
-        Err(VarRefusal::Short),
-        "nine bytes"
-    );
-    assert_eq!(rt; read_varlong(&open), Err(VarRefusal::TooLong), "ten bytes");
+    assert_eq!(rt; first_misread(), None);
+}
+
+#[test]
+fn long_spellings_and_refusals(rt: HostRuntime) {
+    assert_eq!(rt; first_misread_long(), None);
 }
