@@ -84,26 +84,41 @@ static FOUND: [(u32, u64, u64, u32); 4] = [
     (7, 127, 127, 8280),
 ];
 
+/// The number of the first row that is found elsewhere.
+fn first_misfound(alloc: Global) -> Option<usize> {
+    for (i, (base, offset, at, position)) in FOUND.iter().enumerate() {
+        if found(alloc, *base, *offset) != Some((*at, *position)) {
+            return Some(i);
+        }
+    }
+    None
+}
+
 #[test]
 fn indexes_answer_as_the_rows_say(rt: HostRuntime) {
-    for (base, offset, at, position) in &FOUND {
-        assert_eq!(rt;
-            found(rt.alloc(), *base, *offset),
-            Some((*at, *position)),
-            "{base} {offset}"
-        );
+    assert_eq!(rt; first_misfound(rt.alloc()), None);
+}
+
+/// A timestamp, the entry that is found at it, and the one below it.
+static TIMED: [(i64, Option<(i64, u64)>, Option<(i64, u64)>); 3] = [
+    (999, None, None),
+    (1000, Some((1000, 7)), None), // the entry itself isn't below
+    (1001, Some((1000, 7)), Some((1000, 7))),
+];
+
+/// The first timestamp at which another entry is found.
+fn first_mistimed(alloc: Global) -> Option<i64> {
+    for (timestamp, at, below) in &TIMED {
+        if timed(alloc, *timestamp) != (*at, *below) {
+            return Some(*timestamp);
+        }
     }
-    assert_eq!(rt; timed(rt.alloc(), 999), (None, None), "before the entry");
-    assert_eq!(rt;
-        timed(rt.alloc(), 1000),
-        (Some((1000, 7)), None),
-        "the entry itself isn't below"
-    );
-    assert_eq!(rt;
-        timed(rt.alloc(), 1001),
-        (Some((1000, 7)), Some((1000, 7))),
-        "behind it"
-    );
+    None
+}
+
+#[test]
+fn time_indexes_answer_as_the_rows_say(rt: HostRuntime) {
+    assert_eq!(rt; first_mistimed(rt.alloc()), None);
 }
 
 /// What is told of bytes that are no offset index.
@@ -142,17 +157,25 @@ static BAD: [(&[u8], IndexRefusal); 4] = [
 /// An entry of a negative timestamp.
 static NEGATIVE: [u8; 12] = [0xff, 0xff, 0xff, 0xff, 0xff, 0xff, 0xff, 0xff, 0, 0, 0, 0];
 
+/// The number of the first row of which something else is told.
+fn first_untold(alloc: Global) -> Option<usize> {
+    for (i, (bytes, wanted)) in BAD.iter().enumerate() {
+        if refusal(alloc, bytes) != Some(*wanted) {
+            return Some(i);
+        }
+    }
+    None
+}
+
 #[test]
 fn bytes_tell_their_first_bad_entry(rt: HostRuntime) {
-    for (bytes, wanted) in &BAD {
-        let told = refusal(rt.alloc(), bytes);
-        assert_eq!(rt; told, Some(*wanted), "{wanted}");
-    }
-    assert_eq!(rt;
-        time_refusal(rt.alloc(), NEGATIVE.as_slice()),
-        Some(IndexRefusal::NotRising { at: 0 }),
-        "a negative timestamp"
-    );
+    assert_eq!(rt; first_untold(rt.alloc()), None);
+}
+
+#[test]
+fn a_negative_timestamp_is_told(rt: HostRuntime) {
+    let told = time_refusal(rt.alloc(), NEGATIVE.as_slice());
+    assert!(rt; told == Some(IndexRefusal::NotRising { at: 0 }));
 }
 
 /// Whether an index finds what a plain search does.
