@@ -229,29 +229,32 @@ static FUSED: [Step; 9] = [
 
 #[test]
 fn planned_calls_fail_once_armed(rt: HostRuntime) {
-    assert_eq!(rt; row(rt.alloc(), &THREE, &ARMED), (THREE.len(), ARMED.len()));
+    assert!(rt; row(rt.alloc(), &THREE, &ARMED) == (THREE.len(), ARMED.len()));
 }
 
 #[test]
-fn planned_calls_fail_in_whatever_order_a_plan_names_them(rt: HostRuntime) {
-    assert_eq!(rt;
-        row(rt.alloc(), &RISING, &MIXED),
-        (RISING.len(), MIXED.len())
-    );
-    assert_eq!(rt;
-        row(rt.alloc(), &FALLING, &MIXED),
-        (FALLING.len(), MIXED.len())
-    );
+fn planned_calls_fail_in_a_rising_plan(rt: HostRuntime) {
+    assert!(rt; row(rt.alloc(), &RISING, &MIXED) == (RISING.len(), MIXED.len()));
+}
+
+#[test]
+fn planned_calls_fail_in_a_falling_plan(rt: HostRuntime) {
+    assert!(rt; row(rt.alloc(), &FALLING, &MIXED) == (FALLING.len(), MIXED.len()));
 }
 
 #[test]
 fn a_fuse_fails_every_call_from_a_number_on(rt: HostRuntime) {
-    assert_eq!(rt; row(rt.alloc(), &[], &FUSED), (0, FUSED.len()));
+    assert!(rt; row(rt.alloc(), &[], &FUSED) == (0, FUSED.len()));
 }
 
 #[test]
 fn a_call_that_failed_gives_no_value(rt: HostRuntime) {
-    assert_eq!(rt; give(Ok(()), 7u32), Ok(7));
-    assert_eq!(rt; give(Err(Failed), 7u32), Err(Trouble::Failed));
-    assert!(rt; Ending::DoneAndFailed.is_done() && !Ending::DoneAndFailed.is_ok());
+    let given = (give(Ok(()), 7u32), give(Err(Failed), 7u32));
+    assert!(rt; given == (Ok(7), Err(Trouble::Failed)));
+}
+
+#[test]
+fn a_call_that_was_done_may_have_failed(rt: HostRuntime) {
+    let ending = Ending::DoneAndFailed;
+    assert!(rt; (ending.is_done(), ending.is_ok()) == (true, false));
 }
