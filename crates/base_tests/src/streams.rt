@@ -333,11 +333,18 @@ fn overfill() -> Result<(), Failed> {
 }
 
 #[test]
-fn streams_of_std_carry_bytes(rt: HostRuntime) {
-    assert!(rt; reads_std(rt.alloc(), b"some bytes"), "what is read");
-    let wrote = writes_vec(rt.alloc(), b"some bytes");
-    assert_eq!(rt; wrote, (true, true), "what is written");
-    assert_eq!(rt; overfill(), Err(Failed), "nothing more is taken");
+fn a_source_of_std_is_read(rt: HostRuntime) {
+    assert!(rt; reads_std(rt.alloc(), b"some bytes"));
+}
+
+#[test]
+fn a_sink_of_std_is_written_to(rt: HostRuntime) {
+    assert!(rt; writes_vec(rt.alloc(), b"some bytes") == (true, true));
+}
+
+#[test]
+fn a_full_sink_of_std_takes_nothing_more(rt: HostRuntime) {
+    assert!(rt; overfill() == Err(Failed));
 }
 
 /// Fails by the one or the other cause.
