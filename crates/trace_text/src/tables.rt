@@ -1,7 +1,9 @@
 //! The names of answers, read. An answer is told by its name and by how many fields follow.
 
-ghost use Rattle.std.specs.Prelude.{◌≡◌};
-ghost use Rattle.trace_text.specs.Reading.{bare_in, counted_in, paired_in};
+ghost use Rattle.std.specs.Prelude.{◌≡◌, drop};
+ghost use Rattle.trace_text.specs.Fields.{named};
+ghost use Rattle.trace_text.specs.Reading.{bare_answers, counted_answers, bare_in, counted_in, paired_in};
+ghost use Rattle.trace_text.specs.Trace.{name_of};
 
 use plain_log::Answer;
 
@@ -31,6 +33,13 @@ pub fn bare(name: &[u8]) -> Option<Answer>
     if name == b"EmptySegment".as_slice() {
         return Some(Answer::EmptySegment);
     }
+    bare_of_brokers(name)
+}
+
+/// Goes on with those to elections, joins and followers.
+fn bare_of_brokers(name: &[u8]) -> Option<Answer>
+    ensures { result ≡ named name_of name.now (drop 7 bare_answers) }
+{
     if name == b"LastEpoch".as_slice() {
         return Some(Answer::LastEpoch);
     }
@@ -52,6 +61,13 @@ pub fn bare(name: &[u8]) -> Option<Answer>
     if name == b"Stopped".as_slice() {
         return Some(Answer::Stopped);
     }
+    bare_of_tier(name)
+}
+
+/// Goes on with those of devices, and of a partition's remote tier.
+fn bare_of_tier(name: &[u8]) -> Option<Answer>
+    ensures { result ≡ named name_of name.now (drop 14 bare_answers) }
+{
     if name == b"MetaFault".as_slice() {
         return Some(Answer::MetaFault);
     }
@@ -70,6 +86,13 @@ pub fn bare(name: &[u8]) -> Option<Answer>
     if name == b"LostLead".as_slice() {
         return Some(Answer::LostLead);
     }
+    bare_of_reads(name)
+}
+
+/// Goes on with those to trims, brokers that come up, and reads.
+fn bare_of_reads(name: &[u8]) -> Option<Answer>
+    ensures { result ≡ named name_of name.now (drop 20 bare_answers) }
+{
     if name == b"Kept".as_slice() {
         return Some(Answer::Kept);
     }
@@ -114,6 +137,13 @@ pub fn counted(name: &[u8], n: u64) -> Option<Answer>
     if name == b"StaleEpoch".as_slice() {
         return Some(Answer::StaleEpoch(n));
     }
+    counted_of_followers(name, n)
+}
+
+/// Goes on with those of followers.
+fn counted_of_followers(name: &[u8], n: u64) -> Option<Answer>
+    ensures { result ≡ named name_of name.now (drop 6 (counted_answers n)) }
+{
     if name == b"Cut".as_slice() {
         return Some(Answer::Cut(n));
     }
@@ -129,6 +159,13 @@ pub fn counted(name: &[u8], n: u64) -> Option<Answer>
     if name == b"Moved".as_slice() {
         return Some(Answer::Moved(n));
     }
+    counted_of_tier(name, n)
+}
+
+/// Goes on with those of the remote tier, of starts and of reads.
+fn counted_of_tier(name: &[u8], n: u64) -> Option<Answer>
+    ensures { result ≡ named name_of name.now (drop 11 (counted_answers n)) }
+{
     if name == b"Copied".as_slice() {
         return Some(Answer::Copied(n));
     }
