@@ -1,3 +1,4 @@
+pub mod Rows
 pub mod Capped
 pub mod Splitting
 pub mod FromFront

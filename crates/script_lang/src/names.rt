@@ -93,6 +93,21 @@ fn begins_with_digit(word: &[u8]) -> bool
     }
 }
 
+/// What the names that begin a line announce.
+static LEADS: [(&str, Lead); 11] = [
+    ("brokers", Lead::Brokers),
+    ("partitions", Lead::Partitions),
+    ("segment_bytes", Lead::SegmentBytes),
+    ("index_interval_bytes", Lead::IndexIntervalBytes),
+    ("retention_ms", Lead::RetentionMs),
+    ("retention_bytes", Lead::RetentionBytes),
+    ("local_retention_ms", Lead::LocalRetentionMs),
+    ("local_retention_bytes", Lead::LocalRetentionBytes),
+    ("later", Lead::Later),
+    ("turn", Lead::Turn),
+    ("fault", Lead::Fault),
+];
+
 /// Finds what a first word announces.
 #[tactic(auto, unfolding(crate::specs::Names::lead_of))]
 pub fn find_lead(word: &[u8]) -> Lead
@@ -101,38 +116,10 @@ pub fn find_lead(word: &[u8]) -> Lead
     if begins_with_hash(word) {
         return Lead::Comment;
     }
-    if word == b"brokers".as_slice() {
-        return Lead::Brokers;
-    }
-    if word == b"partitions".as_slice() {
-        return Lead::Partitions;
-    }
-    if word == b"segment_bytes".as_slice() {
-        return Lead::SegmentBytes;
-    }
-    if word == b"index_interval_bytes".as_slice() {
-        return Lead::IndexIntervalBytes;
-    }
-    if word == b"retention_ms".as_slice() {
-        return Lead::RetentionMs;
-    }
-    if word == b"retention_bytes".as_slice() {
-        return Lead::RetentionBytes;
-    }
-    if word == b"local_retention_ms".as_slice() {
-        return Lead::LocalRetentionMs;
-    }
-    if word == b"local_retention_bytes".as_slice() {
-        return Lead::LocalRetentionBytes;
-    }
-    if word == b"later".as_slice() {
-        return Lead::Later;
-    }
-    if word == b"turn".as_slice() {
-        return Lead::Turn;
-    }
-    if word == b"fault".as_slice() {
-        return Lead::Fault;
+    for (name, lead) in &LEADS {
+        if word == name.as_bytes() {
+            return *lead;
+        }
     }
     if begins_with_digit(word) {
         return Lead::Actor;
@@ -140,79 +127,42 @@ pub fn find_lead(word: &[u8]) -> Lead
     Lead::Unknown
 }
 
+/// The commands by their names.
+static VERBS: [(&str, Verb); 23] = [
+    ("append", Verb::Append),
+    ("raw", Verb::Raw),
+    ("flush", Verb::Flush),
+    ("roll", Verb::Roll),
+    ("elect", Verb::Elect),
+    ("unclean", Verb::Unclean),
+    ("learn", Verb::Learn),
+    ("join", Verb::Join),
+    ("follow", Verb::Follow),
+    ("ack", Verb::Ack),
+    ("shrink", Verb::Shrink),
+    ("expand", Verb::Expand),
+    ("copy", Verb::Copy),
+    ("trim", Verb::Trim),
+    ("expire", Verb::Expire),
+    ("raise", Verb::Raise),
+    ("clock", Verb::Clock),
+    ("stop", Verb::Stop),
+    ("up", Verb::Up),
+    ("fetch", Verb::Fetch),
+    ("pack", Verb::Pack),
+    ("copying", Verb::Copying),
+    ("offset", Verb::Offset),
+];
+
 /// Finds a command by its name.
 #[tactic(auto, unfolding(crate::specs::Names::verb_of))]
 pub fn find_verb(word: &[u8]) -> Verb
     ensures { result ≡ verb_of word.now }
 {
-    if word == b"append".as_slice() {
-        return Verb::Append;
-    }
-    if word == b"raw".as_slice() {
-        return Verb::Raw;
-    }
-    if word == b"flush".as_slice() {
-        return Verb::Flush;
-    }
-    if word == b"roll".as_slice() {
-        return Verb::Roll;
-    }
-    if word == b"elect".as_slice() {
-        return Verb::Elect;
-    }
-    if word == b"unclean".as_slice() {
-        return Verb::Unclean;
-    }
-    if word == b"learn".as_slice() {
-        return Verb::Learn;
-    }
-    if word == b"join".as_slice() {
-        return Verb::Join;
-    }
-    if word == b"follow".as_slice() {
-        return Verb::Follow;
-    }
-    if word == b"ack".as_slice() {
-        return Verb::Ack;
-    }
-    if word == b"shrink".as_slice() {
-        return Verb::Shrink;
-    }
-    if word == b"expand".as_slice() {
-        return Verb::Expand;
-    }
-    if word == b"copy".as_slice() {
-        return Verb::Copy;
-    }
-    if word == b"trim".as_slice() {
-        return Verb::Trim;
-    }
-    if word == b"expire".as_slice() {
-        return Verb::Expire;
-    }
-    if word == b"raise".as_slice() {
-        return Verb::Raise;
-    }
-    if word == b"clock".as_slice() {
-        return Verb::Clock;
-    }
-    if word == b"stop".as_slice() {
-        return Verb::Stop;
-    }
-    if word == b"up".as_slice() {
-        return Verb::Up;
-    }
-    if word == b"fetch".as_slice() {
-        return Verb::Fetch;
-    }
-    if word == b"pack".as_slice() {
-        return Verb::Pack;
-    }
-    if word == b"copying".as_slice() {
-        return Verb::Copying;
-    }
-    if word == b"offset".as_slice() {
-        return Verb::Offset;
+    for (name, verb) in &VERBS {
+        if word == name.as_bytes() {
+            return *verb;
+        }
     }
     Verb::Unknown
 }

@@ -215,16 +215,25 @@ impl Told {
         }
     }
 
-    /// Reads a line.
-    #[tactic(auto, unfolding(crate::specs::Script::line_behind, crate::specs::Script::form_behind))]
-    pub fn with_line(self, alloc: Global, line: &[u8]) -> Result<Told, LineRefusal>
-        ensures { Reads result (line_behind self line.now) }
+    /// Puts a form behind the lines so far, where it may stand there.
+    #[tactic(auto, unfolding(crate::specs::Script::form_behind))]
+    fn try_form(self, form: Form) -> Result<Told, LineRefusal>
+        requires { IsFormInRange self.options form }
+        ensures { Reads result (form_behind self form) }
     {
-        let form = form(alloc, self.options, Words::of(text(line)?))?;
         self.allow(&form)?;
         let counts = self.count(&form)?;
         check_built(&form)?;
         Ok(self.with_form(counts, form)?)
+    }
+
+    /// Reads a line.
+    #[tactic(auto, unfolding(crate::specs::Script::line_behind))]
+    pub fn with_line(self, alloc: Global, line: &[u8]) -> Result<Told, LineRefusal>
+        ensures { Reads result (line_behind self line.now) }
+    {
+        let form = form(alloc, self.options, Words::of(text(line)?))?;
+        self.try_form(form)
     }
 
     /// Makes the script of all lines.
