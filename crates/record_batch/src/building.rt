@@ -3,7 +3,7 @@
 //! The size is reckoned first, so that a batch that would be too large takes no memory. The bytes are then written in
 //! order into one vector, with the checksum's place left open, which is filled at the end.
 
-ghost use Rattle.std.specs.Prelude.{◌≡◌, ◌+◌, ◌-◌, ◌^◌, ◌<◌, ◌≤◌, ◌↔◌, [], ◌++◌, length, take, drop, replicate, All, FitsSigned, Ok, OnOk, IfOk, IsErrOf};
+ghost use Rattle.std.specs.Prelude.{◌≡◌, ◌+◌, ◌-◌, ◌^◌, ◌<◌, ◌≤◌, ◌↔◌, [], ◌∷◌, ◌++◌, length, take, drop, replicate, All, FitsSigned, Ok, OnOk, IfOk, IsErrOf};
 ghost use Rattle.std.specs.Int.{w64};
 ghost use Rattle.batch_prims.specs.Crc.{crc32c as sum_of};
 ghost use Rattle.log_terms.specs.Batch.{max_ts_of};
@@ -71,6 +71,14 @@ fn push_times_and_count(
     push_u32(out, count)
 }
 
+/// The attributes, which are 0, and the last record's offset delta.
+fn push_attributes_and_delta(out: &mut Vec<u8>, delta: u32) -> Result<(), AllocError>
+    ensures { OnOk result (out.new.items ≡ out.old.items ++ (0 ∷ 0 ∷ u32_bytes delta)) }
+{
+    out.extend_from_slice([0; 2].as_slice())?;
+    push_u32(out, delta)
+}
+
 /// The head from the attributes on.
 #[tactic(auto, unfolding(crate::specs::Build::late_head))]
 fn push_late_head(out: &mut Vec<u8>, recs: &[Rec]) -> Result<(), AllocError>
@@ -81,8 +89,7 @@ fn push_late_head(out: &mut Vec<u8>, recs: &[Rec]) -> Result<(), AllocError>
     ensures times { OnOk result (All (λ (r : Rec). FitsSigned w64 r.ts) recs.now) }
 {
     let count = recs.len() as u32;
-    out.extend_from_slice([0; 2].as_slice())?;
-    push_u32(out, count - 1)?;
+    push_attributes_and_delta(out, count - 1)?;
     push_times_and_count(out, first_ts(recs), greatest_ts(recs), count)
 }
 
