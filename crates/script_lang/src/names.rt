@@ -167,80 +167,71 @@ pub fn find_verb(word: &[u8]) -> Verb
     Verb::Unknown
 }
 
+/// Which offset each word asks for.
+static OFFSETS: [(&str, OffsetName); 5] = [
+    ("earliest", OffsetName::Earliest),
+    ("latest", OffsetName::Latest),
+    ("earliest_local", OffsetName::EarliestLocal),
+    ("latest_tiered", OffsetName::LatestTiered),
+    ("at", OffsetName::At),
+];
+
 /// Finds which offset is asked for.
 #[tactic(auto, unfolding(crate::specs::Names::offset_of))]
 pub fn find_offset(word: &[u8]) -> OffsetName
     ensures { result ≡ offset_of word.now }
 {
-    if word == b"earliest".as_slice() {
-        return OffsetName::Earliest;
-    }
-    if word == b"latest".as_slice() {
-        return OffsetName::Latest;
-    }
-    if word == b"earliest_local".as_slice() {
-        return OffsetName::EarliestLocal;
-    }
-    if word == b"latest_tiered".as_slice() {
-        return OffsetName::LatestTiered;
-    }
-    if word == b"at".as_slice() {
-        return OffsetName::At;
+    for (name, offset) in &OFFSETS {
+        if word == name.as_bytes() {
+            return *offset;
+        }
     }
     OffsetName::Unknown
 }
+
+/// The kinds of devices by their names.
+static DEVICES: [(&str, DeviceName); 3] = [
+    ("disk", DeviceName::Disk),
+    ("store", DeviceName::Store),
+    ("meta", DeviceName::Meta),
+];
 
 /// Finds a kind of device by its name.
 #[tactic(auto, unfolding(crate::specs::Names::device_of))]
 pub fn find_device(word: &[u8]) -> DeviceName
     ensures { result ≡ device_of word.now }
 {
-    if word == b"disk".as_slice() {
-        return DeviceName::Disk;
-    }
-    if word == b"store".as_slice() {
-        return DeviceName::Store;
-    }
-    if word == b"meta".as_slice() {
-        return DeviceName::Meta;
+    for (name, device) in &DEVICES {
+        if word == name.as_bytes() {
+            return *device;
+        }
     }
     DeviceName::Unknown
 }
+
+/// The device calls by their names.
+static CALLS: [(&str, FaultCall); 10] = [
+    ("append", FaultCall::Append),
+    ("sync", FaultCall::Sync),
+    ("read", FaultCall::Read),
+    ("cut", FaultCall::Cut),
+    ("replace", FaultCall::Replace),
+    ("remove", FaultCall::Remove),
+    ("list", FaultCall::List),
+    ("put", FaultCall::Put),
+    ("get", FaultCall::Get),
+    ("delete", FaultCall::Delete),
+];
 
 /// Finds a device call by its name.
 #[tactic(auto, unfolding(crate::specs::Names::call_of))]
 pub fn find_call(word: &[u8]) -> Option<FaultCall>
     ensures { result ≡ call_of word.now }
 {
-    if word == b"append".as_slice() {
-        return Some(FaultCall::Append);
-    }
-    if word == b"sync".as_slice() {
-        return Some(FaultCall::Sync);
-    }
-    if word == b"read".as_slice() {
-        return Some(FaultCall::Read);
-    }
-    if word == b"cut".as_slice() {
-        return Some(FaultCall::Cut);
-    }
-    if word == b"replace".as_slice() {
-        return Some(FaultCall::Replace);
-    }
-    if word == b"remove".as_slice() {
-        return Some(FaultCall::Remove);
-    }
-    if word == b"list".as_slice() {
-        return Some(FaultCall::List);
-    }
-    if word == b"put".as_slice() {
-        return Some(FaultCall::Put);
-    }
-    if word == b"get".as_slice() {
-        return Some(FaultCall::Get);
-    }
-    if word == b"delete".as_slice() {
-        return Some(FaultCall::Delete);
+    for (name, call) in &CALLS {
+        if word == name.as_bytes() {
+            return Some(*call);
+        }
     }
     None
 }
