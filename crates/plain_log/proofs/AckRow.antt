@@ -2,6 +2,7 @@
 use Rattle.std.proofs.Common.{◌≡◌, inl, inr, subst, ℕ, ◌≤◌, ◌<◌, max, min, List, Some, None, Option, slice_get, slice_set, Bool, true, false, not, refl, ap, sym, ◌∙◌, arith}
 use Rattle.std.specs.Prelude.{nat_lt, nat_le, unwrap_or, is_some}
 use Rattle.std.proofs.lemmas.Bool.Decides.{nat_tests}
+use Rattle.std.proofs.lemmas.Option.{none-some}
 use mathlib.Core.List.{IsPrefix}
 use Rattle.log_terms.specs.Log.{IsConsecutive, end_of, up_to, EndsAt}
 use Rattle.log_terms.proofs.Lists.{and_then_some, get-set, each-set, length-slice_set, prefix_self, prefix_trans, look, within}
@@ -173,4 +174,4 @@ ack_keeps p b x r (OkAt m) q bx br e s =
     let fresh : not (is_stale p (acking x.role)) ≡ true = grind (arith, nat_tests, w) in
     let on = on_path p.paths p.registry.epoch x.role x.log f.0 some (stale_as p (acking x.role) some fresh) f.1 (s.brokers b x bx).role in
     acknowledged_keeps p b x r f.0 bx br up on f.1 s)
-ack_keeps p b x r other q bx br e s = absurd cc
+ack_keeps p b x r other q bx br e s = absurd (none-some q e)

@@ -2,6 +2,7 @@
 use Rattle.std.proofs.Common.{◌≡◌, ◌≢◌, ◌⊎◌, inl, inr, subst, ℕ, ◌≤◌, ◌<◌, ◌^◌, ◌+◌, ◌==◌, List, [], ◌∷◌, ◌++◌, length, Some, Option, Result, Ok, Err, slice_get, Bool, true, false, ◌&&◌, if◌then◌else◌, refl, ap, sym, ◌∙◌, arith}
 use Rattle.std.specs.Prelude.{unwrap_or}
 use Rattle.std.proofs.lemmas.Bool.Decides.{nat_tests}
+use Rattle.std.proofs.lemmas.Option.{none-some}
 use mathlib.Core.List.{IsPrefix}
 use Rattle.log_terms.specs.Batch.{base_of, epoch_of, last_offset_delta_of}
 use Rattle.log_terms.specs.Log.{end_of}
@@ -246,7 +247,7 @@ append_keeps p b x batch (OkSpan base last n) q at long e s =
     by_when p (gained p b x n (stamped batch base n)) q
     (x.up && leads_in n x.role && has_room x batch && (base == end_of x.log) && (last == base + last_offset_delta_of batch)) e
     (λ w. grown p (gained p b x n (stamped batch base n)) refl refl refl (longer_wider p.paths n (stamped batch base n)) (appended_safe p b x batch base n at long (appends_of x batch base last n w) s))
-append_keeps p b x batch other q at long e s = absurd cc
+append_keeps p b x batch other q at long e s = absurd (none-some q e)
 
 -- the row of raw
 pub raw_keeps : (p : State) (b : ℕ) (x : Broker) (bytes : List ℕ) (reading : Result Batch BatchRefusal) (answer : Answer) (q : State) → slice_get p.brokers b ≡ Some x
@@ -255,4 +256,4 @@ raw_keeps p b x bytes (Ok batch) answer q at long e s = append_keeps p b x bytes
 raw_keeps p b x bytes (Err why) Down q at long e s = silent p q _ e s
 raw_keeps p b x bytes (Err why) NotLeader q at long e s = silent p q _ e s
 raw_keeps p b x bytes (Err why) (Refused cause) q at long e s = silent p q _ e s
-raw_keeps p b x bytes (Err why) other q at long e s = absurd cc
+raw_keeps p b x bytes (Err why) other q at long e s = absurd (none-some q e)

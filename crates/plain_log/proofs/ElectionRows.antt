@@ -2,6 +2,7 @@
 use Rattle.std.proofs.Common.{◌≡◌, ℕ, ◌<◌, ◌+◌, ◌==◌, Some, slice_get, true, ◌&&◌, not, refl, arith}
 use Rattle.std.specs.Prelude.{nat_le}
 use Rattle.std.proofs.lemmas.Bool.Decides.{nat_tests}
+use Rattle.std.proofs.lemmas.Option.{none-some}
 use Rattle.registry.specs.declared.registry.Replica.{Replica}
 use Rattle.registry.specs.Registry.{epoch_limit, elected, elected_alone}
 use Rattle.registry.specs.Calls.{is_last}
@@ -34,7 +35,7 @@ elect_keeps p b x r (OkAt n) q at e s =
     let t3 = both (not (is_last p.registry)) r.in_sync t2.0 in
     kept p (set_registry p (elected p.registry b)) refl refl refl refl
     (elected_safe p b r at t3.1 (below_last p.registry.epoch epoch_limit t3.0) s))
-elect_keeps p b x r other q at e s = absurd cc
+elect_keeps p b x r other q at e s = absurd (none-some q e)
 
 -- the row of unclean
 pub unclean_keeps : (p : State) (b : ℕ) (x : Broker) (answer : Answer) (q : State) → slice_get p.brokers b ≡ Some x
@@ -55,4 +56,4 @@ unclean_keeps p b x (OkAt n) q at e s =
       grows = λ u. absurd cc;
       clean = λ u. absurd cc;
     })
-unclean_keeps p b x other q at e s = absurd cc
+unclean_keeps p b x other q at e s = absurd (none-some q e)

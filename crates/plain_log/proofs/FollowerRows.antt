@@ -2,6 +2,7 @@
 use Rattle.std.proofs.Common.{◌≡◌, ◌∙◌, ap, sym, subst, refl, ℕ, ◌≤◌, ◌==◌, min, [], length, drop, Some, None, Option, slice_get, true, ◌&&◌, not, arith}
 use Rattle.std.specs.Prelude.{option_map}
 use Rattle.std.proofs.lemmas.Bool.Decides.{nat_tests}
+use Rattle.std.proofs.lemmas.Option.{none-some}
 use Rattle.log_terms.specs.Log.{end_of, EndsAt}
 use Rattle.log_terms.proofs.Lists.{and_then_some}
 use Rattle.log_terms.proofs.Logs.{ends_below, ends_at_zero}
@@ -81,7 +82,7 @@ later_keeps : (p : State) (x : Broker) (noted : Noted) (answer : Answer) (q : St
 later_keeps p x noted Stopped q e s = silent p q _ e s
 later_keeps p x noted (StaleEpoch n) q e s = silent p q _ e s
 later_keeps p x noted (Passed n) q e s = silent p q _ e s
-later_keeps p x noted other q e s = absurd cc
+later_keeps p x noted other q e s = absurd (none-some q e)
 
 -- the row of join
 pub join_keeps : (p : State) (b : ℕ) (x : Broker) (noted : Option Noted) (answer : Answer) (q : State) → slice_get p.brokers b ≡ Some x → JoinedNoted p x noted
@@ -93,7 +94,7 @@ join_keeps p b x None NoLeader q at j e s = silent p q _ e s
 join_keeps p b x None (DiskFaultAt n) q at j e s = join_fault p b x n q at e s
 join_keeps p b x None (Cut n) q at j e s =
     by_broker p q (put_broker p b) (cut_to p x n) e (λ y is. broker_kept p b x y at (swap_cut p x n y is (s.brokers b x at) (s.known b x at)) s)
-join_keeps p b x None other q at j e s = absurd cc
+join_keeps p b x None other q at j e s = absurd (none-some q e)
 join_keeps p b x (Some noted) (BelowStart start) q at j e s = silent p q _ e s
 join_keeps p b x (Some noted) MetaFault q at j e s = silent p q _ e s
 join_keeps p b x (Some noted) StoreFault q at j e s = silent p q _ e s
@@ -123,7 +124,7 @@ follow_keeps p b x limit None Level q at j e s = silent p q _ e s
 follow_keeps p b x limit None (Moved n) q at j e s = silent p q _ e s
 follow_keeps p b x limit None DiskFault q at j e s = silent p q _ e s
 follow_keeps p b x limit None (Damaged place k) q at j e s = silent p q _ e s
-follow_keeps p b x limit None other q at j e s = absurd cc
+follow_keeps p b x limit None other q at j e s = absurd (none-some q e)
 follow_keeps p b x limit (Some noted) TooManySegments q at j e s = silent p q _ e s
 follow_keeps p b x limit (Some noted) DiskFault q at j e s = by_when p (breaks p b x) q _ e (λ _. breaks_kept p b x at s)
 follow_keeps p b x limit (Some noted) (Copied n) q at j e s =

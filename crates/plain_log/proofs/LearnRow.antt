@@ -1,6 +1,7 @@
 -- A broker learns of the registry's epoch, and may take its lead.
 use Rattle.std.proofs.Common.{◌≡◌, ◌≢◌, ◌⊎◌, inl, inr, subst, ℕ, ◌≤◌, ◌==◌, List, ◌∷◌, Some, None, Option, slice_get, slice_set, Bool, true, false, ◌&&◌, not, refl, ap, sym, ◌∙◌, arith}
 use Rattle.std.proofs.lemmas.Bool.Decides.{nat_tests}
+use Rattle.std.proofs.lemmas.Option.{none-some}
 use mathlib.Core.List.{IsPrefix}
 use Rattle.log_terms.specs.Batch.{epoch_of}
 use Rattle.log_terms.specs.Log.{end_of}
@@ -245,4 +246,4 @@ learn_keeps p b x r (LeadsAnswer n) q bx br e s =
 learn_keeps p b x r DiskFault q bx br e s =
     by_when p (record (breaks p b x) { broken = p.registry.epoch ∷ p.broken }) q (may_lead p b x p.registry.epoch) e
     (λ _. kept p _ refl refl refl refl (broken_safe (breaks p b x) (p.registry.epoch ∷ p.broken) (is_in_more p s) (breaks_kept p b x bx s).safe))
-learn_keeps p b x r other q bx br e s = absurd cc
+learn_keeps p b x r other q bx br e s = absurd (none-some q e)

@@ -2,6 +2,7 @@
 use Rattle.std.proofs.Common.{◌≡◌, subst, ℕ, ◌≤◌, ◌==◌, Some, slice_get, Bool, true, false, ◌&&◌, not, refl, arith}
 use Rattle.std.specs.Prelude.{nat_le}
 use Rattle.std.proofs.lemmas.Bool.Decides.{nat_tests}
+use Rattle.std.proofs.lemmas.Option.{none-some}
 use Rattle.log_terms.specs.Log.{end_of, EndsAt}
 use Rattle.plain_log.specs.declared.answer.Answer.{Answer}
 use Rattle.plain_log.specs.declared.answer.Answer.TheVariants.{Ok, OkAt, Down, TooManySegments, DiskFault, EmptySegment, Damaged, IsUp, LastIncarnation, Up}
@@ -28,7 +29,7 @@ flush_keeps p b x (OkAt n) q at e s =
     let all : EndsAt n x.log = subst (λ (k : ℕ). EndsAt k x.log) is (ends_at_end x.log) in
     broker_kept p b x (record x { stable = n }) at
     (swap_all_stable p x n all (omega (arith, is, ends_below x.stable x.log h.log.consecutive h.stable)) h (s.known b x at)) s)
-flush_keeps p b x other q at e s = absurd cc
+flush_keeps p b x other q at e s = absurd (none-some q e)
 
 -- the row of roll
 pub roll_keeps : (p : State) (b : ℕ) (x : Broker) (answer : Answer) (q : State) → slice_get p.brokers b ≡ Some x → roll_row p b x answer ≡ Some q → PlainSafe p → Keeps p q
@@ -37,14 +38,14 @@ roll_keeps p b x EmptySegment q at e s = silent p q _ e s
 roll_keeps p b x TooManySegments q at e s = silent p q _ e s
 roll_keeps p b x DiskFault q at e s = by_when p (breaks p b x) q _ e (λ _. breaks_kept p b x at s)
 roll_keeps p b x (OkAt n) q at e s = silent p q _ e s
-roll_keeps p b x other q at e s = absurd cc
+roll_keeps p b x other q at e s = absurd (none-some q e)
 
 -- the row of stop
 pub stop_keeps : (p : State) (b : ℕ) (x : Broker) (answer : Answer) (q : State) → slice_get p.brokers b ≡ Some x → stop_row p b x answer ≡ Some q → PlainSafe p → Keeps p q
 stop_keeps p b x Down q at e s = silent p q _ e s
 stop_keeps p b x Ok q at e s =
     by_when p (put_broker p b (stopped x)) q _ e (λ _. broker_kept p b x (stopped x) at (swap_stop p x x.loose (s.brokers b x at)) s)
-stop_keeps p b x other q at e s = absurd cc
+stop_keeps p b x other q at e s = absurd (none-some q e)
 
 -- where a broker may open, its log ends
 may_open_ends : (x : Broker) (n : ℕ) → may_open_at x n ≡ true → EndsAt x.stable x.log → EndsAt n x.log × (x.stable ≤ n)
@@ -72,4 +73,4 @@ up_keeps p b x (Up n) q at e s =
     let h = s.brokers b x at in
     let m = may_open_ends x n t.1 h.stable in
     broker_kept p b x (opened x n) at (swap_up p x n (not_true x.up t.0) m.0 m.1 h (s.known b x at)) s)
-up_keeps p b x other q at e s = absurd cc
+up_keeps p b x other q at e s = absurd (none-some q e)

@@ -1,5 +1,6 @@
 -- The rows of fetch and offset, which change nothing.
 use Rattle.std.proofs.Common.{◌≡◌, ℕ, Some, None, Option}
+use Rattle.std.proofs.lemmas.Option.{none-some}
 use Rattle.plain_log.specs.declared.answer.Answer.{Answer}
 use Rattle.plain_log.specs.declared.answer.Answer.TheVariants.{Down, NotLeader, DiskFault, Stopped, MetaFault, StoreFault, Damaged, OutOfRange, Empty, Run, Offset, NoOffset}
 use Rattle.plain_log.specs.declared.command.Which.{Which}
@@ -21,7 +22,7 @@ fetch_keeps p x offset limit None Empty q e s = silent p q _ e s
 fetch_keeps p x offset limit None (Run tier size stop bytes) q e s = silent p q _ e s
 fetch_keeps p x offset limit None DiskFault q e s = silent p q _ e s
 fetch_keeps p x offset limit None (Damaged place k) q e s = silent p q _ e s
-fetch_keeps p x offset limit None other q e s = absurd cc
+fetch_keeps p x offset limit None other q e s = absurd (none-some q e)
 fetch_keeps p x offset limit (Some noted) Stopped q e s = silent p q _ e s
 fetch_keeps p x offset limit (Some noted) NotLeader q e s = silent p q _ e s
 fetch_keeps p x offset limit (Some noted) (OutOfRange start end) q e s = silent p q _ e s
@@ -30,7 +31,7 @@ fetch_keeps p x offset limit (Some noted) (Run tier size stop bytes) q e s = sil
 fetch_keeps p x offset limit (Some noted) MetaFault q e s = silent p q _ e s
 fetch_keeps p x offset limit (Some noted) StoreFault q e s = silent p q _ e s
 fetch_keeps p x offset limit (Some noted) (Damaged place k) q e s = silent p q _ e s
-fetch_keeps p x offset limit (Some noted) other q e s = absurd cc
+fetch_keeps p x offset limit (Some noted) other q e s = absurd (none-some q e)
 
 -- the row of offset
 pub offset_keeps : (p : State) (x : Broker) (which : Which) (noted : Option Noted) (answer : Answer) (q : State)
@@ -39,7 +40,7 @@ offset_keeps p x which None Down q e s = silent p q _ e s
 offset_keeps p x which None NotLeader q e s = silent p q _ e s
 offset_keeps p x which None MetaFault q e s = silent p q _ e s
 offset_keeps p x which None (Offset n) q e s = silent p q _ e s
-offset_keeps p x which None other q e s = absurd cc
+offset_keeps p x which None other q e s = absurd (none-some q e)
 offset_keeps p x which (Some noted) Stopped q e s = silent p q _ e s
 offset_keeps p x which (Some noted) NotLeader q e s = silent p q _ e s
 offset_keeps p x which (Some noted) (Offset n) q e s = silent p q _ e s
@@ -48,4 +49,4 @@ offset_keeps p x (At ts) (Some noted) MetaFault q e s = silent p q _ e s
 offset_keeps p x (At ts) (Some noted) StoreFault q e s = silent p q _ e s
 offset_keeps p x (At ts) (Some noted) DiskFault q e s = silent p q _ e s
 offset_keeps p x (At ts) (Some noted) (Damaged place k) q e s = silent p q _ e s
-offset_keeps p x which (Some noted) other q e s = absurd cc
+offset_keeps p x which (Some noted) other q e s = absurd (none-some q e)

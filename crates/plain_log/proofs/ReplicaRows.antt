@@ -2,6 +2,7 @@
 use Rattle.std.proofs.Common.{◌≡◌, ◌≢◌, ◌∙◌, ap, sym, subst, refl, inl, inr, ℕ, ◌==◌, Some, slice_get, true, false, ◌&&◌, not, arith}
 use Rattle.std.specs.Prelude.{nat_le}
 use Rattle.std.proofs.lemmas.Bool.Decides.{nat_tests}
+use Rattle.std.proofs.lemmas.Option.{none-some}
 use Rattle.log_terms.proofs.Lists.{get-set, length-slice_set}
 use Rattle.registry.specs.declared.registry.Replica.{Replica}
 use Rattle.registry.specs.Registry.{put_replica, shrunk, expanded}
@@ -55,7 +56,7 @@ shrink_keeps p b r Ok q at e s =
     kept p (set_registry p (shrunk p.registry b r)) refl refl refl refl
     (put_replica_safe p b r (record r { in_sync = false }) at
     (λ x a. record { stable = a.stable; shared = a.shared; in_sync = λ i. absurd cc }) (λ i. absurd (ne i)) s))
-shrink_keeps p b r other q at e s = absurd cc
+shrink_keeps p b r other q at e s = absurd (none-some q e)
 
 -- the row of expand
 pub expand_keeps : (p : State) (b : ℕ) (x : Broker) (r : Replica) (answer : Answer) (q : State) → slice_get p.registry.replicas b ≡ Some r
@@ -68,4 +69,4 @@ expand_keeps p b x r Ok q at e s =
     kept p (set_registry p (expanded p.registry b r)) refl refl refl refl
     (put_replica_safe p b r (record r { in_sync = true }) at
     (λ z a. record { stable = a.stable; shared = a.shared; in_sync = λ i. le }) (λ i. refl) s))
-expand_keeps p b x r other q at e s = absurd cc
+expand_keeps p b x r other q at e s = absurd (none-some q e)

@@ -32,6 +32,7 @@ use Rattle.registry.specs.declared.refusal.RegRefusal.{RegRefusal}
 use Rattle.registry.specs.declared.registry.Replica.{Replica}
 use Rattle.std.proofs.Common.{◌≡◌, subst, refl, ℕ, ◌≤◌, ◌==◌, Some, None, Option, Result, Ok, Err, slice_get, Bool, true, false, ◌&&◌, not, if◌then◌else◌, arith, inl, inr, ◌<◌, ◌+◌, List, [], ◌∷◌, ◌++◌, length, ap, ◌∙◌, min, drop}
 use Rattle.std.proofs.lemmas.Bool.Decides.{nat_tests}
+use Rattle.std.proofs.lemmas.Option.{none-some}
 use Rattle.std.specs.Prelude.{nat_lt, nat_le}
 use Rattle.plain_log.proofs.FollowerRows.{JoinedNoted}
 use Rattle.plain_log.proofs.LearnRow.{path_none}
@@ -43,7 +44,7 @@ copy_grows p x None Down q e s = silent p q _ e s
 copy_grows p x None NotLeader q e s = silent p q _ e s
 copy_grows p x None CopyOff q e s = silent p q _ e s
 copy_grows p x None MetaFault q e s = silent p q _ e s
-copy_grows p x None other q e s = absurd cc
+copy_grows p x None other q e s = absurd (none-some q e)
 copy_grows p x (Some noted) LostLead q e s = silent p q _ e s
 copy_grows p x (Some noted) Level q e s = silent p q _ e s
 copy_grows p x (Some noted) DiskFault q e s = silent p q _ e s
@@ -52,19 +53,19 @@ copy_grows p x (Some noted) MetaFault q e s = silent p q _ e s
 copy_grows p x (Some noted) StoreFault q e s = silent p q _ e s
 copy_grows p x (Some noted) (Overtaken state) q e s = silent p q _ e s
 copy_grows p x (Some noted) (CopiedSegment id start last) q e s = silent p q _ e s
-copy_grows p x (Some noted) other q e s = absurd cc
+copy_grows p x (Some noted) other q e s = absurd (none-some q e)
 
 -- the row of trim
 pub trim_grows : (p : State) (b : ℕ) (x : Broker) (noted : Option Noted) (answer : Answer) (q : State) → slice_get p.brokers b ≡ Some x
     → trim_row p b x noted answer ≡ Some q → PlainSafe p → RowGrows p q
 trim_grows p b x None Down q at e s = silent p q _ e s
 trim_grows p b x None MetaFault q at e s = silent p q _ e s
-trim_grows p b x None other q at e s = absurd cc
+trim_grows p b x None other q at e s = absurd (none-some q e)
 trim_grows p b x (Some noted) Stopped q at e s = silent p q _ e s
 trim_grows p b x (Some noted) Kept q at e s = silent p q _ e s
 trim_grows p b x (Some noted) DiskFault q at e s = by_when p (breaks p b x) q _ e (λ _. broke p b x at)
 trim_grows p b x (Some noted) (Dropped base last) q at e s = silent p q _ e s
-trim_grows p b x (Some noted) other q at e s = absurd cc
+trim_grows p b x (Some noted) other q at e s = absurd (none-some q e)
 
 -- what the registry makes of a raise
 after_raise_grows : (p : State) (e wanted : ℕ) (result : Result ℕ RegRefusal) (q : State) → left_by p (after_raise p.registry e wanted result) ≡ Some q → PlainSafe p → RowGrows p q
@@ -78,7 +79,7 @@ after_raise_grows p e wanted (Ok start) q is s =
     let t3 = both (not (is_behind p.registry e)) (nat_lt p.registry.start wanted) t2.0 in
     let low : p.registry.start < wanted = grind (arith, nat_tests, t3.1) in
     none_grows p (set_registry p (started p.registry wanted)) refl (omega (arith, low)))
-after_raise_grows p e wanted other q is s = absurd cc
+after_raise_grows p e wanted other q is s = absurd (none-some q is)
 
 raised_grows : (p : State) (x : Broker) (wanted : ℕ) (result : Result ℕ RegRefusal) (q : State) → raised_by p x wanted result ≡ Some q → PlainSafe p → RowGrows p q
 raised_grows p x wanted result q is s =
@@ -87,14 +88,14 @@ raised_grows p x wanted result q is s =
   where
     go : (t : Bool) (e : ℕ) → (if t then left_by p (after_raise p.registry e wanted result) else None) ≡ Some q → RowGrows p q
     go true e i = after_raise_grows p e wanted result q i s
-    go false e i = absurd cc
+    go false e i = absurd (none-some q i)
 
 -- the row of expire
 pub expire_grows : (p : State) (x : Broker) (noted : Option Noted) (answer : Answer) (q : State) → expire_row p x noted answer ≡ Some q → PlainSafe p → RowGrows p q
 expire_grows p x None Down q e s = silent p q _ e s
 expire_grows p x None NotLeader q e s = silent p q _ e s
 expire_grows p x None MetaFault q e s = silent p q _ e s
-expire_grows p x None other q e s = absurd cc
+expire_grows p x None other q e s = absurd (none-some q e)
 expire_grows p x (Some noted) LostLead q e s = silent p q _ e s
 expire_grows p x (Some noted) Kept q e s = silent p q _ e s
 expire_grows p x (Some noted) (StaleEpoch n) q e s = silent p q _ e s
@@ -102,11 +103,11 @@ expire_grows p x (Some noted) (Raised start) q e s = go (keeps_lead x noted) e
   where
     go : (t : Bool) → (if t then raised_by p x start (Ok start) else None) ≡ Some q → RowGrows p q
     go true i = raised_grows p x start (Ok start) q i s
-    go false i = absurd cc
+    go false i = absurd (none-some q i)
 expire_grows p x (Some noted) MetaFault q e s = silent p q _ e s
 expire_grows p x (Some noted) StoreFault q e s = silent p q _ e s
 expire_grows p x (Some noted) (Deleted id) q e s = silent p q _ e s
-expire_grows p x (Some noted) other q e s = absurd cc
+expire_grows p x (Some noted) other q e s = absurd (none-some q e)
 
 -- the row of raise
 pub raise_grows : (p : State) (x : Broker) (wanted : ℕ) (answer : Answer) (q : State) → raise_row p x wanted answer ≡ Some q → PlainSafe p → RowGrows p q
@@ -116,12 +117,12 @@ raise_grows p x wanted (StaleEpoch n) q e s = raised_grows p x wanted (Err (refu
 raise_grows p x wanted (NotAbove start) q e s = raised_grows p x wanted (Err (refusal.NotAbove start)) q e s
 raise_grows p x wanted (AboveMark mark) q e s = raised_grows p x wanted (Err (refusal.AboveMark mark)) q e s
 raise_grows p x wanted (OkAt start) q e s = raised_grows p x wanted (Ok start) q e s
-raise_grows p x wanted other q e s = absurd cc
+raise_grows p x wanted other q e s = absurd (none-some q e)
 
 -- the row of what the plain log doesn't see
 pub silent_grows : (p : State) (answer : Answer) (q : State) → silent_row p answer ≡ Some q → PlainSafe p → RowGrows p q
 silent_grows p OkAnswer q e s = let is : p ≡ q = cc (e) in subst (λ (k : State). RowGrows p k) is (same p)
-silent_grows p other q e s = absurd cc
+silent_grows p other q e s = absurd (none-some q e)
 
 -- the row of fetch
 pub fetch_grows : (p : State) (x : Broker) (offset limit : ℕ) (noted : Option Noted) (answer : Answer) (q : State)
@@ -133,7 +134,7 @@ fetch_grows p x offset limit None Empty q e s = silent p q _ e s
 fetch_grows p x offset limit None (Run tier size stop bytes) q e s = silent p q _ e s
 fetch_grows p x offset limit None DiskFault q e s = silent p q _ e s
 fetch_grows p x offset limit None (Damaged place k) q e s = silent p q _ e s
-fetch_grows p x offset limit None other q e s = absurd cc
+fetch_grows p x offset limit None other q e s = absurd (none-some q e)
 fetch_grows p x offset limit (Some noted) Stopped q e s = silent p q _ e s
 fetch_grows p x offset limit (Some noted) NotLeader q e s = silent p q _ e s
 fetch_grows p x offset limit (Some noted) (OutOfRange start end) q e s = silent p q _ e s
@@ -142,7 +143,7 @@ fetch_grows p x offset limit (Some noted) (Run tier size stop bytes) q e s = sil
 fetch_grows p x offset limit (Some noted) MetaFault q e s = silent p q _ e s
 fetch_grows p x offset limit (Some noted) StoreFault q e s = silent p q _ e s
 fetch_grows p x offset limit (Some noted) (Damaged place k) q e s = silent p q _ e s
-fetch_grows p x offset limit (Some noted) other q e s = absurd cc
+fetch_grows p x offset limit (Some noted) other q e s = absurd (none-some q e)
 
 -- the row of offset
 pub offset_grows : (p : State) (x : Broker) (which : Which) (noted : Option Noted) (answer : Answer) (q : State)
@@ -151,7 +152,7 @@ offset_grows p x which None Down q e s = silent p q _ e s
 offset_grows p x which None NotLeader q e s = silent p q _ e s
 offset_grows p x which None MetaFault q e s = silent p q _ e s
 offset_grows p x which None (Offset n) q e s = silent p q _ e s
-offset_grows p x which None other q e s = absurd cc
+offset_grows p x which None other q e s = absurd (none-some q e)
 offset_grows p x which (Some noted) Stopped q e s = silent p q _ e s
 offset_grows p x which (Some noted) NotLeader q e s = silent p q _ e s
 offset_grows p x which (Some noted) (Offset n) q e s = silent p q _ e s
@@ -160,7 +161,7 @@ offset_grows p x (At ts) (Some noted) MetaFault q e s = silent p q _ e s
 offset_grows p x (At ts) (Some noted) StoreFault q e s = silent p q _ e s
 offset_grows p x (At ts) (Some noted) DiskFault q e s = silent p q _ e s
 offset_grows p x (At ts) (Some noted) (Damaged place k) q e s = silent p q _ e s
-offset_grows p x which (Some noted) other q e s = absurd cc
+offset_grows p x which (Some noted) other q e s = absurd (none-some q e)
 
 -- the row of flush
 pub flush_grows : (p : State) (b : ℕ) (x : Broker) (answer : Answer) (q : State) → slice_get p.brokers b ≡ Some x → flush_row p b x answer ≡ Some q → PlainSafe p → RowGrows p q
@@ -168,7 +169,7 @@ flush_grows p b x Down q at e s = silent p q _ e s
 flush_grows p b x DiskFault q at e s = by_when p (breaks p b x) q _ e (λ _. broke p b x at)
 flush_grows p b x (OkAt n) q at e s =
     by_when p (put_broker p b (record x { stable = n })) q _ e (λ w. put_grows p b x (record x { stable = n }) at (like p.paths x (record x { stable = n }) refl refl refl))
-flush_grows p b x other q at e s = absurd cc
+flush_grows p b x other q at e s = absurd (none-some q e)
 
 -- the row of roll
 pub roll_grows : (p : State) (b : ℕ) (x : Broker) (answer : Answer) (q : State) → slice_get p.brokers b ≡ Some x → roll_row p b x answer ≡ Some q → PlainSafe p → RowGrows p q
@@ -177,14 +178,14 @@ roll_grows p b x EmptySegment q at e s = silent p q _ e s
 roll_grows p b x TooManySegments q at e s = silent p q _ e s
 roll_grows p b x DiskFault q at e s = by_when p (breaks p b x) q _ e (λ _. broke p b x at)
 roll_grows p b x (OkAt n) q at e s = silent p q _ e s
-roll_grows p b x other q at e s = absurd cc
+roll_grows p b x other q at e s = absurd (none-some q e)
 
 -- the row of stop
 pub stop_grows : (p : State) (b : ℕ) (x : Broker) (answer : Answer) (q : State) → slice_get p.brokers b ≡ Some x → stop_row p b x answer ≡ Some q → PlainSafe p → RowGrows p q
 stop_grows p b x Down q at e s = silent p q _ e s
 stop_grows p b x Ok q at e s =
     by_when p (put_broker p b (stopped x)) q _ e (λ _. put_grows p b x (stopped x) at (stopping p.paths x (stopped x) refl refl))
-stop_grows p b x other q at e s = absurd cc
+stop_grows p b x other q at e s = absurd (none-some q e)
 
 -- the row of up
 pub up_grows : (p : State) (b : ℕ) (x : Broker) (answer : Answer) (q : State) → slice_get p.brokers b ≡ Some x → up_row p b x answer ≡ Some q → PlainSafe p → RowGrows p q
@@ -197,7 +198,7 @@ up_grows p b x (Up n) q at e s =
     let t = both (not x.up) (may_open_at x n) w in
     let idle = ((s.brokers b x at).down (not_true x.up t.0)).0 in
     put_grows p b x (opened x n) at (record { stops = omega arith; log = inr (up_to_prefix n x.log); leads = λ k _ role. absurd (cc (idle, role)) }))
-up_grows p b x other q at e s = absurd cc
+up_grows p b x other q at e s = absurd (none-some q e)
 
 -- the row of append
 pub append_grows : (p : State) (b : ℕ) (x : Broker) (batch : List ℕ) (answer : Answer) (q : State) → slice_get p.brokers b ≡ Some x → 61 ≤ length batch
@@ -212,7 +213,7 @@ append_grows p b x batch (OkSpan base last n) q at long e s =
     (x.up && leads_in n x.role && has_room x batch && (base == end_of x.log) && (last == base + last_offset_delta_of batch)) e
     (λ w. one_grows p (gained p b x n (stamped batch base n)) b x (record x { log = x.log ++ stamped batch base n ∷ [] }) at refl (omega arith)
     (record { stops = omega arith; log = inl (stamped batch base n ∷ [], refl); leads = λ k _ role. inl (role, (stamped batch base n ∷ [], refl)) }))
-append_grows p b x batch other q at long e s = absurd cc
+append_grows p b x batch other q at long e s = absurd (none-some q e)
 
 -- the row of raw
 pub raw_grows : (p : State) (b : ℕ) (x : Broker) (bytes : List ℕ) (reading : Result Batch BatchRefusal) (answer : Answer) (q : State) → slice_get p.brokers b ≡ Some x
@@ -221,7 +222,7 @@ raw_grows p b x bytes (Ok batch) answer q at long e s = append_grows p b x bytes
 raw_grows p b x bytes (Err why) Down q at long e s = silent p q _ e s
 raw_grows p b x bytes (Err why) NotLeader q at long e s = silent p q _ e s
 raw_grows p b x bytes (Err why) (Refused cause) q at long e s = silent p q _ e s
-raw_grows p b x bytes (Err why) other q at long e s = absurd cc
+raw_grows p b x bytes (Err why) other q at long e s = absurd (none-some q e)
 
 -- the row of elect
 pub elect_grows : (p : State) (b : ℕ) (x : Broker) (r : Replica) (answer : Answer) (q : State) → slice_get p.registry.replicas b ≡ Some r
@@ -232,7 +233,7 @@ elect_grows p b x r DownBroker q at e s = refused p q _ e s
 elect_grows p b x r (OkAt n) q at e s =
     by_left p p q (not (is_last p.registry) && r.in_sync && x.up && (n == p.registry.epoch + 1)) (elected p.registry b) e
     (λ w. none_grows p (set_registry p (elected p.registry b)) refl (omega arith))
-elect_grows p b x r other q at e s = absurd cc
+elect_grows p b x r other q at e s = absurd (none-some q e)
 
 -- the row of unclean
 pub unclean_grows : (p : State) (b : ℕ) (x : Broker) (answer : Answer) (q : State) → slice_get p.brokers b ≡ Some x
@@ -243,7 +244,7 @@ unclean_grows p b x (BehindStart end start) q at e s = refused p q _ e s
 unclean_grows p b x (OkAt n) q at e s =
     by_left p (restarted p x) q (not (is_last p.registry) && x.up && nat_le p.registry.start x.stable && (n == p.registry.epoch + 1))
     (elected_alone p.registry b x.stable) e (λ w. none_grows p (set_registry (restarted p x) (elected_alone p.registry b x.stable)) refl (omega arith))
-unclean_grows p b x other q at e s = absurd cc
+unclean_grows p b x other q at e s = absurd (none-some q e)
 
 -- the row of learn
 pub learn_grows : (p : State) (b : ℕ) (x : Broker) (r : Replica) (answer : Answer) (q : State) → slice_get p.brokers b ≡ Some x → slice_get p.registry.replicas b ≡ Some r
@@ -264,14 +265,14 @@ learn_grows p b x r DiskFault q bx br e s =
     by_when p (record (breaks p b x) { broken = p.registry.epoch ∷ p.broken }) q (may_lead p b x p.registry.epoch) e
     (λ _. one_grows p (record (breaks p b x) { broken = p.registry.epoch ∷ p.broken }) b x (record (stopped x) { loose = true }) bx refl (omega arith)
     (stopping p.paths x (record (stopped x) { loose = true }) refl refl))
-learn_grows p b x r other q bx br e s = absurd cc
+learn_grows p b x r other q bx br e s = absurd (none-some q e)
 
 -- what a later turn of either finds
 later_grows : (p : State) (x : Broker) (noted : Noted) (answer : Answer) (q : State) → later_row p x noted answer ≡ Some q → PlainSafe p → RowGrows p q
 later_grows p x noted Stopped q e s = silent p q _ e s
 later_grows p x noted (StaleEpoch n) q e s = silent p q _ e s
 later_grows p x noted (Passed n) q e s = silent p q _ e s
-later_grows p x noted other q e s = absurd cc
+later_grows p x noted other q e s = absurd (none-some q e)
 
 -- the row of join
 pub join_grows : (p : State) (b : ℕ) (x : Broker) (noted : Option Noted) (answer : Answer) (q : State) → slice_get p.brokers b ≡ Some x → JoinedNoted p x noted
@@ -284,7 +285,7 @@ join_grows p b x None (DiskFaultAt n) q at j e s =
     by_broker p q (λ (y : Broker). breaks p b (record x { stable = min x.stable n })) (cut_to p x n) e (λ y is.
     put_grows p b x (record (stopped x) { stable = min x.stable n; loose = true }) at (stopping p.paths x (record (stopped x) { stable = min x.stable n; loose = true }) refl refl))
 join_grows p b x None (Cut n) q at j e s = by_broker p q (put_broker p b) (cut_to p x n) e (λ y is. put_grows p b x y at (cut_grows p x n y is))
-join_grows p b x None other q at j e s = absurd cc
+join_grows p b x None other q at j e s = absurd (none-some q e)
 join_grows p b x (Some noted) (BelowStart start) q at j e s = silent p q _ e s
 join_grows p b x (Some noted) MetaFault q at j e s = silent p q _ e s
 join_grows p b x (Some noted) StoreFault q at j e s = silent p q _ e s
@@ -312,7 +313,7 @@ follow_grows p b x limit None Level q at j e s = silent p q _ e s
 follow_grows p b x limit None (Moved n) q at j e s = silent p q _ e s
 follow_grows p b x limit None DiskFault q at j e s = silent p q _ e s
 follow_grows p b x limit None (Damaged place k) q at j e s = silent p q _ e s
-follow_grows p b x limit None other q at j e s = absurd cc
+follow_grows p b x limit None other q at j e s = absurd (none-some q e)
 follow_grows p b x limit (Some noted) TooManySegments q at j e s = silent p q _ e s
 follow_grows p b x limit (Some noted) DiskFault q at j e s = by_when p (breaks p b x) q _ e (λ _. broke p b x at)
 follow_grows p b x limit (Some noted) (Copied n) q at j e s =
@@ -335,7 +336,7 @@ ack_grows p b x r (OkAt m) q bx br e s =
     by_when p (acknowledged p b x r f.0) q (may_ack p b x r m) f.2
     (λ w. one_grows p (acknowledged p b x r f.0) b x (record x { known = min (with_ack p.registry b r x.stable).mark (end_of x.log) }) bx refl (omega arith)
     (like p.paths x (record x { known = min (with_ack p.registry b r x.stable).mark (end_of x.log) }) refl refl refl))
-ack_grows p b x r other q bx br e s = absurd cc
+ack_grows p b x r other q bx br e s = absurd (none-some q e)
 
 -- the row of shrink
 pub shrink_grows : (p : State) (b : ℕ) (r : Replica) (answer : Answer) (q : State) → slice_get p.registry.replicas b ≡ Some r
@@ -344,7 +345,7 @@ shrink_grows p b r NotInSync q at e s = refused p q _ e s
 shrink_grows p b r IsLeader q at e s = refused p q _ e s
 shrink_grows p b r Ok q at e s =
     by_left p p q (r.in_sync && not (p.registry.leader.0 == b)) (shrunk p.registry b r) e (λ w. none_grows p (set_registry p (shrunk p.registry b r)) refl (omega arith))
-shrink_grows p b r other q at e s = absurd cc
+shrink_grows p b r other q at e s = absurd (none-some q e)
 
 -- the row of expand
 pub expand_grows : (p : State) (b : ℕ) (x : Broker) (r : Replica) (answer : Answer) (q : State) → slice_get p.registry.replicas b ≡ Some r
@@ -353,4 +354,4 @@ expand_grows p b x r DownBroker q at e s = refused p q _ e s
 expand_grows p b x r (Behind ack mark) q at e s = refused p q _ e s
 expand_grows p b x r Ok q at e s =
     by_left p p q (x.up && nat_le p.registry.mark r.acked) (expanded p.registry b r) e (λ w. none_grows p (set_registry p (expanded p.registry b r)) refl (omega arith))
-expand_grows p b x r other q at e s = absurd cc
+expand_grows p b x r other q at e s = absurd (none-some q e)

@@ -1,5 +1,6 @@
 -- The rows of the tiers.
 use Rattle.std.proofs.Common.{◌≡◌, subst, refl, ℕ, ◌≤◌, ◌==◌, Some, None, Option, Result, Ok, Err, slice_get, Bool, true, false, ◌&&◌, not, if◌then◌else◌}
+use Rattle.std.proofs.lemmas.Option.{none-some}
 use Rattle.std.specs.Prelude.{nat_lt, nat_le}
 use Rattle.log_terms.proofs.Lists.{and_then_some}
 use Rattle.registry.specs.declared.refusal.RegRefusal.{RegRefusal}
@@ -23,7 +24,7 @@ copy_keeps p x None Down q e s = silent p q _ e s
 copy_keeps p x None NotLeader q e s = silent p q _ e s
 copy_keeps p x None CopyOff q e s = silent p q _ e s
 copy_keeps p x None MetaFault q e s = silent p q _ e s
-copy_keeps p x None other q e s = absurd cc
+copy_keeps p x None other q e s = absurd (none-some q e)
 copy_keeps p x (Some noted) LostLead q e s = silent p q _ e s
 copy_keeps p x (Some noted) Level q e s = silent p q _ e s
 copy_keeps p x (Some noted) DiskFault q e s = silent p q _ e s
@@ -32,19 +33,19 @@ copy_keeps p x (Some noted) MetaFault q e s = silent p q _ e s
 copy_keeps p x (Some noted) StoreFault q e s = silent p q _ e s
 copy_keeps p x (Some noted) (Overtaken state) q e s = silent p q _ e s
 copy_keeps p x (Some noted) (CopiedSegment id start last) q e s = silent p q _ e s
-copy_keeps p x (Some noted) other q e s = absurd cc
+copy_keeps p x (Some noted) other q e s = absurd (none-some q e)
 
 -- the row of trim
 pub trim_keeps : (p : State) (b : ℕ) (x : Broker) (noted : Option Noted) (answer : Answer) (q : State) → slice_get p.brokers b ≡ Some x
     → trim_row p b x noted answer ≡ Some q → PlainSafe p → Keeps p q
 trim_keeps p b x None Down q at e s = silent p q _ e s
 trim_keeps p b x None MetaFault q at e s = silent p q _ e s
-trim_keeps p b x None other q at e s = absurd cc
+trim_keeps p b x None other q at e s = absurd (none-some q e)
 trim_keeps p b x (Some noted) Stopped q at e s = silent p q _ e s
 trim_keeps p b x (Some noted) Kept q at e s = silent p q _ e s
 trim_keeps p b x (Some noted) DiskFault q at e s = by_when p (breaks p b x) q _ e (λ _. breaks_kept p b x at s)
 trim_keeps p b x (Some noted) (Dropped base last) q at e s = silent p q _ e s
-trim_keeps p b x (Some noted) other q at e s = absurd cc
+trim_keeps p b x (Some noted) other q at e s = absurd (none-some q e)
 
 -- the log start is at most the high watermark
 pub start_safe : (p : State) (n : ℕ) → n ≤ p.registry.mark → PlainSafe p → PlainSafe (set_registry p (started p.registry n))
@@ -72,7 +73,7 @@ after_raise_keeps p e wanted (Ok start) q is s =
     let t1 = both (not (is_stale p.registry e) && nat_lt p.registry.start wanted && nat_le wanted p.registry.mark) (start == wanted) w in
     let t2 = both (not (is_stale p.registry e) && nat_lt p.registry.start wanted) (nat_le wanted p.registry.mark) t1.0 in
     kept p (set_registry p (started p.registry wanted)) refl refl refl refl (start_safe p wanted (le_of wanted p.registry.mark t2.1) s))
-after_raise_keeps p e wanted other q is s = absurd cc
+after_raise_keeps p e wanted other q is s = absurd (none-some q is)
 
 raised_keeps : (p : State) (x : Broker) (wanted : ℕ) (result : Result ℕ RegRefusal) (q : State) → raised_by p x wanted result ≡ Some q → PlainSafe p → Keeps p q
 raised_keeps p x wanted result q is s =
@@ -88,7 +89,7 @@ pub expire_keeps : (p : State) (x : Broker) (noted : Option Noted) (answer : Ans
 expire_keeps p x None Down q e s = silent p q _ e s
 expire_keeps p x None NotLeader q e s = silent p q _ e s
 expire_keeps p x None MetaFault q e s = silent p q _ e s
-expire_keeps p x None other q e s = absurd cc
+expire_keeps p x None other q e s = absurd (none-some q e)
 expire_keeps p x (Some noted) LostLead q e s = silent p q _ e s
 expire_keeps p x (Some noted) Kept q e s = silent p q _ e s
 expire_keeps p x (Some noted) (StaleEpoch n) q e s = silent p q _ e s
@@ -100,7 +101,7 @@ expire_keeps p x (Some noted) (Raised start) q e s = go (keeps_lead x noted) e
 expire_keeps p x (Some noted) MetaFault q e s = silent p q _ e s
 expire_keeps p x (Some noted) StoreFault q e s = silent p q _ e s
 expire_keeps p x (Some noted) (Deleted id) q e s = silent p q _ e s
-expire_keeps p x (Some noted) other q e s = absurd cc
+expire_keeps p x (Some noted) other q e s = absurd (none-some q e)
 
 -- the row of raise
 pub raise_keeps : (p : State) (x : Broker) (wanted : ℕ) (answer : Answer) (q : State) → raise_row p x wanted answer ≡ Some q → PlainSafe p → Keeps p q
@@ -110,9 +111,9 @@ raise_keeps p x wanted (StaleEpoch n) q e s = raised_keeps p x wanted (Err (refu
 raise_keeps p x wanted (NotAbove start) q e s = raised_keeps p x wanted (Err (refusal.NotAbove start)) q e s
 raise_keeps p x wanted (AboveMark mark) q e s = raised_keeps p x wanted (Err (refusal.AboveMark mark)) q e s
 raise_keeps p x wanted (OkAt start) q e s = raised_keeps p x wanted (Ok start) q e s
-raise_keeps p x wanted other q e s = absurd cc
+raise_keeps p x wanted other q e s = absurd (none-some q e)
 
 -- the row of what the plain log doesn't see
 pub silent_keeps : (p : State) (answer : Answer) (q : State) → silent_row p answer ≡ Some q → PlainSafe p → Keeps p q
 silent_keeps p OkAnswer q e s = let is : p ≡ q = cc (e) in subst (λ (k : State). Keeps p k) is (same p s)
-silent_keeps p other q e s = absurd cc
+silent_keeps p other q e s = absurd (none-some q e)
