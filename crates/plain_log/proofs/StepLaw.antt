@@ -3,6 +3,7 @@ use Rattle.std.proofs.Common.{◌≡◌, ◌≢◌, inl, inr, subst, ℕ, zero, 
 use Rattle.std.specs.Prelude.{is_none, is_some}
 use Rattle.std.specs.Option.{option_and_then}
 use Rattle.std.proofs.lemmas.Bool.Decides.{nat_tests}
+use Rattle.std.proofs.lemmas.Option.{none-some}
 use mathlib.Core.List.{IsPrefix}
 use Rattle.log_terms.proofs.Lists.{and_then_some, get-set}
 use Rattle.record_batch.specs.Build.{built}
@@ -193,7 +194,7 @@ begins_safe p b x (Fetch offset limit) None z at e s =
     begin_same p b x (Fetch offset limit) _ z at e s (λ w. (grind (arith, nat_tests, w), (λ i. grind (arith, nat_tests, w)), (λ i. absurd cc)))
 begins_safe p b x (Offset which) None z at e s =
     begin_same p b x (Offset which) _ z at e s (λ w. (grind (arith, nat_tests, w), (λ i. grind (arith, nat_tests, w)), (λ i. absurd cc)))
-begins_safe p b x other cut z at e s = absurd cc
+begins_safe p b x other cut z at e s = absurd (none-some z e)
 
 noted_begin : (p : State) (order : Order) (x z : Broker) → BeginSafe p x order.command z → NotedSafe p.paths p.registry.epoch (noted_of p order z) z
 noted_begin p order x z h = record {

@@ -23,6 +23,7 @@ use Rattle.record_batch.specs.Check.{checked}
 use Rattle.registry.specs.Calls.{when}
 use Rattle.registry.specs.declared.registry.Replica.{Replica}
 use Rattle.std.proofs.Common.{◌≡◌, subst, refl, ℕ, Some, None, Option, slice_get, Bool, true, ap, ◌∙◌}
+use Rattle.std.proofs.lemmas.Option.{none-some}
 use Rattle.std.specs.Option.{option_and_then}
 use Rattle.std.specs.Prelude.{is_none}
 use Rattle.plain_log.specs.Grows.{BrokerGrows}
@@ -71,7 +72,7 @@ begun_grows p x Trim None z e = same_when p x _ z e
 begun_grows p x Expire None z e = same_when p x _ z e
 begun_grows p x (Fetch offset limit) None z e = same_when p x _ z e
 begun_grows p x (Offset which) None z e = same_when p x _ z e
-begun_grows p x other cut z e = absurd cc
+begun_grows p x other cut z e = absurd (none-some z e)
 
 -- an actor's own numbers are no matter
 with_actor_grows : (p q : State) (a : ℕ) (y : Actor) → RowGrows p q → RowGrows p (with_actor a y q)
