@@ -19,3 +19,15 @@ pub record IsFirstRefused (config : Config) (lists : List ActorList) (journal : 
 abbrev pub IsVerdict : Config → List ActorList → List JournalEntry → Option ℕ → Type 0
 IsVerdict config lists journal None = IsPlainRun config lists journal
 IsVerdict config lists journal (Some place) = IsFirstRefused config lists journal place
+
+-- the entries before this place lead from p to q, and the one that stands there is no step after q
+pub record IsRefusedAt (lists : List ActorList) (p : State) (journal : List JournalEntry) (q : State) (place : ℕ) : Type 0 where
+  pub entry : JournalEntry
+  pub run : replay lists p (take place journal) ≡ Some q
+  pub entry_is : slice_get journal place ≡ Some entry
+  pub refused : entry_step lists q entry ≡ None
+
+-- the journal leads from p to q, or its entries before the first that is no step do
+abbrev pub Reaches : List ActorList → State → List JournalEntry → State → Option ℕ → Type 0
+Reaches lists p journal q None = replay lists p journal ≡ Some q
+Reaches lists p journal q (Some place) = IsRefusedAt lists p journal q place

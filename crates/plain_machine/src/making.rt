@@ -91,16 +91,26 @@ fn lengthen(paths: &mut Row<Path>, epoch: u32, batch: Bytes) -> Result<(), Alloc
 }
 
 /// Builds the batch of an append's records at its place. They make one, so only memory can be wanting.
-fn build_at(alloc: Global, base: u64, epoch: u32, recs: &[Rec]) -> Result<Vec<u8>, AllocError>
+fn build_at(alloc: Global, base: u64, epoch: u32, recs: &[Rec]) -> Result<Bytes, AllocError>
     requires { IsBuildable recs.now }
-    ensures { IfOk result (λ batch. batch.items ≡ stamped (built recs.now) base epoch) }
+    ensures { IfOk result (λ batch. batch ≡ stamped (built recs.now) base epoch) }
 {
     match build(alloc, base, epoch, recs) {
-        Ok(batch) => Ok(batch),
+        Ok(batch) => Ok(Bytes::from_vec(batch)?),
         Err(BuildRefusal::NoMemory) => Err(AllocError),
         Err(BuildRefusal::NoRecords) => unreachable!(),
         Err(BuildRefusal::TooLarge) => unreachable!(),
     }
+}
+
+/// Stamps a copy of a raw batch with its place.
+fn stamp_at(alloc: Global, base: u64, epoch: u32, bytes: &[u8]) -> Result<Bytes, AllocError>
+    requires { 16 ≤ length bytes.now }
+    ensures { IfOk result (λ batch. batch ≡ stamped bytes.now base epoch) }
+{
+    let mut batch = Vec::from_slice(alloc, bytes)?;
+    stamp(batch.as_mut_slice(), base, epoch);
+    Ok(Bytes::from_vec(batch)?)
 }
 
 /// The batch that a command brings, at its place.
@@ -114,14 +124,9 @@ pub(crate) fn batch_at(
     ensures { IfOk result (λ batch. batch ≡ stamped (batch_in command.now) base epoch) }
 {
     match command {
-        Command::Append(recs) => {
-            let batch = build_at(alloc, base, epoch, recs.as_slice())?;
-            Ok(Bytes::from_vec(batch)?)
-        }
+        Command::Append(recs) => build_at(alloc, base, epoch, recs.as_slice()),
         Command::Raw(bytes) if bytes.len() >= 16 => {
-            let mut batch = Vec::from_slice(alloc, bytes.as_slice())?;
-            stamp(batch.as_mut_slice(), base, epoch);
-            Ok(Bytes::from_vec(batch)?)
+            stamp_at(alloc, base, epoch, bytes.as_slice())
         }
         // Not reached, which nothing proves: an append or a checked raw batch alone is gained.
         _ => Err(AllocError),

@@ -6,7 +6,7 @@ ghost use Rattle.plain_log.specs.Fresh.{fresh};
 ghost use Rattle.plain_log.specs.Runs.{replay as replay_of, orders_of, order_of, entry_step, IsPlainRun, IsInOrder};
 ghost use Rattle.plain_machine.specs.Fits.{AreFor};
 ghost use Rattle.plain_machine.specs.Stepped.{Stepped};
-ghost use Rattle.plain_machine.specs.Traces.{IsVerdict};
+ghost use Rattle.plain_machine.specs.Traces.{IsVerdict, Reaches};
 
 use crate::plain::Plain;
 use plain_log::{ActorList, Config, JournalEntry, Order, runs_answer_in_order};
@@ -53,6 +53,24 @@ fn take(
     Ok(taken)
 }
 
+/// Carries out entries up to the first that is no step of the plain log, and answers its place.
+fn take_all(
+    alloc: Global,
+    plain: &mut Plain,
+    lists: &[ActorList],
+    journal: &[JournalEntry],
+) -> Result<Option<usize>, AllocError>
+    requires { AreFor lists.now }
+    ensures { IfOk result (λ place. Reaches lists.now plain.old journal.now plain.new place) }
+{
+    for (i, entry) in journal.iter().enumerate() {
+        if !take(alloc, plain, lists, entry)? {
+            return Ok(Some(i));
+        }
+    }
+    Ok(None)
+}
+
 /// Answers the place of the first entry that is no step of the plain log, or none where the journal is a run of it.
 pub fn first_refused(
     alloc: Global,
@@ -66,12 +84,7 @@ pub fn first_refused(
     ensures { IfOk result (λ place. IsVerdict config.now lists.now journal.now place) }
 {
     let mut plain = Plain::fresh(alloc, config)?;
-    for (i, entry) in journal.iter().enumerate() {
-        if !take(alloc, &mut plain, lists, entry)? {
-            return Ok(Some(i));
-        }
-    }
-    Ok(None)
+    take_all(alloc, &mut plain, lists, journal)
 }
 
 /// Carries out a journal, and answers the state after it, or none where an entry is no step of the plain log.
@@ -87,12 +100,11 @@ pub fn replay(
     ensures { IfOk result (λ last. last ≡ replay_of lists.now (fresh config.now) journal.now) }
 {
     let mut plain = Plain::fresh(alloc, config)?;
-    for entry in journal {
-        if !take(alloc, &mut plain, lists, entry)? {
-            return Ok(None);
-        }
+    let place = take_all(alloc, &mut plain, lists, journal)?;
+    match place {
+        None => Ok(Some(plain)),
+        Some(_) => Ok(None),
     }
-    Ok(Some(plain))
 }
 
 /// Answers whether a journal is a run of the plain log.

@@ -1,7 +1,0 @@
-use Rattle.std.proofs.Common.{◌≡◌, take, Some}
-use Rattle.plain_log.specs.Fresh.{fresh}
-use Rattle.plain_log.specs.Runs.{replay}
-use Rattle.plain_machine.proofs.trace.first_refused.Given as goal
-
-abbrev pub invariant-loop-i : goal.invariant-loop-i
-invariant-loop-i l = replay l.lists (fresh l.config) (take l.i l.journal) ≡ Some l.plain
