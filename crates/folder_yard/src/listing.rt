@@ -25,13 +25,21 @@ pub fn list<R: Files + AllocGlobal + Clone + Drop>(
 ) -> io::Result<Row<FileName>> {
     let mut names = Row::new(rt.alloc());
     for entry in fs::read_dir(rt, folder)? {
-        if let Some(entry) = readable(entry)? {
-            if let Some(name) = read_name(entry.file_name().as_bytes()) {
-                names.push(name)?;
-            }
+        if let Some(name) = name_of(entry)? {
+            names.push(name)?;
         }
     }
     Ok(names)
+}
+
+/// The file of a log that an entry of a folder names.
+fn name_of<R: Files + Drop>(
+    entry: io::Result<DirEntry<R, Global>>,
+) -> io::Result<Option<FileName>> {
+    match readable(entry)? {
+        Some(entry) => Ok(read_name(entry.file_name().as_bytes())),
+        None => Ok(None),
+    }
 }
 
 /// Names the objects of a partition in a folder.
@@ -42,13 +50,22 @@ pub fn list_objects<R: Files + AllocGlobal + Clone + Drop>(
 ) -> io::Result<Row<ObjectKey>> {
     let mut keys = Row::new(rt.alloc());
     for entry in fs::read_dir(rt, folder)? {
-        if let Some(entry) = readable(entry)? {
-            if let Some(key) = read_object(partition, entry.file_name().as_bytes()) {
-                keys.push(key)?;
-            }
+        if let Some(key) = key_of(partition, entry)? {
+            keys.push(key)?;
         }
     }
     Ok(keys)
+}
+
+/// The object of a partition that an entry of a folder names.
+fn key_of<R: Files + Drop>(
+    partition: PartitionId,
+    entry: io::Result<DirEntry<R, Global>>,
+) -> io::Result<Option<ObjectKey>> {
+    match readable(entry)? {
+        Some(entry) => Ok(read_object(partition, entry.file_name().as_bytes())),
+        None => Ok(None),
+    }
 }
 
 /// Removes the files of a log, and the objects, that were never put in their place. Other files stay, also where they end

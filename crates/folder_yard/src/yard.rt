@@ -100,8 +100,15 @@ fn open_log<R: Files + AllocGlobal + Clone + Drop>(
 {
     match DiskLog::open(alloc, disk) {
         Ok(log) => Ok(log),
-        Err((_, NotesRefusal::NoMemory)) => Err(Trouble::NoMemory),
-        Err(_) => Err(Trouble::Failed),
+        Err((_, refusal)) => Err(trouble_of(refusal)),
+    }
+}
+
+/// What a yard tells of a metadata log that wasn't opened.
+fn trouble_of(refusal: NotesRefusal) -> Trouble {
+    match refusal {
+        NotesRefusal::NoMemory => Trouble::NoMemory,
+        _ => Trouble::Failed,
     }
 }
 
