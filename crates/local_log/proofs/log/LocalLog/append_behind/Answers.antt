@@ -39,9 +39,6 @@ pub returns-in_err-reserve-clause-opens : goal.returns-in_err-reserve-clause-ope
 returns-in_err-reserve-clause-opens g c =
     let s = c.self.inside in
     let d = g.D.Disk.content s.disk in
-    let laws : Lawful d = g.met.D.Disk.lawful s.disk in
-    let unbroken : s.broken ≡ false = ap (λ (l : Log g.row.D.Denot). l.broken) c.self.view_is ∙ c.requires.unbroken in
-    let has = c.self.invariant.has unbroken in
     rw (← c.self.view_is) (start_opens d)
 
 pub invariant_of-self-in_err-reserve-2 : goal.invariant_of-self-in_err-reserve-2
@@ -83,11 +80,7 @@ pub returns-in_err-reserve-2-clause-opens : goal.returns-in_err-reserve-2-clause
 returns-in_err-reserve-2-clause-opens g c =
     let s = c.self.inside in
     let d = g.D.Disk.content s.disk in
-    let laws : Lawful d = g.met.D.Disk.lawful s.disk in
-    let unbroken : s.broken ≡ false = ap (λ (l : Log g.row.D.Denot). l.broken) c.self.view_is ∙ c.requires.unbroken in
-    let has = c.self.invariant.has unbroken in
     let m = g.D.Disk.content c.reserve-2.new.self in
-    let laws-m : Lawful m = g.met.D.Disk.lawful c.reserve-2.new.self in
     let k = c.reserve-2.ensures.content in
     rw (← c.self.view_is) (kept_opens d m k)
 
@@ -110,14 +103,10 @@ pub returns-in-Err-clause-opens : goal.returns-in-Err-clause-opens
 returns-in-Err-clause-opens g c =
     let s = c.self.inside in
     let d = g.D.Disk.content s.disk in
-    let laws : Lawful d = g.met.D.Disk.lawful s.disk in
-    let unbroken : s.broken ≡ false = ap (λ (l : Log g.row.D.Denot). l.broken) c.self.view_is ∙ c.requires.unbroken in
-    let has = c.self.invariant.has unbroken in
     let m = g.D.Disk.content c.reserve-2.new.self in
     let laws-m : Lawful m = g.met.D.Disk.lawful c.reserve-2.new.self in
     let k = c.reserve-2.ensures.content in
     let m2 = g.D.Disk.content c.sync.new.self in
-    let laws2 : Lawful m2 = g.met.D.Disk.lawful c.sync.new.self in
     let k2 = c.sync.ensures.content in
     rw (← c.self.view_is) (twice_opens d m m2 laws-m k k2)
 
@@ -166,34 +155,16 @@ pub returns-in_err-len-clause-opens : goal.returns-in_err-len-clause-opens
 returns-in_err-len-clause-opens g c =
     let s = c.self.inside in
     let d = g.D.Disk.content s.disk in
-    let laws : Lawful d = g.met.D.Disk.lawful s.disk in
-    let unbroken : s.broken ≡ false = ap (λ (l : Log g.row.D.Denot). l.broken) c.self.view_is ∙ c.requires.unbroken in
-    let has = c.self.invariant.has unbroken in
     let m = g.D.Disk.content c.reserve-2.new.self in
     let laws-m : Lawful m = g.met.D.Disk.lawful c.reserve-2.new.self in
     let k = c.reserve-2.ensures.content in
     let m2 = g.D.Disk.content c.sync.new.self in
-    let laws2 : Lawful m2 = g.met.D.Disk.lawful c.sync.new.self in
     let k2 = c.sync.ensures.content in
     rw (← c.self.view_is) (twice_opens d m m2 laws-m k k2)
 
 pub split_at-requires : goal.split_at-requires
 split_at-requires g c =
     let s = c.self.inside in
-    let d = g.D.Disk.content s.disk in
-    let laws : Lawful d = g.met.D.Disk.lawful s.disk in
-    let unbroken : s.broken ≡ false = ap (λ (l : Log g.row.D.Denot). l.broken) c.self.view_is ∙ c.requires.unbroken in
-    let has = c.self.invariant.has unbroken in
-    let m = g.D.Disk.content c.reserve-2.new.self in
-    let laws-m : Lawful m = g.met.D.Disk.lawful c.reserve-2.new.self in
-    let k = c.reserve-2.ensures.content in
-    let m2 = g.D.Disk.content c.sync.new.self in
-    let laws2 : Lawful m2 = g.met.D.Disk.lawful c.sync.new.self in
-    let k2 = c.sync.ensures.content in
-    let are = c.self.invariant.segments in
-    let some : 0 < size_of s.active = subst (λ (l : Log g.row.D.Denot). 0 < size_of l.active) (sym c.self.view_is) c.requires.some in
-    let few : length s.closed.items + 1 < 4096 = (let h = subst (λ (l : Log g.row.D.Denot). length l.closed < 4095) (sym c.self.view_is) c.requires.few in omega (arith, h)) in
-    let synced = subst (λ (b : ℕ). (f : Files) → Image m2 f → Begins (m.files (file.Log b)) (f (file.Log b))) c.base.ensures c.in-Ok.ensures.durable in
     let nx : Grown = record { base = end_of s.active; interval = s.settings.index_interval; batches = [] } in
     let next_is : c.new-next.result ≡ nx = c.new-next.ensures ∙ ap (λ (n : ℕ). record { base = n; interval = s.settings.index_interval; batches = [] }) c.end-end.ensures in
     let t : IsTakenIn nx c.take_in.new.segment s.line c.args.run.now s.settings.segment_bytes (c.in_ok-len.len, c.in_ok-len.line) =
@@ -203,20 +174,6 @@ split_at-requires g c =
 pub overflow_sub-result : goal.overflow_sub-result
 overflow_sub-result g c =
     let s = c.self.inside in
-    let d = g.D.Disk.content s.disk in
-    let laws : Lawful d = g.met.D.Disk.lawful s.disk in
-    let unbroken : s.broken ≡ false = ap (λ (l : Log g.row.D.Denot). l.broken) c.self.view_is ∙ c.requires.unbroken in
-    let has = c.self.invariant.has unbroken in
-    let m = g.D.Disk.content c.reserve-2.new.self in
-    let laws-m : Lawful m = g.met.D.Disk.lawful c.reserve-2.new.self in
-    let k = c.reserve-2.ensures.content in
-    let m2 = g.D.Disk.content c.sync.new.self in
-    let laws2 : Lawful m2 = g.met.D.Disk.lawful c.sync.new.self in
-    let k2 = c.sync.ensures.content in
-    let are = c.self.invariant.segments in
-    let some : 0 < size_of s.active = subst (λ (l : Log g.row.D.Denot). 0 < size_of l.active) (sym c.self.view_is) c.requires.some in
-    let few : length s.closed.items + 1 < 4096 = (let h = subst (λ (l : Log g.row.D.Denot). length l.closed < 4095) (sym c.self.view_is) c.requires.few in omega (arith, h)) in
-    let synced = subst (λ (b : ℕ). (f : Files) → Image m2 f → Begins (m.files (file.Log b)) (f (file.Log b))) c.base.ensures c.in-Ok.ensures.durable in
     let nx : Grown = record { base = end_of s.active; interval = s.settings.index_interval; batches = [] } in
     let next_is : c.new-next.result ≡ nx = c.new-next.ensures ∙ ap (λ (n : ℕ). record { base = n; interval = s.settings.index_interval; batches = [] }) c.end-end.ensures in
     let t : IsTakenIn nx c.take_in.new.segment s.line c.args.run.now s.settings.segment_bytes (c.in_ok-len.len, c.in_ok-len.line) =
@@ -264,7 +221,6 @@ invariant_of-self-in-Ok-outcome g c =
     let active_is : c.replace-full.new.dest ≡ grown_by nx (taken nx c.take_in.new.segment s.line c.args.run.now s.settings.segment_bytes (c.in_ok-len.len, c.in_ok-len.line) t c.self.invariant.line c.self.invariant.line_within) = c.replace-full.ensures.after ∙ t.segment_is in
     let end_is : end_of c.replace-full.new.dest ≡ end_from (end_of s.active) (taken nx c.take_in.new.segment s.line c.args.run.now s.settings.segment_bytes (c.in_ok-len.len, c.in_ok-len.line) t c.self.invariant.line c.self.invariant.line_within) = ap end_of c.replace-full.ensures.after ∙ taken_end nx c.take_in.new.segment s.line c.args.run.now s.settings.segment_bytes (c.in_ok-len.len, c.in_ok-len.line) t c.self.invariant.line c.self.invariant.line_within in
     let has' = appended_has m2 d' laws2 laws' s.incarnation s.local_start (s.closed.items ++ s.active ∷ []) nx s.line s.stable (rolled_has d m m2 laws laws-m laws2 s.incarnation s.local_start s.closed.items s.active s.line s.stable has k k2 s.settings.index_interval are some c.self.invariant.stable_within synced) c.split_at.result.0.now M change done (taken nx c.take_in.new.segment s.line c.args.run.now s.settings.segment_bytes (c.in_ok-len.len, c.in_ok-len.line) t c.self.invariant.line c.self.invariant.line_within) bytes_is (taken_oks nx c.take_in.new.segment s.line c.args.run.now s.settings.segment_bytes (c.in_ok-len.len, c.in_ok-len.line) t c.self.invariant.line c.self.invariant.line_within) (taken_follow nx c.take_in.new.segment s.line c.args.run.now s.settings.segment_bytes (c.in_ok-len.len, c.in_ok-len.line) t c.self.invariant.line c.self.invariant.line_within) are' c.self.invariant.stable_within c.self.invariant.line (taken_lined nx c.take_in.new.segment s.line c.args.run.now s.settings.segment_bytes (c.in_ok-len.len, c.in_ok-len.line) t c.self.invariant.line c.self.invariant.line_within) laid low in
-    let new_end : end_of (grown_by nx (taken nx c.take_in.new.segment s.line c.args.run.now s.settings.segment_bytes (c.in_ok-len.len, c.in_ok-len.line) t c.self.invariant.line c.self.invariant.line_within)) ≡ end_from (end_of s.active) (taken nx c.take_in.new.segment s.line c.args.run.now s.settings.segment_bytes (c.in_ok-len.len, c.in_ok-len.line) t c.self.invariant.line c.self.invariant.line_within) = ap end_of (sym t.segment_is) ∙ taken_end nx c.take_in.new.segment s.line c.args.run.now s.settings.segment_bytes (c.in_ok-len.len, c.in_ok-len.line) t c.self.invariant.line c.self.invariant.line_within in
     record {
       segments = subst (λ (x : Grown). AreSegmentsOf s.local_start c.push_reserved.new.self.items x) (sym active_is)
           (subst (λ (l : List Grown). AreSegmentsOf s.local_start l (grown_by nx (taken nx c.take_in.new.segment s.line c.args.run.now s.settings.segment_bytes (c.in_ok-len.len, c.in_ok-len.line) t c.self.invariant.line c.self.invariant.line_within))) (sym items_are) (appended_are m2 d' laws2 laws' s.incarnation s.local_start (s.closed.items ++ s.active ∷ []) nx s.line s.stable (rolled_has d m m2 laws laws-m laws2 s.incarnation s.local_start s.closed.items s.active s.line s.stable has k k2 s.settings.index_interval are some c.self.invariant.stable_within synced) c.split_at.result.0.now M change done (taken nx c.take_in.new.segment s.line c.args.run.now s.settings.segment_bytes (c.in_ok-len.len, c.in_ok-len.line) t c.self.invariant.line c.self.invariant.line_within) bytes_is (taken_oks nx c.take_in.new.segment s.line c.args.run.now s.settings.segment_bytes (c.in_ok-len.len, c.in_ok-len.line) t c.self.invariant.line c.self.invariant.line_within) (taken_follow nx c.take_in.new.segment s.line c.args.run.now s.settings.segment_bytes (c.in_ok-len.len, c.in_ok-len.line) t c.self.invariant.line c.self.invariant.line_within) are' c.self.invariant.stable_within c.self.invariant.line (taken_lined nx c.take_in.new.segment s.line c.args.run.now s.settings.segment_bytes (c.in_ok-len.len, c.in_ok-len.line) t c.self.invariant.line c.self.invariant.line_within) laid low));
@@ -296,15 +252,9 @@ invariant_of-self-in-Err-outcome g c =
     let k2 = c.sync.ensures.content in
     let are = c.self.invariant.segments in
     let some : 0 < size_of s.active = subst (λ (l : Log g.row.D.Denot). 0 < size_of l.active) (sym c.self.view_is) c.requires.some in
-    let few : length s.closed.items + 1 < 4096 = (let h = subst (λ (l : Log g.row.D.Denot). length l.closed < 4095) (sym c.self.view_is) c.requires.few in omega (arith, h)) in
     let synced = subst (λ (b : ℕ). (f : Files) → Image m2 f → Begins (m.files (file.Log b)) (f (file.Log b))) c.base.ensures c.in-Ok.ensures.durable in
-    let nx : Grown = record { base = end_of s.active; interval = s.settings.index_interval; batches = [] } in
-    let next_is : c.new-next.result ≡ nx = c.new-next.ensures ∙ ap (λ (n : ℕ). record { base = n; interval = s.settings.index_interval; batches = [] }) c.end-end.ensures in
-    let t : IsTakenIn nx c.take_in.new.segment s.line c.args.run.now s.settings.segment_bytes (c.in_ok-len.len, c.in_ok-len.line) =
-    subst (λ (x : Grown). IsTakenIn x c.take_in.new.segment s.line c.args.run.now s.settings.segment_bytes (c.in_ok-len.len, c.in_ok-len.line)) next_is c.in_ok-len.ensures.ok in
     let d' = g.D.Disk.content c.append-outcome.new.self in
     let laws' : Lawful d' = g.met.D.Disk.lawful c.append-outcome.new.self in
-    let bytes_is : c.split_at.result.0.now ≡ joined (taken nx c.take_in.new.segment s.line c.args.run.now s.settings.segment_bytes (c.in_ok-len.len, c.in_ok-len.line) t c.self.invariant.line c.self.invariant.line_within) = c.split_at.ensures.front ∙ taken_bytes nx c.take_in.new.segment s.line c.args.run.now s.settings.segment_bytes (c.in_ok-len.len, c.in_ok-len.line) t c.self.invariant.line c.self.invariant.line_within in
     let M = MayBeDone call.Append (fate_of c.append-outcome.result) (g.D.Disk.control c.sync.new.self) in
     let change = subst (λ (b : ℕ). Changes (file.Log b) (appended c.split_at.result.0.now) MayGrow M m2 d') c.end-end.ensures c.append-outcome.ensures.content in
     let fails : IsFalse c.is_ok.result = c.is_ok.ensures.value ∙ ap is_ok c.in-Err-outcome.is in
@@ -394,15 +344,9 @@ returns-in-Ok-outcome-clause-any_moment g c =
     let k2 = c.sync.ensures.content in
     let are = c.self.invariant.segments in
     let some : 0 < size_of s.active = subst (λ (l : Log g.row.D.Denot). 0 < size_of l.active) (sym c.self.view_is) c.requires.some in
-    let few : length s.closed.items + 1 < 4096 = (let h = subst (λ (l : Log g.row.D.Denot). length l.closed < 4095) (sym c.self.view_is) c.requires.few in omega (arith, h)) in
     let synced = subst (λ (b : ℕ). (f : Files) → Image m2 f → Begins (m.files (file.Log b)) (f (file.Log b))) c.base.ensures c.in-Ok.ensures.durable in
-    let nx : Grown = record { base = end_of s.active; interval = s.settings.index_interval; batches = [] } in
-    let next_is : c.new-next.result ≡ nx = c.new-next.ensures ∙ ap (λ (n : ℕ). record { base = n; interval = s.settings.index_interval; batches = [] }) c.end-end.ensures in
-    let t : IsTakenIn nx c.take_in.new.segment s.line c.args.run.now s.settings.segment_bytes (c.in_ok-len.len, c.in_ok-len.line) =
-    subst (λ (x : Grown). IsTakenIn x c.take_in.new.segment s.line c.args.run.now s.settings.segment_bytes (c.in_ok-len.len, c.in_ok-len.line)) next_is c.in_ok-len.ensures.ok in
     let d' = g.D.Disk.content c.append-outcome.new.self in
     let laws' : Lawful d' = g.met.D.Disk.lawful c.append-outcome.new.self in
-    let bytes_is : c.split_at.result.0.now ≡ joined (taken nx c.take_in.new.segment s.line c.args.run.now s.settings.segment_bytes (c.in_ok-len.len, c.in_ok-len.line) t c.self.invariant.line c.self.invariant.line_within) = c.split_at.ensures.front ∙ taken_bytes nx c.take_in.new.segment s.line c.args.run.now s.settings.segment_bytes (c.in_ok-len.len, c.in_ok-len.line) t c.self.invariant.line c.self.invariant.line_within in
     let M = MayBeDone call.Append (fate_of c.append-outcome.result) (g.D.Disk.control c.sync.new.self) in
     let change = subst (λ (b : ℕ). Changes (file.Log b) (appended c.split_at.result.0.now) MayGrow M m2 d') c.end-end.ensures c.append-outcome.ensures.content in
     rw (← c.self.view_is) (behind_since d m m2 laws laws-m laws2 s.incarnation s.local_start s.closed.items s.active s.line s.stable has k k2 s.settings.index_interval are some c.self.invariant.stable_within synced d' laws' c.split_at.result.0.now M change)
@@ -422,15 +366,9 @@ returns-in-Ok-outcome-clause-opens g c =
     let k2 = c.sync.ensures.content in
     let are = c.self.invariant.segments in
     let some : 0 < size_of s.active = subst (λ (l : Log g.row.D.Denot). 0 < size_of l.active) (sym c.self.view_is) c.requires.some in
-    let few : length s.closed.items + 1 < 4096 = (let h = subst (λ (l : Log g.row.D.Denot). length l.closed < 4095) (sym c.self.view_is) c.requires.few in omega (arith, h)) in
     let synced = subst (λ (b : ℕ). (f : Files) → Image m2 f → Begins (m.files (file.Log b)) (f (file.Log b))) c.base.ensures c.in-Ok.ensures.durable in
-    let nx : Grown = record { base = end_of s.active; interval = s.settings.index_interval; batches = [] } in
-    let next_is : c.new-next.result ≡ nx = c.new-next.ensures ∙ ap (λ (n : ℕ). record { base = n; interval = s.settings.index_interval; batches = [] }) c.end-end.ensures in
-    let t : IsTakenIn nx c.take_in.new.segment s.line c.args.run.now s.settings.segment_bytes (c.in_ok-len.len, c.in_ok-len.line) =
-    subst (λ (x : Grown). IsTakenIn x c.take_in.new.segment s.line c.args.run.now s.settings.segment_bytes (c.in_ok-len.len, c.in_ok-len.line)) next_is c.in_ok-len.ensures.ok in
     let d' = g.D.Disk.content c.append-outcome.new.self in
     let laws' : Lawful d' = g.met.D.Disk.lawful c.append-outcome.new.self in
-    let bytes_is : c.split_at.result.0.now ≡ joined (taken nx c.take_in.new.segment s.line c.args.run.now s.settings.segment_bytes (c.in_ok-len.len, c.in_ok-len.line) t c.self.invariant.line c.self.invariant.line_within) = c.split_at.ensures.front ∙ taken_bytes nx c.take_in.new.segment s.line c.args.run.now s.settings.segment_bytes (c.in_ok-len.len, c.in_ok-len.line) t c.self.invariant.line c.self.invariant.line_within in
     let M = MayBeDone call.Append (fate_of c.append-outcome.result) (g.D.Disk.control c.sync.new.self) in
     let change = subst (λ (b : ℕ). Changes (file.Log b) (appended c.split_at.result.0.now) MayGrow M m2 d') c.end-end.ensures c.append-outcome.ensures.content in
     rw (← c.self.view_is) (behind_opens d m m2 laws laws-m laws2 s.incarnation s.local_start s.closed.items s.active s.line s.stable has k k2 s.settings.index_interval are some c.self.invariant.stable_within synced d' laws' c.split_at.result.0.now M change)
@@ -450,15 +388,9 @@ returns-in-Err-outcome-clause-any_moment g c =
     let k2 = c.sync.ensures.content in
     let are = c.self.invariant.segments in
     let some : 0 < size_of s.active = subst (λ (l : Log g.row.D.Denot). 0 < size_of l.active) (sym c.self.view_is) c.requires.some in
-    let few : length s.closed.items + 1 < 4096 = (let h = subst (λ (l : Log g.row.D.Denot). length l.closed < 4095) (sym c.self.view_is) c.requires.few in omega (arith, h)) in
     let synced = subst (λ (b : ℕ). (f : Files) → Image m2 f → Begins (m.files (file.Log b)) (f (file.Log b))) c.base.ensures c.in-Ok.ensures.durable in
-    let nx : Grown = record { base = end_of s.active; interval = s.settings.index_interval; batches = [] } in
-    let next_is : c.new-next.result ≡ nx = c.new-next.ensures ∙ ap (λ (n : ℕ). record { base = n; interval = s.settings.index_interval; batches = [] }) c.end-end.ensures in
-    let t : IsTakenIn nx c.take_in.new.segment s.line c.args.run.now s.settings.segment_bytes (c.in_ok-len.len, c.in_ok-len.line) =
-    subst (λ (x : Grown). IsTakenIn x c.take_in.new.segment s.line c.args.run.now s.settings.segment_bytes (c.in_ok-len.len, c.in_ok-len.line)) next_is c.in_ok-len.ensures.ok in
     let d' = g.D.Disk.content c.append-outcome.new.self in
     let laws' : Lawful d' = g.met.D.Disk.lawful c.append-outcome.new.self in
-    let bytes_is : c.split_at.result.0.now ≡ joined (taken nx c.take_in.new.segment s.line c.args.run.now s.settings.segment_bytes (c.in_ok-len.len, c.in_ok-len.line) t c.self.invariant.line c.self.invariant.line_within) = c.split_at.ensures.front ∙ taken_bytes nx c.take_in.new.segment s.line c.args.run.now s.settings.segment_bytes (c.in_ok-len.len, c.in_ok-len.line) t c.self.invariant.line c.self.invariant.line_within in
     let M = MayBeDone call.Append (fate_of c.append-outcome.result) (g.D.Disk.control c.sync.new.self) in
     let change = subst (λ (b : ℕ). Changes (file.Log b) (appended c.split_at.result.0.now) MayGrow M m2 d') c.end-end.ensures c.append-outcome.ensures.content in
     rw (← c.self.view_is) (behind_since d m m2 laws laws-m laws2 s.incarnation s.local_start s.closed.items s.active s.line s.stable has k k2 s.settings.index_interval are some c.self.invariant.stable_within synced d' laws' c.split_at.result.0.now M change)
@@ -478,15 +410,9 @@ returns-in-Err-outcome-clause-opens g c =
     let k2 = c.sync.ensures.content in
     let are = c.self.invariant.segments in
     let some : 0 < size_of s.active = subst (λ (l : Log g.row.D.Denot). 0 < size_of l.active) (sym c.self.view_is) c.requires.some in
-    let few : length s.closed.items + 1 < 4096 = (let h = subst (λ (l : Log g.row.D.Denot). length l.closed < 4095) (sym c.self.view_is) c.requires.few in omega (arith, h)) in
     let synced = subst (λ (b : ℕ). (f : Files) → Image m2 f → Begins (m.files (file.Log b)) (f (file.Log b))) c.base.ensures c.in-Ok.ensures.durable in
-    let nx : Grown = record { base = end_of s.active; interval = s.settings.index_interval; batches = [] } in
-    let next_is : c.new-next.result ≡ nx = c.new-next.ensures ∙ ap (λ (n : ℕ). record { base = n; interval = s.settings.index_interval; batches = [] }) c.end-end.ensures in
-    let t : IsTakenIn nx c.take_in.new.segment s.line c.args.run.now s.settings.segment_bytes (c.in_ok-len.len, c.in_ok-len.line) =
-    subst (λ (x : Grown). IsTakenIn x c.take_in.new.segment s.line c.args.run.now s.settings.segment_bytes (c.in_ok-len.len, c.in_ok-len.line)) next_is c.in_ok-len.ensures.ok in
     let d' = g.D.Disk.content c.append-outcome.new.self in
     let laws' : Lawful d' = g.met.D.Disk.lawful c.append-outcome.new.self in
-    let bytes_is : c.split_at.result.0.now ≡ joined (taken nx c.take_in.new.segment s.line c.args.run.now s.settings.segment_bytes (c.in_ok-len.len, c.in_ok-len.line) t c.self.invariant.line c.self.invariant.line_within) = c.split_at.ensures.front ∙ taken_bytes nx c.take_in.new.segment s.line c.args.run.now s.settings.segment_bytes (c.in_ok-len.len, c.in_ok-len.line) t c.self.invariant.line c.self.invariant.line_within in
     let M = MayBeDone call.Append (fate_of c.append-outcome.result) (g.D.Disk.control c.sync.new.self) in
     let change = subst (λ (b : ℕ). Changes (file.Log b) (appended c.split_at.result.0.now) MayGrow M m2 d') c.end-end.ensures c.append-outcome.ensures.content in
     rw (← c.self.view_is) (behind_opens d m m2 laws laws-m laws2 s.incarnation s.local_start s.closed.items s.active s.line s.stable has k k2 s.settings.index_interval are some c.self.invariant.stable_within synced d' laws' c.split_at.result.0.now M change)
@@ -506,15 +432,9 @@ returns-in-Err-outcome-clause-no_memory g c =
     let k2 = c.sync.ensures.content in
     let are = c.self.invariant.segments in
     let some : 0 < size_of s.active = subst (λ (l : Log g.row.D.Denot). 0 < size_of l.active) (sym c.self.view_is) c.requires.some in
-    let few : length s.closed.items + 1 < 4096 = (let h = subst (λ (l : Log g.row.D.Denot). length l.closed < 4095) (sym c.self.view_is) c.requires.few in omega (arith, h)) in
     let synced = subst (λ (b : ℕ). (f : Files) → Image m2 f → Begins (m.files (file.Log b)) (f (file.Log b))) c.base.ensures c.in-Ok.ensures.durable in
-    let nx : Grown = record { base = end_of s.active; interval = s.settings.index_interval; batches = [] } in
-    let next_is : c.new-next.result ≡ nx = c.new-next.ensures ∙ ap (λ (n : ℕ). record { base = n; interval = s.settings.index_interval; batches = [] }) c.end-end.ensures in
-    let t : IsTakenIn nx c.take_in.new.segment s.line c.args.run.now s.settings.segment_bytes (c.in_ok-len.len, c.in_ok-len.line) =
-    subst (λ (x : Grown). IsTakenIn x c.take_in.new.segment s.line c.args.run.now s.settings.segment_bytes (c.in_ok-len.len, c.in_ok-len.line)) next_is c.in_ok-len.ensures.ok in
     let d' = g.D.Disk.content c.append-outcome.new.self in
     let laws' : Lawful d' = g.met.D.Disk.lawful c.append-outcome.new.self in
-    let bytes_is : c.split_at.result.0.now ≡ joined (taken nx c.take_in.new.segment s.line c.args.run.now s.settings.segment_bytes (c.in_ok-len.len, c.in_ok-len.line) t c.self.invariant.line c.self.invariant.line_within) = c.split_at.ensures.front ∙ taken_bytes nx c.take_in.new.segment s.line c.args.run.now s.settings.segment_bytes (c.in_ok-len.len, c.in_ok-len.line) t c.self.invariant.line c.self.invariant.line_within in
     let M = MayBeDone call.Append (fate_of c.append-outcome.result) (g.D.Disk.control c.sync.new.self) in
     let change = subst (λ (b : ℕ). Changes (file.Log b) (appended c.split_at.result.0.now) MayGrow M m2 d') c.end-end.ensures c.append-outcome.ensures.content in
     let fails : IsFalse c.is_ok.result = c.is_ok.ensures.value ∙ ap is_ok c.in-Err-outcome.is in
@@ -540,15 +460,9 @@ returns-in-Err-outcome-clause-broken g c =
     let k2 = c.sync.ensures.content in
     let are = c.self.invariant.segments in
     let some : 0 < size_of s.active = subst (λ (l : Log g.row.D.Denot). 0 < size_of l.active) (sym c.self.view_is) c.requires.some in
-    let few : length s.closed.items + 1 < 4096 = (let h = subst (λ (l : Log g.row.D.Denot). length l.closed < 4095) (sym c.self.view_is) c.requires.few in omega (arith, h)) in
     let synced = subst (λ (b : ℕ). (f : Files) → Image m2 f → Begins (m.files (file.Log b)) (f (file.Log b))) c.base.ensures c.in-Ok.ensures.durable in
-    let nx : Grown = record { base = end_of s.active; interval = s.settings.index_interval; batches = [] } in
-    let next_is : c.new-next.result ≡ nx = c.new-next.ensures ∙ ap (λ (n : ℕ). record { base = n; interval = s.settings.index_interval; batches = [] }) c.end-end.ensures in
-    let t : IsTakenIn nx c.take_in.new.segment s.line c.args.run.now s.settings.segment_bytes (c.in_ok-len.len, c.in_ok-len.line) =
-    subst (λ (x : Grown). IsTakenIn x c.take_in.new.segment s.line c.args.run.now s.settings.segment_bytes (c.in_ok-len.len, c.in_ok-len.line)) next_is c.in_ok-len.ensures.ok in
     let d' = g.D.Disk.content c.append-outcome.new.self in
     let laws' : Lawful d' = g.met.D.Disk.lawful c.append-outcome.new.self in
-    let bytes_is : c.split_at.result.0.now ≡ joined (taken nx c.take_in.new.segment s.line c.args.run.now s.settings.segment_bytes (c.in_ok-len.len, c.in_ok-len.line) t c.self.invariant.line c.self.invariant.line_within) = c.split_at.ensures.front ∙ taken_bytes nx c.take_in.new.segment s.line c.args.run.now s.settings.segment_bytes (c.in_ok-len.len, c.in_ok-len.line) t c.self.invariant.line c.self.invariant.line_within in
     let M = MayBeDone call.Append (fate_of c.append-outcome.result) (g.D.Disk.control c.sync.new.self) in
     let change = subst (λ (b : ℕ). Changes (file.Log b) (appended c.split_at.result.0.now) MayGrow M m2 d') c.end-end.ensures c.append-outcome.ensures.content in
     let fails : IsFalse c.is_ok.result = c.is_ok.ensures.value ∙ ap is_ok c.in-Err-outcome.is in
@@ -562,20 +476,6 @@ returns-in-Err-outcome-clause-broken g c =
 pub returns-in-Ok-outcome-clause-some : goal.returns-in-Ok-outcome-clause-some
 returns-in-Ok-outcome-clause-some g c =
     let s = c.self.inside in
-    let d = g.D.Disk.content s.disk in
-    let laws : Lawful d = g.met.D.Disk.lawful s.disk in
-    let unbroken : s.broken ≡ false = ap (λ (l : Log g.row.D.Denot). l.broken) c.self.view_is ∙ c.requires.unbroken in
-    let has = c.self.invariant.has unbroken in
-    let m = g.D.Disk.content c.reserve-2.new.self in
-    let laws-m : Lawful m = g.met.D.Disk.lawful c.reserve-2.new.self in
-    let k = c.reserve-2.ensures.content in
-    let m2 = g.D.Disk.content c.sync.new.self in
-    let laws2 : Lawful m2 = g.met.D.Disk.lawful c.sync.new.self in
-    let k2 = c.sync.ensures.content in
-    let are = c.self.invariant.segments in
-    let some : 0 < size_of s.active = subst (λ (l : Log g.row.D.Denot). 0 < size_of l.active) (sym c.self.view_is) c.requires.some in
-    let few : length s.closed.items + 1 < 4096 = (let h = subst (λ (l : Log g.row.D.Denot). length l.closed < 4095) (sym c.self.view_is) c.requires.few in omega (arith, h)) in
-    let synced = subst (λ (b : ℕ). (f : Files) → Image m2 f → Begins (m.files (file.Log b)) (f (file.Log b))) c.base.ensures c.in-Ok.ensures.durable in
     let nx : Grown = record { base = end_of s.active; interval = s.settings.index_interval; batches = [] } in
     let next_is : c.new-next.result ≡ nx = c.new-next.ensures ∙ ap (λ (n : ℕ). record { base = n; interval = s.settings.index_interval; batches = [] }) c.end-end.ensures in
     let t : IsTakenIn nx c.take_in.new.segment s.line c.args.run.now s.settings.segment_bytes (c.in_ok-len.len, c.in_ok-len.line) =

@@ -38,28 +38,17 @@ pub returns-in_err-len-clause-opens : goal.returns-in_err-len-clause-opens
 returns-in_err-len-clause-opens g c =
     let s = c.self.inside in
     let d = g.D.Disk.content s.disk in
-    let laws : Lawful d = g.met.D.Disk.lawful s.disk in
-    let unbroken : s.broken ≡ false = ap (λ (l : Log g.row.D.Denot). l.broken) c.self.view_is ∙ c.requires.unbroken in
-    let has = c.self.invariant.has unbroken in
     rw (← c.self.view_is) (start_opens d)
 
 pub split_at-requires : goal.split_at-requires
 split_at-requires g c =
     let s = c.self.inside in
-    let d = g.D.Disk.content s.disk in
-    let laws : Lawful d = g.met.D.Disk.lawful s.disk in
-    let unbroken : s.broken ≡ false = ap (λ (l : Log g.row.D.Denot). l.broken) c.self.view_is ∙ c.requires.unbroken in
-    let has = c.self.invariant.has unbroken in
     let t : IsTakenIn s.active c.take_in.new.segment s.line c.args.run.now s.settings.segment_bytes (c.in_ok-len.len, c.in_ok-len.line) = c.in_ok-len.ensures.ok in
     taken_fits s.active c.take_in.new.segment s.line c.args.run.now s.settings.segment_bytes (c.in_ok-len.len, c.in_ok-len.line) t c.self.invariant.line c.self.invariant.line_within
 
 pub overflow_sub-result : goal.overflow_sub-result
 overflow_sub-result g c =
     let s = c.self.inside in
-    let d = g.D.Disk.content s.disk in
-    let laws : Lawful d = g.met.D.Disk.lawful s.disk in
-    let unbroken : s.broken ≡ false = ap (λ (l : Log g.row.D.Denot). l.broken) c.self.view_is ∙ c.requires.unbroken in
-    let has = c.self.invariant.has unbroken in
     let t : IsTakenIn s.active c.take_in.new.segment s.line c.args.run.now s.settings.segment_bytes (c.in_ok-len.len, c.in_ok-len.line) = c.in_ok-len.ensures.ok in
     let fits = subst (λ (l : Log g.row.D.Denot). is_due l c.args.run.now ≡ false) (sym c.self.view_is) c.requires.fits in
     let more = taken_grows s.active c.take_in.new.segment s.line c.args.run.now s.settings.segment_bytes (c.in_ok-len.len, c.in_ok-len.line) t c.self.invariant.line c.self.invariant.line_within fits c.requires.low in
@@ -140,7 +129,6 @@ returns-in-Ok-clause-any_moment g c =
     let d' = g.D.Disk.content c.append-outcome.new.self in
     let laws' : Lawful d' = g.met.D.Disk.lawful c.append-outcome.new.self in
     let base_is : c.base.result ≡ s.active.base = c.base.ensures ∙ ap (λ (x : Grown). x.base) t.segment_is in
-    let bytes_is : c.split_at.result.0.now ≡ joined (taken s.active c.take_in.new.segment s.line c.args.run.now s.settings.segment_bytes (c.in_ok-len.len, c.in_ok-len.line) t c.self.invariant.line c.self.invariant.line_within) = c.split_at.ensures.front ∙ taken_bytes s.active c.take_in.new.segment s.line c.args.run.now s.settings.segment_bytes (c.in_ok-len.len, c.in_ok-len.line) t c.self.invariant.line c.self.invariant.line_within in
     let M = MayBeDone call.Append (fate_of c.append-outcome.result) (g.D.Disk.control s.disk) in
     let change = subst (λ (b : ℕ). Changes (file.Log b) (appended c.split_at.result.0.now) MayGrow M d d') base_is c.append-outcome.ensures.content in
     rw (← c.self.view_is) (appended_since d d' laws laws' s.incarnation s.local_start s.closed.items s.active s.line s.stable has c.split_at.result.0.now M change)
@@ -156,7 +144,6 @@ returns-in-Ok-clause-opens g c =
     let d' = g.D.Disk.content c.append-outcome.new.self in
     let laws' : Lawful d' = g.met.D.Disk.lawful c.append-outcome.new.self in
     let base_is : c.base.result ≡ s.active.base = c.base.ensures ∙ ap (λ (x : Grown). x.base) t.segment_is in
-    let bytes_is : c.split_at.result.0.now ≡ joined (taken s.active c.take_in.new.segment s.line c.args.run.now s.settings.segment_bytes (c.in_ok-len.len, c.in_ok-len.line) t c.self.invariant.line c.self.invariant.line_within) = c.split_at.ensures.front ∙ taken_bytes s.active c.take_in.new.segment s.line c.args.run.now s.settings.segment_bytes (c.in_ok-len.len, c.in_ok-len.line) t c.self.invariant.line c.self.invariant.line_within in
     let M = MayBeDone call.Append (fate_of c.append-outcome.result) (g.D.Disk.control s.disk) in
     let change = subst (λ (b : ℕ). Changes (file.Log b) (appended c.split_at.result.0.now) MayGrow M d d') base_is c.append-outcome.ensures.content in
     rw (← c.self.view_is) (appended_opens d laws s.incarnation s.local_start s.closed.items s.active s.line s.stable has d' laws' c.split_at.result.0.now M change)
@@ -172,7 +159,6 @@ invariant_of-self-in-Err g c =
     let d' = g.D.Disk.content c.append-outcome.new.self in
     let laws' : Lawful d' = g.met.D.Disk.lawful c.append-outcome.new.self in
     let base_is : c.base.result ≡ s.active.base = c.base.ensures ∙ ap (λ (x : Grown). x.base) t.segment_is in
-    let bytes_is : c.split_at.result.0.now ≡ joined (taken s.active c.take_in.new.segment s.line c.args.run.now s.settings.segment_bytes (c.in_ok-len.len, c.in_ok-len.line) t c.self.invariant.line c.self.invariant.line_within) = c.split_at.ensures.front ∙ taken_bytes s.active c.take_in.new.segment s.line c.args.run.now s.settings.segment_bytes (c.in_ok-len.len, c.in_ok-len.line) t c.self.invariant.line c.self.invariant.line_within in
     let M = MayBeDone call.Append (fate_of c.append-outcome.result) (g.D.Disk.control s.disk) in
     let change = subst (λ (b : ℕ). Changes (file.Log b) (appended c.split_at.result.0.now) MayGrow M d d') base_is c.append-outcome.ensures.content in
     let cut_is : c.cut_to.new.self ≡ s.active = c.cut_to.ensures ∙ cut_back s.active c.take_in.new.segment c.end-end.result c.end-end.ensures (taken_front s.active c.take_in.new.segment s.line c.args.run.now s.settings.segment_bytes (c.in_ok-len.len, c.in_ok-len.line) t c.self.invariant.line c.self.invariant.line_within) in
@@ -207,7 +193,6 @@ returns-in-Err-clause-any_moment g c =
     let d' = g.D.Disk.content c.append-outcome.new.self in
     let laws' : Lawful d' = g.met.D.Disk.lawful c.append-outcome.new.self in
     let base_is : c.base.result ≡ s.active.base = c.base.ensures ∙ ap (λ (x : Grown). x.base) t.segment_is in
-    let bytes_is : c.split_at.result.0.now ≡ joined (taken s.active c.take_in.new.segment s.line c.args.run.now s.settings.segment_bytes (c.in_ok-len.len, c.in_ok-len.line) t c.self.invariant.line c.self.invariant.line_within) = c.split_at.ensures.front ∙ taken_bytes s.active c.take_in.new.segment s.line c.args.run.now s.settings.segment_bytes (c.in_ok-len.len, c.in_ok-len.line) t c.self.invariant.line c.self.invariant.line_within in
     let M = MayBeDone call.Append (fate_of c.append-outcome.result) (g.D.Disk.control s.disk) in
     let change = subst (λ (b : ℕ). Changes (file.Log b) (appended c.split_at.result.0.now) MayGrow M d d') base_is c.append-outcome.ensures.content in
     rw (← c.self.view_is) (appended_since d d' laws laws' s.incarnation s.local_start s.closed.items s.active s.line s.stable has c.split_at.result.0.now M change)
@@ -223,7 +208,6 @@ returns-in-Err-clause-opens g c =
     let d' = g.D.Disk.content c.append-outcome.new.self in
     let laws' : Lawful d' = g.met.D.Disk.lawful c.append-outcome.new.self in
     let base_is : c.base.result ≡ s.active.base = c.base.ensures ∙ ap (λ (x : Grown). x.base) t.segment_is in
-    let bytes_is : c.split_at.result.0.now ≡ joined (taken s.active c.take_in.new.segment s.line c.args.run.now s.settings.segment_bytes (c.in_ok-len.len, c.in_ok-len.line) t c.self.invariant.line c.self.invariant.line_within) = c.split_at.ensures.front ∙ taken_bytes s.active c.take_in.new.segment s.line c.args.run.now s.settings.segment_bytes (c.in_ok-len.len, c.in_ok-len.line) t c.self.invariant.line c.self.invariant.line_within in
     let M = MayBeDone call.Append (fate_of c.append-outcome.result) (g.D.Disk.control s.disk) in
     let change = subst (λ (b : ℕ). Changes (file.Log b) (appended c.split_at.result.0.now) MayGrow M d d') base_is c.append-outcome.ensures.content in
     rw (← c.self.view_is) (appended_opens d laws s.incarnation s.local_start s.closed.items s.active s.line s.stable has d' laws' c.split_at.result.0.now M change)
@@ -239,7 +223,6 @@ returns-in-Err-clause-no_memory g c =
     let d' = g.D.Disk.content c.append-outcome.new.self in
     let laws' : Lawful d' = g.met.D.Disk.lawful c.append-outcome.new.self in
     let base_is : c.base.result ≡ s.active.base = c.base.ensures ∙ ap (λ (x : Grown). x.base) t.segment_is in
-    let bytes_is : c.split_at.result.0.now ≡ joined (taken s.active c.take_in.new.segment s.line c.args.run.now s.settings.segment_bytes (c.in_ok-len.len, c.in_ok-len.line) t c.self.invariant.line c.self.invariant.line_within) = c.split_at.ensures.front ∙ taken_bytes s.active c.take_in.new.segment s.line c.args.run.now s.settings.segment_bytes (c.in_ok-len.len, c.in_ok-len.line) t c.self.invariant.line c.self.invariant.line_within in
     let M = MayBeDone call.Append (fate_of c.append-outcome.result) (g.D.Disk.control s.disk) in
     let change = subst (λ (b : ℕ). Changes (file.Log b) (appended c.split_at.result.0.now) MayGrow M d d') base_is c.append-outcome.ensures.content in
     let cut_is : c.cut_to.new.self ≡ s.active = c.cut_to.ensures ∙ cut_back s.active c.take_in.new.segment c.end-end.result c.end-end.ensures (taken_front s.active c.take_in.new.segment s.line c.args.run.now s.settings.segment_bytes (c.in_ok-len.len, c.in_ok-len.line) t c.self.invariant.line c.self.invariant.line_within) in
@@ -262,7 +245,6 @@ returns-in-Err-clause-broken g c =
     let d' = g.D.Disk.content c.append-outcome.new.self in
     let laws' : Lawful d' = g.met.D.Disk.lawful c.append-outcome.new.self in
     let base_is : c.base.result ≡ s.active.base = c.base.ensures ∙ ap (λ (x : Grown). x.base) t.segment_is in
-    let bytes_is : c.split_at.result.0.now ≡ joined (taken s.active c.take_in.new.segment s.line c.args.run.now s.settings.segment_bytes (c.in_ok-len.len, c.in_ok-len.line) t c.self.invariant.line c.self.invariant.line_within) = c.split_at.ensures.front ∙ taken_bytes s.active c.take_in.new.segment s.line c.args.run.now s.settings.segment_bytes (c.in_ok-len.len, c.in_ok-len.line) t c.self.invariant.line c.self.invariant.line_within in
     let M = MayBeDone call.Append (fate_of c.append-outcome.result) (g.D.Disk.control s.disk) in
     let change = subst (λ (b : ℕ). Changes (file.Log b) (appended c.split_at.result.0.now) MayGrow M d d') base_is c.append-outcome.ensures.content in
     let cut_is : c.cut_to.new.self ≡ s.active = c.cut_to.ensures ∙ cut_back s.active c.take_in.new.segment c.end-end.result c.end-end.ensures (taken_front s.active c.take_in.new.segment s.line c.args.run.now s.settings.segment_bytes (c.in_ok-len.len, c.in_ok-len.line) t c.self.invariant.line c.self.invariant.line_within) in
@@ -277,10 +259,6 @@ returns-in-Err-clause-broken g c =
 pub returns-in-Ok-clause-some : goal.returns-in-Ok-clause-some
 returns-in-Ok-clause-some g c =
     let s = c.self.inside in
-    let d = g.D.Disk.content s.disk in
-    let laws : Lawful d = g.met.D.Disk.lawful s.disk in
-    let unbroken : s.broken ≡ false = ap (λ (l : Log g.row.D.Denot). l.broken) c.self.view_is ∙ c.requires.unbroken in
-    let has = c.self.invariant.has unbroken in
     let t : IsTakenIn s.active c.take_in.new.segment s.line c.args.run.now s.settings.segment_bytes (c.in_ok-len.len, c.in_ok-len.line) = c.in_ok-len.ensures.ok in
     let fits = subst (λ (l : Log g.row.D.Denot). is_due l c.args.run.now ≡ false) (sym c.self.view_is) c.requires.fits in
     let more = taken_grows s.active c.take_in.new.segment s.line c.args.run.now s.settings.segment_bytes (c.in_ok-len.len, c.in_ok-len.line) t c.self.invariant.line c.self.invariant.line_within fits c.requires.low in

@@ -26,8 +26,6 @@ pub returns-then-size-eq0-clause-opens : goal.returns-then-size-eq0-clause-opens
 returns-then-size-eq0-clause-opens g c =
     let s = c.self.inside in
     let d = g.D.Disk.content s.disk in
-    let laws : Lawful d = g.met.D.Disk.lawful s.disk in
-    let unbroken : s.broken ≡ false = ap (λ (l : Log g.row.D.Denot). l.broken) c.self.view_is ∙ c.requires in
     rw (← c.self.view_is) (start_opens d)
 
 pub returns-then-len-ge-MOST_SEGMENTS-clause-any_moment : goal.returns-then-len-ge-MOST_SEGMENTS-clause-any_moment
@@ -42,8 +40,6 @@ pub returns-then-len-ge-MOST_SEGMENTS-clause-opens : goal.returns-then-len-ge-MO
 returns-then-len-ge-MOST_SEGMENTS-clause-opens g c =
     let s = c.self.inside in
     let d = g.D.Disk.content s.disk in
-    let laws : Lawful d = g.met.D.Disk.lawful s.disk in
-    let unbroken : s.broken ≡ false = ap (λ (l : Log g.row.D.Denot). l.broken) c.self.view_is ∙ c.requires in
     rw (← c.self.view_is) (start_opens d)
 
 pub returns-in_err-reserve-clause-any_moment : goal.returns-in_err-reserve-clause-any_moment
@@ -58,8 +54,6 @@ pub returns-in_err-reserve-clause-opens : goal.returns-in_err-reserve-clause-ope
 returns-in_err-reserve-clause-opens g c =
     let s = c.self.inside in
     let d = g.D.Disk.content s.disk in
-    let laws : Lawful d = g.met.D.Disk.lawful s.disk in
-    let unbroken : s.broken ≡ false = ap (λ (l : Log g.row.D.Denot). l.broken) c.self.view_is ∙ c.requires in
     rw (← c.self.view_is) (start_opens d)
 
 pub invariant_of-self-in_err-reserve-2 : goal.invariant_of-self-in_err-reserve-2
@@ -98,9 +92,6 @@ returns-in_err-reserve-2-clause-opens g c =
     let s = c.self.inside in
     let d = g.D.Disk.content s.disk in
     let m = g.D.Disk.content c.reserve-2.new.self in
-    let laws : Lawful d = g.met.D.Disk.lawful s.disk in
-    let laws-m : Lawful m = g.met.D.Disk.lawful c.reserve-2.new.self in
-    let unbroken : s.broken ≡ false = ap (λ (l : Log g.row.D.Denot). l.broken) c.self.view_is ∙ c.requires in
     rw (← c.self.view_is) (kept_opens d m c.reserve-2.ensures.content)
 
 pub invariant_of-self-in-Ok : goal.invariant_of-self-in-Ok
@@ -185,10 +176,7 @@ returns-in-Ok-clause-opens g c =
     let d = g.D.Disk.content s.disk in
     let m = g.D.Disk.content c.reserve-2.new.self in
     let d' = g.D.Disk.content c.sync.new.self in
-    let laws : Lawful d = g.met.D.Disk.lawful s.disk in
     let laws-m : Lawful m = g.met.D.Disk.lawful c.reserve-2.new.self in
-    let laws' : Lawful d' = g.met.D.Disk.lawful c.sync.new.self in
-    let unbroken : s.broken ≡ false = ap (λ (l : Log g.row.D.Denot). l.broken) c.self.view_is ∙ c.requires in
     rw (← c.self.view_is) (twice_opens d m d' laws-m c.reserve-2.ensures.content c.sync.ensures.content)
 
 pub returns-in-Err-clause-any_moment : goal.returns-in-Err-clause-any_moment
@@ -209,8 +197,5 @@ returns-in-Err-clause-opens g c =
     let d = g.D.Disk.content s.disk in
     let m = g.D.Disk.content c.reserve-2.new.self in
     let d' = g.D.Disk.content c.sync.new.self in
-    let laws : Lawful d = g.met.D.Disk.lawful s.disk in
     let laws-m : Lawful m = g.met.D.Disk.lawful c.reserve-2.new.self in
-    let laws' : Lawful d' = g.met.D.Disk.lawful c.sync.new.self in
-    let unbroken : s.broken ≡ false = ap (λ (l : Log g.row.D.Denot). l.broken) c.self.view_is ∙ c.requires in
     rw (← c.self.view_is) (twice_opens d m d' laws-m c.reserve-2.ensures.content c.sync.ensures.content)
