@@ -1,5 +1,5 @@
 //! Tests of the program's call: scripts and their traces, what the documents show, statuses, faults of the source and the
-//! sink, runs over a yard, and laws that are generic over the devices.
+//! sink, runs by threads and over a yard, and laws that are generic over the devices.
 //!
 //! They stand apart from the crates that they test, since a crate is proved anew where its tests are built.
 #![tactic(auto)]
@@ -16,5 +16,7 @@ mod shown_runs;
 mod shown_tests;
 #[cfg(test)]
 mod tests;
+#[cfg(test)]
+mod thread_tests;
 #[cfg(test)]
 mod yard_tests;

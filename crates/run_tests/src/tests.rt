@@ -2,7 +2,9 @@
 //!
 //! The batches' bytes come from a writer of record batches that was made apart from this repository.
 
-use broker_call::{Form, Status, Why, explained, folder, form_of, printed, script_source, tiered};
+use broker_call::{
+    Form, Gate, OpenGate, Status, Why, explained, folder, form_of, printed, script_source, tiered,
+};
 use folder_yard::FolderYard;
 use std::alloc::{AllocError, Global};
 use std::fs;
@@ -87,27 +89,29 @@ fn is_wanted(alloc: Global, status: &Status, written: &[u8], wanted: Wanted) -> 
 }
 
 /// What a call of the program comes to, with a yard over the folder that the words name.
-fn made(
+fn made<G: Gate + Sync>(
     rt: HostRuntime,
+    gate: &G,
     words: &[String],
     script: &mut MemorySource,
     out: &mut MemorySink,
 ) -> Option<Status> {
     match FolderYard::new(rt, folder(words)) {
-        Ok(mut yard) => Some(tiered(&rt, words, script, &mut yard, out)),
+        Ok(mut yard) => Some(tiered(&rt, words, script, &mut yard, out, gate)),
         Err(_) => None,
     }
 }
 
 /// The number of a call's status, and whether what is told and written is as it should be.
-fn ended(
+fn ended<G: Gate + Sync>(
     rt: HostRuntime,
+    gate: &G,
     words: &[String],
     script: &mut MemorySource,
     out: &mut MemorySink,
     wanted: Wanted,
 ) -> Option<(u8, bool, bool)> {
-    match made(rt, words, script, out) {
+    match made(rt, gate, words, script, out) {
         Some(status) => {
             let (is_told, is_written) = is_wanted(rt.alloc(), &status, out.written(), wanted);
             Some((status.number(), is_told, is_written))
@@ -117,23 +121,25 @@ fn ended(
 }
 
 /// The same, of a call with these words.
-fn ended_of(
+fn ended_of<G: Gate + Sync>(
     rt: HostRuntime,
+    gate: &G,
     list: &[&str],
     script: &mut MemorySource,
     out: &mut MemorySink,
     wanted: Wanted,
 ) -> Option<(u8, bool, bool)> {
     match words_of(rt.alloc(), list) {
-        Some(words) => ended(rt, words.as_slice(), script, out, wanted),
+        Some(words) => ended(rt, gate, words.as_slice(), script, out, wanted),
         None => None,
     }
 }
 
-/// Makes a call with these words and this input, whose calls of the plan fail: the number of its status, and whether what is
-/// told and written is as it should be.
-pub(crate) fn called(
+/// Makes a call with these words and this input, whose calls of the plan fail, and by threads, if it has any, that pass this
+/// gate: the number of its status, and whether what is told and written is as it should be.
+pub(crate) fn called_by<G: Gate + Sync>(
     rt: HostRuntime,
+    gate: &G,
     list: &[&str],
     (input, plan): (&[u8], &[u32]),
     room: Room,
@@ -143,9 +149,22 @@ pub(crate) fn called(
         source_of(rt.alloc(), input, plan),
         sink_of(rt.alloc(), room),
     ) {
-        (Some(mut script), Some(mut out)) => { ended_of(rt, list, &mut script, &mut out, wanted) }
+        (Some(mut script), Some(mut out)) => {
+            ended_of(rt, gate, list, &mut script, &mut out, wanted)
+        }
         _ => None,
     }
+}
+
+/// Makes such a call, by threads that nothing holds.
+pub(crate) fn called(
+    rt: HostRuntime,
+    list: &[&str],
+    given: (&[u8], &[u32]),
+    room: Room,
+    wanted: Wanted,
+) -> Option<(u8, bool, bool)> {
+    called_by(rt, &OpenGate, list, given, room, wanted)
 }
 
 /// A call that ends with this number, and tells and writes what it should.
@@ -369,7 +388,7 @@ static STATUSES: [(&[&str], &str, &[u32], &str, &str, u8); 7] = [
         &["sim", "x"],
         "0 0 0 flush\n",
         &[],
-        "tiered: usage: tiered sim or run DIR or gen N\n",
+        "tiered: usage: tiered sim [--threads] or run DIR or gen N\n",
         "",
         2,
     ),
@@ -437,7 +456,7 @@ fn told(alloc: Global, number: u8, line: &str) -> Option<(u8, bool)> {
 /// The number and the line of each status.
 static LINES: [(u8, &str); 9] = [
     (0, ""),
-    (2, "tiered: usage: tiered sim or run DIR or gen N\n"),
+    (2, "tiered: usage: tiered sim [--threads] or run DIR or gen N\n"),
     (3, "tiered: line 12: Unbuilt\n"),
     (4, "tiered: read fault\n"),
     (5, "tiered: write fault\n"),

@@ -1,0 +1,156 @@
+//! Runs of a script by threads, which a gate holds: that there is a thread for each actor, and that what is written are the
+//! journals of the worlds that the threads turned.
+
+use crate::tests::{Wanted, called_by, well};
+use broker_call::{Gate, OpenGate};
+use std::sync::atomic::{AtomicBool, Ordering};
+use std::thread;
+use tier_base::ActorId;
+
+/// How often a held thread looks whether the other one has come.
+const MOST_LOOKS: u32 = 500_000_000;
+
+/// A call of a gate: the actor, and the number of its call.
+type Call = (u16, u64);
+
+/// Holds one call of a gate until another one is made.
+struct Hold {
+    held: Call,
+    until: Call,
+    came: AtomicBool,
+    saw: AtomicBool,
+}
+
+impl Hold {
+    fn new(held: Call, until: Call) -> Hold {
+        Hold {
+            held,
+            until,
+            came: AtomicBool::new(false),
+            saw: AtomicBool::new(false),
+        }
+    }
+
+    /// Notes that the other call is made.
+    fn note(&self, call: Call) {
+        if call == self.until {
+            self.came.store(true, Ordering::SeqCst);
+        }
+    }
+
+    /// Holds the call, if it is the one.
+    fn hold(&self, call: Call) {
+        if call != self.held {
+            return;
+        }
+        for _look in 0..MOST_LOOKS {
+            if self.came.load(Ordering::SeqCst) {
+                self.saw.store(true, Ordering::SeqCst);
+                return;
+            }
+            thread::yield_now();
+        }
+    }
+
+    /// Whether the held call went on because the other one came.
+    fn has_seen(&self) -> bool {
+        self.saw.load(Ordering::SeqCst)
+    }
+}
+
+impl Gate for Hold {
+    fn pass(&self, actor: ActorId, turn: u64) {
+        self.note((actor.0, turn));
+        self.hold((actor.0, turn));
+    }
+}
+
+/// Two calls, each of which is held until the other is made.
+struct Meeting {
+    one: Hold,
+    other: Hold,
+}
+
+impl Gate for Meeting {
+    fn pass(&self, actor: ActorId, turn: u64) {
+        let call = (actor.0, turn);
+        self.one.note(call);
+        self.other.note(call);
+        self.one.hold(call);
+        self.other.hold(call);
+    }
+}
+
+/// Two actors, of which one makes what the other has appended stable.
+const TWO: &str = "0 0 0 flush\n1 0 0 append 1000,-,:a\n";
+
+/// Runs a script by threads that pass this gate.
+fn run<G: Gate + Sync>(
+    rt: HostRuntime,
+    gate: &G,
+    script: &str,
+    trace: &str,
+) -> Option<(u8, bool, bool)> {
+    called_by(
+        rt,
+        gate,
+        &["sim", "--threads"],
+        (script.as_bytes(), &[]),
+        (10_000, 7, &[]),
+        Wanted::Whole("", trace.as_bytes()),
+    )
+}
+
+#[test]
+fn each_actor_has_a_thread_of_its_own(rt: HostRuntime) {
+    let gate = Meeting {
+        one: Hold::new((0, 1), (1, 1)),
+        other: Hold::new((1, 1), (0, 1)),
+    };
+    // Either of them may be the next to have the lock.
+    let _ended = run(rt, &gate, TWO, "");
+    assert!(rt; (gate.one.has_seen(), gate.other.has_seen()) == (true, true));
+}
+
+#[test]
+fn an_append_that_comes_first_is_flushed(rt: HostRuntime) {
+    let gate = Hold::new((0, 1), (1, 2));
+    let ended = run(rt, &gate, TWO, "0 1 0 = Ok 0 0 0\n0 0 0 = Ok 1\n");
+    assert!(rt; ended == well(0));
+    assert!(rt; gate.has_seen());
+}
+
+#[test]
+fn a_flush_that_comes_first_has_nothing_to_flush(rt: HostRuntime) {
+    let gate = Hold::new((1, 1), (0, 2));
+    let ended = run(rt, &gate, TWO, "0 0 0 = Ok 0\n0 1 0 = Ok 0 0 0\n");
+    assert!(rt; ended == well(0));
+    assert!(rt; gate.has_seen());
+}
+
+/// Scripts whose commands all go to one actor of each partition, and the traces that they give in each order.
+static ROWS: [(&str, &str); 2] = [
+    (
+        "0 0 0 append 1000,-,:a\n0 0 0 flush\n0 0 0 ack\n0 0 0 fetch 0 1000\n",
+        "0 0 0 = Ok 0 0 0\n0 0 1 = Ok 1\n0 0 2 = Ok 1\n0 0 3 = Run local 0 69 Mark 0000000000000000000000390000000002ebf1884b00000000000000000000000003e800000000000003e8ffffffffffffffffffffffffffff000000010e00000001026100\n",
+    ),
+    (
+        "brokers 2\npartitions 2\n0 0 0 append 1000,-,:a\n1 1 1 append 1000,-,:b\n1 1 0 append 1000,-,:c\n",
+        "0 0 0 = Ok 0 0 0\n1 1 0 = NotLeader\n1 1 1 = Ok 0 0 0\n",
+    ),
+];
+
+/// The number of the first row whose trace isn't as it should be.
+fn first_wrong(rt: HostRuntime) -> Option<usize> {
+    for (i, (script, trace)) in ROWS.iter().enumerate() {
+        if run(rt, &OpenGate, script, trace) != well(0) {
+            return Some(i);
+        }
+    }
+    None
+}
+
+#[test]
+fn one_actor_by_a_thread_is_answered_as_without(rt: HostRuntime) {
+    assert!(rt; first_wrong(rt) == None);
+}
