@@ -1,4 +1,5 @@
 mod Numerals
+mod Refusing
 mod Running
 mod Telling
 mod Threaded
