@@ -31,7 +31,9 @@ def crates():
         if line.startswith("# "):
             layers.append((line[2:], []))
         elif ":" in line:
-            name, rest = line.split(":", 1)
+            head, rest = line.split(":", 1)
+            # Behind a name may stand how many of its functions may wait.
+            name = head.split()[0]
             layers[-1][1].append(name)
             on[name] = rest.split()
     return layers, on

@@ -6,7 +6,9 @@ tiered: a partition's log, run by a script
 
 usage:
   tiered sim      reads a script from standard input, runs it, and writes the trace to standard output
-  tiered run DIR  the same over the folder DIR, in which nothing may stand: the brokers' logs, the remote store and its
+  tiered sim --threads
+                  the same with a thread for each actor, so that the system's schedule takes the place of the script's
+  tiered run DIR  as sim, over the folder DIR, in which nothing may stand: the brokers' logs, the remote store and its
                   metadata log become files of it
   tiered gen N    runs the load of number N, from 0 to 4294967295, and writes how often each command was answered
                   in which way, and where each partition ended
