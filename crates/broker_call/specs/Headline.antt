@@ -46,7 +46,7 @@ module _ {D S M : Type 0} (disk : DiskGhosts D) (store : StoreGhosts S) (meta : 
     pub are : AreRunsOf script.config script.parts runs
     pub spelled : text ≡ trace_of runs
 
-  -- each partition has a run by a schedule that its threads made
+  -- each partition has a run by some schedule
   abbrev pub AreRunsByThreads : Config → List PartScript → List (ℕ × List JournalEntry) → Type 0
   AreRunsByThreads config [] [] = Unit {0}
   AreRunsByThreads config (part ∷ parts) (run ∷ runs) = IsRunByThreads disk store meta config part run × AreRunsByThreads config parts runs
@@ -83,7 +83,7 @@ module _ {D S M : Type 0} (disk : DiskGhosts D) (store : StoreGhosts S) (meta : 
     pub summary : IsSummary script text
     pub written : AppendsFront written_old written_new text
 
--- a trace, of one kind or the other, of these bytes
+-- which texts are traces of a script's bytes is given
 module _ (Traces : List ℕ → List ℕ → Type 0) where
   -- the source was read to its end, and a trace of what it gave was written
   pub record WritesTrace (left_old left_new written_old written_new : Option (List ℕ)) : Type 0 where

@@ -137,12 +137,7 @@ pub fn simulate_by_threads<
     R: Source,
     W: Sink,
     G: Gate + Sync,
->(
-    rt: &H,
-    script: &mut R,
-    out: &mut W,
-    gate: &G,
-) -> Status
+>(rt: &H, script: &mut R, out: &mut W, gate: &G) -> Status
     ensures ends { Simulates (IsTraceByThreads ⟦<MemoryDisk as Disk>⟧ ⟦<MemoryStore as Store>⟧ ⟦<MemoryLog as MetaLog>⟧) R.Source W.Sink
         script.old script.new out.old out.new result }
     ensures asked { result ≢ Status.Usage }

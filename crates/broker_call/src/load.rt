@@ -13,10 +13,10 @@ ghost use Rattle.broker_call.specs.Headline.{IsSummary};
 ghost use Rattle.broker_call.specs.Telling.{IsToldRun, AreToldRuns};
 ghost use Rattle.broker_call.specs.Endings.{Generates};
 
-use memory_run::run_partition;
 use crate::status::Status;
 use disk_model::{Disk, MemoryDisk};
 use load_gen::script_of;
+use memory_run::run_partition;
 use meta_log::{MemoryLog, MetaLog};
 use object_store::{MemoryStore, Store};
 use plain_log::Config;

@@ -12,9 +12,9 @@ ghost use Rattle.broker_call.specs.Headline.{IsTrace};
 ghost use Rattle.broker_call.specs.Running.{AddsRun, IsRunText};
 ghost use Rattle.broker_call.specs.Endings.{Simulates};
 
-use memory_run::run_partition;
 use crate::status::Status;
 use disk_model::{Disk, MemoryDisk};
+use memory_run::run_partition;
 use meta_log::{MemoryLog, MetaLog};
 use object_store::{MemoryStore, Store};
 use plain_log::Config;

@@ -23,13 +23,7 @@ use thread_run::Gate;
 use tier_base::{Sink, Source};
 
 /// Does what the words ask for. Only for `sim --threads` does it wait: for locks, and for threads to end.
-pub fn tiered<
-    H: AllocGlobal + Threads + Wait + Sync,
-    R: Source,
-    Y: Yard,
-    W: Sink,
-    G: Gate + Sync,
->(
+pub fn tiered<H: AllocGlobal + Threads + Wait + Sync, R: Source, Y: Yard, W: Sink, G: Gate + Sync>(
     rt: &H,
     words: &[String],
     script: &mut R,
@@ -42,7 +36,7 @@ pub fn tiered<
         → Simulates (IsTrace ⟦<MemoryDisk as Disk>⟧ ⟦<MemoryStore as Store>⟧ ⟦<MemoryLog as MetaLog>⟧) R.Source W.Sink
         script.old script.new out.old out.new result }
 
-    // The same where each actor has a thread of its own: each run is one by the schedule that its threads made.
+    // The same where each actor has a thread of its own: each run is one by some schedule.
     ensures threads { form_is words.now ≡ Some Form.Threads
         → Simulates (IsTraceByThreads ⟦<MemoryDisk as Disk>⟧ ⟦<MemoryStore as Store>⟧ ⟦<MemoryLog as MetaLog>⟧) R.Source W.Sink
         script.old script.new out.old out.new result }

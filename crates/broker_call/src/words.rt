@@ -53,14 +53,16 @@ pub fn form_of(words: &[String]) -> Option<Form>
 {
     match words {
         [word] if word.as_str() == "sim" => Some(Form::Sim),
-        [word, flag] if word.as_str() == "sim" && flag.as_str() == "--threads" => Some(Form::Threads),
+        [word, flag] if word.as_str() == "sim" && flag.as_str() == "--threads" => Some(
+            Form::Threads,
+        ),
         [word, _] if word.as_str() == "run" => Some(Form::Run),
         [word, number] if word.as_str() == "gen" => Some(Form::Gen(number_of(number.as_str())?)),
         _ => None,
     }
 }
 
-/// The folder that the words name.
+/// The folder that the words of `run` name. Other words are asked for it too, and nothing of it is touched then.
 pub fn folder(words: &[String]) -> &str {
     match words.get(1) {
         Some(word) => word.as_str(),

@@ -1,8 +1,8 @@
 //! The program: runs a script of log commands, and writes what each was answered, or runs a load and sums it up.
 //!
 //! `broker_call` has the call with the headline. What stands here hands it the words, standard input, a yard over the folder
-//! that the words name, standard output and a gate that holds nobody, prints the status's line to standard error and what explains it behind that, and
-//! ends with the status's number.
+//! that the words name, standard output and a gate that holds nobody, prints the status's line to standard error and what
+//! explains it behind that, and ends with the status's number.
 #![tactic(auto)]
 
 use broker_call::{OpenGate, Status, explained, folder, printed, script_source, tiered};
@@ -51,7 +51,14 @@ fn main(rt: HostRuntime) -> ExitCode {
         Ok(yard) => yard,
         Err(_) => return told(&rt, Status::NoMemory, &[]),
     };
-    let status = tiered(&rt, words.as_slice(), &mut script, &mut yard, &mut out, &OpenGate);
+    let status = tiered(
+        &rt,
+        words.as_slice(),
+        &mut script,
+        &mut yard,
+        &mut out,
+        &OpenGate,
+    );
     told(&rt, status, script.kept())
 }
 

@@ -456,7 +456,10 @@ fn told(alloc: Global, number: u8, line: &str) -> Option<(u8, bool)> {
 /// The number and the line of each status.
 static LINES: [(u8, &str); 9] = [
     (0, ""),
-    (2, "tiered: usage: tiered sim [--threads] or run DIR or gen N\n"),
+    (
+        2,
+        "tiered: usage: tiered sim [--threads] or run DIR or gen N\n",
+    ),
     (3, "tiered: line 12: Unbuilt\n"),
     (4, "tiered: read fault\n"),
     (5, "tiered: write fault\n"),

@@ -79,6 +79,9 @@ module _ {D S M : Type 0} (disk : DiskGhosts D) (store : StoreGhosts S) (meta : 
         config = h.config;
         part = h.part;
         is_part = h.is_part;
-        is = (one_by_one turns, subst (λ (k : PartitionId). IsRunOf disk store meta h.config part' (k.0, w.journal.items)) h.numbered
-            (ended_is_run_of disk store meta h.config part' h.first w law goes in_turn opens keeps calm unfailing undamaged fits lists h.starts h.central h.reaches ended));
+        is = (
+          one_by_one turns,
+          subst (λ (k : PartitionId). IsRunOf disk store meta h.config part' (k.0, w.journal.items)) h.numbered
+              (ended_is_run_of disk store meta h.config part' h.first w law goes in_turn opens keeps calm unfailing undamaged fits lists h.starts h.central h.reaches ended),
+        );
       }

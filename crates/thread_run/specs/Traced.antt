@@ -78,7 +78,7 @@ module _ {D S M : Type 0} (disk : DiskGhosts D) (store : StoreGhosts S) (meta : 
   abbrev pub IsTraced : List ℕ → ℕ → PartitionId → Whole D S M → List ActorId → Bool → Type 0
   IsTraced script place partition w turns ended = ended ≡ false → LeadsFrom script place partition turns w
 
-  -- a partition's number and journal: a run of it by a schedule that the threads made
+  -- a partition's number and journal: a run of it by some schedule
   abbrev pub IsRunByThreads : Config → PartScript → ℕ × List JournalEntry → Type 0
   IsRunByThreads config part run = (schedule : List Pace) × IsRunOf disk store meta config (by_schedule schedule part) run
 

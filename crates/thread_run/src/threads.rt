@@ -22,31 +22,33 @@ struct Runner {
 }
 
 /// Runs each actor of each partition in a thread of its own, or by the caller where none can be made for it, up to the end of its
-/// list. Answers the partitions in the order in which they came. Without memory for a turn or a thread none comes back.
+/// list. Answers the partitions in the order in which they came; one in which a turn found no memory has ended. Without memory for
+/// the threads none comes back.
 pub fn run_threads<
     H: AllocGlobal + Threads + Wait + Sync,
     D: Disk + Send,
     S: Store + Send,
     M: MetaLog + Send,
     G: Gate + Sync,
->(
-    rt: &H,
-    parts: Vec<Traced<D, S, M>>,
-    gate: &G,
-) -> Result<Vec<Traced<D, S, M>>, AllocError>
+>(rt: &H, parts: Vec<Traced<D, S, M>>, gate: &G) -> Result<Vec<Traced<D, S, M>>, AllocError>
     ensures count { IfOk result (λ back. vec_len back ≡ vec_len parts) }
 {
     let runners = runners(rt.alloc(), parts.as_slice())?;
     let locks = locked(rt.alloc(), parts)?;
     let whose = runners.as_slice();
     let behind = locks.as_slice();
-    let _done = thread::map_indices(rt, rt.alloc(), whose.len(), &|k| {
-        if let Some(runner) = whose.get(k) {
-            if let Some(lock) = behind.get(runner.place) {
-                run_actor(rt, lock, gate, runner.actor);
+    let _done = thread::map_indices(
+        rt,
+        rt.alloc(),
+        whose.len(),
+        &|k| {
+            if let Some(runner) = whose.get(k) {
+                if let Some(lock) = behind.get(runner.place) {
+                    run_actor(rt, lock, gate, runner.actor);
+                }
             }
-        }
-    })?;
+        },
+    )?;
     unlocked(rt.alloc(), locks)
 }
 

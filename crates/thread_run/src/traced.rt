@@ -14,8 +14,7 @@ use meta_log::MetaLog;
 use object_store::Store;
 use partition_seen::Stepped;
 use partition_world::{
-    World, ends_are_complete, fresh_is_unfailing, reaches_in_turn, reaches_later,
-    reaches_unfailing,
+    World, ends_are_complete, fresh_is_unfailing, reaches_in_turn, reaches_later, reaches_unfailing,
 };
 use plain_log::{Journal, fresh_is_safe, replays_keep_safe};
 use std::alloc::{AllocError, Global};
