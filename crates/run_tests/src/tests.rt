@@ -2,9 +2,7 @@
 //!
 //! The batches' bytes come from a writer of record batches that was made apart from this repository.
 
-use broker_call::{
-    Form, Gate, OpenGate, Status, Why, explained, folder, form_of, printed, script_source, tiered,
-};
+use broker_call::{Form, Status, Why, explained, folder, form_of, printed, tiered_in_order};
 use folder_yard::FolderYard;
 use std::alloc::{AllocError, Global};
 use std::fs;
@@ -19,7 +17,7 @@ fn add(alloc: Global, words: &mut Vec<String>, word: &str) -> bool {
 }
 
 /// The words of a call.
-fn words_of(alloc: Global, list: &[&str]) -> Option<Vec<String>> {
+pub(crate) fn words_of(alloc: Global, list: &[&str]) -> Option<Vec<String>> {
     let mut words = Vec::new(alloc);
     for word in list {
         if !add(alloc, &mut words, word) {
@@ -30,7 +28,7 @@ fn words_of(alloc: Global, list: &[&str]) -> Option<Vec<String>> {
 }
 
 /// A source of these bytes, whose calls of the plan fail.
-fn source_of(alloc: Global, bytes: &[u8], plan: &[u32]) -> Option<MemorySource> {
+pub(crate) fn source_of(alloc: Global, bytes: &[u8], plan: &[u32]) -> Option<MemorySource> {
     match (bytes.to_vec(alloc), plan.to_vec(alloc)) {
         (Ok(bytes), Ok(plan)) => Some(MemorySource::new(bytes, plan)),
         _ => None,
@@ -40,7 +38,7 @@ fn source_of(alloc: Global, bytes: &[u8], plan: &[u32]) -> Option<MemorySource> 
 /// Where a call writes: how much room there is, how many bytes are taken at a time, and which calls fail.
 pub(crate) type Room<'a> = (usize, usize, &'a [u32]);
 
-fn sink_of(alloc: Global, (room, most, plan): Room) -> Option<MemorySink> {
+pub(crate) fn sink_of(alloc: Global, (room, most, plan): Room) -> Option<MemorySink> {
     match plan.to_vec(alloc) {
         Ok(plan) => MemorySink::new(alloc, room, most.max(1), plan).ok(),
         Err(_) => None,
@@ -81,7 +79,7 @@ fn is_explained(alloc: Global, status: &Status, wanted: &str) -> bool {
 }
 
 /// Whether a status is told, and bytes are written, as they should be.
-fn is_wanted(alloc: Global, status: &Status, written: &[u8], wanted: Wanted) -> (bool, bool) {
+pub(crate) fn is_wanted(alloc: Global, status: &Status, written: &[u8], wanted: Wanted) -> (bool, bool) {
     match wanted {
         Wanted::Whole(line, bytes) => (is_text(status.line(alloc), line), written == bytes),
         Wanted::Shown(told, end) => (is_explained(alloc, status, told), written.ends_with(end)),
@@ -89,29 +87,27 @@ fn is_wanted(alloc: Global, status: &Status, written: &[u8], wanted: Wanted) -> 
 }
 
 /// What a call of the program comes to, with a yard over the folder that the words name.
-fn made<G: Gate + Sync>(
+fn made(
     rt: HostRuntime,
-    gate: &G,
     words: &[String],
     script: &mut MemorySource,
     out: &mut MemorySink,
 ) -> Option<Status> {
     match FolderYard::new(rt, folder(words)) {
-        Ok(mut yard) => Some(tiered(&rt, words, script, &mut yard, out, gate)),
+        Ok(mut yard) => Some(tiered_in_order(&rt, words, script, &mut yard, out)),
         Err(_) => None,
     }
 }
 
 /// The number of a call's status, and whether what is told and written is as it should be.
-fn ended<G: Gate + Sync>(
+fn ended(
     rt: HostRuntime,
-    gate: &G,
     words: &[String],
     script: &mut MemorySource,
     out: &mut MemorySink,
     wanted: Wanted,
 ) -> Option<(u8, bool, bool)> {
-    match made(rt, gate, words, script, out) {
+    match made(rt, words, script, out) {
         Some(status) => {
             let (is_told, is_written) = is_wanted(rt.alloc(), &status, out.written(), wanted);
             Some((status.number(), is_told, is_written))
@@ -121,25 +117,23 @@ fn ended<G: Gate + Sync>(
 }
 
 /// The same, of a call with these words.
-fn ended_of<G: Gate + Sync>(
+fn ended_of(
     rt: HostRuntime,
-    gate: &G,
     list: &[&str],
     script: &mut MemorySource,
     out: &mut MemorySink,
     wanted: Wanted,
 ) -> Option<(u8, bool, bool)> {
     match words_of(rt.alloc(), list) {
-        Some(words) => ended(rt, gate, words.as_slice(), script, out, wanted),
+        Some(words) => ended(rt, words.as_slice(), script, out, wanted),
         None => None,
     }
 }
 
-/// Makes a call with these words and this input, whose calls of the plan fail, and by threads, if it has any, that pass this
-/// gate: the number of its status, and whether what is told and written is as it should be.
-pub(crate) fn called_by<G: Gate + Sync>(
+/// Makes a call with these words and this input, whose calls of the plan fail: the number of its status, and whether what is
+/// told and written is as it should be.
+pub(crate) fn called(
     rt: HostRuntime,
-    gate: &G,
     list: &[&str],
     (input, plan): (&[u8], &[u32]),
     room: Room,
@@ -149,22 +143,9 @@ pub(crate) fn called_by<G: Gate + Sync>(
         source_of(rt.alloc(), input, plan),
         sink_of(rt.alloc(), room),
     ) {
-        (Some(mut script), Some(mut out)) => {
-            ended_of(rt, gate, list, &mut script, &mut out, wanted)
-        }
+        (Some(mut script), Some(mut out)) => { ended_of(rt, list, &mut script, &mut out, wanted) }
         _ => None,
     }
-}
-
-/// Makes such a call, by threads that nothing holds.
-pub(crate) fn called(
-    rt: HostRuntime,
-    list: &[&str],
-    given: (&[u8], &[u32]),
-    room: Room,
-    wanted: Wanted,
-) -> Option<(u8, bool, bool)> {
-    called_by(rt, &OpenGate, list, given, room, wanted)
 }
 
 /// A call that ends with this number, and tells and writes what it should.
@@ -456,10 +437,7 @@ fn told(alloc: Global, number: u8, line: &str) -> Option<(u8, bool)> {
 /// The number and the line of each status.
 static LINES: [(u8, &str); 9] = [
     (0, ""),
-    (
-        2,
-        "tiered: usage: tiered sim [--threads] or run DIR or gen N\n",
-    ),
+    (2, "tiered: usage: tiered sim [--threads] or run DIR or gen N\n"),
     (3, "tiered: line 12: Unbuilt\n"),
     (4, "tiered: read fault\n"),
     (5, "tiered: write fault\n"),

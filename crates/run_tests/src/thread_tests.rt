@@ -1,11 +1,14 @@
 //! Runs of a script by threads, which a gate holds: that there is a thread for each actor, and that what is written are the
 //! journals of the worlds that the threads turned.
 
-use crate::tests::{Wanted, called_by, well};
-use broker_call::{Gate, OpenGate};
+use crate::tests::{Wanted, is_wanted, sink_of, source_of, well, words_of};
+use broker_call::{Gate, OpenGate, tiered};
+use memory_yard::MemoryYard;
+use std::sync::Wait;
 use std::sync::atomic::{AtomicBool, Ordering};
 use std::thread;
-use tier_base::ActorId;
+use std::thread::Threads;
+use tier_base::{ActorId, MemorySink, MemorySource};
 
 /// How often a held thread looks whether the other one has come.
 const MOST_LOOKS: u32 = 500_000_000;
@@ -14,6 +17,7 @@ const MOST_LOOKS: u32 = 500_000_000;
 type Call = (u16, u64);
 
 /// Holds one call of a gate until another one is made.
+#[derive(Drop)]
 struct Hold {
     held: Call,
     until: Call,
@@ -66,6 +70,7 @@ impl Gate for Hold {
 }
 
 /// Two calls, each of which is held until the other is made.
+#[derive(Drop)]
 struct Meeting {
     one: Hold,
     other: Hold,
@@ -84,21 +89,46 @@ impl Gate for Meeting {
 /// Two actors, of which one makes what the other has appended stable.
 const TWO: &str = "0 0 0 flush\n1 0 0 append 1000,-,:a\n";
 
-/// Runs a script by threads that pass this gate.
-fn run<G: Gate + Sync>(
-    rt: HostRuntime,
+/// Makes a call of the program that runs a script by threads, which pass this gate: the number of its status, and whether what is
+/// told and written is as it should be.
+fn called<H: AllocGlobal + Threads + Wait + Sync, G: Gate + Sync>(
+    rt: &H,
+    gate: &G,
+    script: &mut MemorySource,
+    out: &mut MemorySink,
+    wanted: Wanted,
+) -> Option<(u8, bool, bool)> {
+    let mut yard = MemoryYard::new(rt.alloc(), Vec::new(rt.alloc()), Vec::new(rt.alloc()));
+    match words_of(rt.alloc(), &["sim", "--threads"]) {
+        Some(words) => {
+            let status = tiered(rt, words.as_slice(), script, &mut yard, out, gate);
+            let (is_told, is_written) = is_wanted(rt.alloc(), &status, out.written(), wanted);
+            Some((status.number(), is_told, is_written))
+        }
+        None => None,
+    }
+}
+
+/// Makes such a call of a script, in pieces of 7 bytes.
+fn run<H: AllocGlobal + Threads + Wait + Sync, G: Gate + Sync>(
+    rt: &H,
     gate: &G,
     script: &str,
     trace: &str,
 ) -> Option<(u8, bool, bool)> {
-    called_by(
-        rt,
-        gate,
-        &["sim", "--threads"],
-        (script.as_bytes(), &[]),
-        (10_000, 7, &[]),
-        Wanted::Whole("", trace.as_bytes()),
-    )
+    match (
+        source_of(rt.alloc(), script.as_bytes(), &[]),
+        sink_of(rt.alloc(), (10_000, 7, &[])),
+    ) {
+        (Some(mut script), Some(mut out)) => called(
+            rt,
+            gate,
+            &mut script,
+            &mut out,
+            Wanted::Whole("", trace.as_bytes()),
+        ),
+        _ => None,
+    }
 }
 
 #[test]
@@ -108,14 +138,14 @@ fn each_actor_has_a_thread_of_its_own(rt: HostRuntime) {
         other: Hold::new((1, 1), (0, 1)),
     };
     // Either of them may be the next to have the lock.
-    let _ended = run(rt, &gate, TWO, "");
+    let _ended = run(&rt, &gate, TWO, "");
     assert!(rt; (gate.one.has_seen(), gate.other.has_seen()) == (true, true));
 }
 
 #[test]
 fn an_append_that_comes_first_is_flushed(rt: HostRuntime) {
     let gate = Hold::new((0, 1), (1, 2));
-    let ended = run(rt, &gate, TWO, "0 1 0 = Ok 0 0 0\n0 0 0 = Ok 1\n");
+    let ended = run(&rt, &gate, TWO, "0 1 0 = Ok 0 0 0\n0 0 0 = Ok 1\n");
     assert!(rt; ended == well(0));
     assert!(rt; gate.has_seen());
 }
@@ -123,7 +153,7 @@ fn an_append_that_comes_first_is_flushed(rt: HostRuntime) {
 #[test]
 fn a_flush_that_comes_first_has_nothing_to_flush(rt: HostRuntime) {
     let gate = Hold::new((1, 1), (0, 2));
-    let ended = run(rt, &gate, TWO, "0 0 0 = Ok 0\n0 1 0 = Ok 0 0 0\n");
+    let ended = run(&rt, &gate, TWO, "0 0 0 = Ok 0\n0 1 0 = Ok 0 0 0\n");
     assert!(rt; ended == well(0));
     assert!(rt; gate.has_seen());
 }
@@ -141,7 +171,7 @@ static ROWS: [(&str, &str); 2] = [
 ];
 
 /// The number of the first row whose trace isn't as it should be.
-fn first_wrong(rt: HostRuntime) -> Option<usize> {
+fn first_wrong<H: AllocGlobal + Threads + Wait + Sync>(rt: &H) -> Option<usize> {
     for (i, (script, trace)) in ROWS.iter().enumerate() {
         if run(rt, &OpenGate, script, trace) != well(0) {
             return Some(i);
@@ -152,5 +182,5 @@ fn first_wrong(rt: HostRuntime) -> Option<usize> {
 
 #[test]
 fn one_actor_by_a_thread_is_answered_as_without(rt: HostRuntime) {
-    assert!(rt; first_wrong(rt) == None);
+    assert!(rt; first_wrong(&rt) == None);
 }
