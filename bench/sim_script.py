@@ -1,7 +1,7 @@
 #!/usr/bin/env python3
 """Writes a script of so many bytes, for bench/sim.sh.
 
-usage: sim_script.py mixed|flush|text|raw|fetch|brokers|segments|faults|copies|closed|trims|expiries|remote BYTES
+usage: sim_script.py mixed|flush|text|raw|fetch|brokers|actors|segments|faults|copies|closed|trims|expiries|remote BYTES
 
 mixed: groups of 64 lines and 16,384 bytes, so 256 bytes a line: 61 appends with values of 236 or 237 letters, a flush,
 an ack, and a fetch of at most 128 KiB from some offset of the log so far. BYTES is a multiple of 16,384.
@@ -11,9 +11,11 @@ raw: the check of batches: raw lines of one batch of 4,096 bytes with records of
 of the script go through it.
 fetch: the trace's writer: one append of 64 KiB, a flush, an ack, and fetches that are given it: 16 times BYTES in all, so
 the trace has 32 times BYTES. The script itself is small.
-brokers: eight brokers, of which each has an actor: groups of 64 lines of 256 bytes, and so 65,536 commands in 16 MiB. A leader
+brokers: eight brokers, of which each has an actor: groups of 64 lines of 256 bytes, and so 65,535 commands in 16 MiB. A leader
 appends, the others follow, all flush and acknowledge; in every eighth group the lead goes on to the next broker, and all
 learn and join.
+actors: eight partitions, of which each has eight actors: lines of 256 bytes, of which six of eight are appends of 200 letters and
+the others flushes and acks, in turn by all actors; 65,535 commands in 16 MiB.
 segments: lines of 256 bytes: appends into segments of their own, half of the lines and 4,096 at most, and then flushes.
 faults: lines of 256 bytes: half of them are faults of the disk's reads, in their order, and half are fetches that meet them.
 copies: 125 copies of segments of 1 MiB for each MiB of BYTES, so 2,000 for 16 MiB, near the most that a script may have. A
@@ -144,6 +146,17 @@ def brokers(size):
             yield f"{broker} 0 {broker} {command}".ljust(255) + "\n"
 
 
+def actors(size):
+    """Eight partitions of eight actors each, which append, flush and acknowledge."""
+    yield "partitions 8".ljust(255) + "\n"
+    for number in range(size // 256 - 1):
+        actor, turn = number % 64, number // 64
+        command = f"append {1700000000000 + turn},-,:" + value(number, 200)
+        if turn % 8 > 5:
+            command = ["flush", "ack"][turn % 8 - 6]
+        yield f"{actor} {actor // 8} 0 {command}".ljust(255) + "\n"
+
+
 def segments(size):
     """Segments of a batch each, and flushes of all of them."""
     appends = min(size // 512, 4096)
@@ -237,6 +250,8 @@ def main(kind, size):
         sys.stdout.writelines(fetches(size))
     elif kind == "brokers":
         sys.stdout.writelines(brokers(size))
+    elif kind == "actors":
+        sys.stdout.writelines(actors(size))
     elif kind == "segments":
         sys.stdout.writelines(segments(size))
     elif kind == "faults":
