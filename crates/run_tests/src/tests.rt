@@ -79,7 +79,12 @@ fn is_explained(alloc: Global, status: &Status, wanted: &str) -> bool {
 }
 
 /// Whether a status is told, and bytes are written, as they should be.
-pub(crate) fn is_wanted(alloc: Global, status: &Status, written: &[u8], wanted: Wanted) -> (bool, bool) {
+pub(crate) fn is_wanted(
+    alloc: Global,
+    status: &Status,
+    written: &[u8],
+    wanted: Wanted,
+) -> (bool, bool) {
     match wanted {
         Wanted::Whole(line, bytes) => (is_text(status.line(alloc), line), written == bytes),
         Wanted::Shown(told, end) => (is_explained(alloc, status, told), written.ends_with(end)),
@@ -437,7 +442,10 @@ fn told(alloc: Global, number: u8, line: &str) -> Option<(u8, bool)> {
 /// The number and the line of each status.
 static LINES: [(u8, &str); 9] = [
     (0, ""),
-    (2, "tiered: usage: tiered sim [--threads] or run DIR or gen N\n"),
+    (
+        2,
+        "tiered: usage: tiered sim [--threads] or run DIR or gen N\n",
+    ),
     (3, "tiered: line 12: Unbuilt\n"),
     (4, "tiered: read fault\n"),
     (5, "tiered: write fault\n"),
