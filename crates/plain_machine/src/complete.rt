@@ -1,7 +1,10 @@
 //! Whether a journal is complete, and whether it is a complete run of the plain log.
 
-ghost use Rattle.std.specs.Prelude.{◌≡◌, ◌≤◌, ◌↔◌, slice_index, All, IsTrue, IfOk};
-ghost use Rattle.plain_log.specs.Runs.{IsComplete};
+ghost use Rattle.std.specs.Prelude.{◌≡◌, ◌≤◌, ◌↔◌, slice_index, List, Some, All, IsTrue, IfOk};
+ghost use Rattle.plain_log.specs.declared.command.Config.{Config as ConfigIs};
+ghost use Rattle.plain_log.specs.declared.journal.JournalEntry.{JournalEntry as Entry};
+ghost use Rattle.plain_log.specs.Fresh.{fresh};
+ghost use Rattle.plain_log.specs.Runs.{replay as replay_of, IsComplete};
 ghost use Rattle.plain_log.specs.State.{actor_at};
 ghost use Rattle.plain_machine.specs.Complete.{IsCompleteRun, RunsEndComplete};
 ghost use Rattle.plain_machine.specs.Fits.{AreFor};
@@ -44,6 +47,16 @@ pub fn is_complete(
     Ok(complete)
 }
 
+/// Whether a run that ends so is complete.
+fn ends_complete(alloc: Global, plain: &Plain, lists: &[ActorList]) -> Result<bool, AllocError>
+    ensures { IfOk result (λ is. (config : ConfigIs) (journal : List Entry)
+        → replay_of lists.now (fresh config) journal ≡ Some plain.now → IsTrue is ↔ IsCompleteRun config lists.now journal) }
+{
+    runs_end_complete();
+    let counts = count_orders(alloc, lists)?;
+    Ok(are_at_end(plain, lists, counts.as_slice()))
+}
+
 /// Answers whether a journal is a run of the plain log that answers every command of every list. The journal is gone over
 /// once.
 pub fn is_complete_run(
@@ -57,10 +70,10 @@ pub fn is_complete_run(
     requires fit { AreFor lists.now }
     ensures { IfOk result (λ is. IsTrue is ↔ IsCompleteRun config.now lists.now journal.now) }
 {
-    runs_end_complete();
     let Some(plain) = replay(alloc, config, lists, journal)? else {
         return Ok(false);
     };
-    let counts = count_orders(alloc, lists)?;
-    Ok(are_at_end(&plain, lists, counts.as_slice()))
+    let complete = ends_complete(alloc, &plain, lists);
+    drop(plain);
+    complete
 }

@@ -1,6 +1,6 @@
 //! The state where nothing has happened yet.
 
-ghost use Rattle.std.specs.Prelude.{◌≡◌, ◌≤◌, ◌-◌, ◌∷◌, IfOk, replicate};
+ghost use Rattle.std.specs.Prelude.{◌≡◌, ◌≤◌, ◌-◌, [], ◌∷◌, IfOk, replicate};
 ghost use Rattle.plain_log.specs.Fresh.{fresh, fresh_broker};
 ghost use Rattle.plain_log.specs.declared.state.Role.TheVariants as role;
 
@@ -36,6 +36,18 @@ fn brokers(alloc: Global, others: u16) -> Result<Row<Broker>, AllocError>
     Ok(brokers)
 }
 
+/// The path of epoch 0, which has no batch.
+fn paths(alloc: Global) -> Result<Row<Path>, AllocError>
+    ensures { IfOk result (λ paths. paths ≡ record { epoch = 0; log = [] } ∷ []) }
+{
+    let mut paths = Row::new(alloc);
+    paths.push(Path {
+        epoch: 0,
+        log: Row::new(alloc),
+    })?;
+    Ok(paths)
+}
+
 /// The fresh state of a configuration.
 pub(crate) fn state(alloc: Global, config: &Config) -> Result<State, AllocError>
     requires some { 1 ≤ config.now.brokers }
@@ -44,11 +56,7 @@ pub(crate) fn state(alloc: Global, config: &Config) -> Result<State, AllocError>
 {
     let registry = Registry::fresh(alloc, config.brokers)?;
     let brokers = brokers(alloc, config.brokers - 1)?;
-    let mut paths = Row::new(alloc);
-    paths.push(Path {
-        epoch: 0,
-        log: Row::new(alloc),
-    })?;
+    let paths = paths(alloc)?;
     Ok(State {
         registry,
         committed: Row::new(alloc),

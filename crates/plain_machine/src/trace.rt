@@ -84,7 +84,9 @@ pub fn first_refused(
     ensures { IfOk result (λ place. IsVerdict config.now lists.now journal.now place) }
 {
     let mut plain = Plain::fresh(alloc, config)?;
-    take_all(alloc, &mut plain, lists, journal)
+    let place = take_all(alloc, &mut plain, lists, journal);
+    drop(plain);
+    place
 }
 
 /// Carries out a journal, and answers the state after it, or none where an entry is no step of the plain log.
@@ -100,10 +102,16 @@ pub fn replay(
     ensures { IfOk result (λ last. last ≡ replay_of lists.now (fresh config.now) journal.now) }
 {
     let mut plain = Plain::fresh(alloc, config)?;
-    let place = take_all(alloc, &mut plain, lists, journal)?;
-    match place {
-        None => Ok(Some(plain)),
-        Some(_) => Ok(None),
+    match take_all(alloc, &mut plain, lists, journal) {
+        Ok(None) => Ok(Some(plain)),
+        Ok(Some(_)) => {
+            drop(plain);
+            Ok(None)
+        }
+        Err(e) => {
+            drop(plain);
+            Err(e)
+        }
     }
 }
 

@@ -35,6 +35,14 @@ fn write_id(page: &mut Page, id: SegmentId) -> Result<(), AllocError>
     page.word(id.write_text(&mut buffer))
 }
 
+/// Writes a space and the id of a remote segment.
+fn write_then_id(page: &mut Page, id: SegmentId) -> Result<(), AllocError>
+    ensures { OnOk result (page.new ≡ page.old ++ spaced (id_text id ∷ [])) }
+{
+    page.word(" ")?;
+    write_id(page, id)
+}
+
 /// Writes the key of an object.
 #[tactic(auto, unfolding(tier_base::specs::Key::key_text))]
 fn write_key(page: &mut Page, key: ObjectKey) -> Result<(), AllocError>
@@ -63,8 +71,7 @@ fn write_numbers(page: &mut Page, cause: BatchRefusal) -> Result<(), AllocError>
 {
     match cause {
         BatchRefusal::BadCrc { kept, computed } => {
-            page.then_number(u64::from(kept))?;
-            page.then_number(u64::from(computed))
+            page.then_numbers(u64::from(kept), u64::from(computed))
         }
         BatchRefusal::BadRecords { at } => page.then_number(u64::from(at)),
         BatchRefusal::Short
@@ -87,8 +94,7 @@ fn write_tier(page: &mut Page, tier: Tier) -> Result<(), AllocError>
         }
         Tier::Remote(id) => {
             page.then_word("remote")?;
-            page.word(" ")?;
-            write_id(page, id)
+            write_then_id(page, id)
         }
     }
 }
@@ -118,14 +124,10 @@ fn write_fields(page: &mut Page, answer: &Answer) -> Result<(), AllocError>
         Answer::BehindStart(a, b)
         | Answer::Behind(a, b)
         | Answer::Dropped(a, b)
-        | Answer::OutOfRange(a, b) => {
-            page.then_number(*a)?;
-            page.then_number(*b)
-        }
+        | Answer::OutOfRange(a, b) => page.then_numbers(*a, *b),
         Answer::OkSpan(base, last, epoch) => {
             page.then_number(*base)?;
-            page.then_number(*last)?;
-            page.then_number(*epoch)
+            page.then_numbers(*last, *epoch)
         }
         Answer::Refused(cause) => {
             page.then_word(cause_name(*cause))?;
@@ -137,16 +139,11 @@ fn write_fields(page: &mut Page, answer: &Answer) -> Result<(), AllocError>
             page.then_number(*at)
         }
         Answer::CopiedSegment(id, start, last) => {
-            page.word(" ")?;
-            write_id(page, *id)?;
-            page.then_number(*start)?;
-            page.then_number(*last)
+            write_then_id(page, *id)?;
+            page.then_numbers(*start, *last)
         }
         Answer::Overtaken(state) => page.then_word(state_name(*state)),
-        Answer::Deleted(id) => {
-            page.word(" ")?;
-            write_id(page, *id)
-        }
+        Answer::Deleted(id) => write_then_id(page, *id),
         Answer::Run {
             tier,
             size,

@@ -5,6 +5,7 @@ ghost use Rattle.std.specs.List.{list_all};
 ghost use Rattle.trace_text.specs.Fields.{key_in, log_name_in, file_in, place_in, id_in, state_in, stop_in, cause_in, tier_in, is_lower_digit, bytes_in};
 
 use crate::counts::{all_digits, count, value};
+use crate::words::is;
 use bytes::Bytes;
 use hex::FromHexError;
 use plain_log::{Place, Tier};
@@ -31,7 +32,7 @@ fn key(word: &[u8]) -> Option<ObjectKey>
 fn log_name(digits: &[u8], ending: &[u8]) -> Option<FileName>
     ensures { result ≡ log_name_in digits.now ending.now }
 {
-    if ending != b".log".as_slice() {
+    if !is(ending, ".log") {
         return None;
     }
     if !all_digits(digits) {
@@ -52,13 +53,13 @@ fn file(word: &[u8]) -> Option<FileName>
         let (digits, ending) = word.split_at(20);
         return log_name(digits, ending);
     }
-    if word == b"manifest".as_slice() {
+    if is(word, "manifest") {
         return Some(FileName::Manifest);
     }
-    if word == b"notes".as_slice() {
+    if is(word, "notes") {
         return Some(FileName::Notes);
     }
-    if word == b"gate".as_slice() {
+    if is(word, "gate") {
         return Some(FileName::Gate);
     }
     None
@@ -69,7 +70,7 @@ fn file(word: &[u8]) -> Option<FileName>
 pub fn place(word: &[u8]) -> Option<Place>
     ensures { result ≡ place_in word.now }
 {
-    if word == b"meta".as_slice() {
+    if is(word, "meta") {
         return Some(Place::Meta);
     }
     if let Some(key) = key(word) {
@@ -86,16 +87,16 @@ pub fn place(word: &[u8]) -> Option<Place>
 pub fn state(word: &[u8]) -> Option<State>
     ensures { result ≡ state_in word.now }
 {
-    if word == b"CopyStarted".as_slice() {
+    if is(word, "CopyStarted") {
         return Some(State::CopyStarted);
     }
-    if word == b"CopyFinished".as_slice() {
+    if is(word, "CopyFinished") {
         return Some(State::CopyFinished);
     }
-    if word == b"DeleteStarted".as_slice() {
+    if is(word, "DeleteStarted") {
         return Some(State::DeleteStarted);
     }
-    if word == b"DeleteFinished".as_slice() {
+    if is(word, "DeleteFinished") {
         return Some(State::DeleteFinished);
     }
     None
@@ -106,13 +107,13 @@ pub fn state(word: &[u8]) -> Option<State>
 pub fn stop(word: &[u8]) -> Option<Stop>
     ensures { result ≡ stop_in word.now }
 {
-    if word == b"Mark".as_slice() {
+    if is(word, "Mark") {
         return Some(Stop::Mark);
     }
-    if word == b"Piece".as_slice() {
+    if is(word, "Piece") {
         return Some(Stop::Piece);
     }
-    if word == b"Limit".as_slice() {
+    if is(word, "Limit") {
         return Some(Stop::Limit);
     }
     None
@@ -123,22 +124,22 @@ pub fn stop(word: &[u8]) -> Option<Stop>
 pub fn cause(word: &[u8]) -> Option<BatchRefusal>
     ensures { result ≡ cause_in word.now }
 {
-    if word == b"Short".as_slice() {
+    if is(word, "Short") {
         return Some(BatchRefusal::Short);
     }
-    if word == b"BadMagic".as_slice() {
+    if is(word, "BadMagic") {
         return Some(BatchRefusal::BadMagic);
     }
-    if word == b"BadLength".as_slice() {
+    if is(word, "BadLength") {
         return Some(BatchRefusal::BadLength);
     }
-    if word == b"Compressed".as_slice() {
+    if is(word, "Compressed") {
         return Some(BatchRefusal::Compressed);
     }
-    if word == b"Transactional".as_slice() {
+    if is(word, "Transactional") {
         return Some(BatchRefusal::Transactional);
     }
-    if word == b"Control".as_slice() {
+    if is(word, "Control") {
         return Some(BatchRefusal::Control);
     }
     None
@@ -149,13 +150,13 @@ pub fn cause(word: &[u8]) -> Option<BatchRefusal>
 pub fn tier(name: &[u8], segment: &[u8]) -> Option<Tier>
     ensures { result ≡ tier_in name.now segment.now }
 {
-    if name == b"local".as_slice() {
+    if is(name, "local") {
         let Some(base) = count(segment) else {
             return None;
         };
         return Some(Tier::Local(base));
     }
-    if name == b"remote".as_slice() {
+    if is(name, "remote") {
         let Some(id) = id(segment) else {
             return None;
         };

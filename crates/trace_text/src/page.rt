@@ -68,6 +68,14 @@ impl Page {
         self.number(n)
     }
 
+    /// Writes two numbers, each behind a space.
+    pub fn then_numbers(&mut self, a: u64, b: u64) -> Result<(), AllocError>
+        ensures { OnOk result (self.new ≡ self.old ++ spaced (decimal a ∷ decimal b ∷ [])) }
+    {
+        self.then_number(a)?;
+        self.then_number(b)
+    }
+
     /// Writes a number in 20 digits.
     #[tactic(auto, unfolding(crate::specs::Names::padded))]
     pub fn padded_number(&mut self, n: u64) -> Result<(), AllocError>

@@ -7,7 +7,7 @@ use crate::counts::{count, number};
 use crate::fields::{cause, id, place, run_bytes, state, stop, tier};
 use crate::line::Line;
 use crate::tables::{bare, counted, paired};
-use crate::words::Words;
+use crate::words::{Words, is};
 use plain_log::{Answer, Event, JournalEntry};
 use record_batch::BatchRefusal;
 use std::alloc::{AllocError, Global};
@@ -18,19 +18,19 @@ use tier_base::{ActorId, PartitionId};
 fn one(name: &[u8], word: &[u8]) -> Option<Answer>
     ensures { result ≡ one_in name.now word.now }
 {
-    if name == b"Refused".as_slice() {
+    if is(name, "Refused") {
         let Some(cause) = cause(word) else {
             return None;
         };
         return Some(Answer::Refused(cause));
     }
-    if name == b"Overtaken".as_slice() {
+    if is(name, "Overtaken") {
         let Some(state) = state(word) else {
             return None;
         };
         return Some(Answer::Overtaken(state));
     }
-    if name == b"Deleted".as_slice() {
+    if is(name, "Deleted") {
         let Some(id) = id(word) else {
             return None;
         };
@@ -47,7 +47,7 @@ fn one(name: &[u8], word: &[u8]) -> Option<Answer>
 fn bad_records(name: &[u8], at: &[u8]) -> Option<Answer>
     ensures { result ≡ bad_records_in name.now at.now }
 {
-    if name != b"BadRecords".as_slice() {
+    if !is(name, "BadRecords") {
         return None;
     }
     let Some(at) = number(at, 4_294_967_295) else {
@@ -75,10 +75,10 @@ fn damaged(word: &[u8], at: &[u8]) -> Option<Answer>
 fn two(name: &[u8], first: &[u8], second: &[u8]) -> Option<Answer>
     ensures { result ≡ two_in name.now first.now second.now }
 {
-    if name == b"Refused".as_slice() {
+    if is(name, "Refused") {
         return bad_records(first, second);
     }
-    if name == b"Damaged".as_slice() {
+    if is(name, "Damaged") {
         return damaged(first, second);
     }
     let Some(a) = count(first) else {
@@ -95,7 +95,7 @@ fn two(name: &[u8], first: &[u8], second: &[u8]) -> Option<Answer>
 fn bad_crc(name: &[u8], kept: &[u8], computed: &[u8]) -> Option<Answer>
     ensures { result ≡ bad_crc_in name.now kept.now computed.now }
 {
-    if name != b"BadCrc".as_slice() {
+    if !is(name, "BadCrc") {
         return None;
     }
     let Some(kept) = number(kept, 4_294_967_295) else {
@@ -149,13 +149,13 @@ fn span(base: &[u8], last: &[u8], epoch: &[u8]) -> Option<Answer>
 fn three(name: &[u8], first: &[u8], second: &[u8], third: &[u8]) -> Option<Answer>
     ensures { result ≡ three_in name.now first.now second.now third.now }
 {
-    if name == b"Refused".as_slice() {
+    if is(name, "Refused") {
         return bad_crc(first, second, third);
     }
-    if name == b"Copied".as_slice() {
+    if is(name, "Copied") {
         return copied(first, second, third);
     }
-    if name == b"Ok".as_slice() {
+    if is(name, "Ok") {
         return span(first, second, third);
     }
     None
@@ -249,7 +249,7 @@ fn answer(alloc: Global, words: Words) -> Result<Option<Answer>, AllocError>
     let Some(name) = words.first() else {
         return Ok(None);
     };
-    if name == b"Run".as_slice() {
+    if is(name, "Run") {
         return run(alloc, words);
     }
     Ok(plain(name, words))
@@ -269,7 +269,7 @@ fn begun(words: Words) -> Option<Event>
     if !words.is_done() {
         return None;
     }
-    if cut != b"cut".as_slice() {
+    if !is(cut, "cut") {
         return None;
     }
     let Some(end) = count(end) else {
@@ -286,13 +286,13 @@ fn event(alloc: Global, words: Words) -> Result<Option<Event>, AllocError>
     let Some(first) = words.first() else {
         return Ok(None);
     };
-    if first == b"=".as_slice() {
+    if is(first, "=") {
         let Some(answer) = answer(alloc, words)? else {
             return Ok(None);
         };
         return Ok(Some(Event::Answers(answer)));
     }
-    if first == b"begin".as_slice() {
+    if is(first, "begin") {
         return Ok(begun(words));
     }
     Ok(None)

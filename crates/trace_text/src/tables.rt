@@ -5,6 +5,7 @@ ghost use Rattle.trace_text.specs.Fields.{named};
 ghost use Rattle.trace_text.specs.Reading.{bare_answers, counted_answers, bare_in, counted_in, paired_in};
 ghost use Rattle.trace_text.specs.Trace.{name_of};
 
+use crate::words::is;
 use plain_log::Answer;
 
 /// Reads an answer without fields.
@@ -12,25 +13,25 @@ use plain_log::Answer;
 pub fn bare(name: &[u8]) -> Option<Answer>
     ensures { result ≡ bare_in name.now }
 {
-    if name == b"Ok".as_slice() {
+    if is(name, "Ok") {
         return Some(Answer::Ok);
     }
-    if name == b"Down".as_slice() {
+    if is(name, "Down") {
         return Some(Answer::Down);
     }
-    if name == b"NotLeader".as_slice() {
+    if is(name, "NotLeader") {
         return Some(Answer::NotLeader);
     }
-    if name == b"LastOffset".as_slice() {
+    if is(name, "LastOffset") {
         return Some(Answer::LastOffset);
     }
-    if name == b"TooManySegments".as_slice() {
+    if is(name, "TooManySegments") {
         return Some(Answer::TooManySegments);
     }
-    if name == b"DiskFault".as_slice() {
+    if is(name, "DiskFault") {
         return Some(Answer::DiskFault);
     }
-    if name == b"EmptySegment".as_slice() {
+    if is(name, "EmptySegment") {
         return Some(Answer::EmptySegment);
     }
     bare_of_brokers(name)
@@ -40,25 +41,25 @@ pub fn bare(name: &[u8]) -> Option<Answer>
 fn bare_of_brokers(name: &[u8]) -> Option<Answer>
     ensures { result ≡ named name_of name.now (drop 7 bare_answers) }
 {
-    if name == b"LastEpoch".as_slice() {
+    if is(name, "LastEpoch") {
         return Some(Answer::LastEpoch);
     }
-    if name == b"NotInSync".as_slice() {
+    if is(name, "NotInSync") {
         return Some(Answer::NotInSync);
     }
-    if name == b"DownBroker".as_slice() {
+    if is(name, "DownBroker") {
         return Some(Answer::DownBroker);
     }
-    if name == b"Known".as_slice() {
+    if is(name, "Known") {
         return Some(Answer::Known);
     }
-    if name == b"NotFollower".as_slice() {
+    if is(name, "NotFollower") {
         return Some(Answer::NotFollower);
     }
-    if name == b"NoLeader".as_slice() {
+    if is(name, "NoLeader") {
         return Some(Answer::NoLeader);
     }
-    if name == b"Stopped".as_slice() {
+    if is(name, "Stopped") {
         return Some(Answer::Stopped);
     }
     bare_of_tier(name)
@@ -68,22 +69,22 @@ fn bare_of_brokers(name: &[u8]) -> Option<Answer>
 fn bare_of_tier(name: &[u8]) -> Option<Answer>
     ensures { result ≡ named name_of name.now (drop 14 bare_answers) }
 {
-    if name == b"MetaFault".as_slice() {
+    if is(name, "MetaFault") {
         return Some(Answer::MetaFault);
     }
-    if name == b"StoreFault".as_slice() {
+    if is(name, "StoreFault") {
         return Some(Answer::StoreFault);
     }
-    if name == b"NotJoined".as_slice() {
+    if is(name, "NotJoined") {
         return Some(Answer::NotJoined);
     }
-    if name == b"Level".as_slice() {
+    if is(name, "Level") {
         return Some(Answer::Level);
     }
-    if name == b"IsLeader".as_slice() {
+    if is(name, "IsLeader") {
         return Some(Answer::IsLeader);
     }
-    if name == b"LostLead".as_slice() {
+    if is(name, "LostLead") {
         return Some(Answer::LostLead);
     }
     bare_of_reads(name)
@@ -93,22 +94,22 @@ fn bare_of_tier(name: &[u8]) -> Option<Answer>
 fn bare_of_reads(name: &[u8]) -> Option<Answer>
     ensures { result ≡ named name_of name.now (drop 20 bare_answers) }
 {
-    if name == b"Kept".as_slice() {
+    if is(name, "Kept") {
         return Some(Answer::Kept);
     }
-    if name == b"IsUp".as_slice() {
+    if is(name, "IsUp") {
         return Some(Answer::IsUp);
     }
-    if name == b"LastIncarnation".as_slice() {
+    if is(name, "LastIncarnation") {
         return Some(Answer::LastIncarnation);
     }
-    if name == b"Empty".as_slice() {
+    if is(name, "Empty") {
         return Some(Answer::Empty);
     }
-    if name == b"CopyOff".as_slice() {
+    if is(name, "CopyOff") {
         return Some(Answer::CopyOff);
     }
-    if name == b"NoOffset".as_slice() {
+    if is(name, "NoOffset") {
         return Some(Answer::NoOffset);
     }
     None
@@ -119,22 +120,22 @@ fn bare_of_reads(name: &[u8]) -> Option<Answer>
 pub fn counted(name: &[u8], n: u64) -> Option<Answer>
     ensures { result ≡ counted_in name.now n }
 {
-    if name == b"Ok".as_slice() {
+    if is(name, "Ok") {
         return Some(Answer::OkAt(n));
     }
-    if name == b"DiskFault".as_slice() {
+    if is(name, "DiskFault") {
         return Some(Answer::DiskFaultAt(n));
     }
-    if name == b"Follows".as_slice() {
+    if is(name, "Follows") {
         return Some(Answer::Follows(n));
     }
-    if name == b"NeedsElection".as_slice() {
+    if is(name, "NeedsElection") {
         return Some(Answer::NeedsElection(n));
     }
-    if name == b"Leads".as_slice() {
+    if is(name, "Leads") {
         return Some(Answer::Leads(n));
     }
-    if name == b"StaleEpoch".as_slice() {
+    if is(name, "StaleEpoch") {
         return Some(Answer::StaleEpoch(n));
     }
     counted_of_followers(name, n)
@@ -144,19 +145,19 @@ pub fn counted(name: &[u8], n: u64) -> Option<Answer>
 fn counted_of_followers(name: &[u8], n: u64) -> Option<Answer>
     ensures { result ≡ named name_of name.now (drop 6 (counted_answers n)) }
 {
-    if name == b"Cut".as_slice() {
+    if is(name, "Cut") {
         return Some(Answer::Cut(n));
     }
-    if name == b"Passed".as_slice() {
+    if is(name, "Passed") {
         return Some(Answer::Passed(n));
     }
-    if name == b"BelowStart".as_slice() {
+    if is(name, "BelowStart") {
         return Some(Answer::BelowStart(n));
     }
-    if name == b"Rebuilt".as_slice() {
+    if is(name, "Rebuilt") {
         return Some(Answer::Rebuilt(n));
     }
-    if name == b"Moved".as_slice() {
+    if is(name, "Moved") {
         return Some(Answer::Moved(n));
     }
     counted_of_tier(name, n)
@@ -166,22 +167,22 @@ fn counted_of_followers(name: &[u8], n: u64) -> Option<Answer>
 fn counted_of_tier(name: &[u8], n: u64) -> Option<Answer>
     ensures { result ≡ named name_of name.now (drop 11 (counted_answers n)) }
 {
-    if name == b"Copied".as_slice() {
+    if is(name, "Copied") {
         return Some(Answer::Copied(n));
     }
-    if name == b"Raised".as_slice() {
+    if is(name, "Raised") {
         return Some(Answer::Raised(n));
     }
-    if name == b"NotAbove".as_slice() {
+    if is(name, "NotAbove") {
         return Some(Answer::NotAbove(n));
     }
-    if name == b"AboveMark".as_slice() {
+    if is(name, "AboveMark") {
         return Some(Answer::AboveMark(n));
     }
-    if name == b"Up".as_slice() {
+    if is(name, "Up") {
         return Some(Answer::Up(n));
     }
-    if name == b"Offset".as_slice() {
+    if is(name, "Offset") {
         return Some(Answer::Offset(n));
     }
     None
@@ -192,16 +193,16 @@ fn counted_of_tier(name: &[u8], n: u64) -> Option<Answer>
 pub fn paired(name: &[u8], a: u64, b: u64) -> Option<Answer>
     ensures { result ≡ paired_in name.now a b }
 {
-    if name == b"BehindStart".as_slice() {
+    if is(name, "BehindStart") {
         return Some(Answer::BehindStart(a, b));
     }
-    if name == b"Behind".as_slice() {
+    if is(name, "Behind") {
         return Some(Answer::Behind(a, b));
     }
-    if name == b"Dropped".as_slice() {
+    if is(name, "Dropped") {
         return Some(Answer::Dropped(a, b));
     }
-    if name == b"OutOfRange".as_slice() {
+    if is(name, "OutOfRange") {
         return Some(Answer::OutOfRange(a, b));
     }
     None

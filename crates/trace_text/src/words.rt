@@ -1,6 +1,6 @@
 //! The words of a line, which one space parts.
 
-ghost use Rattle.std.specs.Prelude.{◌≡◌, ◌≤◌, ◌==◌, ℕ, length};
+ghost use Rattle.std.specs.Prelude.{◌≡◌, ◌≤◌, ◌==◌, ℕ, length, bytes_eq};
 ghost use Rattle.std.specs.List.{slice_split};
 ghost use Rattle.trace_text.specs.Steps.{front_len, words_left, with_left, is_done, words_behind};
 
@@ -50,6 +50,13 @@ impl<'a> Words<'a> {
             Some(_) => false,
         }
     }
+}
+
+/// Answers whether a word is this one.
+pub fn is(word: &[u8], text: &str) -> bool
+    ensures { result ≡ bytes_eq word.now text.now }
+{
+    word == text.as_bytes()
 }
 
 /// Counts the bytes before the first of this kind.
