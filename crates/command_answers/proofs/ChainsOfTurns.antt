@@ -17,7 +17,8 @@ use Rattle.tier_fetch.specs.declared.turn.Next.TheVariants.{Refresh, Index, Log}
 use Rattle.plain_log.specs.declared.answer.Answer.{Answer}
 use Rattle.plain_log.specs.declared.command.ActorList.{ActorList}
 use Rattle.plain_log.specs.declared.command.Command.{Command}
-use Rattle.plain_log.specs.declared.command.Command.TheVariants.{Copy, Expire, Fetch, Join, Trim, Follow}
+use Rattle.plain_log.specs.declared.command.Command.TheVariants.{Copy, Expire, Fetch, Join, Trim, Follow, Offset}
+use Rattle.plain_log.specs.declared.command.Which.TheVariants.{LatestTiered}
 use Rattle.plain_log.specs.declared.command.Order.{Order}
 use Rattle.plain_log.specs.declared.journal.Event.TheVariants as event
 use Rattle.plain_log.specs.declared.journal.JournalEntry.{JournalEntry}
@@ -68,6 +69,7 @@ some_first (Fetch offset limit) = omega arith
 some_first Join = omega arith
 some_first Trim = omega arith
 some_first (Follow limit) = omega arith
+some_first (Offset LatestTiered) = omega arith
 some_first other = omega arith
 
 some_second : (command : Command) → 1 ≤ second_left command

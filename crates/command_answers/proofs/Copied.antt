@@ -7,7 +7,7 @@ use Rattle.meta_log.specs.declared.log.MetaLog.{Ghosts as MetaGhosts}
 use Rattle.copy_task.specs.Copying.{Copied}
 use Rattle.copy_task.specs.declared.turn.Next.{Next}
 use Rattle.plain_log.specs.declared.answer.Answer.{Answer}
-use Rattle.plain_log.specs.declared.answer.Answer.TheVariants.{Down, NotLeader, MetaFault, LostLead, Level, DiskFault, StoreFault, Overtaken, CopiedSegment}
+use Rattle.plain_log.specs.declared.answer.Answer.TheVariants.{Down, NotLeader, CopyOff, MetaFault, LostLead, Level, DiskFault, StoreFault, Overtaken, CopiedSegment}
 use Rattle.plain_log.specs.declared.command.ActorList.{ActorList}
 use Rattle.plain_log.specs.declared.command.Command.TheVariants.{Copy}
 use Rattle.plain_log.specs.declared.command.Order.{Order}
@@ -73,7 +73,8 @@ module _ {D S M : Type 0} (disk : DiskGhosts D) (store : StoreGhosts S) (meta : 
       → IsCopiedAnswer answer
   first_copied w b x side Down w' cause may clear = let up = may.0 in absurd (cc (cause, up))
   first_copied w b x side NotLeader w' cause may clear = let leads = may.1 in absurd (cc (cause, leads))
-  first_copied w b x side MetaFault w' cause may clear = absurd (clear.meta_clear refl cause)
+  first_copied w b x side CopyOff w' cause may clear = let off = cause.2 in let on = may.2 in absurd (cc (off, on))
+  first_copied w b x side MetaFault w' cause may clear = absurd (clear.meta_clear refl cause.1)
   first_copied w b x side other w' cause may clear = elim cause [ ]
 
   second_copied : (w : Whole D S M) (b : ℕ) (x : Node D) (side : Side) (g : _) (answer : Answer) (w' : Whole D S M) → HasCause disk store meta w b x side (Noted g) answer w' → MayCopy w x side (Noted g)

@@ -19,7 +19,7 @@ use Rattle.copy_task.specs.declared.turn.CopyTurn.TheVariants.{Goes as GoesOn, E
 use Rattle.copy_task.specs.declared.turn.Next.{Next}
 use Rattle.copy_task.specs.declared.turn.Next.TheVariants.{Start, Put, Finish, Check, Delete}
 use Rattle.plain_log.specs.declared.answer.Answer.{Answer}
-use Rattle.plain_log.specs.declared.answer.Answer.TheVariants.{Down, NotLeader, MetaFault, LostLead, Level, DiskFault, StoreFault, Damaged, CopiedSegment}
+use Rattle.plain_log.specs.declared.answer.Answer.TheVariants.{Down, NotLeader, CopyOff, MetaFault, LostLead, Level, DiskFault, StoreFault, Damaged, CopiedSegment}
 use Rattle.plain_log.specs.declared.answer.Place.TheVariants.{File}
 use Rattle.plain_log.specs.declared.command.Command.{Command}
 use Rattle.plain_log.specs.declared.command.Command.TheVariants.{Copy}
@@ -35,7 +35,7 @@ use Rattle.tier_safe.specs.Copies.{is_deleted}
 use Rattle.tier_safe.specs.Scene.{Work as WorkSeen, Copies as CopiesSeen}
 use Rattle.tier_safe.specs.Turns.{Shows}
 use Rattle.tier_safe.proofs.Turning.{refreshes}
-use Rattle.partition_world.specs.declared.seat.Outcome.TheVariants.{Answers}
+use Rattle.partition_world.specs.declared.seat.Outcome.TheVariants.{Answers, Begins}
 use Rattle.partition_world.specs.declared.seat.Work.{Work}
 use Rattle.partition_world.specs.declared.seat.Work.TheVariants.{Idle, Noted, Copies, Seeks, Expires, Rebuilds}
 use Rattle.partition_world.specs.declared.tier.Side.{Side}
@@ -46,7 +46,7 @@ use Rattle.partition_world.specs.Turn.{IsTurn}
 use Rattle.partition_world.specs.TurnsOfCopy.{CopyFirstRow, ReadRow, ReadsNext, ChooseRow, CopyOnRow, GoesOnCopy, copied_to, tiers_of, teller_of}
 use Rattle.partition_world.specs.Turns.{Row}
 use Rattle.partition_world.specs.Whole.{Whole}
-use Rattle.partition_world.proofs.Begins.{row_of}
+use Rattle.partition_world.proofs.Begins.{row_of, begins_idle}
 use Rattle.partition_world.proofs.Scenes.{Place, place_of, site, shows_at, few_now}
 use Rattle.command_answers.specs.CausesOfCopies.{FirstCause, ChoiceCause, LaterCause, HasCause}
 use Rattle.command_answers.specs.DeletionsKnown.{DeletionsKnown, ShowsDeleted}
@@ -67,7 +67,8 @@ module _ {D S M : Type 0} (disk : DiskGhosts D) (store : StoreGhosts S) (meta : 
     first : (k : Answer) → CopyFirstRow meta w.held w.tier b z.x z.side (Answers k) w'.tier → FirstCause disk store meta w z.x k w'
     first Down row = row.0
     first NotLeader row = row.1
-    first MetaFault row = row.2.reads.control.ran.cause refl
+    first CopyOff row = (row.0, row.1, row.2)
+    first MetaFault row = (row.1, row.0.2.reads.control.ran.cause refl)
     first other row = elim row [ ]
 
     -- the segment that comes next is read
@@ -196,3 +197,14 @@ module _ {D S M : Type 0} (disk : DiskGhosts D) (store : StoreGhosts S) (meta : 
       some_at (λ (x : Node D). AtSide w.tier b (λ side. HasCause disk store meta w b x side t.seat.work answer w')) (slice_get w.held.nodes b) r.x r.at
       (some_at (λ (side : Side). HasCause disk store meta w b r.x side t.seat.work answer w') (slice_get w.tier.sides b) r.side r.side_at
       (by_work opening w a answer w' t c known z t.seat.work refl row))
+
+  -- a copy begins where segments are copied
+  pub begin_on : (w : Whole D S M) (a : ℕ) (g : Begun) (w' : Whole D S M) (t : IsTurn disk store meta w a (Begins g) w') → t.order.command ≡ Copy → w.held.copying ≡ true
+  begin_on w a g w' t copies =
+      let b = t.order.broker.0 in
+      let idle = begins_idle disk store meta w.partition w.config w.held w.tier b t.seat.work t.order.command g w'.held w'.tier t.row in
+      let r = row_of disk store meta w.partition w.config w.held w.tier b t.seat.work t.order.command (Begins g) w'.held w'.tier t.row in
+      let row = subst (λ (k : Command). Row disk store meta w.partition w.config w.held w.tier b r.x r.side t.seat.work k (Begins g) w'.held w'.tier) copies r.row in
+      let first : Row disk store meta w.partition w.config w.held w.tier b r.x r.side Idle Copy (Begins g) w'.held w'.tier =
+      subst (λ (work : Work). Row disk store meta w.partition w.config w.held w.tier b r.x r.side work Copy (Begins g) w'.held w'.tier) idle row in
+      first.0.1

@@ -1,5 +1,5 @@
 -- The turns of commands on brokers' logs: no disk's count of faults falls, and one rises where a fault is told.
-use Rattle.std.proofs.Common.{◌≡◌, refl, ℕ, ◌<◌, List, length, slice_get, Some, None, Option, Ok as Done}
+use Rattle.std.proofs.Common.{◌≡◌, refl, ℕ, ◌<◌, List, length, slice_get, Some, None, Option, Bool, Ok as Done}
 use Rattle.std.specs.Prelude.{min, ℤ}
 use Rattle.tier_base.specs.Device.{Control}
 use Rattle.disk_model.specs.Call.{call_code}
@@ -8,10 +8,12 @@ use Rattle.log_terms.proofs.Lists.{within}
 use Rattle.registry.specs.Calls.{after_ack}
 use Rattle.record_batch.specs.Build.{built}
 use Rattle.plain_log.specs.declared.answer.Answer.{Answer}
-use Rattle.plain_log.specs.declared.answer.Answer.TheVariants.{Ok, OkAt, OkSpan, Down, NotLeader, Refused, LastOffset, TooManySegments, EmptySegment, DiskFault, DiskFaultAt, Damaged, OutOfRange, Empty, Run, LastEpoch, NotInSync, DownBroker, BehindStart, Known, Follows, NeedsElection, Leads, NotJoined, StaleEpoch, IsLeader, Behind, NotAbove, AboveMark, NotFollower, NoLeader, Cut, Level, Stopped, Passed, Copied, IsUp, LastIncarnation, Up as IsOpen, Moved, BelowStart, Rebuilt, Kept as Remains, Dropped}
+use Rattle.plain_log.specs.declared.answer.Answer.TheVariants.{Ok, OkAt, OkSpan, Down, NotLeader, Refused, LastOffset, TooManySegments, EmptySegment, DiskFault, DiskFaultAt, Damaged, OutOfRange, Empty, Run, LastEpoch, NotInSync, DownBroker, BehindStart, Known, Follows, NeedsElection, Leads, NotJoined, StaleEpoch, IsLeader, Behind, NotAbove, AboveMark, NotFollower, NoLeader, Cut, Level, Stopped, Passed, Copied, IsUp, LastIncarnation, Up as IsOpen, Moved, BelowStart, Rebuilt, Kept as Remains, Dropped, Offset as OffsetAnswer}
 use Rattle.plain_log.specs.declared.answer.Place.TheVariants.{File}
 use Rattle.plain_log.specs.declared.command.Command.{Command}
-use Rattle.plain_log.specs.declared.command.Command.TheVariants.{Append, Raw, Flush, Roll, Elect, Unclean, Learn, Join, Follow, Trim, Ack, Shrink, Expand, Raise, Clock, Stop as StopCommand, Up as UpCommand, Fetch}
+use Rattle.plain_log.specs.declared.command.Command.TheVariants.{Append, Raw, Flush, Roll, Elect, Unclean, Learn, Join, Follow, Trim, Ack, Shrink, Expand, Raise, Clock, Stop as StopCommand, Up as UpCommand, Fetch, Copying, Offset}
+use Rattle.plain_log.specs.declared.command.Which.{Which}
+use Rattle.plain_log.specs.declared.command.Which.TheVariants.{LatestTiered}
 use Rattle.plain_log.specs.State.{acking}
 use Rattle.broker_log.specs.Seen.{Kept, Up, Down as Closed, Away, OnDisk, Lasting, Faulted}
 use Rattle.broker_log.specs.Seen as log
@@ -22,7 +24,7 @@ use Rattle.partition_seen.proofs.BoolTests.{some_of}
 use Rattle.partition_turns.specs.declared.held.Node.{Node}
 use Rattle.partition_turns.specs.declared.held.Held.{Held}
 use Rattle.partition_turns.specs.Held.{put_node, end_of, stable_of, stopped, the_leader, Fails, Breaks, BreaksBy}
-use Rattle.partition_turns.specs.Turns.{ClockRow, StopRow, UpRow, AnswerRow, FirstRow, LaterRow, Row}
+use Rattle.partition_turns.specs.Turns.{ClockRow, CopyingRow, OffsetRow, StopRow, UpRow, AnswerRow, FirstRow, LaterRow, Row}
 use Rattle.partition_turns.specs.TurnsOfLog.{Gains, AppendRow, RawRow, FlushRow, RollRow, TrimRow, TrimOnRow}
 use Rattle.partition_turns.specs.TurnsOfFetch.{FetchRow, FetchTurn}
 use Rattle.partition_turns.specs.TurnsOfElections.{ElectRow, UncleanRow, LearnRow, AckRow, ShrinkRow, ExpandRow, RaiseRow}
@@ -181,6 +183,16 @@ module _ {D : Type 0} (content : D → Content) (control : D → Control call_co
   clock_counts h b ms Ok h' w = (keeps_same control (record h { clock = ms }) h' w, tt)
   clock_counts h b ms other h' w = elim w [ ]
 
+  copying_counts : (h : Held D) (b : ℕ) (on : Bool) (answer : Answer) (h' : Held D) → CopyingRow h on answer h' → Counts h b h' answer
+  copying_counts h b on Ok h' w = (keeps_same control (record h { copying = on }) h' w, tt)
+  copying_counts h b on other h' w = elim w [ ]
+
+  offset_counts : (h : Held D) (b : ℕ) (x : Node D) (which : Which) (answer : Answer) (h' : Held D) → OffsetRow h x which answer h' → Counts h b h' answer
+  offset_counts h b x which Down h' w = (keeps_same control h h' w.1, tt)
+  offset_counts h b x which NotLeader h' w = (keeps_same control h h' w.2, tt)
+  offset_counts h b x which (OffsetAnswer n) h' w = (keeps_same control h h' w.3, tt)
+  offset_counts h b x which other h' w = elim w [ ]
+
   answer_counts : (h : Held D) (b : ℕ) (x : Node D) (command : Command) (answer : Answer) (h' : Held D) → slice_get h.nodes b ≡ Some x
       → AnswerRow content control h b x command answer h' → CountsFor command h b h' (Answers answer)
   answer_counts h b x (Append recs) answer h' at w = append_counts h b x (built recs) answer h' at w
@@ -195,6 +207,8 @@ module _ {D : Type 0} (content : D → Content) (control : D → Control call_co
   answer_counts h b x Expand answer h' at w = expand_counts h b x answer h' w
   answer_counts h b x (Raise start) answer h' at w = raise_counts h b x start answer h' w
   answer_counts h b x (Clock ms) answer h' at w = clock_counts h b ms answer h' w
+  answer_counts h b x (Copying on) answer h' at w = copying_counts h b on answer h' w
+  answer_counts h b x (Offset which) answer h' at w = offset_counts h b x which answer h' w
   answer_counts h b x StopCommand answer h' at w = stop_counts h b x answer h' at w
   answer_counts h b x UpCommand answer h' at w = up_counts h b x answer h' at w
   answer_counts h b x other answer h' at w = elim w [ ]
@@ -270,6 +284,7 @@ module _ {D : Type 0} (content : D → Content) (control : D → Control call_co
   first_counts h b x Join turned h' at w = join_counts h b x turned h' at w
   first_counts h b x Trim turned h' at w = trim_counts h b x turned h' w
   first_counts h b x (Fetch offset limit) turned h' at w = fetch_turn_counts h b x offset limit turned h' at w
+  first_counts h b x (Offset LatestTiered) turned h' at w = elim w [ ]
   first_counts h b x command (Answers answer) h' at w = answer_counts h b x command answer h' at w
   first_counts h b x command (Begins g) h' at w = elim w [ ]
 

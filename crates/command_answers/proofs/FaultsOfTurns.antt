@@ -16,10 +16,11 @@ use Rattle.expiry_task.specs.declared.turn.Next.{Next as Deletion}
 use Rattle.rebuild_task.specs.declared.turn.Next.{Next as Rebuild}
 use Rattle.rebuild_task.specs.declared.turn.Next.TheVariants.{Epochs, Restart}
 use Rattle.plain_log.specs.declared.answer.Answer.{Answer}
-use Rattle.plain_log.specs.declared.answer.Answer.TheVariants.{Down, NotLeader, MetaFault, DiskFault, Damaged, Stopped, OutOfRange, Empty, Kept as Remains, StaleEpoch, Raised, OkAt, Passed, BelowStart}
+use Rattle.plain_log.specs.declared.answer.Answer.TheVariants.{Down, NotLeader, CopyOff, MetaFault, DiskFault, Damaged, Stopped, OutOfRange, Empty, Kept as Remains, StaleEpoch, Raised, OkAt, Passed, BelowStart, Offset as OffsetAnswer, NoOffset}
 use Rattle.plain_log.specs.declared.answer.Place.TheVariants.{File}
 use Rattle.plain_log.specs.declared.command.Command.{Command}
-use Rattle.plain_log.specs.declared.command.Command.TheVariants.{Join, Copy, Trim, Expire, Fetch, Raise}
+use Rattle.plain_log.specs.declared.command.Command.TheVariants.{Join, Copy, Trim, Expire, Fetch, Raise, Offset}
+use Rattle.plain_log.specs.declared.command.Which.TheVariants.{LatestTiered}
 use Rattle.plain_log.specs.declared.command.Config.{Config}
 use Rattle.broker_log.specs.Seen.{Lasting, Faulted}
 use Rattle.partition_seen.specs.declared.begun.Begun.{Begun}
@@ -36,10 +37,11 @@ use Rattle.partition_world.specs.declared.seat.Work.{Work}
 use Rattle.partition_world.specs.declared.seat.Work.TheVariants.{Idle, Noted, Copies, Seeks, Expires, Rebuilds}
 use Rattle.partition_world.specs.Seats.{outcome_of, fetch_outcome}
 use Rattle.partition_world.specs.Tier.{Refreshes, FailsToRead, put_side}
-use Rattle.partition_world.specs.TurnsOfCopy.{ReadsLog, ReadRow, CopyFirstRow, ChooseRow, tiers_of, teller_of}
+use Rattle.partition_world.specs.TurnsOfCopy.{ReadsLog, ReadRow, LeadersFirstRow, CopyFirstRow, ChooseRow, tiers_of, teller_of}
 use Rattle.partition_world.specs.TurnsOfFetch.{FetchOnRow, GoesOnFetch, fetch_tiers, wanted_of}
 use Rattle.partition_world.specs.TurnsOfExpiry.{RaiseRow, ExpireOnRow, ExpiresBy, expiry_tiers}
 use Rattle.partition_world.specs.TurnsOfRebuild.{AnswersAtOnce, RefreshedRow, with_line, wanted_of as rebuilt_to}
+use Rattle.partition_world.specs.TurnsOfOffset.{OffsetOnRow}
 use Rattle.partition_world.specs.TurnsOfTrim.{TrimFirstRow, TrimOnRow}
 use Rattle.partition_world.specs.Turns.{OwnOnRow, BeginRow, NotedRow, CopyingRow, SeekingRow, DeletingRow, JoinSecondRow, RebuildingRow, Row}
 use Rattle.command_answers.proofs.FaultCounts.{told_map, Keeps, Rises, RisesFor, keeps_same, keeps_put, rises_put}
@@ -103,13 +105,20 @@ module _ {D S M : Type 0} (disk : DiskGhosts D) (store : StoreGhosts S) (meta : 
     metas = w.reads.control.ran.never_falls;
   }
 
+  leaders_counts : (A : Type 0) (h : Held D) (t : Tier S M) (b : ℕ) (x : Node D) (side : Side) (outcome : Outcome) (h' : Held D) (t' : Tier S M) → h' ≡ h
+      → LeadersFirstRow meta h t b x side outcome t' → Counts A h b t outcome h' t'
+  leaders_counts A h t b x side (Answers Down) h' t' same w = (all_same h t h' t' same w.1, tt)
+  leaders_counts A h t b x side (Answers NotLeader) h' t' same w = (all_same h t h' t' same w.2, tt)
+  leaders_counts A h t b x side (Answers MetaFault) h' t' same w = unread_counts h t side h' t' same w.2
+  leaders_counts A h t b x side (Begins g) h' t' same w = (refresh_keeps h t b side h' t' same w.3, tt)
+  leaders_counts A h t b x side other h' t' same w = elim w [ ]
+
   first_counts : (A : Type 0) (h : Held D) (t : Tier S M) (b : ℕ) (x : Node D) (side : Side) (outcome : Outcome) (h' : Held D) (t' : Tier S M) → h' ≡ h
       → CopyFirstRow meta h t b x side outcome t' → Counts A h b t outcome h' t'
-  first_counts A h t b x side (Answers Down) h' t' same w = (all_same h t h' t' same w.1, tt)
-  first_counts A h t b x side (Answers NotLeader) h' t' same w = (all_same h t h' t' same w.2, tt)
-  first_counts A h t b x side (Answers MetaFault) h' t' same w = unread_counts h t side h' t' same w.2
-  first_counts A h t b x side (Begins g) h' t' same w = (refresh_keeps h t b side h' t' same w.3, tt)
-  first_counts A h t b x side other h' t' same w = elim w [ ]
+  first_counts A h t b x side (Answers CopyOff) h' t' same w = (all_same h t h' t' same w.3, tt)
+  first_counts A h t b x side (Answers MetaFault) h' t' same w = leaders_counts A h t b x side (Answers MetaFault) h' t' same w.0
+  first_counts A h t b x side (Begins g) h' t' same w = leaders_counts A h t b x side (Begins g) h' t' same w.0
+  first_counts A h t b x side other h' t' same w = leaders_counts A h t b x side other h' t' same w
 
   trim_counts : (A : Type 0) (h : Held D) (t : Tier S M) (b : ℕ) (x : Node D) (side : Side) (outcome : Outcome) (h' : Held D) (t' : Tier S M) → h' ≡ h
       → TrimFirstRow meta h t b x side outcome t' → Counts A h b t outcome h' t'
@@ -122,7 +131,8 @@ module _ {D S M : Type 0} (disk : DiskGhosts D) (store : StoreGhosts S) (meta : 
       → BeginRow disk store meta h t b x side command outcome h' t' → Counts (RisesFor disk.control command h b h') h b t outcome h' t'
   begin_counts h t b x side Copy outcome h' t' at w = first_counts (Rises disk.control h b h') h t b x side outcome h' t' w.1 w.0
   begin_counts h t b x side Trim outcome h' t' at w = trim_counts (Rises disk.control h b h') h t b x side outcome h' t' w.1 w.0
-  begin_counts h t b x side Expire outcome h' t' at w = first_counts (Rises disk.control h b h') h t b x side outcome h' t' w.1 w.0
+  begin_counts h t b x side Expire outcome h' t' at w = leaders_counts (Rises disk.control h b h') h t b x side outcome h' t' w.1 w.0
+  begin_counts h t b x side (Offset LatestTiered) outcome h' t' at w = leaders_counts (Rises disk.control h b h') h t b x side outcome h' t' w.1 w.0
   begin_counts h t b x side other outcome h' t' at w =
       told_as (RisesFor disk.control other h b h') h b t h' t' outcome (outcome_of w.0.0) w.0.1
       (own_counts other h b t w.0.0 h' t' (row_counts disk.content disk.control h b x None other w.0.0 h' at w.0.2) w.1)
@@ -228,6 +238,16 @@ module _ {D S M : Type 0} (disk : DiskGhosts D) (store : StoreGhosts S) (meta : 
       told_as (Rises disk.control h b h') h b t h' t' outcome _ is (at_once_counts (Rises disk.control h b h') h b t x g answer h' t' (all_same h t h' t' same tier) once)
   join_counts h t b x side g outcome h' t' at (inr (high, inr (may, row), same)) = refreshed_counts (Rises disk.control h b h') h t b side outcome h' t' same row
 
+  -- and of a question for the end in the remote tier
+  offset_counts : (A : Type 0) (h : Held D) (t : Tier S M) (b : ℕ) (x : Node D) (side : Side) (g : Begun) (outcome : Outcome) (h' : Held D) (t' : Tier S M) → h' ≡ h → t' ≡ t
+      → OffsetOnRow h x side g outcome → Counts A h b t outcome h' t'
+  offset_counts A h t b x side g (Answers Stopped) h' t' held tier w = (all_same h t h' t' held tier, tt)
+  offset_counts A h t b x side g (Answers NotLeader) h' t' held tier w = (all_same h t h' t' held tier, tt)
+  offset_counts A h t b x side g (Answers (OffsetAnswer n)) h' t' held tier w = (all_same h t h' t' held tier, tt)
+  offset_counts A h t b x side g (Answers NoOffset) h' t' held tier w = (all_same h t h' t' held tier, tt)
+  offset_counts A h t b x side g (Answers answer) h' t' held tier w = elim w.1 [ ]
+  offset_counts A h t b x side g other h' t' held tier w = elim w [ ]
+
   noted_counts : (p : PartitionId) (config : Config) (h : Held D) (t : Tier S M) (b : ℕ) (x : Node D) (side : Side) (g : Begun) (command : Command) (outcome : Outcome) (h' : Held D) (t' : Tier S M)
       → slice_get h.nodes b ≡ Some x → NotedRow disk store meta p config h t b x side g command outcome h' t' → Counts (RisesFor disk.control command h b h') h b t outcome h' t'
   noted_counts p config h t b x side g Copy outcome h' t' at w = choose_counts p h t b x side g outcome h' t' at w
@@ -235,6 +255,7 @@ module _ {D S M : Type 0} (disk : DiskGhosts D) (store : StoreGhosts S) (meta : 
   noted_counts p config h t b x side g Join outcome h' t' at w = join_counts h t b x side g outcome h' t' at w
   noted_counts p config h t b x side g Expire outcome h' t' at w = expire_counts (Rises disk.control h b h') p h t b x side g config.keep outcome h' t' at w.1 w.0
   noted_counts p config h t b x side g (Fetch offset limit) outcome h' t' at w = seek_counts (Rises disk.control h b h') p h t b x side g offset limit Refresh outcome h' t' w.1 w.0
+  noted_counts p config h t b x side g (Offset LatestTiered) outcome h' t' at w = offset_counts (Rises disk.control h b h') h t b x side g outcome h' t' w.1 w.2 w.0
   noted_counts p config h t b x side g other outcome h' t' at w = joined_counts h t b x g other outcome h' t' at w
 
   copying_counts : (A : Type 0) (h : Held D) (t : Tier S M) (b : ℕ) (x : Node D) (side : Side) (g : Begun) (copy : Copied) (next : Next) (command : Command) (outcome : Outcome) (h' : Held D) (t' : Tier S M)

@@ -19,6 +19,7 @@ pub mod Served
 pub mod SchedulesOfFetches
 pub mod JoinsHaveCauses
 pub mod Joined
+pub mod OffsetsHaveCauses
 pub mod RowsWithoutDamage
 pub mod RunsWithoutDamage
 pub mod FaultCounts

@@ -33,9 +33,10 @@ use Rattle.tier_fetch.specs.declared.turn.FetchTurn.TheVariants as fetch
 use Rattle.tier_fetch.specs.declared.turn.Next.{Next as Search}
 use Rattle.tier_fetch.specs.declared.turn.Next.TheVariants.{Refresh, Index, Log}
 use Rattle.tier_fetch.specs.declared.turn.Wanted.{Wanted}
-use Rattle.plain_log.specs.declared.answer.Answer.TheVariants.{Down, NotLeader, MetaFault, Stopped, OutOfRange, Empty}
+use Rattle.plain_log.specs.declared.answer.Answer.TheVariants.{Down, NotLeader, CopyOff, MetaFault, Stopped, OutOfRange, Empty}
 use Rattle.plain_log.specs.declared.command.Command.{Command}
-use Rattle.plain_log.specs.declared.command.Command.TheVariants.{Copy, Trim, Expire, Fetch, Join}
+use Rattle.plain_log.specs.declared.command.Command.TheVariants.{Copy, Trim, Expire, Fetch, Join, Offset}
+use Rattle.plain_log.specs.declared.command.Which.TheVariants.{LatestTiered}
 use Rattle.plain_log.specs.declared.command.Config.{Config}
 use Rattle.partition_seen.specs.declared.begun.Begun.{Begun}
 use Rattle.partition_turns.specs.declared.held.Node.{Node}
@@ -47,7 +48,7 @@ use Rattle.partition_world.specs.declared.seat.Outcome.{Outcome}
 use Rattle.partition_world.specs.declared.seat.Outcome.TheVariants.{Answers, Begins, Seeks as Sought, Rebuilds as Rebuilding}
 use Rattle.partition_world.specs.declared.seat.Work.{Work}
 use Rattle.partition_world.specs.declared.seat.Work.TheVariants.{Idle, Noted, Copies, Seeks, Expires, Rebuilds}
-use Rattle.partition_world.specs.TurnsOfCopy.{CopyFirstRow, ChooseRow, tiers_of, teller_of}
+use Rattle.partition_world.specs.TurnsOfCopy.{LeadersFirstRow, CopyFirstRow, ChooseRow, tiers_of, teller_of}
 use Rattle.partition_world.specs.TurnsOfExpiry.{expiry_tiers}
 use Rattle.partition_world.specs.TurnsOfFetch.{FetchOnRow, GoesOnFetch, fetch_tiers, wanted_of}
 use Rattle.partition_world.specs.TurnsOfTrim.{TrimFirstRow}
@@ -126,12 +127,18 @@ module _ {S M : Type 0} (store : StoreGhosts S) (meta : MetaGhosts M) where
   same_tier : (t t' : Tier S M) → t' ≡ t → Appended t t'
   same_tier t t' is = same_log meta t.meta t'.meta (ap (λ (k : Tier S M). k.meta) is)
 
+  leaders_notes : {D : Type 0} (h : Held D) (t : Tier S M) (b : ℕ) (x : Node D) (side : Side) (outcome : Outcome) (t' : Tier S M) → LeadersFirstRow meta h t b x side outcome t' → Appended t t'
+  leaders_notes h t b x side (Answers Down) t' row = same_tier t t' row.1
+  leaders_notes h t b x side (Answers NotLeader) t' row = same_tier t t' row.2
+  leaders_notes h t b x side (Answers MetaFault) t' row = same_notes _ _ row.2.reads.content.notes
+  leaders_notes h t b x side (Begins g) t' row = same_notes _ _ row.3.reads.content.notes
+  leaders_notes h t b x side other t' row = elim row [ ]
+
   first_notes : {D : Type 0} (h : Held D) (t : Tier S M) (b : ℕ) (x : Node D) (side : Side) (outcome : Outcome) (t' : Tier S M) → CopyFirstRow meta h t b x side outcome t' → Appended t t'
-  first_notes h t b x side (Answers Down) t' row = same_tier t t' row.1
-  first_notes h t b x side (Answers NotLeader) t' row = same_tier t t' row.2
-  first_notes h t b x side (Answers MetaFault) t' row = same_notes _ _ row.2.reads.content.notes
-  first_notes h t b x side (Begins g) t' row = same_notes _ _ row.3.reads.content.notes
-  first_notes h t b x side other t' row = elim row [ ]
+  first_notes h t b x side (Answers CopyOff) t' row = same_tier t t' row.3
+  first_notes h t b x side (Answers MetaFault) t' row = leaders_notes h t b x side (Answers MetaFault) t' row.0
+  first_notes h t b x side (Begins g) t' row = leaders_notes h t b x side (Begins g) t' row.0
+  first_notes h t b x side other t' row = leaders_notes h t b x side other t' row
 
   trim_notes : {D : Type 0} (h : Held D) (t : Tier S M) (b : ℕ) (x : Node D) (side : Side) (outcome : Outcome) (t' : Tier S M) → TrimFirstRow meta h t b x side outcome t' → Appended t t'
   trim_notes h t b x side (Answers Down) t' row = same_tier t t' row.1
@@ -147,7 +154,8 @@ module _ {D S M : Type 0} (disk : DiskGhosts D) (store : StoreGhosts S) (meta : 
       → BeginRow disk store meta h t b x side command outcome h' t' → Goes t t'
   begin_row h t b x side Copy outcome h' t' row = first_notes store meta h t b x side outcome t' row.0
   begin_row h t b x side Trim outcome h' t' row = trim_notes store meta h t b x side outcome t' row.0
-  begin_row h t b x side Expire outcome h' t' row = first_notes store meta h t b x side outcome t' row.0
+  begin_row h t b x side Expire outcome h' t' row = leaders_notes store meta h t b x side outcome t' row.0
+  begin_row h t b x side (Offset LatestTiered) outcome h' t' row = leaders_notes store meta h t b x side outcome t' row.0
   begin_row h t b x side other outcome h' t' row = same_tier store meta t t' row.1
 
   choose_row : (p : PartitionId) (h : Held D) (t : Tier S M) (b : ℕ) (x : Node D) (side : Side) (g : Begun) (outcome : Outcome) (h' : Held D) (t' : Tier S M)
@@ -185,6 +193,7 @@ module _ {D S M : Type 0} (disk : DiskGhosts D) (store : StoreGhosts S) (meta : 
   noted_row p config h t b x side g Join outcome h' t' (inl (low, own)) = same_tier store meta t t' own.1
   noted_row p config h t b x side g Join outcome h' t' (inr (high, inl (answer, is, once, tier), same)) = same_tier store meta t t' tier
   noted_row p config h t b x side g Join outcome h' t' (inr (high, inr (may, row), same)) = refreshed_row t b side outcome t' row
+  noted_row p config h t b x side g (Offset LatestTiered) outcome h' t' row = same_tier store meta t t' row.2
   noted_row p config h t b x side g other outcome h' t' row = same_tier store meta t t' row.1
 
   copying_row : (h : Held D) (t : Tier S M) (b : ℕ) (x : Node D) (side : Side) (g : Begun) (copy : Copied) (next : Next) (command : Command) (outcome : Outcome) (h' : Held D) (t' : Tier S M)

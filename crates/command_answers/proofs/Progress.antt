@@ -29,7 +29,8 @@ use Rattle.tier_fetch.specs.declared.turn.Next.{Next as Search}
 use Rattle.tier_fetch.specs.declared.turn.Next.TheVariants.{Refresh, Index, Log}
 use Rattle.plain_log.specs.declared.answer.Answer.TheVariants.{MetaFault}
 use Rattle.plain_log.specs.declared.command.Command.{Command}
-use Rattle.plain_log.specs.declared.command.Command.TheVariants.{Copy, Trim, Expire, Fetch, Join, Follow}
+use Rattle.plain_log.specs.declared.command.Command.TheVariants.{Copy, Trim, Expire, Fetch, Join, Follow, Offset}
+use Rattle.plain_log.specs.declared.command.Which.TheVariants.{LatestTiered}
 use Rattle.plain_log.specs.declared.command.Config.{Config}
 use Rattle.partition_seen.specs.declared.begun.Begun.{Begun}
 use Rattle.partition_seen.specs.declared.begun.Turned.{Turned}
@@ -47,10 +48,11 @@ use Rattle.partition_world.specs.declared.seat.Work.{Work}
 use Rattle.partition_world.specs.declared.seat.Work.TheVariants.{Idle, Noted, Copies, Seeks, Expires, Rebuilds}
 use Rattle.partition_world.specs.Seats.{chosen, moved, sought, doomed, deleting, rebuilding, outcome_of, copy_outcome, expiry_outcome, seat_after, IsUnanswered}
 use Rattle.partition_world.specs.Turn.{IsTurn}
-use Rattle.partition_world.specs.TurnsOfCopy.{CopyFirstRow, ReadRow, ChooseRow, CopyOnRow, GoesOnCopy, copied_to, tiers_of, teller_of}
+use Rattle.partition_world.specs.TurnsOfCopy.{LeadersFirstRow, CopyFirstRow, ReadRow, ChooseRow, CopyOnRow, GoesOnCopy, copied_to, tiers_of, teller_of}
 use Rattle.partition_world.specs.TurnsOfExpiry.{ExpiresBy, ExpireOnRow, DeleteOnRow, GoesOnDeletion, expiry_tiers}
 use Rattle.partition_world.specs.TurnsOfFetch.{FetchOnRow, GoesOnFetch, fetch_tiers, wanted_of}
 use Rattle.partition_world.specs.TurnsOfRebuild.{with_line, RefreshedRow, EpochsOnRow, wanted_of as rebuilt_to}
+use Rattle.partition_world.specs.TurnsOfOffset.{OffsetOnRow}
 use Rattle.partition_world.specs.TurnsOfTrim.{TrimFirstRow, TrimOnRow}
 use Rattle.partition_world.specs.Turns.{OwnRow, OwnOnRow, JoinSecondRow, Row}
 use Rattle.partition_world.specs.Whole.{Whole}
@@ -170,10 +172,15 @@ module _ {D S M : Type 0} (disk : DiskGhosts D) (store : StoreGhosts S) (meta : 
   first_less h t b x side (Begins g) t' row = omega arith
   first_less h t b x side other t' row = elim row [ ]
 
-  expire_first : (h : Held D) (t : Tier S M) (b : ℕ) (x : Node D) (side : Side) (outcome : Outcome) (t' : Tier S M) → CopyFirstRow meta h t b x side outcome t' → Less Expire Idle outcome
+  expire_first : (h : Held D) (t : Tier S M) (b : ℕ) (x : Node D) (side : Side) (outcome : Outcome) (t' : Tier S M) → LeadersFirstRow meta h t b x side outcome t' → Less Expire Idle outcome
   expire_first h t b x side (Answers answer) t' row = tt
   expire_first h t b x side (Begins g) t' row = omega arith
   expire_first h t b x side other t' row = elim row [ ]
+
+  offset_first : (h : Held D) (t : Tier S M) (b : ℕ) (x : Node D) (side : Side) (outcome : Outcome) (t' : Tier S M) → LeadersFirstRow meta h t b x side outcome t' → Less (Offset LatestTiered) Idle outcome
+  offset_first h t b x side (Answers answer) t' row = tt
+  offset_first h t b x side (Begins g) t' row = omega arith
+  offset_first h t b x side other t' row = elim row [ ]
 
   trim_first : (h : Held D) (t : Tier S M) (b : ℕ) (x : Node D) (side : Side) (outcome : Outcome) (t' : Tier S M) → TrimFirstRow meta h t b x side outcome t' → Less Trim Idle outcome
   trim_first h t b x side (Answers answer) t' row = tt
@@ -186,6 +193,7 @@ module _ {D S M : Type 0} (disk : DiskGhosts D) (store : StoreGhosts S) (meta : 
   begins_less h b x Join (turned.Begins g) h' row = omega arith
   begins_less h b x Trim (turned.Begins g) h' row = omega arith
   begins_less h b x (Fetch offset limit) (turned.Begins g) h' row = omega arith
+  begins_less h b x (Offset LatestTiered) (turned.Begins g) h' row = elim row [ ]
   begins_less h b x other (turned.Begins g) h' row = elim row [ ]
 
   own_less : (h : Held D) (t : Tier S M) (b : ℕ) (x : Node D) (command : Command) (outcome : Outcome) (h' : Held D) (t' : Tier S M) → OwnRow disk h t b x command outcome h' t' → Less command Idle outcome
@@ -283,17 +291,24 @@ module _ {D S M : Type 0} (disk : DiskGhosts D) (store : StoreGhosts S) (meta : 
   trim_less h b x side g config (Answers answer) h' row = tt
   trim_less h b x side g config other h' row = elim row [ ]
 
+  -- a question's
+  offset_less : (h : Held D) (x : Node D) (side : Side) (g : Begun) (outcome : Outcome) → OffsetOnRow h x side g outcome → Less (Offset LatestTiered) (Noted g) outcome
+  offset_less h x side g (Answers answer) row = tt
+  offset_less h x side g other row = elim row [ ]
+
   row_less : (p : PartitionId) (config : Config) (h : Held D) (t : Tier S M) (b : ℕ) (x : Node D) (side : Side) (work : Work) (command : Command) (outcome : Outcome) (h' : Held D) (t' : Tier S M)
       → Row disk store meta p config h t b x side work command outcome h' t' → Less command work outcome
   row_less p config h t b x side Idle Copy outcome h' t' row = first_less h t b x side outcome t' row.0
   row_less p config h t b x side Idle Expire outcome h' t' row = expire_first h t b x side outcome t' row.0
   row_less p config h t b x side Idle Trim outcome h' t' row = trim_first h t b x side outcome t' row.0
+  row_less p config h t b x side Idle (Offset LatestTiered) outcome h' t' row = offset_first h t b x side outcome t' row.0
   row_less p config h t b x side Idle other outcome h' t' row = own_less h t b x other outcome h' t' row
   row_less p config h t b x side (Noted g) Copy outcome h' t' row = choose_less p h t b x side g outcome h' t' row
   row_less p config h t b x side (Noted g) Trim outcome h' t' row = trim_less h b x side g config outcome h' row.0
   row_less p config h t b x side (Noted g) Expire outcome h' t' row = expire_less p config h x side g outcome h' row.0
   row_less p config h t b x side (Noted g) (Fetch offset limit) outcome h' t' row = fetch_less p h t b x side g offset limit outcome t' row.0
   row_less p config h t b x side (Noted g) Join outcome h' t' row = join_less h t b x side g outcome h' t' row
+  row_less p config h t b x side (Noted g) (Offset LatestTiered) outcome h' t' row = offset_less h x side g outcome row.0
   row_less p config h t b x side (Noted g) other outcome h' t' row = last_less h t b x g (Noted g) other other outcome h' t' row
   row_less p config h t b x side (Copies g copy next) Copy outcome h' t' row = later_less h t b x side g copy next outcome t' row.0
   row_less p config h t b x side (Seeks g next) (Fetch offset limit) outcome h' t' row = seek_less p h t b x side g offset limit next outcome t' row.0

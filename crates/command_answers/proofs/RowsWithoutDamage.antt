@@ -17,7 +17,8 @@ use Rattle.plain_log.specs.declared.answer.Answer.TheVariants.{Damaged}
 use Rattle.plain_log.specs.declared.answer.Place.{Place as Spoiled}
 use Rattle.plain_log.specs.declared.answer.Place.TheVariants.{File}
 use Rattle.plain_log.specs.declared.command.Command.{Command}
-use Rattle.plain_log.specs.declared.command.Command.TheVariants.{Join, Follow, Copy, Trim, Expire, Fetch, Up, Append, Raw, Flush, Roll, Elect, Unclean, Learn, Ack, Shrink, Expand, Raise, Clock, Stop}
+use Rattle.plain_log.specs.declared.command.Command.TheVariants.{Join, Follow, Copy, Trim, Expire, Fetch, Up, Append, Raw, Flush, Roll, Elect, Unclean, Learn, Ack, Shrink, Expand, Raise, Clock, Stop, Offset}
+use Rattle.plain_log.specs.declared.command.Which.TheVariants.{LatestTiered}
 use Rattle.plain_log.specs.declared.state.State.{State}
 use Rattle.plain_log.specs.State.{leads_in}
 use Rattle.plain_log.proofs.Options.{when_some, both}
@@ -126,6 +127,7 @@ module _ {D S M : Type 0} (disk : DiskGhosts D) (store : StoreGhosts S) (meta : 
     first_never Join row own = row
     first_never Trim row own = row
     first_never (Fetch offset limit) row own = own
+    first_never (Offset LatestTiered) row own = row
     first_never other row own = answer_never other place row
 
     own_never : (command : Command) → IsOwn command → OwnRow disk w.held w.tier b z.x command (Answers (Damaged place at)) w'.held w'.tier → ⊥
@@ -188,10 +190,12 @@ module _ {D S M : Type 0} (disk : DiskGhosts D) (store : StoreGhosts S) (meta : 
       row_never work (Fetch offset limit) works is row = no_fetch disk store meta opening w a place at w' offset limit c spans t is
       row_never Idle Trim works is row = row.0
       row_never Idle Expire works is row = row.0
+      row_never Idle (Offset LatestTiered) works is row = row.0
       row_never Idle other works is row = own_never other tt row
       row_never (Noted g) Trim works is row = row.0.0
       row_never (Noted g) Expire works is row = expire_never g row.0
       row_never (Noted g) Join works is row = join_never g row
+      row_never (Noted g) (Offset LatestTiered) works is row = row.0.1
       row_never (Noted g) other works is row = own_on_never g other row
       row_never (Expires g doomed next) Expire works is row = delete_never g doomed next row.0
       row_never (Rebuilds g Epochs) Join works is row = read_never is g works row.0

@@ -35,10 +35,11 @@ use Rattle.tier_fetch.specs.declared.turn.Wanted.{Wanted}
 use Rattle.rebuild_task.specs.declared.turn.Next.{Next as Rebuild}
 use Rattle.rebuild_task.specs.declared.turn.Next.TheVariants.{Epochs, Restart}
 use Rattle.tier_fetch.specs.Turns.{Tiers as FetchTiers, RefreshRow, FetchRow}
-use Rattle.plain_log.specs.declared.answer.Answer.TheVariants.{Down, NotLeader, MetaFault, DiskFault, Damaged, Stopped, OutOfRange, Empty}
+use Rattle.plain_log.specs.declared.answer.Answer.TheVariants.{Down, NotLeader, CopyOff, MetaFault, DiskFault, Damaged, Stopped, OutOfRange, Empty}
 use Rattle.plain_log.specs.declared.answer.Place.TheVariants.{File}
 use Rattle.plain_log.specs.declared.command.Command.{Command}
-use Rattle.plain_log.specs.declared.command.Command.TheVariants.{Copy, Trim, Expire, Fetch, Join}
+use Rattle.plain_log.specs.declared.command.Command.TheVariants.{Copy, Trim, Expire, Fetch, Join, Offset}
+use Rattle.plain_log.specs.declared.command.Which.TheVariants.{LatestTiered}
 use Rattle.plain_log.specs.declared.command.Config.{Config}
 use Rattle.partition_seen.specs.declared.begun.Begun.{Begun}
 use Rattle.partition_seen.proofs.BoolTests.{some_of}
@@ -53,7 +54,7 @@ use Rattle.partition_world.specs.declared.seat.Outcome.TheVariants.{Answers, Beg
 use Rattle.partition_world.specs.declared.seat.Work.{Work}
 use Rattle.partition_world.specs.declared.seat.Work.TheVariants.{Idle, Noted, Copies, Seeks, Expires, Rebuilds}
 use Rattle.partition_world.specs.Tier.{counted}
-use Rattle.partition_world.specs.TurnsOfCopy.{CopyFirstRow, ReadRow, ChooseRow, CopyOnRow, copied_to, tiers_of, teller_of}
+use Rattle.partition_world.specs.TurnsOfCopy.{LeadersFirstRow, CopyFirstRow, ReadRow, ChooseRow, CopyOnRow, copied_to, tiers_of, teller_of}
 use Rattle.partition_world.specs.TurnsOfExpiry.{DeleteOnRow, expiry_tiers}
 use Rattle.partition_world.specs.TurnsOfFetch.{FetchOnRow, GoesOnFetch, fetch_tiers, wanted_of}
 use Rattle.partition_world.specs.TurnsOfTrim.{TrimFirstRow}
@@ -118,25 +119,32 @@ module _ {S M : Type 0} (meta : MetaGhosts M) (start : ℕ) where
     view = refl;
   }
 
-  first_goes : {D : Type 0} (h : Held D) (t : Tier S M) (b : ℕ) (x : Node D) (side : Side) (outcome : Outcome) (t' : Tier S M) → slice_get t.sides b ≡ Some side → CopyFirstRow meta h t b x side outcome t'
+  leaders_goes : {D : Type 0} (h : Held D) (t : Tier S M) (b : ℕ) (x : Node D) (side : Side) (outcome : Outcome) (t' : Tier S M) → slice_get t.sides b ≡ Some side → LeadersFirstRow meta h t b x side outcome t'
       → TierGoes b side t t'
-  first_goes h t b x side (Answers Down) t' at row = same_tier b side t t' at row.1
-  first_goes h t b x side (Answers NotLeader) t' at row = same_tier b side t t' at row.2
-  first_goes h t b x side (Answers MetaFault) t' at row = record {
+  leaders_goes h t b x side (Answers Down) t' at row = same_tier b side t t' at row.1
+  leaders_goes h t b x side (Answers NotLeader) t' at row = same_tier b side t t' at row.2
+  leaders_goes h t b x side (Answers MetaFault) t' at row = record {
     notes = inl row.2.reads.content.notes;
     after = side;
     sides = ap (λ (k : Tier S M). k.sides) row.2.after ∙ sym (set_same t.sides b side at);
     fed = [];
     view = refl;
   }
-  first_goes h t b x side (Begins g) t' at row = record {
+  leaders_goes h t b x side (Begins g) t' at row = record {
     notes = inl row.3.reads.content.notes;
     after = record side { view = row.3.view };
     sides = ap (λ (k : Tier S M). k.sides) row.3.after;
     fed = row.3.reads.view.notes;
     view = row.3.reads.view.view;
   }
-  first_goes h t b x side other t' at row = elim row [ ]
+  leaders_goes h t b x side other t' at row = elim row [ ]
+
+  first_goes : {D : Type 0} (h : Held D) (t : Tier S M) (b : ℕ) (x : Node D) (side : Side) (outcome : Outcome) (t' : Tier S M) → slice_get t.sides b ≡ Some side → CopyFirstRow meta h t b x side outcome t'
+      → TierGoes b side t t'
+  first_goes h t b x side (Answers CopyOff) t' at row = same_tier b side t t' at row.3
+  first_goes h t b x side (Answers MetaFault) t' at row = leaders_goes h t b x side (Answers MetaFault) t' at row.0
+  first_goes h t b x side (Begins g) t' at row = leaders_goes h t b x side (Begins g) t' at row.0
+  first_goes h t b x side other t' at row = leaders_goes h t b x side other t' at row
 
   -- a trim's first turn is a refresh
   trim_goes : {D : Type 0} (h : Held D) (t : Tier S M) (b : ℕ) (x : Node D) (side : Side) (outcome : Outcome) (t' : Tier S M) → slice_get t.sides b ≡ Some side → TrimFirstRow meta h t b x side outcome t'
@@ -236,7 +244,8 @@ module _ {D S M : Type 0} (disk : DiskGhosts D) (store : StoreGhosts S) (meta : 
       → BeginRow disk store meta h t b x side command outcome h' t' → TierGoes meta start b side t t'
   begin_goes h t b x side Copy outcome h' t' at row = first_goes meta start h t b x side outcome t' at row.0
   begin_goes h t b x side Trim outcome h' t' at row = trim_goes meta start h t b x side outcome t' at row.0
-  begin_goes h t b x side Expire outcome h' t' at row = first_goes meta start h t b x side outcome t' at row.0
+  begin_goes h t b x side Expire outcome h' t' at row = leaders_goes meta start h t b x side outcome t' at row.0
+  begin_goes h t b x side (Offset LatestTiered) outcome h' t' at row = leaders_goes meta start h t b x side outcome t' at row.0
   begin_goes h t b x side other outcome h' t' at row = same_tier meta start b side t t' at row.1
 
   seeks_goes : (p : PartitionId) (t : Tier S M) (b : ℕ) (x : Node D) (side : Side) (offset limit : ℕ) (next : Search) (turn : FetchTurn) (t' : Tier S M)
@@ -281,6 +290,7 @@ module _ {D S M : Type 0} (disk : DiskGhosts D) (store : StoreGhosts S) (meta : 
   noted_goes p config h t b x side g Join outcome h' t' at (inl (low, own)) = same_tier meta start b side t t' at own.1
   noted_goes p config h t b x side g Join outcome h' t' at (inr (high, inl (answer, is, once, tier), same)) = same_tier meta start b side t t' at tier
   noted_goes p config h t b x side g Join outcome h' t' at (inr (high, inr (may, row), same)) = refreshed_goes t b side outcome t' at row
+  noted_goes p config h t b x side g (Offset LatestTiered) outcome h' t' at row = same_tier meta start b side t t' at row.2
   noted_goes p config h t b x side g other outcome h' t' at row = same_tier meta start b side t t' at row.1
 
   copying_goes : (h : Held D) (t : Tier S M) (b : ℕ) (x : Node D) (side : Side) (g : Begun) (copy : Copied) (next : Next) (command : Command) (outcome : Outcome) (h' : Held D) (t' : Tier S M)

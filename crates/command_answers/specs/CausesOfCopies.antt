@@ -3,7 +3,8 @@
 --   turn      answer              its cause
 --   first     Down                the broker isn't up
 --             NotLeader           it doesn't lead
---             MetaFault           a call of the metadata log failed in this turn
+--             CopyOff             it does, and segments aren't copied
+--             MetaFault           they are, and a call of the metadata log failed in this turn
 --   second    LostLead            the broker has stopped since the first turn, or has another role
 --             Level               no closed segment is left to copy
 --             DiskFault           a call of the broker's disk failed in this turn
@@ -25,7 +26,7 @@ use Rattle.remote_view.specs.Fold.{state_of, fold}
 use Rattle.copy_task.specs.Copying.{Copied}
 use Rattle.plain_log.specs.State.{leads}
 use Rattle.plain_log.specs.declared.answer.Answer.{Answer}
-use Rattle.plain_log.specs.declared.answer.Answer.TheVariants.{Down, NotLeader, MetaFault, LostLead, Level, DiskFault, StoreFault, Overtaken, CopiedSegment}
+use Rattle.plain_log.specs.declared.answer.Answer.TheVariants.{Down, NotLeader, CopyOff, MetaFault, LostLead, Level, DiskFault, StoreFault, Overtaken, CopiedSegment}
 use Rattle.tier_safe.specs.Copies.{is_deleted}
 use Rattle.partition_seen.specs.declared.begun.Begun.{Begun}
 use Rattle.partition_turns.specs.declared.held.Node.{Node}
@@ -50,7 +51,8 @@ module _ {D S M : Type 0} (disk : DiskGhosts D) (store : StoreGhosts S) (meta : 
   abbrev pub FirstCause : Whole D S M → Node D → Answer → Whole D S M → Type 0
   FirstCause w x Down w' = is_up x ≡ false
   FirstCause w x NotLeader w' = leads x.role ≡ false
-  FirstCause w x MetaFault w' = MetaFailed meta w w'
+  FirstCause w x CopyOff w' = (is_up x ≡ true) × (leads x.role ≡ true) × (w.held.copying ≡ false)
+  FirstCause w x MetaFault w' = (w.held.copying ≡ true) × MetaFailed meta w w'
   FirstCause w x other w' = ⊥
 
   -- at its second turn
@@ -79,9 +81,10 @@ module _ {D S M : Type 0} (disk : DiskGhosts D) (store : StoreGhosts S) (meta : 
   HasCause w b x side (Rebuilds g next) answer w' = ⊥
 
 module _ {D S M : Type 0} where
-  -- the broker leads, and has led on; there is a segment to copy, and the log start isn't past its end
+  -- the broker leads, and segments are copied as it begins; it has led on; there is a segment to copy, and the log start isn't past
+  -- its end
   abbrev pub MayCopy : Whole D S M → Node D → Side → Work → Type 0
-  MayCopy w x side Idle = (is_up x ≡ true) × (leads x.role ≡ true)
+  MayCopy w x side Idle = (is_up x ≡ true) × (leads x.role ≡ true) × (w.held.copying ≡ true)
   MayCopy w x side (Noted g) = KeepsLead x g × (next_segment w.held x side ≢ None)
   MayCopy w x side (Copies g copy next) = KeepsLead x g × (w.held.registry.start ≤ copy.segment.last)
   MayCopy w x side (Seeks g next) = ⊥

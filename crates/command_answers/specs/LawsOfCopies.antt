@@ -1,5 +1,5 @@
 -- The laws of what a copy is answered.
-use Rattle.std.specs.Prelude.{◌≡◌, ◌≤◌, ℕ, List}
+use Rattle.std.specs.Prelude.{◌≡◌, ◌≤◌, ℕ, true, List}
 use Rattle.tier_base.specs.declared.names.PartitionId.{PartitionId}
 use Rattle.tier_base.specs.declared.names.SegmentId.{SegmentId}
 use Rattle.disk_model.specs.declared.disk.Disk.{Ghosts as DiskGhosts}
@@ -18,7 +18,7 @@ use Rattle.plain_log.specs.declared.state.State.{State}
 use Rattle.partition_seen.specs.declared.begun.Begun.{Begun}
 use Rattle.partition_turns.specs.Held.{AtNode}
 use Rattle.partition_world.specs.declared.seat.Outcome.{Outcome}
-use Rattle.partition_world.specs.declared.seat.Outcome.TheVariants.{Answers}
+use Rattle.partition_world.specs.declared.seat.Outcome.TheVariants.{Answers, Begins}
 use Rattle.partition_world.specs.declared.seat.Seat.{Seat}
 use Rattle.partition_world.specs.declared.seat.Work.TheVariants.{Copies}
 use Rattle.partition_world.specs.Calm.{IsUnfailing}
@@ -42,6 +42,11 @@ module _ {D S M : Type 0} (disk : DiskGhosts D) (store : StoreGhosts S) (meta : 
       → t.order.command ≡ Copy
       → AtNode w.held t.order.broker.0 (λ x. AtSide w.tier t.order.broker.0 (λ side.
       HasCause disk store meta w t.order.broker.0 x side t.seat.work answer w'))
+
+  -- a copy begins where segments are copied
+  abbrev pub CopiesBeginWhereOn : Type 0
+  CopiesBeginWhereOn = (w : Whole D S M) (a : ℕ) (g : Begun) (w' : Whole D S M) (t : IsTurn disk store meta w a (Begins g) w')
+      → t.order.command ≡ Copy → w.held.copying ≡ true
 
   -- a copy is answered `Copied` by as many of its actor's turns as it has left, where nothing stands in the way of them
   abbrev pub UnhinderedAreCopied : Type 0

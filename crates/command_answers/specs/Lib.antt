@@ -13,6 +13,8 @@ pub mod LawsOfFetches
 pub mod CausesOfJoins
 pub mod UnhinderedJoins
 pub mod LawsOfJoins
+pub mod CausesOfOffsets
+pub mod LawsOfOffsets
 pub mod Damage
 pub mod LawsOfDamage
 pub mod Counted

@@ -18,6 +18,7 @@
 --                   Epochs    once the view is refreshed                       2
 --                   Restart   once the line is read                            1
 --   trim     2      second    once the view is refreshed                       1
+--   offset   2      second    once the view is refreshed, for the remote tier  1
 --   follow   2      second    once a run of the leader's log is read           1
 --   others   1
 use Rattle.std.specs.Prelude.{ℕ, ◌+◌, ◌-◌}
@@ -30,7 +31,8 @@ use Rattle.rebuild_task.specs.declared.turn.Next.TheVariants.{Epochs, Restart}
 use Rattle.tier_fetch.specs.declared.turn.Next.{Next as Search}
 use Rattle.tier_fetch.specs.declared.turn.Next.TheVariants.{Refresh, Index, Log}
 use Rattle.plain_log.specs.declared.command.Command.{Command}
-use Rattle.plain_log.specs.declared.command.Command.TheVariants.{Copy, Expire, Fetch, Join, Trim, Follow}
+use Rattle.plain_log.specs.declared.command.Command.TheVariants.{Copy, Expire, Fetch, Join, Trim, Follow, Offset}
+use Rattle.plain_log.specs.declared.command.Which.TheVariants.{LatestTiered}
 use Rattle.partition_world.specs.declared.seat.Work.{Work}
 use Rattle.partition_world.specs.declared.seat.Work.TheVariants.{Idle, Noted, Copies, Seeks, Expires, Rebuilds}
 
@@ -42,6 +44,7 @@ turns_of (Fetch offset limit) = 4
 turns_of Join = 4
 turns_of Trim = 2
 turns_of (Follow limit) = 2
+turns_of (Offset LatestTiered) = 2
 turns_of other = 1
 
 -- left of one behind its first turn

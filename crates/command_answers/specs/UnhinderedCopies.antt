@@ -14,7 +14,8 @@ use Rattle.command_answers.specs.Faults.{MeetsNoFault}
 use Rattle.command_answers.specs.CausesOfCopies.{MayCopy}
 
 module _ {D S M : Type 0} (disk : DiskGhosts D) (store : StoreGhosts S) (meta : MetaGhosts M) where
-  -- where the turn is one of the copy at this place, under this number, its broker leads on, and there is something to copy
+  -- where the turn is one of the copy at this place, under this number, it begins where segments are copied, its broker leads on,
+  -- and there is something to copy
   abbrev pub IsFree : ℕ → ℕ → Whole D S M → ℕ → Whole D S M → Type 0
   IsFree place number w a w' =
       (l : ActorList) (seat : Seat) (order : Order) → IsNext w a place l seat order → seat.number ≡ number

@@ -1,7 +1,8 @@
 //! Laws of what a copy is answered. Each is the contract of a function that does nothing: calling
 //! it cites the law.
 
-ghost use Rattle.command_answers.specs.LawsOfCopies.{CopiesHaveCauses, UnhinderedAreCopied};
+ghost use Rattle.command_answers.specs.LawsOfCopies.{CopiesHaveCauses, CopiesBeginWhereOn};
+ghost use Rattle.command_answers.specs.LawsOfCopies.{UnhinderedAreCopied};
 ghost use Rattle.command_answers.specs.LawsOfCopies.{ChosenAreCopied, UnfailingAreCopied};
 ghost use Rattle.command_answers.specs.LawsOfCopies.{ReachesKnown, TurnsKeepKnown, FreshIsKnown};
 
@@ -14,8 +15,13 @@ pub fn copies_have_causes<D: Disk, S: Store, M: MetaLog>()
     ensures { CopiesHaveCauses D.Disk S.Store M.MetaLog }
 {}
 
-/// A copy whose broker leads on, that has a segment to copy which the log start isn't past, and
-/// that meets no fault is answered `Copied`.
+/// A copy begins only where segments are copied.
+pub fn copies_begin_where_on<D: Disk, S: Store, M: MetaLog>()
+    ensures { CopiesBeginWhereOn D.Disk S.Store M.MetaLog }
+{}
+
+/// A copy that begins where segments are copied, whose broker leads on, that has a segment to copy
+/// which the log start isn't past, and that meets no fault is answered `Copied`.
 pub fn unhindered_are_copied<D: Disk, S: Store, M: MetaLog>()
     ensures { UnhinderedAreCopied D.Disk S.Store M.MetaLog }
 {}
@@ -25,8 +31,8 @@ pub fn chosen_are_copied<D: Disk, S: Store, M: MetaLog>()
     ensures { ChosenAreCopied D.Disk S.Store M.MetaLog }
 {}
 
-/// Over devices of which no call can fail a copy is answered so where its broker leads on and there
-/// is such a segment.
+/// Over devices of which no call can fail a copy is answered so where it so begins, its broker leads
+/// on and there is such a segment.
 pub fn unfailing_are_copied<D: Disk, S: Store, M: MetaLog>()
     ensures { UnfailingAreCopied D.Disk S.Store M.MetaLog }
 {}

@@ -1,15 +1,15 @@
 //! What commands are answered, and in how many turns, as laws over definitions.
 //!
 //! They stand over the rows of a world's turns, and no code calls them but for the last. Over any devices a command is
-//! answered in so many turns of its actor; over devices that tell what they hold, what an answer to a copy, a fetch or a
-//! join says is so, one that nothing hinders is answered by what was asked for, and none is answered `Damaged`. Each fault of
-//! a device that a journal tells of is one that the device has counted, over any devices, also over those that don't tell what
-//! they hold, and whatever their counts of faults were at the start: no turn lowers a count, and a turn that is answered a
-//! fault of a device raises that device's.
+//! answered in so many turns of its actor, and what an answer to a question for an offset says is so; over devices that tell
+//! what they hold, what an answer to a copy, a fetch or a join says is so, one that nothing hinders is answered by what was
+//! asked for, and none is answered `Damaged`. Each fault of a device that a journal tells of is one that the device has
+//! counted, over any devices, also over those that don't tell what they hold, and whatever their counts of faults were at the
+//! start: no turn lowers a count, and a turn that is answered a fault of a device raises that device's.
 //!
-//! `specs/Turns.antt` has how many turns are left of a command; `specs/CausesOfCopies.antt`, `CausesOfFetches.antt` and
-//! `CausesOfJoins.antt` why an answer is given, and `specs/Damage.antt` what a journal tells where nothing is damaged;
-//! `specs/Counted.antt` which device each fault is of.
+//! `specs/Turns.antt` has how many turns are left of a command; `specs/CausesOfCopies.antt`, `CausesOfFetches.antt`,
+//! `CausesOfJoins.antt` and `CausesOfOffsets.antt` why an answer is given, and `specs/Damage.antt` what a journal tells where
+//! nothing is damaged; `specs/Counted.antt` which device each fault is of.
 #![tactic(auto)]
 
 mod copy_laws;
@@ -17,11 +17,12 @@ mod damage_laws;
 mod fault_laws;
 mod fetch_laws;
 mod join_laws;
+mod offset_laws;
 mod turn_laws;
 
 pub use copy_laws::{
-    chosen_are_copied, copies_have_causes, fresh_is_known, reaches_known, turns_keep_known,
-    unfailing_are_copied, unhindered_are_copied,
+    chosen_are_copied, copies_begin_where_on, copies_have_causes, fresh_is_known, reaches_known,
+    turns_keep_known, unfailing_are_copied, unhindered_are_copied,
 };
 pub use damage_laws::{no_answer_is_damaged, runs_meet_no_damage};
 pub use fault_laws::reaches_counted;
@@ -30,4 +31,5 @@ pub use fetch_laws::{
     turns_keep_spans, unfailing_are_served, unhindered_are_served,
 };
 pub use join_laws::{joins_have_causes, unhindered_are_joined};
+pub use offset_laws::offsets_have_causes;
 pub use turn_laws::{commands_are_answered, others_stay, schedules_answer_commands, turns_go_on};

@@ -1,18 +1,20 @@
 //! A law of retention, the contract of a function that does nothing.
 
-ghost use Rattle.std.specs.Prelude.{◌≡◌, ◌<◌, ◌≤◌, ℕ, ℤ, List, Some};
+ghost use Rattle.std.specs.Prelude.{◌≡◌, ◌<◌, ◌≤◌, ℕ, ℤ, Bool, List, Some};
 ghost use Rattle.epoch_line.specs.Line.{IsLine};
+ghost use Rattle.segment_file.specs.Growing.{Grown};
 ghost use Rattle.tier_base.specs.declared.plain.Keep.{Keep};
 ghost use Rattle.segment_meta.specs.declared.note.Entry.{Entry};
 ghost use Rattle.remote_view.specs.Fold.{AreKept, AreDistinct};
 ghost use Rattle.remote_find.specs.Pieces.{chain};
-ghost use Rattle.expiry_task.specs.Rule.{raised_to};
+ghost use Rattle.expiry_task.specs.Rule.{end_from, uncopied, raised_to};
 
 /// Where retention moves a log start, it rises, and to the known mark at most.
 #[tactic(auto, using(crate::proofs::Raising::raised_within))]
 pub fn a_log_start_rises_up_to_the_known_mark()
-    ensures { (entries : List Entry) (line : List (ℕ × ℕ)) (log_end start known rest : ℕ) (now : ℤ) (keep : Keep) (s : ℕ)
-        → AreKept entries → AreDistinct entries → IsLine line
-        → raised_to entries (chain entries line log_end start known) rest now keep ≡ Some s
+    ensures { (entries : List Entry) (line : List (ℕ × ℕ)) (log_end start known : ℕ) (copying : Bool) (local : ℕ) (closed : List Grown)
+        (rest : ℕ) (now : ℤ) (keep : Keep) (s : ℕ) → AreKept entries → AreDistinct entries → IsLine line
+        → raised_to entries (chain entries line log_end start known)
+        (uncopied copying local (end_from start (chain entries line log_end start known)) known closed) rest now keep ≡ Some s
         → (start < s) × (s ≤ known) }
 {}

@@ -10,6 +10,6 @@ mod turn;
 mod turns;
 
 pub use laws::a_log_start_rises_up_to_the_known_mark;
-pub use rule::{raised_to, rest_behind};
+pub use rule::{Uncopied, end_behind, end_from, find_uncopied, raised_to, rest_behind};
 pub use turn::{Doomed, ExpiryTurn, Next};
 pub use turns::expiry_turn;

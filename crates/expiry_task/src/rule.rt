@@ -1,7 +1,7 @@
 //! How far retention lets the log start rise.
 
-ghost use Rattle.std.specs.Prelude.{◌≡◌, IfOk, option_map};
-ghost use Rattle.expiry_task.specs.Rule.{items_of, item_of, end_from, bytes_past, rest_behind, end_of_first, raised_to};
+ghost use Rattle.std.specs.Prelude.{◌≡◌, IfOk, map};
+ghost use Rattle.expiry_task.specs.Rule.{items_of, item_of, all_items, all_ends, end_from, end_behind, uncopied, uncopied_of, is_within, bytes_past, rest_behind, end_of_first, raised_to};
 ghost use Rattle.tier_base.specs.Counts.{counted};
 ghost use Rattle.remote_view.specs.Fold.{entry_of};
 
@@ -12,35 +12,139 @@ use segment_file::Growing;
 use std::alloc::{AllocError, Global};
 use tier_base::{Item, Keep};
 
+/// A closed segment of the local log that retention counts as it counts a remote one, since segments aren't copied any more.
+#[derive(Clone, Copy, Debug, PartialEq, Eq)]
+pub struct Uncopied {
+    /// What retention asks about it.
+    pub item: Item,
+    /// The offset behind its last one.
+    pub end: u64,
+}
+
 /// Where the log start comes to, where retention lets it rise, at a time in milliseconds. The pieces are those from the log start
-/// on that end at or below the known mark; the rest are the bytes of the local log behind them.
+/// on that end at or below the known mark, and behind them are the closed segments that count with them; the rest are the bytes of
+/// the local log behind both.
 pub fn raised_to(
     alloc: Global,
     view: &View,
     pieces: &[Piece],
+    own: &[Uncopied],
     rest: u64,
     now: i64,
     keep: Keep,
 ) -> Result<Option<u64>, AllocError>
-    ensures { IfOk result (λ start. start ≡ raised_to view.now.entries pieces.now rest now keep) }
+    ensures { IfOk result (λ start. start ≡ raised_to view.now.entries pieces.now own.now rest now keep) }
 {
-    let items = items_of(alloc, view, pieces)?;
-    Ok(end_of_first(start_due(items.as_slice(), rest, now, keep), pieces))
+    let items = all_items(alloc, view, pieces, own)?;
+    let ends = all_ends(alloc, pieces, own)?;
+    Ok(end_of_first(
+        start_due(items.as_slice(), rest, now, keep),
+        ends.as_slice(),
+    ))
 }
 
-/// The bytes of the local log behind the pieces from a log start on. An open segment ends at the log's end.
-pub fn rest_behind(
-    pieces: &[Piece],
-    start: u64,
+/// The closed segments that count with the pieces up to an offset: none where segments are copied, or where the local log begins
+/// past it.
+pub fn find_uncopied(
+    alloc: Global,
+    copying: bool,
+    local: u64,
+    offset: u64,
+    known: u64,
     closed: &[Growing],
-    open_size: u64,
-    log_end: u64,
-) -> u64
-    ensures { result ≡ rest_behind pieces.now start closed.now open_size log_end }
+) -> Result<Vec<Uncopied>, AllocError>
+    ensures { IfOk result (λ own. own.items ≡ uncopied copying local offset known closed.now) }
 {
-    let offset = end_from(start, pieces);
+    let mut own = Vec::new(alloc);
+    if copying || offset < local {
+        return Ok(own);
+    }
+    for segment in closed {
+        if is_within(offset, known, segment) {
+            own.push(uncopied_of(segment))?;
+        }
+    }
+    Ok(own)
+}
+
+/// The bytes of the local log behind an offset. An open segment ends at the log's end.
+pub fn rest_behind(offset: u64, closed: &[Growing], open_size: u64, log_end: u64) -> u64
+    ensures { result ≡ rest_behind offset closed.now open_size log_end }
+{
     let open = if offset < log_end { open_size } else { 0 };
     bytes_past(open, offset, closed)
+}
+
+/// Where the last piece ends, or the start where there is none.
+pub fn end_from(start: u64, pieces: &[Piece]) -> u64
+    ensures { result ≡ end_from start pieces.now }
+{
+    let mut end = start;
+    for piece in pieces {
+        end = piece.to;
+    }
+    end
+}
+
+/// Where the last of these closed segments ends, or the offset where there is none.
+pub fn end_behind(offset: u64, own: &[Uncopied]) -> u64
+    ensures { result ≡ end_behind offset own.now }
+{
+    let mut end = offset;
+    for one in own {
+        end = one.end;
+    }
+    end
+}
+
+/// Whether a segment ends past an offset, and at or below the known mark.
+fn is_within(offset: u64, known: u64, segment: &Growing) -> bool
+    ensures { result ≡ is_within offset known segment.now }
+{
+    offset < segment.end() && segment.end() <= known
+}
+
+/// What retention asks about a closed segment, and where it ends.
+fn uncopied_of(segment: &Growing) -> Uncopied
+    ensures { result ≡ uncopied_of segment.now }
+{
+    let end = segment.end();
+    Uncopied {
+        item: Item {
+            // One without batches may end at 0.
+            last: end.saturating_sub(1),
+            size: segment.size(),
+            max_ts: segment.max_ts(),
+        },
+        end,
+    }
+}
+
+/// What retention asks about each of these.
+fn all_items(
+    alloc: Global,
+    view: &View,
+    pieces: &[Piece],
+    own: &[Uncopied],
+) -> Result<Vec<Item>, AllocError>
+    ensures { IfOk result (λ items. items.items ≡ all_items view.now.entries pieces.now own.now) }
+{
+    let mut items = items_of(alloc, view, pieces)?;
+    for one in own {
+        items.push(one.item)?;
+    }
+    Ok(items)
+}
+
+/// Where each of these ends.
+fn all_ends(alloc: Global, pieces: &[Piece], own: &[Uncopied]) -> Result<Vec<u64>, AllocError>
+    ensures { IfOk result (λ ends. ends.items ≡ all_ends pieces.now own.now) }
+{
+    let mut ends = ends_of(alloc, pieces)?;
+    for one in own {
+        ends.push(one.end)?;
+    }
+    Ok(ends)
 }
 
 /// What retention asks about each of these pieces.
@@ -52,6 +156,17 @@ fn items_of(alloc: Global, view: &View, pieces: &[Piece]) -> Result<Vec<Item>, A
         items.push(item_of(view, piece))?;
     }
     Ok(items)
+}
+
+/// Where each of these pieces ends.
+fn ends_of(alloc: Global, pieces: &[Piece]) -> Result<Vec<u64>, AllocError>
+    ensures { IfOk result (λ ends. ends.items ≡ map (λ piece. piece.to) pieces.now) }
+{
+    let mut ends = Vec::new(alloc);
+    for piece in pieces {
+        ends.push(piece.to)?;
+    }
+    Ok(ends)
 }
 
 /// What retention asks about a piece.
@@ -73,17 +188,6 @@ fn item_of(view: &View, piece: &Piece) -> Item
     }
 }
 
-/// Where the last piece ends, or the start where there is none.
-fn end_from(start: u64, pieces: &[Piece]) -> u64
-    ensures { result ≡ end_from start pieces.now }
-{
-    let mut end = start;
-    for piece in pieces {
-        end = piece.to;
-    }
-    end
-}
-
 /// The bytes of the segments that end past an offset, and so many more.
 fn bytes_past(more: u64, offset: u64, segments: &[Growing]) -> u64
     ensures { result ≡ counted more (bytes_past offset segments.now) }
@@ -97,15 +201,12 @@ fn bytes_past(more: u64, offset: u64, segments: &[Growing]) -> u64
     bytes
 }
 
-/// Where so many pieces end.
-fn end_of_first(count: usize, pieces: &[Piece]) -> Option<u64>
-    ensures { result ≡ end_of_first count pieces.now }
+/// Where so many of those end that end at these offsets.
+fn end_of_first(count: usize, ends: &[u64]) -> Option<u64>
+    ensures { result ≡ end_of_first count ends.now }
 {
     if count == 0 {
         return None;
     }
-    match pieces.get(count - 1) {
-        Some(piece) => Some(piece.to),
-        None => None,
-    }
+    ends.get(count - 1).copied()
 }

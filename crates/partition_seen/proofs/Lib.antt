@@ -5,7 +5,6 @@ pub mod Lines
 mod Meets
 pub mod Counted
 pub mod Leading
-pub mod Dispatch
 pub mod RegistryLaw
 pub mod NodeLaw
 pub mod SoundLaw
@@ -21,6 +20,7 @@ pub mod LearnRows
 pub mod FollowRows
 mod FollowOnRows
 mod TierRows
+mod OffsetRows
 pub mod TurnRows
 pub mod SeatLaw
 pub mod CentralLaw

@@ -12,7 +12,7 @@ use Rattle.registry.specs.declared.registry.Replica.{Replica}
 use Rattle.plain_log.specs.declared.answer.Answer.{Answer}
 use Rattle.plain_log.specs.declared.command.ActorList.{ActorList}
 use Rattle.plain_log.specs.declared.command.Command.{Command}
-use Rattle.plain_log.specs.declared.command.Command.TheVariants.{Follow, Join, Copy, Trim, Expire, Fetch}
+use Rattle.plain_log.specs.declared.command.Command.TheVariants.{Follow, Join, Copy, Trim, Expire, Fetch, Offset}
 use Rattle.plain_log.specs.declared.command.Order.{Order}
 use Rattle.plain_log.specs.declared.journal.Event.TheVariants.{Answers as Answered, Begins as Began}
 use Rattle.plain_log.specs.declared.journal.JournalEntry.{JournalEntry}
@@ -96,6 +96,7 @@ begun_goes p q Trim g w steady safe r = tt
 begun_goes p q Copy g w steady safe r = tt
 begun_goes p q Expire g w steady safe r = tt
 begun_goes p q (Fetch offset limit) g w steady safe r = tt
+begun_goes p q (Offset which) g w steady safe r = tt
 begun_goes p q command g w steady safe r = elim r [ ]
 
 -- what is noted at a seat

@@ -5,7 +5,7 @@ use Rattle.registry.specs.declared.registry.Replica.{Replica}
 use Rattle.registry.specs.declared.registry.Registry.{Registry}
 use Rattle.registry.specs.Calls.{when, after_raise}
 use Rattle.plain_log.specs.declared.answer.Answer.{Answer}
-use Rattle.plain_log.specs.declared.answer.Answer.TheVariants.{Down, NotLeader, MetaFault, StoreFault, DiskFault, Damaged, LostLead, Level, Overtaken, CopiedSegment, Kept, StaleEpoch, Raised, Deleted, Stopped, OutOfRange, Empty, Run}
+use Rattle.plain_log.specs.declared.answer.Answer.TheVariants.{Down, NotLeader, MetaFault, StoreFault, DiskFault, Damaged, LostLead, Level, Overtaken, CopiedSegment, CopyOff, Kept, StaleEpoch, Raised, Deleted, Stopped, OutOfRange, Empty, Run}
 use Rattle.plain_log.specs.declared.command.Command.{Command}
 use Rattle.plain_log.specs.declared.command.Command.TheVariants.{Copy, Expire, Fetch}
 use Rattle.plain_log.specs.declared.command.Order.{Order}
@@ -21,7 +21,7 @@ use Rattle.partition_seen.specs.declared.begun.Turned.TheVariants.{Answers}
 use Rattle.partition_seen.specs.Seen.{Node, Held}
 use Rattle.partition_seen.specs.Held.{broker_of, noted_of}
 use Rattle.partition_seen.specs.Central.{HeldStands}
-use Rattle.partition_seen.specs.RowsOfTiers.{KeepsLead, GoesLeading, LeadersRow, CopyOnRow, ExpireOnRow, Raises, FetchBegins, Serves, FetchOnRow}
+use Rattle.partition_seen.specs.RowsOfTiers.{KeepsLead, GoesLeading, LeadersRow, CopyRow, CopyOnRow, ExpireOnRow, Raises, FetchBegins, Serves, FetchOnRow}
 use Rattle.partition_seen.proofs.BoolTests.{some_of, and_true, not_false, when_true, eq_same, le_true, lt_true}
 use Rattle.partition_seen.proofs.RegistryLaw.{raise_moves}
 use Rattle.partition_seen.proofs.Standing.{Standing, Allowed, silent, leaves}
@@ -50,7 +50,7 @@ same_is (Follows e) (Follows f) t = ap Follows (number_is e f t)
 same_is (Joined e) (Joined f) t = ap Joined (number_is e f t)
 same_is r q t = absurd cc
 
-role_differs : (r q : Role) → (r ≡ q → ⊥) → same_role r q ≡ false
+pub role_differs : (r q : Role) → (r ≡ q → ⊥) → same_role r q ≡ false
 role_differs r q differ = go (same_role r q) refl
   where
     go : (t : Bool) → same_role r q ≡ t → same_role r q ≡ false
@@ -59,7 +59,7 @@ role_differs r q differ = go (same_role r q) refl
 
 -- whether a broker goes on
 
-and_false : (a b : Bool) → b ≡ false → a && b ≡ false
+pub and_false : (a b : Bool) → b ≡ false → a && b ≡ false
 and_false true b is = is
 and_false false b is = refl
 
@@ -79,7 +79,7 @@ lead_lost x order g up lost = go (g.stops == x.stops) refl (same_role g.role x.r
         absurd (lost (record { stops = stops; up = up stops; role = same_is g.role x.role t }))
 
 -- it is down, or has stopped since
-gone : (x : Node) (order : Order) (g : Begun) → ((g.stops ≡ x.stops) × (x.up ≡ true) → ⊥) → is_on (broker_of x) (Some (noted_of order g)) ≡ false
+pub gone : (x : Node) (order : Order) (g : Begun) → ((g.stops ≡ x.stops) × (x.up ≡ true) → ⊥) → is_on (broker_of x) (Some (noted_of order g)) ≡ false
 gone x order g off = go x.up refl (g.stops == x.stops) refl
   where
     go : (u : Bool) → x.up ≡ u → (t : Bool) → (g.stops == x.stops) ≡ t → is_on (broker_of x) (Some (noted_of order g)) ≡ false
@@ -88,7 +88,7 @@ gone x order g off = go x.up refl (g.stops == x.stops) refl
     go true u true is = absurd (off (number_is g.stops x.stops is, u))
 
 -- it serves fetches as it did
-served : (x : Node) (order : Order) (g : Begun) → (e : ℕ) × (g.role ≡ Leads e) → KeepsLead x g → serves (broker_of x) (Some (noted_of order g)) ≡ true
+pub served : (x : Node) (order : Order) (g : Begun) → (e : ℕ) × (g.role ≡ Leads e) → KeepsLead x g → serves (broker_of x) (Some (noted_of order g)) ≡ true
 served x order g lead k =
     let leads_on : leads x.role ≡ true = subst (λ (r : Role). leads r ≡ true) (sym lead.1 ∙ k.role) refl in
     and_true _ _ (and_true _ _ (and_true _ _ k.up (eq_same g.stops x.stops k.stops)) leads_on) (role_same g.role x.role k.role)
@@ -109,9 +109,10 @@ loses h p b x s order g command answer h' st to up w =
 
 -- copy
 
-pub copy_allowed : (h : Held) (p : State) (b : ℕ) (x : Node) (s : Replica) (answer : Answer) (h' : Held) → Standing h p b x s → LeadersRow h x (Answers answer) h' → Allowed p b x s None Copy answer h'
+pub copy_allowed : (h : Held) (p : State) (b : ℕ) (x : Node) (s : Replica) (answer : Answer) (h' : Held) → Standing h p b x s → CopyRow h x (Answers answer) h' → Allowed p b x s None Copy answer h'
 copy_allowed h p b x s Down h' st w = silent h p b x s None Copy Down h' st (rw w.0 refl) w.1
 copy_allowed h p b x s NotLeader h' st w = silent h p b x s None Copy NotLeader h' st (rw (w.0, w.1) refl) w.2
+copy_allowed h p b x s CopyOff h' st w = silent h p b x s None Copy CopyOff h' st (rw (w.0, w.1) refl) w.2
 copy_allowed h p b x s MetaFault h' st w = silent h p b x s None Copy MetaFault h' st (rw (w.0, w.1) refl) w.2
 copy_allowed h p b x s other h' st w = elim w [ ]
 

@@ -1,5 +1,5 @@
 -- A turn of any command is one that the plain log allows.
-use Rattle.std.proofs.Common.{◌≡◌, ◌∙◌, sym, ap, subst, refl, ℕ, ℤ, List, slice_set, Option, Some, None, true, arith}
+use Rattle.std.proofs.Common.{◌≡◌, ◌∙◌, sym, ap, subst, refl, ℕ, ℤ, List, slice_set, Option, Some, None, Bool, true, arith}
 use Rattle.std.specs.Prelude.{map}
 use Rattle.record_batch.specs.Build.{built}
 use Rattle.record_batch.proofs.BuildLaws.{built_long}
@@ -7,7 +7,8 @@ use Rattle.registry.specs.declared.registry.Replica.{Replica}
 use Rattle.plain_log.specs.declared.answer.Answer.{Answer}
 use Rattle.plain_log.specs.declared.answer.Answer.TheVariants.{Ok}
 use Rattle.plain_log.specs.declared.command.Command.{Command}
-use Rattle.plain_log.specs.declared.command.Command.TheVariants.{Append, Raw, Flush, Roll, Elect, Unclean, Learn, Join, Follow, Copy, Trim, Expire, Ack, Shrink, Expand, Raise, Clock, Stop as StopCommand, Up as UpCommand, Fetch}
+use Rattle.plain_log.specs.declared.command.Command.TheVariants.{Append, Raw, Flush, Roll, Elect, Unclean, Learn, Join, Follow, Copy, Trim, Expire, Ack, Shrink, Expand, Raise, Clock, Stop as StopCommand, Up as UpCommand, Fetch, Copying, Offset}
+use Rattle.plain_log.specs.declared.command.Which.TheVariants.{LatestTiered}
 use Rattle.plain_log.specs.declared.command.Order.{Order}
 use Rattle.plain_log.specs.declared.journal.Event.TheVariants.{Begins as Began}
 use Rattle.plain_log.specs.declared.state.Broker.{Broker}
@@ -27,9 +28,9 @@ use Rattle.partition_seen.specs.Seen.{Node, Held}
 use Rattle.partition_seen.specs.Held.{broker_of, noted_of}
 use Rattle.partition_seen.specs.Central.{LinesStand, BegunStands}
 use Rattle.partition_seen.specs.RowsOfLog.{Notes}
-use Rattle.partition_seen.specs.Rows.{ClockRow, AnswerRow, FirstRow, LaterRow}
+use Rattle.partition_seen.specs.Rows.{ClockRow, CopyingRow, AnswerRow, FirstRow, LaterRow}
 use Rattle.partition_seen.proofs.BoolTests.{and_true, eq_same, when_true}
-use Rattle.partition_seen.proofs.Standing.{Standing, Allowed, LogsSafe, Steady, steady_self, steady_set, put_steady, put_lines, map_set, broker_at, wider_self}
+use Rattle.partition_seen.proofs.Standing.{Standing, Allowed, silent, LogsSafe, Steady, steady_self, steady_set, put_steady, put_lines, map_set, broker_at, wider_self}
 use Rattle.partition_seen.proofs.OwnRows.{append_allowed, raw_allowed, flush_allowed, roll_allowed, stop_allowed, up_allowed, fetch_allowed}
 use Rattle.partition_seen.proofs.ElectionRows.{elect_allowed, unclean_allowed, shrink_allowed, expand_allowed, raise_allowed}
 use Rattle.partition_seen.proofs.LearnRows.{ack_allowed, learn_allowed}
@@ -37,6 +38,7 @@ use Rattle.partition_seen.proofs.FollowRows.{join_allowed, join_starts, follow_a
 use Rattle.partition_seen.proofs.RebuildRows.{join_on_allowed}
 use Rattle.partition_seen.proofs.TrimRows.{trim_allowed, trim_on_allowed}
 use Rattle.partition_seen.proofs.TierRows.{copy_allowed, copy_on_allowed, expire_allowed, expire_on_allowed, fetch_gives, fetch_on_allowed}
+use Rattle.partition_seen.proofs.OffsetRows.{offset_allowed, tiered_allowed, tiered_on_allowed}
 use Rattle.partition_seen.proofs.FollowOnRows.{follow_on_allowed}
 
 -- the clock is no part of the plain log
@@ -54,6 +56,12 @@ clock_allowed h p b x s ms Ok h' st w = record {
 }
 clock_allowed h p b x s ms other h' st w = elim w [ ]
 
+-- nor is whether segments are copied
+copying_allowed : (h : Held) (p : State) (b : ℕ) (x : Node) (s : Replica) (on : Bool) (answer : Answer) (h' : Held) → Standing h p b x s → CopyingRow h answer h'
+    → Allowed p b x s None (Copying on) answer h'
+copying_allowed h p b x s on Ok h' st w = silent h p b x s None (Copying on) Ok h' st refl w
+copying_allowed h p b x s on other h' st w = elim w [ ]
+
 one_turn : (h : Held) (p : State) (b : ℕ) (x : Node) (s : Replica) (command : Command) (answer : Answer) (h' : Held) → Standing h p b x s → AnswerRow h b x command answer h'
     → Allowed p b x s None command answer h'
 one_turn h p b x s (Append recs) answer h' st w = append_allowed h p b x s (Append recs) (built recs) answer h' st (built_long recs) refl w
@@ -68,9 +76,11 @@ one_turn h p b x s Shrink answer h' st w = shrink_allowed h p b x s answer h' st
 one_turn h p b x s Expand answer h' st w = expand_allowed h p b x s answer h' st w
 one_turn h p b x s (Raise start) answer h' st w = raise_allowed h p b x s start answer h' st w
 one_turn h p b x s (Clock ms) answer h' st w = clock_allowed h p b x s ms answer h' st w
+one_turn h p b x s (Copying on) answer h' st w = copying_allowed h p b x s on answer h' st w
 one_turn h p b x s StopCommand answer h' st w = stop_allowed h p b x s answer h' st w
 one_turn h p b x s UpCommand answer h' st w = up_allowed h p b x s answer h' st w
 one_turn h p b x s (Fetch offset limit) answer h' st w = fetch_allowed h p b x s offset limit answer h' st w
+one_turn h p b x s (Offset which) answer h' st w = offset_allowed h p b x s which answer h' st w
 one_turn h p b x s other answer h' st w = elim w [ ]
 
 -- an answer at the first turn
@@ -81,6 +91,7 @@ first_allowed h p b x s Join answer h' st w = join_allowed h p b x s answer h' s
 first_allowed h p b x s Trim answer h' st w = trim_allowed h p b x s answer h' st w
 first_allowed h p b x s Copy answer h' st w = copy_allowed h p b x s answer h' st w
 first_allowed h p b x s Expire answer h' st w = expire_allowed h p b x s answer h' st w
+first_allowed h p b x s (Offset LatestTiered) answer h' st w = tiered_allowed h p b x s answer h' st w
 first_allowed h p b x s command answer h' st w = one_turn h p b x s command answer h' st w
 
 -- a beginning, as the plain log's
@@ -153,6 +164,8 @@ first_starts h p b x s Join g h' st w =
 first_starts h p b x s Trim g h' st w = notes h p b x s Trim g h' st refl (when_true _ (broker_of x) w.0) w.1 w.2 tt
 first_starts h p b x s Copy g h' st w = notes h p b x s Copy g h' st refl (when_true _ (broker_of x) (and_true _ _ w.0 w.1)) w.2 w.3 tt
 first_starts h p b x s Expire g h' st w = notes h p b x s Expire g h' st refl (when_true _ (broker_of x) (and_true _ _ w.0 w.1)) w.2 w.3 tt
+first_starts h p b x s (Offset LatestTiered) g h' st w =
+    notes h p b x s (Offset LatestTiered) g h' st refl (when_true _ (broker_of x) (and_true _ _ (and_true _ _ w.0 w.1) refl)) w.2 w.3 tt
 first_starts h p b x s (Fetch offset limit) g h' st w =
     notes h p b x s (Fetch offset limit) g h' st refl (when_true _ (broker_of x) (fetch_gives h p x offset g h' st.held w)) w.5 w.6 tt
 first_starts h p b x s command g h' st w = elim w [ ]
@@ -171,6 +184,7 @@ later_same h b x Join g turned h' w = refl
 later_same h b x Trim g turned h' w = refl
 later_same h b x Copy g turned h' w = refl
 later_same h b x Expire g turned h' w = refl
+later_same h b x (Offset LatestTiered) g turned h' w = refl
 later_same h b x (Fetch offset limit) g turned h' w = and_true _ _ (eq_same offset offset refl) (eq_same limit limit refl)
 later_same h b x command g turned h' w = elim w [ ]
 
@@ -181,6 +195,7 @@ later_allowed h p b x s order Join g answer h' st k w = join_on_allowed h p b x 
 later_allowed h p b x s order Trim g answer h' st k w = trim_on_allowed h p b x s order g answer h' st w
 later_allowed h p b x s order Copy g answer h' st k w = copy_on_allowed h p b x s order g answer h' st k.up w
 later_allowed h p b x s order Expire g answer h' st k w = expire_on_allowed h p b x s order g answer h' st k.up w
+later_allowed h p b x s order (Offset LatestTiered) g answer h' st k w = tiered_on_allowed h p b x s order g answer h' st (k.leads refl) w
 later_allowed h p b x s order (Fetch offset limit) g answer h' st k w = fetch_on_allowed h p b x s offset limit order g answer h' st (k.leads refl) w
 later_allowed h p b x s order command g answer h' st k w = elim w [ ]
 
@@ -192,4 +207,5 @@ no_later h b x Trim g f h' w = w
 no_later h b x Copy g f h' w = w
 no_later h b x Expire g f h' w = w
 no_later h b x (Fetch offset limit) g f h' w = w
+no_later h b x (Offset LatestTiered) g f h' w = w
 no_later h b x command g f h' w = w

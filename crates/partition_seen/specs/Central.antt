@@ -9,7 +9,7 @@ use Rattle.epoch_line.specs.Line.{last_entry}
 use Rattle.record_batch.specs.Check.{checked}
 use Rattle.plain_log.specs.declared.command.ActorList.{ActorList}
 use Rattle.plain_log.specs.declared.command.Command.{Command}
-use Rattle.plain_log.specs.declared.command.Command.TheVariants.{Follow, Join, Copy, Trim, Expire, Fetch}
+use Rattle.plain_log.specs.declared.command.Command.TheVariants.{Follow, Join, Copy, Trim, Expire, Fetch, Offset}
 use Rattle.plain_log.specs.declared.command.Order.{Order}
 use Rattle.plain_log.specs.declared.state.Broker.{Broker}
 use Rattle.plain_log.specs.declared.state.Noted.{Noted}
@@ -105,6 +105,7 @@ BegunStands p Trim g = Unit {0}
 BegunStands p Copy g = Unit {0}
 BegunStands p Expire g = Unit {0}
 BegunStands p (Fetch offset limit) g = Unit {0}
+BegunStands p (Offset which) g = Unit {0}
 BegunStands p other g = ⊥
 
 -- the seats: the plain log's actors have come as far, and what commands keep stands

@@ -6,6 +6,7 @@ pub mod RowsOfLog
 pub mod RowsOfElections
 pub mod RowsOfFollowers
 pub mod RowsOfTiers
+pub mod RowsOfOffsets
 pub mod Rows
 pub mod Sound
 pub mod Whole

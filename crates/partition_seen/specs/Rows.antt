@@ -1,14 +1,15 @@
 -- What a turn of each command comes to: its answer's cause, or what its seat keeps, and what it does to the partition.
 --
 -- A row says for each answer exactly when it is given, the tests in their order, and the partition afterwards. Follow,
--- trim, copy, expire, some joins and some fetches take more than one turn.
+-- trim, copy, expire, some joins, some fetches and the offset of the remote tier take more than one turn.
 use Rattle.std.specs.Prelude.{◌≡◌, ◌⊎◌, ◌<◌, ℕ, ℤ, true, false, Option, None, Some}
 use Rattle.log_terms.specs.Log.{end_of, up_to}
 use Rattle.record_batch.specs.Build.{built}
 use Rattle.plain_log.specs.declared.answer.Answer.{Answer}
 use Rattle.plain_log.specs.declared.answer.Answer.TheVariants.{Ok, Down, IsUp, DiskFault, LastIncarnation, Up}
 use Rattle.plain_log.specs.declared.command.Command.{Command}
-use Rattle.plain_log.specs.declared.command.Command.TheVariants.{Append, Raw, Flush, Roll, Elect, Unclean, Learn, Join, Follow, Copy, Trim, Expire, Ack, Shrink, Expand, Raise, Clock, Stop as StopCommand, Up as UpCommand, Fetch}
+use Rattle.plain_log.specs.declared.command.Command.TheVariants.{Append, Raw, Flush, Roll, Elect, Unclean, Learn, Join, Follow, Copy, Trim, Expire, Ack, Shrink, Expand, Raise, Clock, Stop as StopCommand, Up as UpCommand, Fetch, Copying, Offset}
+use Rattle.plain_log.specs.declared.command.Which.TheVariants.{LatestTiered}
 use Rattle.partition_seen.specs.declared.begun.Begun.{Begun}
 use Rattle.partition_seen.specs.declared.begun.Turned.{Turned}
 use Rattle.partition_seen.specs.declared.begun.Turned.TheVariants.{Answers, Begins}
@@ -17,7 +18,8 @@ use Rattle.partition_seen.specs.Held.{put_node, back_of, stopped}
 use Rattle.partition_seen.specs.RowsOfLog.{AppendRow, RawRow, FlushRow, RollRow, TrimRow, TrimOnRow, FetchRow}
 use Rattle.partition_seen.specs.RowsOfElections.{ElectRow, UncleanRow, LearnRow, AckRow, ShrinkRow, ExpandRow, RaiseRow}
 use Rattle.partition_seen.specs.RowsOfFollowers.{JoinRow, JoinOnRow, FollowRow, FollowOnRow}
-use Rattle.partition_seen.specs.RowsOfTiers.{LeadersRow, CopyOnRow, ExpireOnRow, FetchBegins, FetchOnRow}
+use Rattle.partition_seen.specs.RowsOfTiers.{LeadersRow, CopyRow, CopyOnRow, ExpireOnRow, FetchBegins, FetchOnRow}
+use Rattle.partition_seen.specs.RowsOfOffsets.{OffsetRow, OffsetOnRow}
 
 -- stop
 abbrev pub StopRow : Held → ℕ → Node → Answer → Held → Type 0
@@ -55,6 +57,11 @@ abbrev pub ClockRow : Held → ℤ → Answer → Held → Type 0
 ClockRow h ms Ok h' = h' ≡ record h { clock = ms }
 ClockRow h ms other h' = ⊥
 
+-- copying
+abbrev pub CopyingRow : Held → Answer → Held → Type 0
+CopyingRow h Ok h' = h' ≡ h
+CopyingRow h other h' = ⊥
+
 -- a command of one turn
 abbrev pub AnswerRow : Held → ℕ → Node → Command → Answer → Held → Type 0
 AnswerRow h b x (Append recs) answer h' = AppendRow h b x (built recs) answer h'
@@ -69,9 +76,11 @@ AnswerRow h b x Shrink answer h' = ShrinkRow h b answer h'
 AnswerRow h b x Expand answer h' = ExpandRow h b x answer h'
 AnswerRow h b x (Raise start) answer h' = RaiseRow h b x start answer h'
 AnswerRow h b x (Clock ms) answer h' = ClockRow h ms answer h'
+AnswerRow h b x (Copying on) answer h' = CopyingRow h answer h'
 AnswerRow h b x StopCommand answer h' = StopRow h b x answer h'
 AnswerRow h b x UpCommand answer h' = UpRow h b x answer h'
 AnswerRow h b x (Fetch offset limit) answer h' = FetchRow h x offset limit answer h'
+AnswerRow h b x (Offset which) answer h' = OffsetRow h x which answer h'
 AnswerRow h b x other answer h' = ⊥
 
 -- a first turn
@@ -79,9 +88,10 @@ abbrev pub FirstRow : Held → ℕ → Node → Command → Turned → Held → 
 FirstRow h b x (Follow limit) turned h' = FollowRow h b x limit turned h'
 FirstRow h b x Join turned h' = JoinRow h b x turned h'
 FirstRow h b x Trim turned h' = TrimRow h x turned h'
-FirstRow h b x Copy turned h' = LeadersRow h x turned h'
+FirstRow h b x Copy turned h' = CopyRow h x turned h'
 FirstRow h b x Expire turned h' = LeadersRow h x turned h'
 FirstRow h b x (Fetch offset limit) (Begins g) h' = FetchBegins h x offset g h'
+FirstRow h b x (Offset LatestTiered) turned h' = LeadersRow h x turned h'
 FirstRow h b x command (Answers answer) h' = AnswerRow h b x command answer h'
 FirstRow h b x command (Begins g) h' = ⊥
 
@@ -93,6 +103,7 @@ LaterRow h b x Trim g (Answers answer) h' = TrimOnRow h b x g answer h'
 LaterRow h b x Copy g (Answers answer) h' = CopyOnRow h x g answer h'
 LaterRow h b x Expire g (Answers answer) h' = ExpireOnRow h x g answer h'
 LaterRow h b x (Fetch offset limit) g (Answers answer) h' = FetchOnRow h x offset limit g answer h'
+LaterRow h b x (Offset LatestTiered) g (Answers answer) h' = OffsetOnRow h x g answer h'
 LaterRow h b x command g turned h' = ⊥
 
 -- a turn of a command of broker b, of which so much has begun

@@ -1,4 +1,5 @@
--- What a turn of a command comes to that works on the remote tier: copy, expire, and a fetch below the local log.
+-- What a turn of a command comes to that works on the remote tier: copy, expire, and a fetch below the local log. Whether
+-- segments are copied at all isn't seen.
 --
 -- Of the remote tier nothing is seen here: how its calls end, and what stands there, is answered as it comes. Each of these
 -- commands notes where it begins, and goes on as long as its broker leads as it did. The turns between the first and the last
@@ -7,7 +8,7 @@ use Rattle.std.specs.Prelude.{◌≡◌, ◌⊎◌, ℕ, ◌<◌, ◌≤◌, tru
 use Rattle.log_terms.specs.Log.{end_of}
 use Rattle.registry.specs.Calls.{after_raise}
 use Rattle.plain_log.specs.declared.answer.Answer.{Answer}
-use Rattle.plain_log.specs.declared.answer.Answer.TheVariants.{Down, NotLeader, MetaFault, StoreFault, DiskFault, Damaged, LostLead, Level, Overtaken, CopiedSegment, Kept, StaleEpoch, Raised, Deleted, Stopped, OutOfRange, Empty, Run}
+use Rattle.plain_log.specs.declared.answer.Answer.TheVariants.{Down, NotLeader, MetaFault, StoreFault, DiskFault, Damaged, LostLead, Level, Overtaken, CopiedSegment, CopyOff, Kept, StaleEpoch, Raised, Deleted, Stopped, OutOfRange, Empty, Run}
 use Rattle.plain_log.specs.declared.state.Role.TheVariants.{Leads}
 use Rattle.plain_log.specs.State.{leads, epoch_in}
 use Rattle.partition_seen.specs.declared.begun.Begun.{Begun}
@@ -28,13 +29,18 @@ pub record KeepsLead (x : Node) (g : Begun) : Type 0 where
 abbrev pub GoesLeading : Held → Node → Begun → Held → Type 0
 GoesLeading h x g h' = KeepsLead x g × (h' ≡ h)
 
--- copy and expire, first turn: the leader's view of the remote tier is refreshed
+-- copy, expire, and the offset up to which the remote tier has the log, first turn: the leader's view of that tier is refreshed
 abbrev pub LeadersRow : Held → Node → Turned → Held → Type 0
 LeadersRow h x (Answers Down) h' = (x.up ≡ false) × (h' ≡ h)
 LeadersRow h x (Answers NotLeader) h' = (x.up ≡ true) × (leads x.role ≡ false) × (h' ≡ h)
 LeadersRow h x (Answers MetaFault) h' = (x.up ≡ true) × (leads x.role ≡ true) × (h' ≡ h)
 LeadersRow h x (Begins g) h' = (x.up ≡ true) × (leads x.role ≡ true) × Notes h x g × (h' ≡ h)
 LeadersRow h x other h' = ⊥
+
+-- copy, first turn
+abbrev pub CopyRow : Held → Node → Turned → Held → Type 0
+CopyRow h x (Answers CopyOff) h' = (x.up ≡ true) × (leads x.role ≡ true) × (h' ≡ h)
+CopyRow h x turned h' = LeadersRow h x turned h'
 
 -- copy, later turns
 abbrev pub CopyOnRow : Held → Node → Begun → Answer → Held → Type 0

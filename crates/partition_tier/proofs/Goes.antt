@@ -3,7 +3,8 @@ use Rattle.std.proofs.Common.{◌≡◌, ℕ, Option, None, Some, false, slice_g
 use Rattle.record_batch.specs.Build.{built}
 use Rattle.plain_log.specs.declared.answer.Answer.{Answer}
 use Rattle.plain_log.specs.declared.command.Command.{Command}
-use Rattle.plain_log.specs.declared.command.Command.TheVariants.{Append, Raw, Flush, Roll, Elect, Unclean, Learn, Join, Follow, Trim, Copy, Expire, Ack, Shrink, Expand, Raise, Clock, Stop as StopCommand, Up as UpCommand, Fetch}
+use Rattle.plain_log.specs.declared.command.Command.TheVariants.{Append, Raw, Flush, Roll, Elect, Unclean, Learn, Join, Follow, Trim, Copy, Expire, Ack, Shrink, Expand, Raise, Clock, Stop as StopCommand, Up as UpCommand, Fetch, Copying, Offset}
+use Rattle.plain_log.specs.declared.command.Which.TheVariants.{LatestTiered}
 use Rattle.partition_seen.specs.declared.begun.Begun.{Begun}
 use Rattle.partition_seen.specs.declared.begun.Turned.{Turned}
 use Rattle.partition_seen.specs.declared.begun.Turned.TheVariants.{Answers, Begins}
@@ -12,8 +13,8 @@ use Rattle.partition_seen.specs.Rows.{AnswerRow, FirstRow, LaterRow, Row}
 use Rattle.partition_seen.specs.Sound.{NodeSound}
 use Rattle.partition_tier.specs.Turns.{may_raise}
 use Rattle.partition_tier.proofs.Nodes.{Goes, stays}
-use Rattle.partition_tier.proofs.OwnRows.{append_goes, raw_goes, flush_goes, roll_goes, stop_goes, up_goes, clock_goes, fetch_goes, trim_goes}
-use Rattle.partition_tier.proofs.RegistryRows.{elect_goes, unclean_goes, learn_goes, ack_goes, shrink_goes, expand_goes, raise_goes, leaders_goes, copy_on_goes, expire_on_goes, fetch_on_goes}
+use Rattle.partition_tier.proofs.OwnRows.{append_goes, raw_goes, flush_goes, roll_goes, stop_goes, up_goes, clock_goes, copying_goes, fetch_goes, trim_goes}
+use Rattle.partition_tier.proofs.RegistryRows.{elect_goes, unclean_goes, learn_goes, ack_goes, shrink_goes, expand_goes, raise_goes, leaders_goes, copy_goes, copy_on_goes, expire_on_goes, fetch_on_goes, offset_goes, offset_on_goes}
 use Rattle.partition_tier.proofs.FollowerRows.{join_goes, join_on_goes, follow_goes, follow_on_goes, trim_on_goes}
 
 answer_goes : (h : Held) (b : ℕ) (x : Node) (command : Command) (answer : Answer) (h' : Held) → slice_get h.nodes b ≡ Some x → NodeSound x → AnswerRow h b x command answer h' → Goes h b x h'
@@ -29,18 +30,21 @@ answer_goes h b x Shrink answer h' at s w = shrink_goes h b x answer h' at s w
 answer_goes h b x Expand answer h' at s w = expand_goes h b x answer h' at s w
 answer_goes h b x (Raise start) answer h' at s w = raise_goes h b x start answer h' at s w
 answer_goes h b x (Clock ms) answer h' at s w = clock_goes h b x ms answer h' at s w
+answer_goes h b x (Copying on) answer h' at s w = copying_goes h b x answer h' at s w
 answer_goes h b x StopCommand answer h' at s w = stop_goes h b x answer h' at s w
 answer_goes h b x UpCommand answer h' at s w = up_goes h b x answer h' at s w
 answer_goes h b x (Fetch offset limit) answer h' at s w = fetch_goes h b x offset limit answer h' at s w
+answer_goes h b x (Offset which) answer h' at s w = offset_goes h b x which answer h' at s w
 answer_goes h b x other answer h' at s w = elim w [ ]
 
 first_goes : (h : Held) (b : ℕ) (x : Node) (command : Command) (turned : Turned) (h' : Held) → slice_get h.nodes b ≡ Some x → NodeSound x → FirstRow h b x command turned h' → Goes h b x h'
 first_goes h b x (Follow limit) turned h' at s w = follow_goes h b x limit turned h' at s w
 first_goes h b x Join turned h' at s w = join_goes h b x turned h' at s w
 first_goes h b x Trim turned h' at s w = trim_goes h b x turned h' at s w
-first_goes h b x Copy turned h' at s w = leaders_goes h b x turned h' at s w
+first_goes h b x Copy turned h' at s w = copy_goes h b x turned h' at s w
 first_goes h b x Expire turned h' at s w = leaders_goes h b x turned h' at s w
 first_goes h b x (Fetch offset limit) (Begins g) h' at s w = stays h b x h' at s w.6
+first_goes h b x (Offset LatestTiered) turned h' at s w = leaders_goes h b x turned h' at s w
 first_goes h b x command (Answers answer) h' at s w = answer_goes h b x command answer h' at s w
 first_goes h b x command (Begins g) h' at s w = elim w [ ]
 
@@ -52,6 +56,7 @@ later_goes h b x Trim g (Answers answer) h' at s w low = trim_on_goes h b x g an
 later_goes h b x Copy g (Answers answer) h' at s w low = copy_on_goes h b x g answer h' at s w
 later_goes h b x Expire g (Answers answer) h' at s w low = expire_on_goes h b x g answer h' at s w
 later_goes h b x (Fetch offset limit) g (Answers answer) h' at s w low = fetch_on_goes h b x offset limit g answer h' at s w
+later_goes h b x (Offset LatestTiered) g (Answers answer) h' at s w low = offset_on_goes h b x g answer h' at s w
 later_goes h b x command g turned h' at s w low = elim w [ ]
 
 pub row_goes : (h : Held) (b : ℕ) (x : Node) (begun : Option Begun) (command : Command) (turned : Turned) (h' : Held) → slice_get h.nodes b ≡ Some x → NodeSound x

@@ -9,7 +9,8 @@ use Rattle.registry.specs.Replicas.{AtReplica}
 use Rattle.registry.specs.Calls.{after_ack}
 use Rattle.plain_log.specs.State.{acking}
 use Rattle.plain_log.specs.declared.answer.Answer.{Answer}
-use Rattle.plain_log.specs.declared.answer.Answer.TheVariants.{Ok, OkAt, Down, NotLeader, LastEpoch, NotInSync, DownBroker, BehindStart, Known, Follows, NeedsElection, DiskFault, Leads, NotJoined, StaleEpoch, IsLeader, Behind, NotAbove, AboveMark, MetaFault, StoreFault, Damaged, LostLead, Level, Overtaken, CopiedSegment, Kept, Raised, Deleted, Stopped, OutOfRange, Empty, Run}
+use Rattle.plain_log.specs.declared.answer.Answer.TheVariants.{Ok, OkAt, Down, NotLeader, LastEpoch, NotInSync, DownBroker, BehindStart, Known, Follows, NeedsElection, DiskFault, Leads, NotJoined, StaleEpoch, IsLeader, Behind, NotAbove, AboveMark, MetaFault, StoreFault, Damaged, LostLead, Level, Overtaken, CopiedSegment, CopyOff, Kept, Raised, Deleted, Stopped, OutOfRange, Empty, Run, Offset, NoOffset}
+use Rattle.plain_log.specs.declared.command.Which.{Which}
 use Rattle.plain_log.specs.declared.state.Role.TheVariants.{Follows as FollowsIn}
 use Rattle.partition_seen.specs.declared.begun.Begun.{Begun}
 use Rattle.partition_seen.specs.declared.begun.Turned.{Turned}
@@ -17,7 +18,8 @@ use Rattle.partition_seen.specs.declared.begun.Turned.TheVariants.{Answers, Begi
 use Rattle.partition_seen.specs.Seen.{Back, Node, Held}
 use Rattle.partition_seen.specs.Held.{broken}
 use Rattle.partition_seen.specs.RowsOfElections.{Leaves, ElectRow, UncleanRow, led, LearnRow, AckRow, ShrinkRow, ExpandRow, RaiseRow}
-use Rattle.partition_seen.specs.RowsOfTiers.{LeadersRow, CopyOnRow, ExpireOnRow, FetchOnRow}
+use Rattle.partition_seen.specs.RowsOfOffsets.{OffsetRow, OffsetOnRow}
+use Rattle.partition_seen.specs.RowsOfTiers.{LeadersRow, CopyRow, CopyOnRow, ExpireOnRow, FetchOnRow}
 use Rattle.partition_seen.specs.Sound.{NodeSound}
 use Rattle.partition_seen.proofs.BoolTests.{some_of}
 use Rattle.partition_tier.proofs.Nodes.{Goes, goes_on, node_breaks, nodes_stay, stays, puts}
@@ -100,6 +102,10 @@ leaders_goes h b x (Answers MetaFault) h' at s w = stays h b x h' at s w.2
 leaders_goes h b x (Begins g) h' at s w = stays h b x h' at s w.3
 leaders_goes h b x other h' at s w = elim w [ ]
 
+pub copy_goes : (h : Held) (b : ℕ) (x : Node) (turned : Turned) (h' : Held) → slice_get h.nodes b ≡ Some x → NodeSound x → CopyRow h x turned h' → Goes h b x h'
+copy_goes h b x (Answers CopyOff) h' at s w = stays h b x h' at s w.2
+copy_goes h b x turned h' at s w = leaders_goes h b x turned h' at s w
+
 pub copy_on_goes : (h : Held) (b : ℕ) (x : Node) (g : Begun) (answer : Answer) (h' : Held) → slice_get h.nodes b ≡ Some x → NodeSound x → CopyOnRow h x g answer h' → Goes h b x h'
 copy_on_goes h b x g LostLead h' at s w = stays h b x h' at s w.1
 copy_on_goes h b x g Level h' at s w = stays h b x h' at s w.1
@@ -132,3 +138,16 @@ fetch_on_goes h b x offset limit g MetaFault h' at s w = stays h b x h' at s w.1
 fetch_on_goes h b x offset limit g StoreFault h' at s w = stays h b x h' at s w.1
 fetch_on_goes h b x offset limit g (Damaged place n) h' at s w = stays h b x h' at s w.1
 fetch_on_goes h b x offset limit g other h' at s w = elim w [ ]
+
+pub offset_goes : (h : Held) (b : ℕ) (x : Node) (which : Which) (answer : Answer) (h' : Held) → slice_get h.nodes b ≡ Some x → NodeSound x → OffsetRow h x which answer h' → Goes h b x h'
+offset_goes h b x which Down h' at s w = stays h b x h' at s w.1
+offset_goes h b x which NotLeader h' at s w = stays h b x h' at s w.2
+offset_goes h b x which (Offset n) h' at s w = stays h b x h' at s w.3
+offset_goes h b x which other h' at s w = elim w [ ]
+
+pub offset_on_goes : (h : Held) (b : ℕ) (x : Node) (g : Begun) (answer : Answer) (h' : Held) → slice_get h.nodes b ≡ Some x → NodeSound x → OffsetOnRow h x g answer h' → Goes h b x h'
+offset_on_goes h b x g Stopped h' at s w = stays h b x h' at s w.1
+offset_on_goes h b x g NotLeader h' at s w = stays h b x h' at s w.3
+offset_on_goes h b x g (Offset n) h' at s w = stays h b x h' at s w.1
+offset_on_goes h b x g NoOffset h' at s w = stays h b x h' at s w.1
+offset_on_goes h b x g other h' at s w = elim w [ ]

@@ -1,5 +1,5 @@
 -- While no call of the brokers' disks can fail, none does: each row without a fault keeps that, and one with a fault is impossible.
-use Rattle.std.proofs.Common.{◌≡◌, sym, subst, refl, ℕ, zero, suc, ◌+◌, ◌<◌, ◌≤◌, List, [], ◌∷◌, slice_get, slice_set, Some, None, Option, Ok as Done, arith}
+use Rattle.std.proofs.Common.{◌≡◌, sym, subst, refl, ℕ, zero, suc, ◌+◌, ◌<◌, ◌≤◌, List, [], ◌∷◌, slice_get, slice_set, Some, None, Option, Bool, Ok as Done, arith}
 use Rattle.std.specs.Prelude.{◌-◌, ◌^◌, min, ℤ}
 use Rattle.tier_base.specs.Counts.{Rose}
 use Rattle.tier_base.specs.Device.{Control, Lasts}
@@ -9,10 +9,12 @@ use Rattle.registry.specs.declared.registry.Registry.{Registry}
 use Rattle.registry.specs.Calls.{after_ack}
 use Rattle.record_batch.specs.Build.{built}
 use Rattle.plain_log.specs.declared.answer.Answer.{Answer}
-use Rattle.plain_log.specs.declared.answer.Answer.TheVariants.{Ok, OkAt, OkSpan, Down, NotLeader, Refused, LastOffset, TooManySegments, EmptySegment, DiskFault, DiskFaultAt, Damaged, OutOfRange, Empty, Run, LastEpoch, NotInSync, DownBroker, BehindStart, Known, Follows, NeedsElection, Leads, NotJoined, StaleEpoch, IsLeader, Behind, NotAbove, AboveMark, NotFollower, NoLeader, Cut, Level, Stopped, Passed, Copied, IsUp, LastIncarnation, Up as IsOpen, Moved, BelowStart, Rebuilt, Kept as Remains, Dropped}
+use Rattle.plain_log.specs.declared.answer.Answer.TheVariants.{Ok, OkAt, OkSpan, Down, NotLeader, Refused, LastOffset, TooManySegments, EmptySegment, DiskFault, DiskFaultAt, Damaged, OutOfRange, Empty, Run, LastEpoch, NotInSync, DownBroker, BehindStart, Known, Follows, NeedsElection, Leads, NotJoined, StaleEpoch, IsLeader, Behind, NotAbove, AboveMark, NotFollower, NoLeader, Cut, Level, Stopped, Passed, Copied, IsUp, LastIncarnation, Up as IsOpen, Moved, BelowStart, Rebuilt, Kept as Remains, Dropped, Offset as OffsetAnswer}
 use Rattle.plain_log.specs.declared.answer.Place.TheVariants.{File}
 use Rattle.plain_log.specs.declared.command.Command.{Command}
-use Rattle.plain_log.specs.declared.command.Command.TheVariants.{Append, Raw, Flush, Roll, Elect, Unclean, Learn, Join, Follow, Trim, Ack, Shrink, Expand, Raise, Clock, Stop as StopCommand, Up as UpCommand, Fetch}
+use Rattle.plain_log.specs.declared.command.Command.TheVariants.{Append, Raw, Flush, Roll, Elect, Unclean, Learn, Join, Follow, Trim, Ack, Shrink, Expand, Raise, Clock, Stop as StopCommand, Up as UpCommand, Fetch, Copying, Offset}
+use Rattle.plain_log.specs.declared.command.Which.{Which}
+use Rattle.plain_log.specs.declared.command.Which.TheVariants.{LatestTiered}
 use Rattle.plain_log.specs.State.{acking}
 use Rattle.broker_log.specs.Seen.{Kept, Up, Down as Closed, Away, OnDisk, Lasting, Faulted}
 use Rattle.broker_log.specs.Seen as log
@@ -25,7 +27,7 @@ use Rattle.partition_turns.specs.declared.held.Node.{Node}
 use Rattle.partition_turns.specs.declared.held.Held.{Held}
 use Rattle.partition_turns.specs.Held.{put_node, end_of, stable_of, the_leader, Rests, Fails, Breaks, IsCalm, BreaksBy}
 use Rattle.partition_turns.specs.Calm.{AreCalm, IsFaultless, HasNoFault}
-use Rattle.partition_turns.specs.Turns.{ClockRow, StopRow, UpRow, AnswerRow, FirstRow, LaterRow, Row}
+use Rattle.partition_turns.specs.Turns.{ClockRow, CopyingRow, OffsetRow, StopRow, UpRow, AnswerRow, FirstRow, LaterRow, Row}
 use Rattle.partition_turns.specs.TurnsOfLog.{Gains, AppendRow, RawRow, FlushRow, RollRow, TrimRow, TrimOnRow}
 use Rattle.partition_turns.specs.TurnsOfFetch.{FetchRow, FetchTurn}
 use Rattle.partition_turns.specs.TurnsOfElections.{Leaves, ElectRow, UncleanRow, LearnRow, AckRow, ShrinkRow, ExpandRow, RaiseRow}
@@ -233,6 +235,16 @@ module _ {D : Type 0} (content : D → Content) (control : D → Control call_co
   clock_calm h ms Ok h' c w = (calm_same control (record h { clock = ms }) h' w c, tt)
   clock_calm h ms other h' c w = elim w [ ]
 
+  copying_calm : (h : Held D) (on : Bool) (answer : Answer) (h' : Held D) → AreCalm control h.nodes → CopyingRow h on answer h' → Calmly h' answer
+  copying_calm h on Ok h' c w = (calm_same control (record h { copying = on }) h' w c, tt)
+  copying_calm h on other h' c w = elim w [ ]
+
+  offset_calm : (h : Held D) (x : Node D) (which : Which) (answer : Answer) (h' : Held D) → AreCalm control h.nodes → OffsetRow h x which answer h' → Calmly h' answer
+  offset_calm h x which Down h' c w = (calm_same control h h' w.1 c, tt)
+  offset_calm h x which NotLeader h' c w = (calm_same control h h' w.2 c, tt)
+  offset_calm h x which (OffsetAnswer n) h' c w = (calm_same control h h' w.3 c, tt)
+  offset_calm h x which other h' c w = elim w [ ]
+
   answer_calm : (h : Held D) (b : ℕ) (x : Node D) (command : Command) (answer : Answer) (h' : Held D) → slice_get h.nodes b ≡ Some x → AreCalm control h.nodes
       → AnswerRow content control h b x command answer h' → Calmly h' answer
   answer_calm h b x (Append recs) answer h' at c w = append_calm h b x (built recs) answer h' at c w
@@ -247,6 +259,8 @@ module _ {D : Type 0} (content : D → Content) (control : D → Control call_co
   answer_calm h b x Expand answer h' at c w = expand_calm h b x answer h' c w
   answer_calm h b x (Raise start) answer h' at c w = raise_calm h b x start answer h' c w
   answer_calm h b x (Clock ms) answer h' at c w = clock_calm h ms answer h' c w
+  answer_calm h b x (Copying on) answer h' at c w = copying_calm h on answer h' c w
+  answer_calm h b x (Offset which) answer h' at c w = offset_calm h x which answer h' c w
   answer_calm h b x StopCommand answer h' at c w = stop_calm h b x answer h' at c w
   answer_calm h b x UpCommand answer h' at c w = up_calm h b x answer h' at c w
   answer_calm h b x other answer h' at c w = elim w [ ]
@@ -339,6 +353,7 @@ module _ {D : Type 0} (content : D → Content) (control : D → Control call_co
   first_calm h b x Join turned h' at c w = join_calm h b x turned h' at c w
   first_calm h b x Trim turned h' at c w = trim_calm h x turned h' c w
   first_calm h b x (Fetch offset limit) turned h' at c w = fetch_turn_calm h b x offset limit turned h' at c w
+  first_calm h b x (Offset LatestTiered) turned h' at c w = absurd w
   first_calm h b x command (Answers answer) h' at c w = answer_calm h b x command answer h' at c w
   first_calm h b x command (Begins g) h' at c w = elim w [ ]
 

@@ -9,6 +9,7 @@ pub mod RunsShown
 pub mod FetchRefined
 pub mod ElectionsRefined
 pub mod FollowersRefined
+mod OffsetRefined
 pub mod Refinement
 pub mod CalmRows
 pub mod SoundLaw

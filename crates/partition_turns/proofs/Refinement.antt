@@ -1,5 +1,5 @@
 -- A turn of any command over disks that tell is a row of what is seen.
-use Rattle.std.proofs.Common.{◌≡◌, sym, subst, refl, ℕ, ℤ, Some, None, Option}
+use Rattle.std.proofs.Common.{◌≡◌, sym, subst, refl, ℕ, ℤ, Some, None, Option, Bool}
 use Rattle.tier_base.specs.Device.{Control}
 use Rattle.disk_model.specs.Call.{call_code}
 use Rattle.disk_model.specs.Content.{Content}
@@ -7,7 +7,8 @@ use Rattle.record_batch.specs.Build.{built}
 use Rattle.plain_log.specs.declared.answer.Answer.{Answer}
 use Rattle.plain_log.specs.declared.answer.Answer.TheVariants.{Ok}
 use Rattle.plain_log.specs.declared.command.Command.{Command}
-use Rattle.plain_log.specs.declared.command.Command.TheVariants.{Append, Raw, Flush, Roll, Elect, Unclean, Learn, Join, Follow, Copy, Trim, Expire, Ack, Shrink, Expand, Raise, Clock, Stop as StopCommand, Up as UpCommand, Fetch}
+use Rattle.plain_log.specs.declared.command.Command.TheVariants.{Append, Raw, Flush, Roll, Elect, Unclean, Learn, Join, Follow, Copy, Trim, Expire, Ack, Shrink, Expand, Raise, Clock, Stop as StopCommand, Up as UpCommand, Fetch, Copying, Offset}
+use Rattle.plain_log.specs.declared.command.Which.TheVariants.{LatestTiered}
 use Rattle.broker_log.specs.Seen as log
 use Rattle.partition_seen.specs.declared.begun.Begun.{Begun}
 use Rattle.partition_seen.specs.declared.begun.Turned.{Turned}
@@ -17,10 +18,11 @@ use Rattle.partition_seen.specs.Rows as seen_rows
 use Rattle.partition_turns.specs.declared.held.Node.{Node}
 use Rattle.partition_turns.specs.declared.held.Held.{Held}
 use Rattle.partition_turns.specs.Held.{node_of}
-use Rattle.partition_turns.specs.Turns.{ClockRow, AnswerRow, FirstRow, LaterRow, Row}
+use Rattle.partition_turns.specs.Turns.{ClockRow, CopyingRow, AnswerRow, FirstRow, LaterRow, Row}
 use Rattle.partition_turns.proofs.ElectionsRefined.{elect_refined, unclean_refined, learn_refined, ack_refined, shrink_refined, expand_refined, raise_refined}
 use Rattle.partition_turns.proofs.FetchRefined.{fetch_turn_refined}
 use Rattle.partition_turns.proofs.FollowersRefined.{join_refined, join_on_refined, follow_refined, follow_on_refined}
+use Rattle.partition_turns.proofs.OffsetRefined.{offset_refined}
 use Rattle.partition_turns.proofs.OwnRefined.{append_refined, raw_refined, flush_refined, roll_refined, trim_refined, trim_on_refined, stop_refined, up_refined}
 use Rattle.partition_turns.specs.Shown.{Sees, Refines, Knows, KnowsBegun}
 
@@ -34,6 +36,16 @@ module _ {D : Type 0} (content : D → Content) (control : D → Control call_co
         row = refl;
       })
   clock_refined h a b x s ms other h' v w = elim w [ ]
+
+  copying_refined : (h : Held D) (a : seen.Held) (b : ℕ) (x : Node D) (s : log.Seen) (on : Bool) (answer : Answer) (h' : Held D) → Sees content h a b x s → CopyingRow h on answer h'
+      → Refines content h' (λ c. seen_rows.CopyingRow a answer c)
+  copying_refined h a b x s on Ok h' v w =
+      subst (λ (k : Held D). Refines content k (λ c. seen_rows.CopyingRow a Ok c)) (sym w) (record {
+        after = a;
+        held = record { registry = v.held.registry; nodes = v.held.nodes; clock = v.held.clock };
+        row = refl;
+      })
+  copying_refined h a b x s on other h' v w = elim w [ ]
 
   answer_refined : (h : Held D) (a : seen.Held) (b : ℕ) (x : Node D) (s : log.Seen) (command : Command) (answer : Answer) (h' : Held D) → Sees content h a b x s → Knows a (node_of x s)
       → AnswerRow content control h b x command answer h' → Refines content h' (λ c. seen_rows.AnswerRow a b (node_of x s) command answer c)
@@ -49,6 +61,8 @@ module _ {D : Type 0} (content : D → Content) (control : D → Control call_co
   answer_refined h a b x s Expand answer h' v k w = expand_refined content control h a b x s answer h' v w
   answer_refined h a b x s (Raise start) answer h' v k w = raise_refined content control h a b x s start answer h' v w
   answer_refined h a b x s (Clock ms) answer h' v k w = clock_refined h a b x s ms answer h' v w
+  answer_refined h a b x s (Copying on) answer h' v k w = copying_refined h a b x s on answer h' v w
+  answer_refined h a b x s (Offset which) answer h' v k w = offset_refined content control h a b x s which answer h' v w
   answer_refined h a b x s StopCommand answer h' v k w = stop_refined content control h a b x s answer h' v w
   answer_refined h a b x s UpCommand answer h' v k w = up_refined content control h a b x s answer h' v w
   answer_refined h a b x s other answer h' v k w = elim w [ ]
@@ -60,6 +74,7 @@ module _ {D : Type 0} (content : D → Content) (control : D → Control call_co
   first_refined h a b x s Trim turned h' v k w = trim_refined content control h a b x s turned h' v w
   first_refined h a b x s (Fetch offset limit) turned h' v k w = fetch_turn_refined content control h a b x s offset limit turned h' v (k.sound b (node_of x s) v.there) w
   first_refined h a b x s Copy (Answers answer) h' v k w = absurd w
+  first_refined h a b x s (Offset LatestTiered) turned h' v k w = absurd w
   first_refined h a b x s Expire (Answers answer) h' v k w = absurd w
   first_refined h a b x s command (Answers answer) h' v k w = answer_refined h a b x s command answer h' v k w
   first_refined h a b x s command (Begins g) h' v k w = elim w [ ]

@@ -17,10 +17,12 @@ use Rattle.registry.specs.declared.refusal.RegRefusal.TheVariants as Reg
 use Rattle.registry.specs.Registry.{epoch_limit}
 use Rattle.registry.specs.Calls.{when, after_ack}
 use Rattle.plain_log.specs.declared.answer.Answer.{Answer}
-use Rattle.plain_log.specs.declared.answer.Answer.TheVariants.{Ok, OkAt, OkSpan, Down, NotLeader, Refused, LastOffset, TooManySegments, EmptySegment, DiskFault, DiskFaultAt, Damaged, OutOfRange, Empty, Run, LastEpoch, NotInSync, DownBroker, BehindStart, Known, Follows, NeedsElection, Leads, NotJoined, StaleEpoch, IsLeader, Behind, NotAbove, AboveMark, NotFollower, NoLeader, Cut, Level, Stopped, Passed, Copied, IsUp, LastIncarnation, Up as IsOpen, Moved, BelowStart, Rebuilt, Kept as Remains, Dropped}
+use Rattle.plain_log.specs.declared.answer.Answer.TheVariants.{Ok, OkAt, OkSpan, Down, NotLeader, Refused, LastOffset, TooManySegments, EmptySegment, DiskFault, DiskFaultAt, Damaged, OutOfRange, Empty, Run, LastEpoch, NotInSync, DownBroker, BehindStart, Known, Follows, NeedsElection, Leads, NotJoined, StaleEpoch, IsLeader, Behind, NotAbove, AboveMark, NotFollower, NoLeader, Cut, Level, Stopped, Passed, Copied, IsUp, LastIncarnation, Up as IsOpen, Moved, BelowStart, Rebuilt, Kept as Remains, Dropped, Offset as OffsetAnswer}
 use Rattle.plain_log.specs.declared.answer.Place.TheVariants.{File}
 use Rattle.plain_log.specs.declared.command.Command.{Command}
-use Rattle.plain_log.specs.declared.command.Command.TheVariants.{Append, Raw, Flush, Roll, Elect, Unclean, Learn, Join, Follow, Trim, Ack, Shrink, Expand, Raise, Clock, Stop as StopCommand, Up as UpCommand, Fetch}
+use Rattle.plain_log.specs.declared.command.Command.TheVariants.{Append, Raw, Flush, Roll, Elect, Unclean, Learn, Join, Follow, Trim, Ack, Shrink, Expand, Raise, Clock, Stop as StopCommand, Up as UpCommand, Fetch, Copying, Offset}
+use Rattle.plain_log.specs.declared.command.Which.{Which}
+use Rattle.plain_log.specs.declared.command.Which.TheVariants.{LatestTiered}
 use Rattle.plain_log.specs.declared.state.Role.{Role}
 use Rattle.plain_log.specs.declared.state.Role.TheVariants.{Idle, Leads as LeadsIn, Follows as FollowsIn, Joined as JoinedIn}
 use Rattle.plain_log.specs.State.{acking, joined, leads_in}
@@ -38,7 +40,7 @@ use Rattle.partition_turns.specs.declared.held.Node.{Node}
 use Rattle.partition_turns.specs.declared.held.Held.{Held}
 use Rattle.partition_turns.specs.Held.{is_up, end_of, line_of, stable_of, stopped, put_node, AtNode, the_leader, Rests, Fails, Breaks, StaysHeld, BreaksBy}
 use Rattle.partition_turns.specs.Sound.{NodeSound, HeldSound}
-use Rattle.partition_turns.specs.Turns.{StopRow, UpRow, AnswerRow, FirstRow, LaterRow, Row}
+use Rattle.partition_turns.specs.Turns.{OffsetRow, StopRow, UpRow, AnswerRow, FirstRow, LaterRow, Row}
 use Rattle.partition_turns.specs.TurnsOfLog.{end_with, Gains, AppendRow, RawRow, FlushRow, RollRow, TrimRow, TrimOnRow}
 use Rattle.partition_turns.specs.TurnsOfFetch.{FetchRow, FetchTurn}
 use Rattle.partition_turns.specs.TurnsOfElections.{Leaves, ElectRow, UncleanRow, LearnRow, AckRow, ShrinkRow, ExpandRow, RaiseRow}
@@ -412,6 +414,12 @@ module _ {D : Type 0} (content : D → Content) (control : D → Control call_co
   up_sound n h b x LastIncarnation h' at s w = stays_sound n h b x w.1.0 h' at s w.1.1.stays w.1.3
   up_sound n h b x other h' at s w = elim w [ ]
 
+  offset_sound : (n : ℕ) (h : Held D) (x : Node D) (which : Which) (answer : Answer) (h' : Held D) → HeldSound n h → OffsetRow h x which answer h' → HeldSound n h'
+  offset_sound n h x which Down h' s w = same n h h' w.1 s
+  offset_sound n h x which NotLeader h' s w = same n h h' w.2 s
+  offset_sound n h x which (OffsetAnswer m) h' s w = same n h h' w.3 s
+  offset_sound n h x which other h' s w = elim w [ ]
+
   -- a row of one turn
   answer_sound : (n : ℕ) (h : Held D) (b : ℕ) (x : Node D) (command : Command) (answer : Answer) (h' : Held D) → slice_get h.nodes b ≡ Some x → HeldSound n h
       → AnswerRow content control h b x command answer h' → HeldSound n h'
@@ -428,6 +436,9 @@ module _ {D : Type 0} (content : D → Content) (control : D → Control call_co
   answer_sound n h b x (Raise start) answer h' at s w = raise_sound n h b x start answer h' s w
   answer_sound n h b x (Clock ms) Ok h' at s w = subst (HeldSound n) (sym w) (record { count = s.count; same = s.same; epoch = s.epoch; nodes = s.nodes })
   answer_sound n h b x (Clock ms) other h' at s w = elim w [ ]
+  answer_sound n h b x (Copying on) Ok h' at s w = subst (HeldSound n) (sym w) (record { count = s.count; same = s.same; epoch = s.epoch; nodes = s.nodes })
+  answer_sound n h b x (Copying on) other h' at s w = elim w [ ]
+  answer_sound n h b x (Offset which) answer h' at s w = offset_sound n h x which answer h' s w
   answer_sound n h b x StopCommand answer h' at s w = stop_sound n h b x answer h' s w
   answer_sound n h b x UpCommand answer h' at s w = up_sound n h b x answer h' at s w
   answer_sound n h b x other answer h' at s w = elim w [ ]
@@ -438,6 +449,7 @@ module _ {D : Type 0} (content : D → Content) (control : D → Control call_co
   first_sound n h b x Join turned h' at s w = join_sound n h b x turned h' s w
   first_sound n h b x Trim turned h' at s w = trim_sound n h x turned h' s w
   first_sound n h b x (Fetch offset limit) turned h' at s w = fetch_turn_sound n h b x offset limit turned h' at s w
+  first_sound n h b x (Offset LatestTiered) turned h' at s w = elim w [ ]
   first_sound n h b x command (Answers answer) h' at s w = answer_sound n h b x command answer h' at s w
   first_sound n h b x command (Begins g) h' at s w = elim w [ ]
 

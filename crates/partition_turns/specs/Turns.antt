@@ -4,16 +4,19 @@
 -- A row says for each answer the tests before it, in their order, its own, and the partition afterwards. A fault of a
 -- broker's disk in a write stops the broker. Follow and some joins take two turns. What a later turn of a fetch comes to, which
 -- only begins here, the remote tier has a part in.
-use Rattle.std.specs.Prelude.{◌≡◌, ℕ, ℤ, true, false, Option, None, Some}
+use Rattle.std.specs.Prelude.{◌≡◌, ℕ, ℤ, max, Bool, true, false, Option, None, Some}
 use Rattle.tier_base.specs.Device.{Control}
 use Rattle.disk_model.specs.Call.{call_code}
 use Rattle.disk_model.specs.Content.{Content}
 use Rattle.record_batch.specs.Build.{built}
 use Rattle.plain_log.specs.declared.answer.Answer.{Answer}
-use Rattle.plain_log.specs.declared.answer.Answer.TheVariants.{Ok, Down, IsUp, DiskFault, Damaged, LastIncarnation, Up}
+use Rattle.plain_log.specs.declared.answer.Answer.TheVariants.{Ok, Down, NotLeader, IsUp, DiskFault, Damaged, LastIncarnation, Up, Offset as OffsetAnswer}
 use Rattle.plain_log.specs.declared.answer.Place.TheVariants.{File}
 use Rattle.plain_log.specs.declared.command.Command.{Command}
-use Rattle.plain_log.specs.declared.command.Command.TheVariants.{Append, Raw, Flush, Roll, Elect, Unclean, Learn, Join, Follow, Copy, Trim, Expire, Ack, Shrink, Expand, Raise, Clock, Stop as StopCommand, Up as UpCommand, Fetch}
+use Rattle.plain_log.specs.declared.command.Command.TheVariants.{Append, Raw, Flush, Roll, Elect, Unclean, Learn, Join, Follow, Copy, Trim, Expire, Ack, Shrink, Expand, Raise, Clock, Stop as StopCommand, Up as UpCommand, Fetch, Copying, Offset}
+use Rattle.plain_log.specs.declared.command.Which.{Which}
+use Rattle.plain_log.specs.declared.command.Which.TheVariants.{Earliest, Latest, EarliestLocal, LatestTiered}
+use Rattle.plain_log.specs.State.{leads}
 use Rattle.broker_log.specs.Seen.{Kept, Lasting}
 use Rattle.broker_log.specs.Turns.{Stops, ComesUp, Unopened, IsSpent}
 use Rattle.partition_seen.specs.declared.begun.Begun.{Begun}
@@ -21,17 +24,25 @@ use Rattle.partition_seen.specs.declared.begun.Turned.{Turned}
 use Rattle.partition_seen.specs.declared.begun.Turned.TheVariants.{Answers, Begins}
 use Rattle.partition_turns.specs.declared.held.Node.{Node}
 use Rattle.partition_turns.specs.declared.held.Held.{Held}
-use Rattle.partition_turns.specs.Held.{is_up, stopped, put_node, Fails}
+use Rattle.partition_turns.specs.Held.{is_up, local_of, stopped, put_node, Fails}
 use Rattle.partition_turns.specs.TurnsOfLog.{AppendRow, RawRow, FlushRow, RollRow, TrimRow, TrimOnRow}
 use Rattle.partition_turns.specs.TurnsOfFetch.{FetchTurn}
 use Rattle.partition_turns.specs.TurnsOfElections.{ElectRow, UncleanRow, LearnRow, AckRow, ShrinkRow, ExpandRow, RaiseRow}
 use Rattle.partition_turns.specs.TurnsOfFollowers.{JoinRow, JoinOnRow, FollowRow, FollowOnRow}
+
+-- the offset is known at once, without the remote tier
+abbrev pub IsAtOnce : Which → Type 0
+IsAtOnce Earliest = Unit {0}
+IsAtOnce Latest = Unit {0}
+IsAtOnce EarliestLocal = Unit {0}
+IsAtOnce other = ⊥
 
 -- the remote tier has a part in its first turn
 abbrev pub IsOfTier : Command → Type 0
 IsOfTier Copy = Unit {0}
 IsOfTier Trim = Unit {0}
 IsOfTier Expire = Unit {0}
+IsOfTier (Offset LatestTiered) = Unit {0}
 IsOfTier command = ⊥
 
 module _ {D : Type 0} where
@@ -39,6 +50,26 @@ module _ {D : Type 0} where
   abbrev pub ClockRow : Held D → ℤ → Answer → Held D → Type 0
   ClockRow h ms Ok h' = h' ≡ record h { clock = ms }
   ClockRow h ms other h' = ⊥
+
+  -- copying: from then on segments are copied, or none is chosen to be
+  abbrev pub CopyingRow : Held D → Bool → Answer → Held D → Type 0
+  CopyingRow h on Ok h' = h' ≡ record h { copying = on }
+  CopyingRow h on other h' = ⊥
+
+  -- the log start, the known mark, or where the local log begins of what isn't below the log start
+  abbrev pub known_offset : Held D → Node D → Which → Option ℕ
+  known_offset h x Earliest = Some h.registry.start
+  known_offset h x Latest = Some x.known
+  known_offset h x EarliestLocal = Some (max (local_of x) h.registry.start)
+  known_offset h x other = None
+
+  -- offset, where it is known at once
+  abbrev pub OffsetRow : Held D → Node D → Which → Answer → Held D → Type 0
+  OffsetRow h x which Down h' = (is_up x ≡ false) × (h' ≡ h)
+  OffsetRow h x which NotLeader h' = (is_up x ≡ true) × (leads x.role ≡ false) × (h' ≡ h)
+  OffsetRow h x which (OffsetAnswer n) h' =
+      (is_up x ≡ true) × (leads x.role ≡ true) × (known_offset h x which ≡ Some n) × (h' ≡ h)
+  OffsetRow h x which other h' = ⊥
 
 module _ {D : Type 0} (content : D → Content) (control : D → Control call_code) where
   -- stop
@@ -74,6 +105,8 @@ module _ {D : Type 0} (content : D → Content) (control : D → Control call_co
   AnswerRow h b x Expand answer h' = ExpandRow h b x answer h'
   AnswerRow h b x (Raise start) answer h' = RaiseRow h b x start answer h'
   AnswerRow h b x (Clock ms) answer h' = ClockRow h ms answer h'
+  AnswerRow h b x (Copying on) answer h' = CopyingRow h on answer h'
+  AnswerRow h b x (Offset which) answer h' = OffsetRow h x which answer h'
   AnswerRow h b x StopCommand answer h' = StopRow h b x answer h'
   AnswerRow h b x UpCommand answer h' = UpRow h b x answer h'
   AnswerRow h b x other answer h' = ⊥
@@ -84,6 +117,7 @@ module _ {D : Type 0} (content : D → Content) (control : D → Control call_co
   FirstRow h b x Join turned h' = JoinRow content control h b x turned h'
   FirstRow h b x Trim turned h' = TrimRow content control h x turned h'
   FirstRow h b x (Fetch offset limit) turned h' = FetchTurn content control h b x offset limit turned h'
+  FirstRow h b x (Offset LatestTiered) turned h' = ⊥
   FirstRow h b x command (Answers answer) h' = AnswerRow h b x command answer h'
   FirstRow h b x command (Begins g) h' = ⊥
 

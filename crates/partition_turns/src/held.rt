@@ -17,7 +17,7 @@ use bytes::Bytes;
 use disk_model::Disk;
 use epoch_line::Line;
 use partition_seen::{Begun, LocalStart, Taken, Turned};
-use plain_log::{Answer, Command, Order, Registry, Role};
+use plain_log::{Answer, Command, Order, Registry, Role, Which};
 use std::alloc::{AllocError, Global};
 use tier_base::Row;
 
@@ -33,12 +33,13 @@ pub struct Node<D: Disk> {
     pub known: u64,
 }
 
-/// The registry, the brokers, and the partition's clock in milliseconds.
+/// The registry, the brokers, the partition's clock in milliseconds, and whether segments are copied to the remote tier.
 #[derive(Drop)]
 pub struct Held<D: Disk> {
     pub registry: Registry,
     pub nodes: Row<Node<D>>,
     pub clock: i64,
+    pub copying: bool,
 }
 
 impl<D: Disk> Node<D> {
@@ -154,14 +155,19 @@ impl<D: Disk> Held<D> {
             Command::Expand => Ok(at_once(self.expand(broker))),
             Command::Raise { start } => Ok(at_once(self.raise(b, *start))),
             Command::Clock { ms } => Ok(at_once(self.set_clock(*ms))),
+            Command::Copying(on) => Ok(at_once(self.set_copying(*on))),
             Command::Stop => Ok(at_once(self.stop(b))),
             Command::Up => Ok(at_once(self.up(b)?)),
             Command::Join => Ok(Some(self.join(alloc, b)?)),
             Command::Follow { limit } => Ok(Some(self.follow(alloc, b, *limit)?)),
             Command::Fetch { offset, limit } => { Ok(Some(self.fetch(alloc, b, *offset, *limit)?)) }
-            Command::Copy | Command::Trim | Command::Expire => Ok(None),
-            // No world runs these yet.
-            Command::Pack(_) | Command::Copying(_) | Command::Offset(_) => unreachable!(),
+            Command::Copy
+            | Command::Trim
+            | Command::Expire
+            | Command::Offset(Which::LatestTiered) => Ok(None),
+            Command::Offset(which) => Ok(at_once(self.offset(b, *which))),
+            // No world runs it yet.
+            Command::Pack(_) => unreachable!(),
         }
     }
 }

@@ -15,6 +15,7 @@ mod followers;
 mod held;
 mod laws;
 mod making;
+mod offsets;
 mod own_log;
 mod refusal;
 mod roles;

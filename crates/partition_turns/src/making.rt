@@ -202,6 +202,7 @@ impl<D: Disk> Held<D> {
             registry,
             nodes,
             clock: 0,
+            copying: true,
         })
     }
 

@@ -1,8 +1,8 @@
-//! A broker's stops and starts, and the partition's clock.
+//! A broker's stops and starts, the partition's clock, and whether it copies segments.
 
 ghost use Rattle.std.specs.Prelude.{◌≡◌, ◌<◌, length, IfOk, OnErr};
 ghost use Rattle.partition_turns.specs.Held.{AtNode, CanStop, StaysHeld};
-ghost use Rattle.partition_turns.specs.Turns.{StopRow, UpRow, ClockRow};
+ghost use Rattle.partition_turns.specs.Turns.{StopRow, UpRow, ClockRow, CopyingRow};
 
 use crate::held::Held;
 use broker_log::OpenRefusal;
@@ -48,6 +48,14 @@ impl<D: Disk> Held<D> {
         ensures { ClockRow self.old ms result self.new }
     {
         self.clock = ms;
+        Answer::Ok
+    }
+
+    /// Lets segments be copied to the remote tier from now on, or none be chosen for it.
+    pub(crate) fn set_copying(&mut self, on: bool) -> Answer
+        ensures { CopyingRow self.old on result self.new }
+    {
+        self.copying = on;
         Answer::Ok
     }
 }

@@ -28,7 +28,8 @@ use Rattle.tier_fetch.specs.declared.turn.Next.{Next as Search}
 use Rattle.tier_fetch.specs.declared.turn.Next.TheVariants.{Refresh}
 use Rattle.plain_log.specs.declared.command.ActorList.{ActorList}
 use Rattle.plain_log.specs.declared.command.Command.{Command}
-use Rattle.plain_log.specs.declared.command.Command.TheVariants.{Copy, Trim, Expire, Fetch, Join}
+use Rattle.plain_log.specs.declared.command.Command.TheVariants.{Copy, Trim, Expire, Fetch, Join, Offset}
+use Rattle.plain_log.specs.declared.command.Which.TheVariants.{LatestTiered}
 use Rattle.plain_log.specs.declared.command.Config.{Config}
 use Rattle.plain_log.specs.declared.command.Order.{Order}
 use Rattle.partition_seen.specs.declared.begun.Begun.{Begun}
@@ -192,6 +193,7 @@ module _ {D S M : Type 0} (disk : DiskGhosts D) (store : StoreGhosts S) (meta : 
   noted_sought p config h t b x side g Copy next h' t' (inr (keeps, inl level)) = let e = level.1 in absurd (cc (e))
   noted_sought p config h t b x side g Copy next h' t' (inr (keeps, inr reads)) = elim reads.row [ ]
   noted_sought p config h t b x side g Trim next h' t' w = elim w.0 [ ]
+  noted_sought p config h t b x side g (Offset LatestTiered) next h' t' w = elim w.0 [ ]
   noted_sought p config h t b x side g Expire next h' t' (inl lost, same) = let e = lost.1 in absurd (cc (e))
   noted_sought p config h t b x side g Expire next h' t' (inr (keeps, by), same) = elim by [ ]
   noted_sought p config h t b x side g Join next h' t' (inl (low, own)) = let e = own.0.1 in absurd (cc (e))

@@ -18,7 +18,8 @@ use Rattle.rebuild_task.specs.declared.turn.RebuildTurn.{RebuildTurn}
 use Rattle.rebuild_task.specs.declared.turn.RebuildTurn.TheVariants as rebuild
 use Rattle.tier_fetch.specs.declared.turn.Next.{Next as Search}
 use Rattle.plain_log.specs.declared.command.Command.{Command}
-use Rattle.plain_log.specs.declared.command.Command.TheVariants.{Copy, Trim, Expire, Fetch, Join}
+use Rattle.plain_log.specs.declared.command.Command.TheVariants.{Copy, Trim, Expire, Fetch, Join, Offset}
+use Rattle.plain_log.specs.declared.command.Which.TheVariants.{LatestTiered}
 use Rattle.plain_log.specs.declared.command.Config.{Config}
 use Rattle.partition_seen.specs.declared.begun.Begun.{Begun}
 use Rattle.partition_seen.specs.declared.begun.Turned.{Turned}
@@ -89,6 +90,7 @@ module _ {D S M : Type 0} (disk : DiskGhosts D) (store : StoreGhosts S) (meta : 
   begin_may h t b x side Copy outcome h' t' w = elim w.0 [ ]
   begin_may h t b x side Trim outcome h' t' w = elim w.0 [ ]
   begin_may h t b x side Expire outcome h' t' w = elim w.0 [ ]
+  begin_may h t b x side (Offset LatestTiered) outcome h' t' w = elim w.0 [ ]
   begin_may h t b x side other outcome h' t' w = own_may w.0.0 outcome w.0.1
 
   noted_may : (p : PartitionId) (config : Config) (h : Held D) (t : Tier S M) (b : ℕ) (x : Node D) (side : Side) (g : Begun) (command : Command) (outcome : Outcome) (h' : Held D) (t' : Tier S M)
@@ -108,6 +110,7 @@ module _ {D S M : Type 0} (disk : DiskGhosts D) (store : StoreGhosts S) (meta : 
   noted_may p config h t b x side g Join outcome h' t' (inr (high, inl (answer, is, at, tier), same)) = absurd (cc (is))
   noted_may p config h t b x side g Join outcome h' t' (inr (high, inr (may, row), same)) = elim row [ ]
   noted_may p config h t b x side g (Fetch offset limit) outcome h' t' w = elim w.0 [ ]
+  noted_may p config h t b x side g (Offset LatestTiered) outcome h' t' w = elim w.0 [ ]
   noted_may p config h t b x side g other outcome h' t' w = let e = w.0.1 in absurd (cc (e))
 
   copying_may : (h : Held D) (t : Tier S M) (b : ℕ) (x : Node D) (side : Side) (g : Begun) (copy : Copied) (next : Next) (command : Command) (outcome : Outcome) (h' : Held D) (t' : Tier S M)

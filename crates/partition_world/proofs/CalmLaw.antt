@@ -19,11 +19,12 @@ use Rattle.rebuild_task.specs.declared.turn.Next.TheVariants.{Epochs, Restart}
 use Rattle.tier_fetch.specs.declared.turn.Next.{Next as Search}
 use Rattle.tier_fetch.specs.declared.turn.Next.TheVariants.{Refresh}
 use Rattle.plain_log.specs.declared.answer.Answer.{Answer}
-use Rattle.plain_log.specs.declared.answer.Answer.TheVariants.{Down, NotLeader, MetaFault, DiskFault, Damaged, Stopped, OutOfRange, Empty, Kept as Remains, StaleEpoch, Raised, OkAt, Passed, BelowStart}
+use Rattle.plain_log.specs.declared.answer.Answer.TheVariants.{Down, NotLeader, CopyOff, MetaFault, DiskFault, Damaged, Stopped, OutOfRange, Empty, Kept as Remains, StaleEpoch, Raised, OkAt, Passed, BelowStart, Offset as OffsetAnswer, NoOffset}
 use Rattle.plain_log.specs.declared.answer.Place.TheVariants.{File}
 use Rattle.plain_log.specs.declared.command.ActorList.{ActorList}
 use Rattle.plain_log.specs.declared.command.Command.{Command}
-use Rattle.plain_log.specs.declared.command.Command.TheVariants.{Join, Copy, Trim, Expire, Fetch, Raise}
+use Rattle.plain_log.specs.declared.command.Command.TheVariants.{Join, Copy, Trim, Expire, Fetch, Raise, Offset}
+use Rattle.plain_log.specs.declared.command.Which.TheVariants.{LatestTiered}
 use Rattle.plain_log.specs.declared.command.Config.{Config}
 use Rattle.plain_log.specs.declared.command.Pace.{Pace}
 use Rattle.plain_log.specs.declared.command.Pace.TheVariants.{Until, Times}
@@ -49,10 +50,11 @@ use Rattle.partition_world.specs.Calm.{IsCalm, IsUnplanned, IsUnfailing}
 use Rattle.partition_world.specs.Fresh.{IsFresh}
 use Rattle.partition_world.specs.Seats.{outcome_of, fetch_outcome, told_of}
 use Rattle.partition_world.specs.Turn.{IsTurn}
-use Rattle.partition_world.specs.TurnsOfCopy.{ReadsLog, ReadRow, CopyFirstRow, ChooseRow, tiers_of, teller_of}
+use Rattle.partition_world.specs.TurnsOfCopy.{ReadsLog, ReadRow, LeadersFirstRow, CopyFirstRow, ChooseRow, tiers_of, teller_of}
 use Rattle.partition_world.specs.TurnsOfFetch.{FetchOnRow, GoesOnFetch, fetch_tiers, wanted_of}
 use Rattle.partition_world.specs.TurnsOfExpiry.{RaiseRow, ExpireOnRow, ExpiresBy, expiry_tiers}
 use Rattle.partition_world.specs.TurnsOfRebuild.{AnswersAtOnce, RefreshedRow, with_line, wanted_of as rebuilt_to}
+use Rattle.partition_world.specs.TurnsOfOffset.{OffsetOnRow}
 use Rattle.partition_world.specs.TurnsOfTrim.{TrimFirstRow, TrimOnRow}
 use Rattle.partition_world.specs.Turns.{OwnOnRow, BeginRow, NotedRow, CopyingRow, SeekingRow, DeletingRow, JoinSecondRow, RebuildingRow, Row}
 use Rattle.partition_world.specs.Reaches.{Goes as GoesOnce, GoesTimes, GoesUntil, Paces, Reaches}
@@ -82,12 +84,12 @@ module _ {D S M : Type 0} (disk : DiskGhosts D) (store : StoreGhosts S) (meta : 
   same_calm : (h : Held D) (t : Tier S M) (h' : Held D) (t' : Tier S M) → h' ≡ h → t' ≡ t → AreAllCalm h t → AreAllCalm h' t'
   same_calm h t h' t' one two c = rw (one, two) c
 
-  first_calm : (h : Held D) (t : Tier S M) (b : ℕ) (x : Node D) (side : Side) (outcome : Outcome) (h' : Held D) (t' : Tier S M) → AreAllCalm h t → h' ≡ h
-      → CopyFirstRow meta h t b x side outcome t' → Calmly h' t' outcome
-  first_calm h t b x side (Answers Down) h' t' c same w = (same_calm h t h' t' same w.1 c, tt)
-  first_calm h t b x side (Answers NotLeader) h' t' c same w = (same_calm h t h' t' same w.2 c, tt)
-  first_calm h t b x side (Answers MetaFault) h' t' c same w = no_fault _ (meta.control t.meta) (meta.control t'.meta) w.2.reads.control.ran c.stores.1
-  first_calm h t b x side (Begins g) h' t' c same w = (
+  leaders_calm : (h : Held D) (t : Tier S M) (b : ℕ) (x : Node D) (side : Side) (outcome : Outcome) (h' : Held D) (t' : Tier S M) → AreAllCalm h t → h' ≡ h
+      → LeadersFirstRow meta h t b x side outcome t' → Calmly h' t' outcome
+  leaders_calm h t b x side (Answers Down) h' t' c same w = (same_calm h t h' t' same w.1 c, tt)
+  leaders_calm h t b x side (Answers NotLeader) h' t' c same w = (same_calm h t h' t' same w.2 c, tt)
+  leaders_calm h t b x side (Answers MetaFault) h' t' c same w = no_fault _ (meta.control t.meta) (meta.control t'.meta) w.2.reads.control.ran c.stores.1
+  leaders_calm h t b x side (Begins g) h' t' c same w = (
     record {
       held = rw same c.held;
       stores = (
@@ -97,7 +99,14 @@ module _ {D S M : Type 0} (disk : DiskGhosts D) (store : StoreGhosts S) (meta : 
     },
     tt,
   )
-  first_calm h t b x side other h' t' c same w = elim w [ ]
+  leaders_calm h t b x side other h' t' c same w = elim w [ ]
+
+  copy_first_calm : (h : Held D) (t : Tier S M) (b : ℕ) (x : Node D) (side : Side) (outcome : Outcome) (h' : Held D) (t' : Tier S M) → AreAllCalm h t → h' ≡ h
+      → CopyFirstRow meta h t b x side outcome t' → Calmly h' t' outcome
+  copy_first_calm h t b x side (Answers CopyOff) h' t' c same w = (same_calm h t h' t' same w.3 c, tt)
+  copy_first_calm h t b x side (Answers MetaFault) h' t' c same w = leaders_calm h t b x side (Answers MetaFault) h' t' c same w.0
+  copy_first_calm h t b x side (Begins g) h' t' c same w = leaders_calm h t b x side (Begins g) h' t' c same w.0
+  copy_first_calm h t b x side other h' t' c same w = leaders_calm h t b x side other h' t' c same w
 
   own_quiet : (turn : Turned) → HasNone disk.content disk.control turn → IsQuiet (outcome_of turn)
   own_quiet (turned.Answers answer) n = n
@@ -121,9 +130,10 @@ module _ {D S M : Type 0} (disk : DiskGhosts D) (store : StoreGhosts S) (meta : 
 
   begin_calm : (h : Held D) (t : Tier S M) (b : ℕ) (x : Node D) (side : Side) (command : Command) (outcome : Outcome) (h' : Held D) (t' : Tier S M) → slice_get h.nodes b ≡ Some x → AreAllCalm h t
       → BeginRow disk store meta h t b x side command outcome h' t' → Calmly h' t' outcome
-  begin_calm h t b x side Copy outcome h' t' at c w = first_calm h t b x side outcome h' t' c w.1 w.0
+  begin_calm h t b x side Copy outcome h' t' at c w = copy_first_calm h t b x side outcome h' t' c w.1 w.0
   begin_calm h t b x side Trim outcome h' t' at c w = trim_calm h t b x side outcome h' t' c w.1 w.0
-  begin_calm h t b x side Expire outcome h' t' at c w = first_calm h t b x side outcome h' t' c w.1 w.0
+  begin_calm h t b x side Expire outcome h' t' at c w = leaders_calm h t b x side outcome h' t' c w.1 w.0
+  begin_calm h t b x side (Offset LatestTiered) outcome h' t' at c w = leaders_calm h t b x side outcome h' t' c w.1 w.0
   begin_calm h t b x side other outcome h' t' at c w =
       let k = row_calm disk.content disk.control h b x None other w.0.0 h' at c.held w.0.2 in
       (record { held = k.0; stores = rw w.1 c.stores }, rw w.0.1 (own_quiet w.0.0 k.1))
@@ -236,6 +246,16 @@ module _ {D S M : Type 0} (disk : DiskGhosts D) (store : StoreGhosts S) (meta : 
   join_calm h t b x side g outcome h' t' at c (inr (high, inl (answer, is, once, tier), same)) = (same_calm h t h' t' same tier c, rw is (at_once_quiet h x g answer once))
   join_calm h t b x side g outcome h' t' at c (inr (high, inr (may, row), same)) = refreshed_calm h t b side outcome h' t' c same row
 
+  -- and of the question for the offset of the remote tier
+
+  offset_quiet : (h : Held D) (x : Node D) (side : Side) (g : Begun) (outcome : Outcome) → OffsetOnRow h x side g outcome → IsQuiet outcome
+  offset_quiet h x side g (Answers Stopped) w = tt
+  offset_quiet h x side g (Answers NotLeader) w = tt
+  offset_quiet h x side g (Answers (OffsetAnswer n)) w = tt
+  offset_quiet h x side g (Answers NoOffset) w = tt
+  offset_quiet h x side g (Answers other) w = elim w.1 [ ]
+  offset_quiet h x side g other w = elim w [ ]
+
   noted_calm : (p : PartitionId) (config : Config) (h : Held D) (t : Tier S M) (b : ℕ) (x : Node D) (side : Side) (g : Begun) (command : Command) (outcome : Outcome) (h' : Held D) (t' : Tier S M) → slice_get h.nodes b ≡ Some x
       → AreAllCalm h t → NotedRow disk store meta p config h t b x side g command outcome h' t' → Calmly h' t' outcome
   noted_calm p config h t b x side g Copy outcome h' t' at c w = choose_calm p h t b x side g outcome h' t' at c w
@@ -243,6 +263,7 @@ module _ {D S M : Type 0} (disk : DiskGhosts D) (store : StoreGhosts S) (meta : 
   noted_calm p config h t b x side g Join outcome h' t' at c w = join_calm h t b x side g outcome h' t' at c w
   noted_calm p config h t b x side g Expire outcome h' t' at c w = expire_calm p h t b x side g config.keep outcome h' t' at c w.1 w.0
   noted_calm p config h t b x side g (Fetch offset limit) outcome h' t' at c w = seek_calm p h t b x side g offset limit Refresh outcome h' t' c w.1 w.0
+  noted_calm p config h t b x side g (Offset LatestTiered) outcome h' t' at c w = (same_calm h t h' t' w.1 w.2 c, offset_quiet h x side g outcome w.0)
   noted_calm p config h t b x side g other outcome h' t' at c w =
       let k = row_calm disk.content disk.control h b x (Some g) other (turned.Answers w.0.0) h' at c.held w.0.2 in
       (record { held = k.0; stores = rw w.1 c.stores }, rw w.0.1 k.1)

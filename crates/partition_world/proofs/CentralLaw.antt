@@ -12,7 +12,8 @@ use Rattle.plain_log.specs.declared.answer.Answer.{Answer}
 use Rattle.plain_log.specs.declared.answer.Answer.TheVariants.{Kept, StaleEpoch, Raised}
 use Rattle.plain_log.specs.declared.command.ActorList.{ActorList}
 use Rattle.plain_log.specs.declared.command.Command.{Command}
-use Rattle.plain_log.specs.declared.command.Command.TheVariants.{Follow, Join, Trim, Copy, Expire, Fetch}
+use Rattle.plain_log.specs.declared.command.Command.TheVariants.{Follow, Join, Trim, Copy, Expire, Fetch, Offset}
+use Rattle.plain_log.specs.declared.command.Which.TheVariants.{LatestTiered}
 use Rattle.plain_log.specs.declared.command.Order.{Order}
 use Rattle.plain_log.specs.declared.state.Actor.{Actor}
 use Rattle.plain_log.specs.declared.state.Broker.{Broker}
@@ -99,6 +100,7 @@ use Rattle.partition_world.proofs.RebuildEnds.{rebuild_kept}
 use Rattle.partition_world.proofs.RebuildCentral.{once_row, noted_row, join_refreshes, join_reads}
 use Rattle.partition_world.proofs.FetchCentral.{fetch_asks, fetch_on}
 use Rattle.partition_world.proofs.FetchEnds.{Dries, fetch_dry}
+use Rattle.partition_world.proofs.OffsetCentral.{offset_first, offset_on}
 use Rattle.partition_world.proofs.LineTells.{line_tells, right_view}
 use Rattle.partition_world.proofs.Scenes.{site_is, same_sides, stayed}
 use Rattle.partition_world.proofs.TrimCentral.{trim_first, trim_shown, trim_owes_on}
@@ -369,6 +371,12 @@ module _ {D S M : Type 0} (disk : DiskGhosts D) (store : StoreGhosts S) (meta : 
         fetch_on disk store meta opening w a outcome w' t c z offset limit is (Seeks g next) keeps g refl next refl (λ later. refl) outcome refl row.0 row.1
     by_command (Fetch offset limit) is (Expires g segment next) keeps row = absurd row
     by_command (Fetch offset limit) is (Rebuilds g next) keeps row = absurd row
+    by_command (Offset LatestTiered) is Idle keeps row = offset_first disk store meta opening w a outcome w' t c z is keeps outcome refl row.0 row.1
+    by_command (Offset LatestTiered) is (Noted g) keeps row = offset_on disk store meta opening w a outcome w' t c z is g keeps outcome refl row.0 row.1 row.2
+    by_command (Offset LatestTiered) is (Copies g copy next) keeps row = absurd row
+    by_command (Offset LatestTiered) is (Seeks g next) keeps row = absurd row
+    by_command (Offset LatestTiered) is (Expires g segment next) keeps row = absurd row
+    by_command (Offset LatestTiered) is (Rebuilds g next) keeps row = absurd row
     by_command command is Idle keeps row =
         own_central row.0.0 row.0.1 (seat_own (subst IsOwn (sym is) tt) row.0.0) (row_at command is Idle keeps row.0.0 row.0.2) row.1 (works_at Idle keeps (keeps_none t.order.broker.0 t.order.command))
         (λ h'. owes_at command is h' tt)

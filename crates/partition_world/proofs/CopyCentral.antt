@@ -10,18 +10,20 @@ use Rattle.copy_task.specs.Copying.{Copied}
 use Rattle.copy_task.specs.declared.turn.CopyTurn.{CopyTurn}
 use Rattle.copy_task.specs.declared.turn.CopyTurn.TheVariants.{Goes as GoesOn, Ends}
 use Rattle.copy_task.specs.declared.turn.Next.{Next}
-use Rattle.plain_log.specs.declared.answer.Answer.TheVariants.{Down, NotLeader, MetaFault, LostLead, Level, DiskFault, Damaged}
+use Rattle.plain_log.specs.declared.answer.Answer.TheVariants.{CopyOff, MetaFault, LostLead, Level, DiskFault, Damaged}
 use Rattle.plain_log.specs.declared.answer.Place.TheVariants.{File}
 use Rattle.plain_log.specs.declared.command.Command.TheVariants.{Copy}
 use Rattle.plain_log.specs.declared.command.Order.{Order}
 use Rattle.plain_log.specs.declared.state.State.{State}
 use Rattle.partition_seen.specs.declared.begun.Begun.{Begun}
+use Rattle.partition_seen.specs.declared.begun.Turned.{Turned}
 use Rattle.partition_seen.specs.declared.begun.Turned.TheVariants as turned
+use Rattle.partition_seen.specs.Seen as seen
+use Rattle.partition_seen.specs.RowsOfTiers as seen_tiers
 use Rattle.partition_seen.proofs.BoolTests.{some_of}
 use Rattle.broker_log.specs.Seen.{incarnation_in}
 use Rattle.partition_turns.specs.declared.held.Node.{Node}
 use Rattle.partition_turns.specs.Held.{node_of, put_node, ShowsHeld, Rests}
-use Rattle.partition_turns.proofs.OwnRefined.{notes_shown}
 use Rattle.partition_turns.proofs.Shown.{some_at, held_stays}
 use Rattle.tier_safe.specs.Scene.{Scene, Site, Work as WorkSeen, Free, Copies as CopiesSeen}
 use Rattle.tier_safe.specs.May.{IsChanged}
@@ -37,7 +39,7 @@ use Rattle.partition_world.specs.Seats.{moved, copy_outcome, seat_after, seat_se
 use Rattle.partition_world.specs.Tier.{counted, put_side}
 use Rattle.partition_world.specs.Central.{IsCentral, work_of}
 use Rattle.partition_world.specs.Turn.{IsTurn}
-use Rattle.partition_world.specs.TurnsOfCopy.{KeepsLead, CopyFirstRow, ReadsLog, ReadRow, ReadsNext, ChooseRow, CopyOnRow, GoesOnCopy, copied_to, tiers_of, teller_of}
+use Rattle.partition_world.specs.TurnsOfCopy.{KeepsLead, LeadersFirstRow, CopyFirstRow, ReadsLog, ReadRow, ReadsNext, ChooseRow, CopyOnRow, GoesOnCopy, copied_to, tiers_of, teller_of}
 use Rattle.partition_world.specs.Turns.{Row}
 use Rattle.partition_world.specs.Whole.{Whole}
 use Rattle.partition_world.proofs.Choosing.{chosen_scene, chosen_changed, chosen_shown}
@@ -45,8 +47,13 @@ use Rattle.partition_world.proofs.CopyEnds.{copy_ends, copy_tells, keeps_seen, k
 use Rattle.partition_world.proofs.Scenes.{Place, shows_at, answered_free, few_now}
 use Rattle.partition_world.proofs.Noting.{GoesAsNoted}
 use Rattle.partition_world.proofs.Sides.{set_same}
-use Rattle.partition_world.proofs.TurnCentral.{here, after, seat_shows, shown, entered, rests, stands, held_same, begins, silent, untold, unseen}
+use Rattle.partition_world.proofs.TurnCentral.{here, after, seat_shows, shown, entered, stands, held_same, leads_first, silent, untold, unseen}
 use Rattle.partition_world.proofs.WorldSound.{chosen_seen, moved_seen}
+
+-- a row of any leader's first turn is one of a copy's
+copy_row : (h : seen.Held) (y : seen.Node) (turn : Turned) (h' : seen.Held) → seen_tiers.LeadersRow h y turn h' → seen_tiers.CopyRow h y turn h'
+copy_row h y (turned.Answers CopyOff) h' r = absurd r
+copy_row h y turn h' r = r
 
 module _ {D S M : Type 0} (disk : DiskGhosts D) (store : StoreGhosts S) (meta : MetaGhosts M) where
   -- a turn of a copy, in its place
@@ -75,15 +82,15 @@ module _ {D S M : Type 0} (disk : DiskGhosts D) (store : StoreGhosts S) (meta : 
               (r.kept, r.stays, r.lasts, same ∙ ap (put_node w.held t.order.broker.0) r.after),
         ))
 
+    leads : t.seat.work ≡ Idle → (o : Outcome) → outcome ≡ o → LeadersFirstRow meta w.held w.tier t.order.broker.0 z.x z.side o w'.tier → w'.held ≡ w.held → IsCentral disk store meta opening w'
+    leads idle o is row same =
+        leads_first disk store meta opening w a outcome w' t c z Copy copies idle (λ turn. refl) (λ g. refl) (λ turn r. copy_row c.partition (node_of z.x z.s) turn c.partition r) o is row same
+
     first : t.seat.work ≡ Idle → (o : Outcome) → outcome ≡ o → CopyFirstRow meta w.held w.tier t.order.broker.0 z.x z.side o w'.tier → w'.held ≡ w.held → IsCentral disk store meta opening w'
-    first idle (Answers Down) is row same = stands disk store meta opening w a outcome w' t c z Copy copies Idle idle Down is refl row.1 (same_held same) (row.0, refl)
-    first idle (Answers NotLeader) is row same = stands disk store meta opening w a outcome w' t c z Copy copies Idle idle NotLeader is refl row.2 (same_held same) (row.0, row.1, refl)
-    first idle (Answers MetaFault) is row same =
-        rests disk store meta opening w a outcome w' t c z Copy copies Idle idle MetaFault is refl (ap (λ (u : Tier S M). u.sides) row.2.after) (ap (λ (u : Tier S M). (store.content u.store).tells) row.2.after, row.2.reads.content.tells)
-        (ap (λ (u : Tier S M). (store.content u.store).objects) row.2.after) row.2.reads.content.notes (same_held same) (row.0, row.1, refl)
-    first idle (Begins g) is row same =
-        begins disk store meta opening w a outcome w' t c z Copy copies idle g is refl refl (row.0, row.1, notes_shown disk.content disk.control w.held c.partition t.order.broker.0 z.x z.s g z.sees row.0 row.2, refl) row.3 same
-    first idle other is row same = elim row [ ]
+    first idle (Answers CopyOff) is row same = stands disk store meta opening w a outcome w' t c z Copy copies Idle idle CopyOff is refl row.3 (same_held same) (row.0, row.1, refl)
+    first idle (Answers MetaFault) is row same = leads idle (Answers MetaFault) is row.0 same
+    first idle (Begins g) is row same = leads idle (Begins g) is row.0 same
+    first idle other is row same = leads idle other is row same
 
     -- the second turn
     side_kept : (n : ReadsNext disk w.partition w.held w.tier t.order.broker.0 z.x z.side outcome w'.held w'.tier) → n.side_after ≡ z.side → w'.tier ≡ w.tier

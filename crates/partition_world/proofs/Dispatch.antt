@@ -1,5 +1,5 @@
 -- A turn's row is that of its command, and a log that was read is as it was.
-use Rattle.std.proofs.Common.{◌≡◌, ◌≢◌, inl, inr, refl, ap, ◌∙◌, ℕ, zero, suc, ◌<◌, List, [], ◌∷◌, length, Some, None, Option, slice_get, true, false, arith}
+use Rattle.std.proofs.Common.{◌≡◌, inl, inr, ap, ◌∙◌, ℕ, zero, suc, ◌<◌, List, [], ◌∷◌, length, Some, None, Option, slice_get, true, false, arith}
 use Rattle.std.specs.Prelude.{IsSomeAnd, OnErr}
 use Rattle.std.specs.declared.result.Result.{Result}
 use Rattle.std.specs.declared.result.Result.TheVariants.{Ok, Err}
@@ -7,13 +7,14 @@ use Rattle.disk_model.specs.declared.disk.Disk.{Ghosts as DiskGhosts}
 use Rattle.object_store.specs.declared.store.Store.{Ghosts as StoreGhosts}
 use Rattle.meta_log.specs.declared.log.MetaLog.{Ghosts as MetaGhosts}
 use Rattle.plain_log.specs.declared.command.Command.{Command}
-use Rattle.plain_log.specs.declared.command.Command.TheVariants.{Copy, Trim, Expire}
+use Rattle.plain_log.specs.declared.command.Command.TheVariants.{Copy, Trim, Expire, Offset}
+use Rattle.plain_log.specs.declared.command.Which.TheVariants.{LatestTiered}
 use Rattle.tier_base.specs.declared.plain.Settings.{Settings}
 use Rattle.broker_log.specs.Seen.{Kept, Up, Down, Away, is_up, settings_in, WhileUp}
-use Rattle.partition_seen.specs.declared.begun.Turned.TheVariants as turned
 use Rattle.partition_turns.specs.declared.held.Node.{Node}
 use Rattle.partition_turns.specs.declared.held.Held.{Held}
 use Rattle.partition_turns.specs.Held.{AtNode, Rests, put_node}
+use Rattle.partition_turns.specs.Turns.{IsOfTier}
 use Rattle.partition_world.specs.declared.tier.Side.{Side}
 use Rattle.partition_world.specs.declared.tier.Tier.{Tier}
 use Rattle.partition_world.specs.declared.seat.Outcome.{Outcome}
@@ -45,20 +46,19 @@ interval_up Away n s up is e = absurd (let no : false ≡ true = up in cc)
 
 module _ {D S M : Type 0} (disk : DiskGhosts D) (store : StoreGhosts S) (meta : MetaGhosts M) where
   begin_row : (h : Held D) (t : Tier S M) (b : ℕ) (x : Node D) (side : Side) (command : Command) (outcome : Outcome) (h' : Held D) (t' : Tier S M)
-      → command ≢ Trim → OwnRow disk h t b x command outcome h' t' → BeginRow disk store meta h t b x side command outcome h' t'
-  begin_row h t b x side Copy outcome h' t' not ((turned.Answers answer, is, row), same) = absurd row
-  begin_row h t b x side Copy outcome h' t' not ((turned.Begins g, is, row), same) = absurd row
-  begin_row h t b x side Trim outcome h' t' not w = absurd (not refl)
-  begin_row h t b x side Expire outcome h' t' not ((turned.Answers answer, is, row), same) = absurd row
-  begin_row h t b x side Expire outcome h' t' not ((turned.Begins g, is, row), same) = absurd row
-  begin_row h t b x side other outcome h' t' not w = w
+      → (IsOfTier command → ⊥) → OwnRow disk h t b x command outcome h' t' → BeginRow disk store meta h t b x side command outcome h' t'
+  begin_row h t b x side Copy outcome h' t' own w = absurd (own tt)
+  begin_row h t b x side Trim outcome h' t' own w = absurd (own tt)
+  begin_row h t b x side Expire outcome h' t' own w = absurd (own tt)
+  begin_row h t b x side (Offset LatestTiered) outcome h' t' own w = absurd (own tt)
+  begin_row h t b x side other outcome h' t' own w = w
 
   -- the first turn of a command that the remote tier has no part in
-  pub begin_at : (h : Held D) (t : Tier S M) (b : ℕ) (command : Command) (outcome : Outcome) (h' : Held D) (t' : Tier S M) → b < length t.sides → command ≢ Trim
+  pub begin_at : (h : Held D) (t : Tier S M) (b : ℕ) (command : Command) (outcome : Outcome) (h' : Held D) (t' : Tier S M) → b < length t.sides → (IsOfTier command → ⊥)
       → AtNode h b (λ x. OwnRow disk h t b x command outcome h' t') → AtNode h b (λ x. AtSide t b (λ side. BeginRow disk store meta h t b x side command outcome h' t'))
-  begin_at h t b command outcome h' t' lt not r =
+  begin_at h t b command outcome h' t' lt own r =
       some_more (λ x. OwnRow disk h t b x command outcome h' t') (λ x. AtSide t b (λ side. BeginRow disk store meta h t b x side command outcome h' t')) (slice_get h.nodes b)
-      (λ x row. there (λ side. BeginRow disk store meta h t b x side command outcome h' t') t.sides b lt (λ side. begin_row h t b x side command outcome h' t' not row)) r
+      (λ x row. there (λ side. BeginRow disk store meta h t b x side command outcome h' t') t.sides b lt (λ side. begin_row h t b x side command outcome h' t' own row)) r
 
   read_rests : (h : Held D) (b : ℕ) (x y : Node D) (h' : Held D) → ReadsLog disk x y → h' ≡ put_node h b y → Rests disk.content disk.control h b x h'
   read_rests h b x y h' r is = (r.kept, r.stays, r.lasts, is ∙ ap (λ (k : Node D). put_node h b k) r.after)

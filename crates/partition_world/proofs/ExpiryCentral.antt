@@ -20,7 +20,7 @@ use Rattle.expiry_task.specs.declared.turn.ExpiryTurn.{ExpiryTurn}
 use Rattle.expiry_task.specs.declared.turn.ExpiryTurn.TheVariants.{Goes as GoesOn, Ends}
 use Rattle.expiry_task.specs.declared.turn.Next.{Next}
 use Rattle.expiry_task.specs.declared.turn.Next.TheVariants.{Start}
-use Rattle.plain_log.specs.declared.answer.Answer.TheVariants.{Down, NotLeader, MetaFault, LostLead, Kept, StaleEpoch, Raised}
+use Rattle.plain_log.specs.declared.answer.Answer.TheVariants.{LostLead, Kept, StaleEpoch, Raised}
 use Rattle.plain_log.specs.declared.command.Command.{Command}
 use Rattle.plain_log.specs.declared.command.Command.TheVariants.{Expire}
 use Rattle.plain_log.specs.declared.command.Order.{Order}
@@ -34,7 +34,6 @@ use Rattle.partition_seen.specs.Seen as seen
 use Rattle.partition_seen.proofs.BoolTests.{some_of}
 use Rattle.partition_turns.specs.Held.{node_of, ShowsHeld}
 use Rattle.partition_turns.specs.Shown.{Refines}
-use Rattle.partition_turns.proofs.OwnRefined.{notes_shown}
 use Rattle.partition_turns.proofs.Shown.{leaves, some_at}
 use Rattle.tier_safe.specs.Changes.{Moves, Dooms}
 use Rattle.tier_safe.specs.May.{IsChanged}
@@ -45,7 +44,7 @@ use Rattle.tier_safe.proofs.Entries.{prefix_goes}
 use Rattle.tier_safe.proofs.Turning.{expiry_turns}
 use Rattle.partition_world.specs.declared.seat.Outcome.{Outcome}
 use Rattle.partition_world.specs.declared.seat.Outcome.TheVariants as outcomes
-use Rattle.partition_world.specs.declared.seat.Outcome.TheVariants.{Answers, Begins, Deletes}
+use Rattle.partition_world.specs.declared.seat.Outcome.TheVariants.{Answers, Deletes}
 use Rattle.partition_world.specs.declared.seat.Work.{Work}
 use Rattle.partition_world.specs.declared.seat.Work.TheVariants.{Idle, Noted, Expires}
 use Rattle.partition_world.specs.declared.tier.Tier.{Tier}
@@ -61,7 +60,7 @@ use Rattle.partition_world.proofs.LineTells.{right_view}
 use Rattle.partition_world.proofs.Scenes.{Place, site_is, seated, shows_at, work_after, same_sides, answered_free}
 use Rattle.partition_world.proofs.Noting.{GoesAsNoted}
 use Rattle.partition_world.proofs.Sides.{set_same}
-use Rattle.partition_world.proofs.TurnCentral.{here, after, shown, entered, rests, stands, held_same, begins, silent, untold, unseen}
+use Rattle.partition_world.proofs.TurnCentral.{here, after, shown, entered, stands, held_same, leads_first, silent, untold, unseen}
 use Rattle.partition_world.proofs.WorldSound.{doomed_seen, deleting_seen}
 
 -- the first entry that is due is one of the entries, and is due
@@ -115,16 +114,7 @@ module _ {D S M : Type 0} (disk : DiskGhosts D) (store : StoreGhosts S) (meta : 
     epoch_seen = z.sees.held.registry
 
     pub expire_first : t.seat.work ≡ Idle → (o : Outcome) → outcome ≡ o → ExpireFirstRow meta w.held w.tier t.order.broker.0 z.x z.side o w'.tier → w'.held ≡ w.held → IsCentral disk store meta opening w'
-    expire_first idle (Answers Down) is row same = stands disk store meta opening w a outcome w' t c z Expire expires Idle idle Down is refl row.1 (same_held same) (row.0, refl)
-    expire_first idle (Answers NotLeader) is row same = stands disk store meta opening w a outcome w' t c z Expire expires Idle idle NotLeader is refl row.2 (same_held same) (row.0, row.1, refl)
-    expire_first idle (Answers MetaFault) is row same =
-        rests disk store meta opening w a outcome w' t c z Expire expires Idle idle MetaFault is refl (ap (λ (u : Tier S M). u.sides) row.2.after)
-        (ap (λ (u : Tier S M). (store.content u.store).tells) row.2.after, row.2.reads.content.tells)
-        (ap (λ (u : Tier S M). (store.content u.store).objects) row.2.after) row.2.reads.content.notes (same_held same) (row.0, row.1, refl)
-    expire_first idle (Begins g) is row same =
-        begins disk store meta opening w a outcome w' t c z Expire expires idle g is refl refl
-        (row.0, row.1, notes_shown disk.content disk.control w.held c.partition t.order.broker.0 z.x z.s g z.sees row.0 row.2, refl) row.3 same
-    expire_first idle other is row same = elim row [ ]
+    expire_first idle o is row same = leads_first disk store meta opening w a outcome w' t c z Expire expires idle (λ turn. refl) (λ g. refl) (λ turn r. r) o is row same
 
     -- the second turn
 

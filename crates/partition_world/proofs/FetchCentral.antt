@@ -81,7 +81,7 @@ above_local start (Some back) = omega arith
 
 module _ {D : Type 0} where
   -- what a turn finds of a broker holds as it is seen
-  stopped_seen : (x : Node D) (s : log.Seen) (g : Begun) → HasStopped x g → (g.stops ≡ x.stops) × (is_up x ≡ true) → ⊥
+  pub stopped_seen : (x : Node D) (s : log.Seen) (g : Begun) → HasStopped x g → (g.stops ≡ x.stops) × (is_up x ≡ true) → ⊥
   stopped_seen x s g (inl differs) k = differs k.0
   stopped_seen x s g (inr down) k = let up = k.1 in absurd (cc (down, up))
 

@@ -37,5 +37,6 @@ pub mod FetchEnds
 pub mod FetchTurns
 pub mod FetchCentral
 pub mod ExpiryCentral
+pub mod OffsetCentral
 pub mod RebuildEnds
 pub mod RebuildCentral

@@ -13,10 +13,11 @@ use Rattle.rebuild_task.specs.declared.turn.Next.TheVariants.{Epochs, Restart}
 use Rattle.tier_fetch.specs.declared.turn.FetchTurn.{FetchTurn}
 use Rattle.tier_fetch.specs.declared.turn.Next.{Next as Search}
 use Rattle.tier_fetch.specs.declared.turn.Next.TheVariants.{Refresh}
-use Rattle.plain_log.specs.declared.answer.Answer.TheVariants.{Down, NotLeader, MetaFault, Stopped, OutOfRange, Empty}
+use Rattle.plain_log.specs.declared.answer.Answer.TheVariants.{Down, NotLeader, CopyOff, MetaFault, Stopped, OutOfRange, Empty}
 use Rattle.plain_log.specs.declared.command.ActorList.{ActorList}
 use Rattle.plain_log.specs.declared.command.Command.{Command}
-use Rattle.plain_log.specs.declared.command.Command.TheVariants.{Copy, Trim, Expire, Fetch, Join}
+use Rattle.plain_log.specs.declared.command.Command.TheVariants.{Copy, Trim, Expire, Fetch, Join, Offset}
+use Rattle.plain_log.specs.declared.command.Which.TheVariants.{LatestTiered}
 use Rattle.plain_log.specs.declared.command.Config.{Config}
 use Rattle.partition_seen.specs.declared.begun.Begun.{Begun}
 use Rattle.partition_seen.proofs.BoolTests.{some_of}
@@ -34,7 +35,7 @@ use Rattle.partition_world.specs.Central.{told_by, notes_left}
 use Rattle.partition_world.specs.Seats.{chosen, moved, sought, doomed, deleting, rebuilding, seat_after}
 use Rattle.partition_world.specs.Turn.{IsTurn, StaysWhole}
 use Rattle.partition_world.specs.Tier.{AtSide}
-use Rattle.partition_world.specs.TurnsOfCopy.{CopyFirstRow, ChooseRow, tiers_of, teller_of}
+use Rattle.partition_world.specs.TurnsOfCopy.{LeadersFirstRow, CopyFirstRow, ChooseRow, tiers_of, teller_of}
 use Rattle.partition_world.specs.TurnsOfFetch.{FetchOnRow, GoesOnFetch, fetch_tiers, wanted_of}
 use Rattle.partition_world.specs.TurnsOfTrim.{TrimFirstRow}
 use Rattle.partition_world.specs.TurnsOfExpiry.{expiry_tiers}
@@ -45,12 +46,18 @@ use Rattle.partition_world.proofs.Begins.{row_of}
 use Rattle.partition_world.proofs.NotesTold.{told_after, few_told, count, keeps_count, same_count, copy_told, copy_wants, fetch_count, fetch_wants, expiry_told, expiry_wants, turn_told, deletes_told}
 
 module _ {D S M : Type 0} (disk : DiskGhosts D) (store : StoreGhosts S) (meta : MetaGhosts M) where
-  first_count : (h : Held D) (t : Tier S M) (b : ℕ) (x : Node D) (side : Side) (outcome : Outcome) (t' : Tier S M) → CopyFirstRow meta h t b x side outcome t' → count meta t'.meta ≤ count meta t.meta
-  first_count h t b x side (Answers Down) t' w = same_count meta t.meta t'.meta (ap (λ (k : Tier S M). k.meta) w.1)
-  first_count h t b x side (Answers NotLeader) t' w = same_count meta t.meta t'.meta (ap (λ (k : Tier S M). k.meta) w.2)
-  first_count h t b x side (Answers MetaFault) t' w = keeps_count meta t.meta t'.meta w.2.reads.content
-  first_count h t b x side (Begins g) t' w = keeps_count meta t.meta t'.meta w.3.reads.content
-  first_count h t b x side other t' w = elim w [ ]
+  leaders_count : (h : Held D) (t : Tier S M) (b : ℕ) (x : Node D) (side : Side) (outcome : Outcome) (t' : Tier S M) → LeadersFirstRow meta h t b x side outcome t' → count meta t'.meta ≤ count meta t.meta
+  leaders_count h t b x side (Answers Down) t' w = same_count meta t.meta t'.meta (ap (λ (k : Tier S M). k.meta) w.1)
+  leaders_count h t b x side (Answers NotLeader) t' w = same_count meta t.meta t'.meta (ap (λ (k : Tier S M). k.meta) w.2)
+  leaders_count h t b x side (Answers MetaFault) t' w = keeps_count meta t.meta t'.meta w.2.reads.content
+  leaders_count h t b x side (Begins g) t' w = keeps_count meta t.meta t'.meta w.3.reads.content
+  leaders_count h t b x side other t' w = elim w [ ]
+
+  copy_count : (h : Held D) (t : Tier S M) (b : ℕ) (x : Node D) (side : Side) (outcome : Outcome) (t' : Tier S M) → CopyFirstRow meta h t b x side outcome t' → count meta t'.meta ≤ count meta t.meta
+  copy_count h t b x side (Answers CopyOff) t' w = same_count meta t.meta t'.meta (ap (λ (k : Tier S M). k.meta) w.3)
+  copy_count h t b x side (Answers MetaFault) t' w = leaders_count h t b x side (Answers MetaFault) t' w.0
+  copy_count h t b x side (Begins g) t' w = leaders_count h t b x side (Begins g) t' w.0
+  copy_count h t b x side other t' w = leaders_count h t b x side other t' w
 
   trim_count : (h : Held D) (t : Tier S M) (b : ℕ) (x : Node D) (side : Side) (outcome : Outcome) (t' : Tier S M) → TrimFirstRow meta h t b x side outcome t' → count meta t'.meta ≤ count meta t.meta
   trim_count h t b x side (Answers Down) t' w = same_count meta t.meta t'.meta (ap (λ (k : Tier S M). k.meta) w.1)
@@ -60,9 +67,10 @@ module _ {D S M : Type 0} (disk : DiskGhosts D) (store : StoreGhosts S) (meta : 
 
   begin_count : (h : Held D) (t : Tier S M) (b : ℕ) (x : Node D) (side : Side) (command : Command) (outcome : Outcome) (h' : Held D) (t' : Tier S M)
       → BeginRow disk store meta h t b x side command outcome h' t' → count meta t'.meta ≤ count meta t.meta
-  begin_count h t b x side Copy outcome h' t' w = first_count h t b x side outcome t' w.0
+  begin_count h t b x side Copy outcome h' t' w = copy_count h t b x side outcome t' w.0
   begin_count h t b x side Trim outcome h' t' w = trim_count h t b x side outcome t' w.0
-  begin_count h t b x side Expire outcome h' t' w = first_count h t b x side outcome t' w.0
+  begin_count h t b x side Expire outcome h' t' w = leaders_count h t b x side outcome t' w.0
+  begin_count h t b x side (Offset LatestTiered) outcome h' t' w = leaders_count h t b x side outcome t' w.0
   begin_count h t b x side other outcome h' t' w = same_count meta t.meta t'.meta (ap (λ (k : Tier S M). k.meta) w.1)
 
   choose_count : (p : PartitionId) (h : Held D) (t : Tier S M) (b : ℕ) (x : Node D) (side : Side) (g : Begun) (outcome : Outcome) (h' : Held D) (t' : Tier S M)
@@ -104,6 +112,7 @@ module _ {D S M : Type 0} (disk : DiskGhosts D) (store : StoreGhosts S) (meta : 
   noted_count p config h t b x side g Join outcome h' t' w = join_count h t b x side g outcome h' t' w
   noted_count p config h t b x side g Expire outcome h' t' w = same_count meta t.meta t'.meta (ap (λ (k : Tier S M). k.meta) w.1)
   noted_count p config h t b x side g (Fetch offset limit) outcome h' t' w = seek_count p h t b x side g offset limit Refresh outcome t' w.0
+  noted_count p config h t b x side g (Offset LatestTiered) outcome h' t' w = same_count meta t.meta t'.meta (ap (λ (k : Tier S M). k.meta) w.2)
   noted_count p config h t b x side g other outcome h' t' w = same_count meta t.meta t'.meta (ap (λ (k : Tier S M). k.meta) w.1)
 
   copying_told : (h : Held D) (t : Tier S M) (b : ℕ) (x : Node D) (side : Side) (g : Begun) (copy : Copied) (next : Next) (command : Command) (outcome : Outcome) (h' : Held D) (t' : Tier S M)

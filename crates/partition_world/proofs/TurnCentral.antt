@@ -1,7 +1,7 @@
 -- A turn that changes nothing that is seen of the partition keeps the central fact, where it makes changes of the tier.
 --
 -- It is entered, or it isn't; and it leaves the tier as it was, or the command leaves the desk, or a broker's view takes in notes.
-use Rattle.std.proofs.Common.{◌≡◌, ◌∙◌, sym, ap, subst, ℕ, ◌++◌, List, [], slice_set, Some, None, Option, false, append-nil}
+use Rattle.std.proofs.Common.{◌≡◌, ◌∙◌, sym, ap, subst, refl, ℕ, ◌++◌, List, [], slice_set, Some, None, Option, false, append-nil}
 use Rattle.disk_model.specs.declared.disk.Disk.{Ghosts as DiskGhosts}
 use Rattle.object_store.specs.declared.store.Store.{Ghosts as StoreGhosts}
 use Rattle.object_store.specs.Content.{Objects}
@@ -9,6 +9,7 @@ use Rattle.meta_log.specs.declared.log.MetaLog.{Ghosts as MetaGhosts}
 use Rattle.segment_meta.specs.declared.note.Note.{Note}
 use Rattle.remote_view.specs.Fold.{Seen as View}
 use Rattle.plain_log.specs.declared.answer.Answer.{Answer}
+use Rattle.plain_log.specs.declared.answer.Answer.TheVariants.{Down, NotLeader, MetaFault}
 use Rattle.plain_log.specs.declared.command.Command.{Command}
 use Rattle.plain_log.specs.declared.command.Order.{Order}
 use Rattle.plain_log.specs.declared.journal.JournalEntry.{JournalEntry}
@@ -18,9 +19,11 @@ use Rattle.partition_seen.specs.declared.begun.Turned.{Turned}
 use Rattle.partition_seen.specs.declared.begun.Turned.TheVariants as turned
 use Rattle.partition_seen.specs.Seen as seen
 use Rattle.partition_seen.specs.Rows as seen_rows
+use Rattle.partition_seen.specs.RowsOfTiers.{LeadersRow}
 use Rattle.partition_tier.specs.Turns.{may_raise}
 use Rattle.partition_turns.specs.declared.held.Held.{Held}
 use Rattle.partition_turns.specs.Held.{node_of, ShowsHeld}
+use Rattle.partition_turns.proofs.OwnRefined.{notes_shown}
 use Rattle.tier_safe.specs.Scene.{Scene, Site, Work as WorkSeen, Free}
 use Rattle.tier_safe.specs.May.{IsChanged}
 use Rattle.tier_safe.specs.Turns.{Shows}
@@ -34,6 +37,7 @@ use Rattle.partition_world.specs.Seats.{noted_in, outcome_of, seat_after, seat_s
 use Rattle.partition_world.specs.Tier.{Refreshes}
 use Rattle.partition_world.specs.Central.{IsCentral, ShowsTier, work_of, begun_of}
 use Rattle.partition_world.specs.Turn.{IsTurn}
+use Rattle.partition_world.specs.TurnsOfCopy.{LeadersFirstRow}
 use Rattle.partition_world.specs.Whole.{Whole}
 use Rattle.partition_world.proofs.CopyEnds.{TellsOn}
 use Rattle.partition_world.proofs.Entered.{enters, entered_central, silent_central}
@@ -119,6 +123,22 @@ module _ {D S M : Type 0} (disk : DiskGhosts D) (store : StoreGhosts S) (meta : 
         entered Idle idle (turned.Begins g) (after Free c.scene.objects c.scene.notes r.view) is low (held_same same) row k.1
         (shown Free c.scene.objects c.scene.notes r.view (ap (λ (u : Tier S M). u.sides) r.after) (ap (λ (u : Tier S M). (store.content u.store).tells) r.after, r.reads.content.tells)
         (c.shows_tier.objects ∙ sym (ap (λ (u : Tier S M). (store.content u.store).objects) r.after)) (c.shows_tier.notes ∙ sym r.reads.content.notes) (begun_shows g is ∙ free))
+
+    -- a leader's first turn on the tier
+    pub leads_first : t.seat.work ≡ Idle → ((turn : Turned) → may_raise None command turn ≡ false) → ((g : Begun) → begun_of t.order.broker.0 g command ≡ Free)
+        → ((turn : Turned) → LeadersRow c.partition y turn c.partition → SeenRow Idle turn) → (o : Outcome) → outcome ≡ o
+        → LeadersFirstRow meta w.held w.tier t.order.broker.0 z.x z.side o w'.tier → w'.held ≡ w.held → IsCentral disk store meta opening w'
+    leads_first idle low free row_of (Answers Down) is row same = stands Idle idle Down is (low (turned.Answers Down)) row.1 (held_same same) (row_of (turned.Answers Down) (row.0, refl))
+    leads_first idle low free row_of (Answers NotLeader) is row same =
+        stands Idle idle NotLeader is (low (turned.Answers NotLeader)) row.2 (held_same same) (row_of (turned.Answers NotLeader) (row.0, row.1, refl))
+    leads_first idle low free row_of (Answers MetaFault) is row same =
+        rests Idle idle MetaFault is (low (turned.Answers MetaFault)) (ap (λ (u : Tier S M). u.sides) row.2.after)
+        (ap (λ (u : Tier S M). (store.content u.store).tells) row.2.after, row.2.reads.content.tells)
+        (ap (λ (u : Tier S M). (store.content u.store).objects) row.2.after) row.2.reads.content.notes (held_same same) (row_of (turned.Answers MetaFault) (row.0, row.1, refl))
+    leads_first idle low free row_of (Begins g) is row same =
+        begins idle g is (low (turned.Begins g)) (free g)
+        (row_of (turned.Begins g) (row.0, row.1, notes_shown disk.content disk.control w.held c.partition t.order.broker.0 z.x z.s g z.sees row.0 row.2, refl)) row.3 same
+    leads_first idle low free row_of other is row same = elim row [ ]
 
     -- a turn that enters nothing
     pub silent : GoesAsNoted t.seat.work outcome → desk_seen w'.desk ≡ desk_seen w.desk → w'.journal.items ≡ w.journal.items → ShowsHeld disk.content w'.held c.partition → (d : Scene) → IsChanged c.scene c.central.plain d

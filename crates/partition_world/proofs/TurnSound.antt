@@ -18,10 +18,11 @@ use Rattle.tier_fetch.specs.declared.turn.Next.{Next as Search}
 use Rattle.tier_fetch.specs.declared.turn.Next.TheVariants.{Refresh}
 use Rattle.tier_fetch.specs.declared.turn.FetchTurn.{FetchTurn}
 use Rattle.plain_log.specs.declared.answer.Answer.{Answer}
-use Rattle.plain_log.specs.declared.answer.Answer.TheVariants.{Down, NotLeader, MetaFault, DiskFault, Damaged, Stopped, OutOfRange, Empty, Kept, StaleEpoch, Raised, OkAt}
+use Rattle.plain_log.specs.declared.answer.Answer.TheVariants.{Down, NotLeader, CopyOff, MetaFault, DiskFault, Damaged, Stopped, OutOfRange, Empty, Kept, StaleEpoch, Raised, OkAt}
 use Rattle.plain_log.specs.declared.answer.Place.TheVariants.{File}
 use Rattle.plain_log.specs.declared.command.Command.{Command}
-use Rattle.plain_log.specs.declared.command.Command.TheVariants.{Copy, Trim, Expire, Fetch, Join, Raise}
+use Rattle.plain_log.specs.declared.command.Command.TheVariants.{Copy, Trim, Expire, Fetch, Join, Raise, Offset}
+use Rattle.plain_log.specs.declared.command.Which.TheVariants.{LatestTiered}
 use Rattle.plain_log.specs.declared.command.Config.{Config}
 use Rattle.partition_seen.specs.declared.begun.Begun.{Begun}
 use Rattle.partition_seen.specs.declared.begun.Turned.TheVariants as turned
@@ -38,7 +39,7 @@ use Rattle.partition_world.specs.declared.seat.Outcome.TheVariants.{Answers, Beg
 use Rattle.partition_world.specs.declared.seat.Work.{Work}
 use Rattle.partition_world.specs.declared.seat.Work.TheVariants.{Idle, Noted, Copies, Seeks, Expires, Rebuilds}
 use Rattle.partition_world.specs.Tier.{AtSide}
-use Rattle.partition_world.specs.TurnsOfCopy.{ReadsLog, ReadRow, ChooseRow, CopyFirstRow}
+use Rattle.partition_world.specs.TurnsOfCopy.{ReadsLog, ReadRow, ChooseRow, LeadersFirstRow, CopyFirstRow}
 use Rattle.partition_world.specs.TurnsOfFetch.{FetchOnRow, GoesOnFetch}
 use Rattle.partition_world.specs.TurnsOfExpiry.{RaiseRow, ExpireOnRow, ExpiresBy}
 use Rattle.partition_world.specs.TurnsOfRebuild.{with_line, RefreshedRow}
@@ -118,6 +119,7 @@ module _ {D S M : Type 0} (disk : DiskGhosts D) (store : StoreGhosts S) (meta : 
   noted_sound n p config h t b x side g Expire outcome h' t' at s w = expire_sound n p h b x side g config.keep outcome h' at s w.0
   noted_sound n p config h t b x side g Trim outcome h' t' at s w = trim_sound n h b x side g config.local_keep outcome h' at s w.0
   noted_sound n p config h t b x side g (Fetch offset limit) outcome h' t' at s w = same n h h' w.1 s
+  noted_sound n p config h t b x side g (Offset LatestTiered) outcome h' t' at s w = same n h h' w.1 s
   noted_sound n p config h t b x side g other outcome h' t' at s w = later_sound disk.content disk.control n h b x other g (turned.Answers w.0.0) h' at s w.0.2
 
   begins_sound : (n : ℕ) (h : Held D) (t : Tier S M) (b : ℕ) (x : Node D) (side : Side) (command : Command) (outcome : Outcome) (h' : Held D) (t' : Tier S M)
@@ -125,6 +127,7 @@ module _ {D S M : Type 0} (disk : DiskGhosts D) (store : StoreGhosts S) (meta : 
   begins_sound n h t b x side Copy outcome h' t' at s w = same n h h' w.1 s
   begins_sound n h t b x side Trim outcome h' t' at s w = same n h h' w.1 s
   begins_sound n h t b x side Expire outcome h' t' at s w = same n h h' w.1 s
+  begins_sound n h t b x side (Offset LatestTiered) outcome h' t' at s w = same n h h' w.1 s
   begins_sound n h t b x side other outcome h' t' at s w = first_sound disk.content disk.control n h b x other w.0.0 h' at s w.0.2
 
   copying_sound : (n : ℕ) (h : Held D) (t : Tier S M) (b : ℕ) (x : Node D) (side : Side) (g : Begun) (copy : Copied) (next : Next) (command : Command) (outcome : Outcome) (h' : Held D) (t' : Tier S M)
@@ -210,14 +213,21 @@ module _ {D S M : Type 0} (disk : DiskGhosts D) (store : StoreGhosts S) (meta : 
   noted_sides p config h t b x side g Join outcome h' t' w = join_sides h t b x side g outcome h' t' w
   noted_sides p config h t b x side g Expire outcome h' t' w = ap (λ (k : Tier S M). length k.sides) w.1
   noted_sides p config h t b x side g (Fetch offset limit) outcome h' t' w = fetch_sides p h t b x side g offset limit Refresh outcome t' w.0
+  noted_sides p config h t b x side g (Offset LatestTiered) outcome h' t' w = ap (λ (k : Tier S M). length k.sides) w.2
   noted_sides p config h t b x side g other outcome h' t' w = ap (λ (k : Tier S M). length k.sides) w.1
 
-  first_sides : (h : Held D) (t : Tier S M) (b : ℕ) (x : Node D) (side : Side) (outcome : Outcome) (t' : Tier S M) → CopyFirstRow meta h t b x side outcome t' → length t'.sides ≡ length t.sides
-  first_sides h t b x side (Answers Down) t' w = ap (λ (k : Tier S M). length k.sides) w.1
-  first_sides h t b x side (Answers NotLeader) t' w = ap (λ (k : Tier S M). length k.sides) w.2
-  first_sides h t b x side (Answers MetaFault) t' w = ap (λ (k : Tier S M). length k.sides) w.2.after
-  first_sides h t b x side (Begins g) t' w = sides_put t b (record side { view = w.3.view }) t' (ap (λ (k : Tier S M). k.sides) w.3.after)
-  first_sides h t b x side other t' w = elim w [ ]
+  leaders_sides : (h : Held D) (t : Tier S M) (b : ℕ) (x : Node D) (side : Side) (outcome : Outcome) (t' : Tier S M) → LeadersFirstRow meta h t b x side outcome t' → length t'.sides ≡ length t.sides
+  leaders_sides h t b x side (Answers Down) t' w = ap (λ (k : Tier S M). length k.sides) w.1
+  leaders_sides h t b x side (Answers NotLeader) t' w = ap (λ (k : Tier S M). length k.sides) w.2
+  leaders_sides h t b x side (Answers MetaFault) t' w = ap (λ (k : Tier S M). length k.sides) w.2.after
+  leaders_sides h t b x side (Begins g) t' w = sides_put t b (record side { view = w.3.view }) t' (ap (λ (k : Tier S M). k.sides) w.3.after)
+  leaders_sides h t b x side other t' w = elim w [ ]
+
+  copy_sides : (h : Held D) (t : Tier S M) (b : ℕ) (x : Node D) (side : Side) (outcome : Outcome) (t' : Tier S M) → CopyFirstRow meta h t b x side outcome t' → length t'.sides ≡ length t.sides
+  copy_sides h t b x side (Answers CopyOff) t' w = ap (λ (k : Tier S M). length k.sides) w.3
+  copy_sides h t b x side (Answers MetaFault) t' w = leaders_sides h t b x side (Answers MetaFault) t' w.0
+  copy_sides h t b x side (Begins g) t' w = leaders_sides h t b x side (Begins g) t' w.0
+  copy_sides h t b x side other t' w = leaders_sides h t b x side other t' w
 
   trim_sides : (h : Held D) (t : Tier S M) (b : ℕ) (x : Node D) (side : Side) (outcome : Outcome) (t' : Tier S M) → TrimFirstRow meta h t b x side outcome t' → length t'.sides ≡ length t.sides
   trim_sides h t b x side (Answers Down) t' w = ap (λ (k : Tier S M). length k.sides) w.1
@@ -227,9 +237,10 @@ module _ {D S M : Type 0} (disk : DiskGhosts D) (store : StoreGhosts S) (meta : 
 
   begins_sides : (h : Held D) (t : Tier S M) (b : ℕ) (x : Node D) (side : Side) (command : Command) (outcome : Outcome) (h' : Held D) (t' : Tier S M)
       → BeginRow disk store meta h t b x side command outcome h' t' → length t'.sides ≡ length t.sides
-  begins_sides h t b x side Copy outcome h' t' w = first_sides h t b x side outcome t' w.0
+  begins_sides h t b x side Copy outcome h' t' w = copy_sides h t b x side outcome t' w.0
   begins_sides h t b x side Trim outcome h' t' w = trim_sides h t b x side outcome t' w.0
-  begins_sides h t b x side Expire outcome h' t' w = first_sides h t b x side outcome t' w.0
+  begins_sides h t b x side Expire outcome h' t' w = leaders_sides h t b x side outcome t' w.0
+  begins_sides h t b x side (Offset LatestTiered) outcome h' t' w = leaders_sides h t b x side outcome t' w.0
   begins_sides h t b x side other outcome h' t' w = ap (λ (k : Tier S M). length k.sides) w.1
 
   copying_sides : (h : Held D) (t : Tier S M) (b : ℕ) (x : Node D) (side : Side) (g : Begun) (copy : Copied) (next : Next) (command : Command) (outcome : Outcome) (h' : Held D) (t' : Tier S M)

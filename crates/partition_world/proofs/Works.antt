@@ -12,7 +12,8 @@ use Rattle.rebuild_task.specs.declared.turn.Next.{Next as Rebuild}
 use Rattle.tier_fetch.specs.declared.turn.Next.{Next as Search}
 use Rattle.plain_log.specs.declared.command.ActorList.{ActorList}
 use Rattle.plain_log.specs.declared.command.Command.{Command}
-use Rattle.plain_log.specs.declared.command.Command.TheVariants.{Join, Follow, Copy, Trim, Expire, Fetch}
+use Rattle.plain_log.specs.declared.command.Command.TheVariants.{Join, Follow, Copy, Trim, Expire, Fetch, Offset}
+use Rattle.plain_log.specs.declared.command.Which.TheVariants.{LatestTiered}
 use Rattle.plain_log.specs.declared.command.Config.{Config}
 use Rattle.plain_log.specs.declared.command.Order.{Order}
 use Rattle.plain_log.specs.State.{leads}
@@ -62,6 +63,7 @@ module _ {D S M : Type 0} (disk : DiskGhosts D) (store : StoreGhosts S) (meta : 
   own_for h b x (Follow limit) (turned.Begins f) g h' is row = tt
   own_for h b x Trim (turned.Begins f) g h' is row = tt
   own_for h b x (Fetch offset limit) (turned.Begins f) g h' is row = tt
+  own_for h b x (Offset LatestTiered) (turned.Begins f) g h' is row = absurd row
   own_for h b x other (turned.Begins f) g h' is row = absurd row
 
   -- a command that begins has a second turn
@@ -73,6 +75,7 @@ module _ {D S M : Type 0} (disk : DiskGhosts D) (store : StoreGhosts S) (meta : 
   begun_for h t b x side Trim g h' t' w = tt
   begun_for h t b x side Expire g h' t' w = ap leads w.0.2.role ∙ w.0.1
   begun_for h t b x side (Fetch offset limit) g h' t' w = tt
+  begun_for h t b x side (Offset LatestTiered) g h' t' w = tt
   begun_for h t b x side other g h' t' w = own_for h b x other w.0.0 g h' w.0.1 w.0.2
 
   -- a copy alone chooses a segment
@@ -86,6 +89,7 @@ module _ {D S M : Type 0} (disk : DiskGhosts D) (store : StoreGhosts S) (meta : 
   chosen_by p config h t b x side g Join copy h' t' (inr (high, inl (answer, is, at, tier), same)) = absurd (cc (is))
   chosen_by p config h t b x side g Join copy h' t' (inr (high, inr (may, row), same)) = elim row [ ]
   chosen_by p config h t b x side g (Fetch offset limit) copy h' t' w = elim w.0 [ ]
+  chosen_by p config h t b x side g (Offset LatestTiered) copy h' t' w = elim w.0 [ ]
   chosen_by p config h t b x side g other copy h' t' w = let e = w.0.1 in absurd (cc (e))
 
   chosen_for : (p : PartitionId) (config : Config) (h : Held D) (t : Tier S M) (b : ℕ) (x : Node D) (side : Side) (work : Work) (command : Command) (copy : Copied) (h' : Held D) (t' : Tier S M)
@@ -109,6 +113,7 @@ module _ {D S M : Type 0} (disk : DiskGhosts D) (store : StoreGhosts S) (meta : 
   doomed_by p config h t b x side g Join segment h' t' (inr (high, inl (answer, is, at, tier), same)) = absurd (cc (is))
   doomed_by p config h t b x side g Join segment h' t' (inr (high, inr (may, row), same)) = elim row [ ]
   doomed_by p config h t b x side g (Fetch offset limit) segment h' t' w = elim w.0 [ ]
+  doomed_by p config h t b x side g (Offset LatestTiered) segment h' t' w = elim w.0 [ ]
   doomed_by p config h t b x side g other segment h' t' w = let e = w.0.1 in absurd (cc (e))
 
   doomed_for : (p : PartitionId) (config : Config) (h : Held D) (t : Tier S M) (b : ℕ) (x : Node D) (side : Side) (work : Work) (command : Command) (segment : Doomed) (h' : Held D) (t' : Tier S M)
@@ -131,6 +136,7 @@ module _ {D S M : Type 0} (disk : DiskGhosts D) (store : StoreGhosts S) (meta : 
   rebuilding_by p config h t b x side g Expire next h' t' (inl lost, same) = let e = lost.1 in absurd (cc (e))
   rebuilding_by p config h t b x side g Expire next h' t' (inr (keeps, by), same) = elim by [ ]
   rebuilding_by p config h t b x side g (Fetch offset limit) next h' t' w = elim w.0 [ ]
+  rebuilding_by p config h t b x side g (Offset LatestTiered) next h' t' w = elim w.0 [ ]
   rebuilding_by p config h t b x side g other next h' t' w = let e = w.0.1 in absurd (cc (e))
 
   rebuilding_for : (p : PartitionId) (config : Config) (h : Held D) (t : Tier S M) (b : ℕ) (x : Node D) (side : Side) (work : Work) (command : Command) (next : Rebuild) (h' : Held D) (t' : Tier S M)
@@ -150,6 +156,7 @@ module _ {D S M : Type 0} (disk : DiskGhosts D) (store : StoreGhosts S) (meta : 
   sought_by p config h t b x side g Copy next h' t' (inr (keeps, inl level)) = let e = level.1 in absurd (cc (e))
   sought_by p config h t b x side g Copy next h' t' (inr (keeps, inr reads)) = elim reads.row [ ]
   sought_by p config h t b x side g Trim next h' t' w = elim w.0 [ ]
+  sought_by p config h t b x side g (Offset LatestTiered) next h' t' w = elim w.0 [ ]
   sought_by p config h t b x side g Expire next h' t' (inl lost, same) = let e = lost.1 in absurd (cc (e))
   sought_by p config h t b x side g Expire next h' t' (inr (keeps, by), same) = elim by [ ]
   sought_by p config h t b x side g Join next h' t' (inl (low, own)) = let e = own.0.1 in absurd (cc (e))

@@ -4,6 +4,7 @@ pub mod TurnsOfCopy
 pub mod TurnsOfExpiry
 pub mod TurnsOfFetch
 pub mod TurnsOfRebuild
+pub mod TurnsOfOffset
 pub mod TurnsOfTrim
 pub mod Turns
 pub mod Sound

@@ -2,7 +2,8 @@
 use Rattle.std.specs.Prelude.{◌≡◌, ◌≤◌, ℕ, true, List, Some, length, slice_get}
 use Rattle.plain_log.specs.declared.command.ActorList.{ActorList}
 use Rattle.plain_log.specs.declared.command.Command.{Command}
-use Rattle.plain_log.specs.declared.command.Command.TheVariants.{Join, Follow, Copy, Trim, Expire, Fetch}
+use Rattle.plain_log.specs.declared.command.Command.TheVariants.{Join, Follow, Copy, Trim, Expire, Fetch, Offset}
+use Rattle.plain_log.specs.declared.command.Which.TheVariants.{LatestTiered}
 use Rattle.plain_log.specs.declared.command.Config.{Config}
 use Rattle.plain_log.specs.declared.command.Order.{Order}
 use Rattle.plain_log.specs.Orders.{AreListsFor, IsConfig}
@@ -27,6 +28,7 @@ MayGoOn Copy g = Unit {0}
 MayGoOn Trim g = Unit {0}
 MayGoOn Expire g = leads g.role ≡ true
 MayGoOn (Fetch offset limit) g = Unit {0}
+MayGoOn (Offset LatestTiered) g = Unit {0}
 MayGoOn command g = ⊥
 
 -- a fetch does this next, for its offset

@@ -16,7 +16,8 @@ use Rattle.rebuild_task.specs.declared.turn.Next.{Next as Rebuild}
 use Rattle.rebuild_task.specs.declared.turn.Next.TheVariants.{Epochs, Restart}
 use Rattle.plain_log.specs.declared.answer.Answer.{Answer}
 use Rattle.plain_log.specs.declared.command.Command.{Command}
-use Rattle.plain_log.specs.declared.command.Command.TheVariants.{Copy, Trim, Expire, Fetch, Join}
+use Rattle.plain_log.specs.declared.command.Command.TheVariants.{Copy, Trim, Expire, Fetch, Join, Offset}
+use Rattle.plain_log.specs.declared.command.Which.TheVariants.{LatestTiered}
 use Rattle.plain_log.specs.declared.command.Config.{Config}
 use Rattle.partition_seen.specs.declared.begun.Begun.{Begun}
 use Rattle.partition_seen.specs.declared.begun.Turned.{Turned}
@@ -37,6 +38,7 @@ use Rattle.partition_world.specs.TurnsOfCopy.{CopyFirstRow, ChooseRow, CopyOnRow
 use Rattle.partition_world.specs.TurnsOfExpiry.{ExpireFirstRow, ExpireOnRow, DeleteOnRow, WantsForDeletion}
 use Rattle.partition_world.specs.TurnsOfFetch.{FetchOnRow, WantsForFetch}
 use Rattle.partition_world.specs.TurnsOfRebuild.{with_line, RefreshOnRow, EpochsOnRow, WantsForRebuild}
+use Rattle.partition_world.specs.TurnsOfOffset.{OffsetFirstRow, OffsetOnRow}
 use Rattle.partition_world.specs.TurnsOfTrim.{TrimFirstRow, TrimOnRow}
 
 module _ {D S M : Type 0} (disk : DiskGhosts D) where
@@ -95,6 +97,7 @@ module _ {D S M : Type 0} (disk : DiskGhosts D) (store : StoreGhosts S) (meta : 
   NotedRow p config h t b x side g (Fetch offset limit) outcome h' t' =
       FetchOnRow store meta p h t b x side g offset limit Refresh outcome t' × (h' ≡ h)
   NotedRow p config h t b x side g Join outcome h' t' = JoinSecondRow disk meta h t b x side g outcome h' t'
+  NotedRow p config h t b x side g (Offset LatestTiered) outcome h' t' = OffsetOnRow h x side g outcome × (h' ≡ h) × (t' ≡ t)
   NotedRow p config h t b x side g command outcome h' t' = OwnOnRow disk h t b x g command outcome h' t'
 
   -- a command's first turn
@@ -102,6 +105,7 @@ module _ {D S M : Type 0} (disk : DiskGhosts D) (store : StoreGhosts S) (meta : 
   BeginRow h t b x side Copy outcome h' t' = CopyFirstRow meta h t b x side outcome t' × (h' ≡ h)
   BeginRow h t b x side Trim outcome h' t' = TrimFirstRow meta h t b x side outcome t' × (h' ≡ h)
   BeginRow h t b x side Expire outcome h' t' = ExpireFirstRow meta h t b x side outcome t' × (h' ≡ h)
+  BeginRow h t b x side (Offset LatestTiered) outcome h' t' = OffsetFirstRow meta h t b x side outcome t' × (h' ≡ h)
   BeginRow h t b x side command outcome h' t' = OwnRow disk h t b x command outcome h' t'
 
   -- a turn of a command of broker b, of which so much is kept

@@ -1,12 +1,12 @@
 -- What a turn of a copy comes to over devices.
 --
 --   turn      does                                       answers
---   first     refreshes the leader's view                Down, NotLeader, MetaFault
+--   first     refreshes the leader's view                Down, NotLeader, CopyOff, MetaFault
 --   second    chooses a closed segment, and reads it     LostLead, Level, DiskFault, Damaged
 --   later     one call of a device, by the copy's row    LostLead, and what that row answers
 --
 -- A broker that has stopped, or has another role than at the first turn, has lost its lead. Of the broker's log only the second
--- turn takes notice, and reads it.
+-- turn takes notice, and reads it. Where segments aren't copied no copy begins; one that has begun goes on.
 use Rattle.std.specs.Prelude.{◌≡◌, ◌⊎◌, ℕ, ◌-◌, ◌^◌, ◌<◌, true, false, max, Option, Some, None, Ok, Err, IsSomeAnd}
 use Rattle.std.specs.declared.alloc.AllocError.{AllocError}
 use Rattle.tier_base.specs.declared.names.PartitionId.{PartitionId}
@@ -26,7 +26,7 @@ use Rattle.copy_task.specs.Copying.{Copied, IsCopied}
 use Rattle.copy_task.specs.Turns.{Tiers, CopyRow}
 use Rattle.copy_task.specs.declared.turn.CopyTurn.{CopyTurn}
 use Rattle.copy_task.specs.declared.turn.Next.{Next}
-use Rattle.plain_log.specs.declared.answer.Answer.TheVariants.{Down, NotLeader, MetaFault, LostLead, Level, DiskFault, Damaged}
+use Rattle.plain_log.specs.declared.answer.Answer.TheVariants.{Down, NotLeader, CopyOff, MetaFault, LostLead, Level, DiskFault, Damaged}
 use Rattle.plain_log.specs.declared.answer.Place.TheVariants.{File}
 use Rattle.plain_log.specs.State.{leads}
 use Rattle.tier_safe.specs.Views.{IsIdOf}
@@ -73,15 +73,23 @@ module _ {D : Type 0} where
     pub line_is : copy.line ≡ line_of x
     pub interval_is : WhileUp x.log (λ log. copy.interval ≡ log.settings.index_interval)
 
--- copy, first turn
 module _ {D S M : Type 0} (meta : MetaGhosts M) where
-  abbrev pub CopyFirstRow : Held D → Tier S M → ℕ → Node D → Side → Outcome → Tier S M → Type 0
-  CopyFirstRow h t b x side (Answers Down) t' = (is_up x ≡ false) × (t' ≡ t)
-  CopyFirstRow h t b x side (Answers NotLeader) t' = (is_up x ≡ true) × (leads x.role ≡ false) × (t' ≡ t)
-  CopyFirstRow h t b x side (Answers MetaFault) t' = (is_up x ≡ true) × (leads x.role ≡ true) × FailsToRead meta t side t'
-  CopyFirstRow h t b x side (Begins g) t' =
+  -- the first turn of a leader's command on the remote tier: its view is refreshed
+  abbrev pub LeadersFirstRow : Held D → Tier S M → ℕ → Node D → Side → Outcome → Tier S M → Type 0
+  LeadersFirstRow h t b x side (Answers Down) t' = (is_up x ≡ false) × (t' ≡ t)
+  LeadersFirstRow h t b x side (Answers NotLeader) t' = (is_up x ≡ true) × (leads x.role ≡ false) × (t' ≡ t)
+  LeadersFirstRow h t b x side (Answers MetaFault) t' = (is_up x ≡ true) × (leads x.role ≡ true) × FailsToRead meta t side t'
+  LeadersFirstRow h t b x side (Begins g) t' =
       (is_up x ≡ true) × (leads x.role ≡ true) × Notes h x g × Refreshes meta t b side t'
-  CopyFirstRow h t b x side other t' = ⊥
+  LeadersFirstRow h t b x side other t' = ⊥
+
+  -- copy, first turn: none is begun where segments aren't copied
+  abbrev pub CopyFirstRow : Held D → Tier S M → ℕ → Node D → Side → Outcome → Tier S M → Type 0
+  CopyFirstRow h t b x side (Answers CopyOff) t' =
+      (is_up x ≡ true) × (leads x.role ≡ true) × (h.copying ≡ false) × (t' ≡ t)
+  CopyFirstRow h t b x side (Answers MetaFault) t' = LeadersFirstRow h t b x side (Answers MetaFault) t' × (h.copying ≡ true)
+  CopyFirstRow h t b x side (Begins g) t' = LeadersFirstRow h t b x side (Begins g) t' × (h.copying ≡ true)
+  CopyFirstRow h t b x side outcome t' = LeadersFirstRow h t b x side outcome t'
 
 module _ {D : Type 0} (disk : DiskGhosts D) where
   -- a log was read, and is as it was

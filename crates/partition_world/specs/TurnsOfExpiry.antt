@@ -7,9 +7,12 @@
 --
 -- A broker that has stopped, or has another role than at the first turn, has lost its lead. A segment is due where it ends below
 -- the log start and its deletion isn't whole. Only where none is due does retention count: the pieces of remote segments from the
--- log start up to the known mark, by the leader's own line, and behind them what its local log has. Local logs stay as they are.
+-- log start up to the known mark, by the leader's own line, and behind them what its local log has. Where segments aren't
+-- copied any more, so that the local log goes on where the pieces end, its closed segments count as they do. Local logs stay as they
+-- are.
 --
--- Source: KIP-405, where the leader alone deletes remote segments, and by the retention of the whole log moves its start.
+-- Source: KIP-405, where the leader alone deletes remote segments, and by the retention of the whole log moves its start; and
+-- KIP-950, by which a topic whose tiered storage is disabled for writing keeps what it has there under the same retention.
 use Rattle.std.specs.Prelude.{◌≡◌, ◌⊎◌, ℕ, List, Option, Some, None, option_map, unwrap_or, Ok, Err}
 use Rattle.std.specs.declared.alloc.AllocError.{AllocError}
 use Rattle.tier_base.specs.declared.names.PartitionId.{PartitionId}
@@ -23,7 +26,8 @@ use Rattle.segment_meta.specs.declared.note.Entry.{Entry}
 use Rattle.remote_view.specs.Lookup.{due}
 use Rattle.remote_find.specs.declared.piece.Piece.{Piece}
 use Rattle.remote_find.specs.Pieces.{chain}
-use Rattle.expiry_task.specs.Rule.{raised_to, rest_behind}
+use Rattle.expiry_task.specs.Rule.{end_from, uncopied, end_behind, raised_to, rest_behind}
+use Rattle.expiry_task.specs.declared.rule.Uncopied.{Uncopied}
 use Rattle.expiry_task.specs.Turns.{Tiers, ExpiryRow}
 use Rattle.expiry_task.specs.declared.turn.Doomed.{Doomed}
 use Rattle.expiry_task.specs.declared.turn.ExpiryTurn.{ExpiryTurn}
@@ -36,19 +40,19 @@ use Rattle.broker_log.specs.Seen.{closed_in, layout_in}
 use Rattle.partition_seen.specs.declared.begun.Begun.{Begun}
 use Rattle.partition_turns.specs.declared.held.Node.{Node}
 use Rattle.partition_turns.specs.declared.held.Held.{Held}
-use Rattle.partition_turns.specs.Held.{end_of, line_of}
+use Rattle.partition_turns.specs.Held.{end_of, line_of, local_of}
 use Rattle.partition_turns.specs.TurnsOfElections.{Leaves}
 use Rattle.partition_world.specs.declared.tier.Side.{Side}
 use Rattle.partition_world.specs.declared.tier.Tier.{Tier}
 use Rattle.partition_world.specs.declared.seat.Outcome.{Outcome}
 use Rattle.partition_world.specs.declared.seat.Outcome.TheVariants.{Answers, Dooms}
 use Rattle.partition_world.specs.Seats.{expiry_outcome}
-use Rattle.partition_world.specs.TurnsOfCopy.{KeepsLead, teller_of, CopyFirstRow}
+use Rattle.partition_world.specs.TurnsOfCopy.{KeepsLead, teller_of, LeadersFirstRow}
 
 -- expire, first turn: as a copy's
 module _ {D S M : Type 0} (meta : MetaGhosts M) where
   abbrev pub ExpireFirstRow : Held D → Tier S M → ℕ → Node D → Side → Outcome → Tier S M → Type 0
-  ExpireFirstRow h t b x side outcome t' = CopyFirstRow meta h t b x side outcome t'
+  ExpireFirstRow h t b x side outcome t' = LeadersFirstRow meta h t b x side outcome t'
 
 module _ {D : Type 0} where
   -- the first segment of the view that ends below the log start, and whose deletion isn't whole
@@ -63,14 +67,22 @@ module _ {D : Type 0} where
   abbrev pub open_size_of : Node D → ℕ
   open_size_of x = unwrap_or (option_map (λ layout. size_of layout.active) (layout_in x.log)) 0
 
-  -- the bytes of the broker's local log behind these pieces
-  abbrev pub rest_of : Held D → Node D → List Piece → ℕ
-  rest_of h x pieces = rest_behind pieces h.registry.start (closed_in x.log) (open_size_of x) (end_of x)
+  -- the closed segments that count with these pieces, since they aren't copied any more
+  abbrev pub own_of : Held D → Node D → List Piece → List Uncopied
+  own_of h x pieces = uncopied h.copying (local_of x) (end_from h.registry.start pieces) x.known (closed_in x.log)
+
+  -- the bytes of the broker's local log behind these pieces and segments
+  abbrev pub rest_of : Held D → Node D → List Piece → List Uncopied → ℕ
+  rest_of h x pieces own =
+      rest_behind (end_behind (end_from h.registry.start pieces) own) (closed_in x.log) (open_size_of x) (end_of x)
+
+  -- where the log start comes to by these
+  abbrev pub rises_by : Held D → Node D → Side → Keep → List Piece → List Uncopied → Option ℕ
+  rises_by h x side keep pieces own = raised_to side.view.entries pieces own (rest_of h x pieces own) h.clock keep
 
   -- where the log start comes to, where retention lets it rise
   abbrev pub rises_to : Held D → Node D → Side → Keep → Option ℕ
-  rises_to h x side keep =
-      raised_to side.view.entries (pieces_of h x side) (rest_of h x (pieces_of h x side)) h.clock keep
+  rises_to h x side keep = rises_by h x side keep (pieces_of h x side) (own_of h x (pieces_of h x side))
 
   -- the registry raises the log start to this for a broker of a role, or refuses since another leads by now
   abbrev pub RaiseRow : Held D → Role → ℕ → Answer → Held D → Type 0

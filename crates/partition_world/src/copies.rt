@@ -14,7 +14,7 @@ ghost use Rattle.partition_turns.specs.declared.held.Node.{Node as Broker};
 ghost use Rattle.partition_turns.specs.Held.{AtNode, is_up, line_of, put_node};
 ghost use Rattle.partition_world.specs.declared.tier.Side.{Side as Knowledge};
 ghost use Rattle.partition_world.specs.Tier.{AtSide, next_of, put_side, Halts};
-ghost use Rattle.partition_world.specs.TurnsOfCopy.{KeepsLead, copied_to, CopyFirstRow, ChooseRow, ReadRow, ReadsLog, CopyOnRow, tiers_of, teller_of, WantsForCopy};
+ghost use Rattle.partition_world.specs.TurnsOfCopy.{KeepsLead, copied_to, LeadersFirstRow, CopyFirstRow, ChooseRow, ReadRow, ReadsLog, CopyOnRow, tiers_of, teller_of, WantsForCopy};
 ghost use Rattle.partition_world.specs.Turns.{StaysTier};
 
 use crate::seat::{Outcome, copy_outcome};
@@ -40,7 +40,7 @@ pub(crate) fn keeps_lead<D: Disk>(node: &Node<D>, noted: &Begun) -> bool
 }
 
 /// The end that the remote tier has all of a broker's log up to, from the log start or the local start on.
-fn copied_to<D: Disk>(node: &Node<D>, side: &Side, start: u64) -> u64
+pub(crate) fn copied_to<D: Disk>(node: &Node<D>, side: &Side, start: u64) -> u64
     requires { is_up node.now ≡ true }
     ensures { result ≡ copied_to node.now side.now start }
 {
@@ -141,7 +141,7 @@ pub(crate) fn teller<D: Disk>(held: &Held<D>, broker: BrokerId) -> Teller
 }
 
 impl<S: Store, M: MetaLog> Tier<S, M> {
-    /// Begins a copy: the leader's view takes in what the metadata log has more.
+    /// Begins a copy, where segments are copied.
     pub(crate) fn copy<D: Disk>(
         &mut self,
         alloc: Global,
@@ -152,6 +152,26 @@ impl<S: Store, M: MetaLog> Tier<S, M> {
         requires side { b < length self.old.sides }
         ensures row { IfOk result (λ outcome. AtNode held.now b (λ x. AtSide self.old b (λ side.
             CopyFirstRow M.MetaLog held.now self.old b x side outcome self.new))) }
+        ensures err { OnErr result (AtSide self.old b (λ side. Halts M.MetaLog self.old b side self.new)) }
+    {
+        let node = held.nodes.get(b);
+        if !held.copying && node.is_up() && leading(node.role).is_some() {
+            return Ok(Outcome::Answers(Answer::CopyOff));
+        }
+        self.begin_leading(alloc, b, held)
+    }
+
+    /// Begins a leader's command on the remote tier: its view takes in what the metadata log has more.
+    pub(crate) fn begin_leading<D: Disk>(
+        &mut self,
+        alloc: Global,
+        b: usize,
+        held: &Held<D>,
+    ) -> Result<Outcome, AllocError>
+        requires node { b < length held.now.nodes }
+        requires side { b < length self.old.sides }
+        ensures row { IfOk result (λ outcome. AtNode held.now b (λ x. AtSide self.old b (λ side.
+            LeadersFirstRow M.MetaLog held.now self.old b x side outcome self.new))) }
         ensures err { OnErr result (AtSide self.old b (λ side. Halts M.MetaLog self.old b side self.new)) }
     {
         let node = held.nodes.get(b);

@@ -14,7 +14,10 @@ use crate::copies::{keeps_lead, teller};
 use crate::seat::{Outcome, expiry_outcome};
 use crate::tier::{Side, Tier};
 use disk_model::Disk;
-use expiry_task::{Doomed, Next as Deletion, expiry_turn, raised_to, rest_behind};
+use expiry_task::{
+    Doomed, Next as Deletion, end_behind, end_from, expiry_turn, find_uncopied, raised_to,
+    rest_behind,
+};
 use meta_log::MetaLog;
 use object_store::Store;
 use partition_seen::Begun;
@@ -39,10 +42,24 @@ fn rises_to<D: Disk>(
     let (Some(line), Some(open)) = (node.log.line(), node.log.open_size()) else {
         unreachable!()
     };
+    let Some(local) = node.log.local_start() else {
+        unreachable!()
+    };
     let (start, end) = (held.registry.start, node.end());
     let pieces = chain(alloc, &side.view, line, end, start, node.known)?;
-    let rest = rest_behind(pieces.as_slice(), start, node.log.closed(), open, end);
-    raised_to(alloc, &side.view, pieces.as_slice(), rest, held.clock, keep)
+    let offset = end_from(start, pieces.as_slice());
+    let closed = node.log.closed();
+    let own = find_uncopied(alloc, held.copying, local, offset, node.known, closed)?;
+    let rest = rest_behind(end_behind(offset, own.as_slice()), closed, open, end);
+    raised_to(
+        alloc,
+        &side.view,
+        pieces.as_slice(),
+        own.as_slice(),
+        rest,
+        held.clock,
+        keep,
+    )
 }
 
 /// Raises the log start for a leader.
@@ -66,7 +83,7 @@ fn raise<D: Disk>(held: &mut Held<D>, role: Role, start: u64) -> Result<Answer, 
 }
 
 impl<S: Store, M: MetaLog> Tier<S, M> {
-    /// Begins an expiry, as a copy begins: the leader's view takes in what the metadata log has more.
+    /// Begins an expiry: the leader's view takes in what the metadata log has more.
     pub(crate) fn expire<D: Disk>(
         &mut self,
         alloc: Global,
@@ -79,7 +96,7 @@ impl<S: Store, M: MetaLog> Tier<S, M> {
             ExpireFirstRow M.MetaLog held.now self.old b x side outcome self.new))) }
         ensures err { OnErr result (AtSide self.old b (λ side. Halts M.MetaLog self.old b side self.new)) }
     {
-        self.copy(alloc, b, held)
+        self.begin_leading(alloc, b, held)
     }
 
     /// Takes up a remote segment whose deletion is due, or raises the log start as retention says.

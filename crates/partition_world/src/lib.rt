@@ -20,6 +20,7 @@ mod desk;
 mod expiries;
 mod fetches;
 mod laws;
+mod offsets;
 mod rebuilds;
 mod runs;
 mod seat;

@@ -19,7 +19,7 @@ use meta_log::MetaLog;
 use object_store::Store;
 use partition_seen::Begun;
 use partition_turns::Held;
-use plain_log::{Command, Config, Order};
+use plain_log::{Command, Config, Order, Which};
 use rebuild_task::Next as Rebuild;
 use std::alloc::{AllocError, Global};
 use tier_base::PartitionId;
@@ -85,6 +85,9 @@ impl<S: Store, M: MetaLog> Tier<S, M> {
             Command::Copy => self.copy(alloc, order.broker.0 as usize, held),
             Command::Trim => self.trim(alloc, order.broker.0 as usize, held),
             Command::Expire => self.expire(alloc, order.broker.0 as usize, held),
+            Command::Offset(Which::LatestTiered) => {
+                self.begin_leading(alloc, order.broker.0 as usize, held)
+            }
             _ => self.begin_own(alloc, order, held),
         }
     }
@@ -143,6 +146,7 @@ impl<S: Store, M: MetaLog> Tier<S, M> {
                 held,
             ),
             Command::Join => self.join_on(alloc, order.broker, noted, held),
+            Command::Offset(Which::LatestTiered) => Ok(self.offset_on(b, noted, held)),
             Command::Follow { .. } => Ok(Outcome::Answers(held.follow_on(b, noted)?)),
             _ => unreachable!(),
         }

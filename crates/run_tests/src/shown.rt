@@ -54,7 +54,7 @@ pub(crate) static SHELL: [(&[&str], &[(u32, &str)], u8, &str, &str); 6] = [
 ];
 
 /// The lines of a script, each with how often it stands there, and what is told of it.
-pub(crate) static REFUSED: [(&[(u32, &str)], &str); 25] = [
+pub(crate) static REFUSED: [(&[(u32, &str)], &str); 27] = [
     (&[(1, "0 0 0 flush é")], "tiered: line 1: NotText\n"),
     (&[(1, "0 0 0 frob")], "tiered: line 1: Word\n"),
     (&[(1, "brokers 9")], "tiered: line 1: Number\n"),
@@ -88,6 +88,8 @@ pub(crate) static REFUSED: [(&[(u32, &str)], &str); 25] = [
     (&[(1, "x 0 0 flush")], "tiered: line 1: Word\n"),
     (&[(1, "0 0 - flush")], "tiered: line 1: Word\n"),
     (&[(1, "0 0 0 clock 5")], "tiered: line 1: Word\n"),
+    (&[(1, "0 0 0 offset first")], "tiered: line 1: Word\n"),
+    (&[(1, "0 0 - copying 2")], "tiered: line 1: Number\n"),
     (&[(1, "0 0 0 trim 1")], "tiered: line 1: Word\n"),
     (&[(1, "retention_bytes -2")], "tiered: line 1: Number\n"),
     (&[(1, "local_retention_ms -01")], "tiered: line 1: Number\n"),

@@ -3,12 +3,13 @@
 mod part_1;
 mod part_2;
 mod part_3;
+mod part_4;
 
 /// How many scripts there are.
-pub(crate) static COUNT: u32 = 49;
+pub(crate) static COUNT: u32 = 53;
 
 /// How many parts they stand in.
-pub(crate) static PARTS: usize = 3;
+pub(crate) static PARTS: usize = 4;
 
 /// A part's text: a script, a grave accent, its trace, a grave accent, and so on. A script's first line says where it is shown.
 pub(crate) fn text(part: usize) -> &'static str {
@@ -16,6 +17,7 @@ pub(crate) fn text(part: usize) -> &'static str {
         0 => part_1::RUNS,
         1 => part_2::RUNS,
         2 => part_3::RUNS,
+        3 => part_4::RUNS,
         _ => "",
     }
 }

@@ -24,7 +24,7 @@ pub fn cause(why: Why, is_there: bool, is_end: bool) -> &'static str {
         Why::FetchSum => "with this line the fetches pass their sum, 268435456 bytes",
         Why::CopySum => "with this line the copies pass their sum, 2147483648 bytes",
         Why::TurnSum => "with this line the turns are more than 1048576",
-        Why::Unbuilt => "no program runs this command yet",
+        Why::Unbuilt => "no program runs this yet",
     }
 }
 

@@ -16,13 +16,14 @@ pub static OPTIONS: [&str; 8] = [
 pub static LINES: [&str; 3] = ["later", "turn", "fault"];
 
 /// The commands that programs run.
-pub static COMMANDS: [&str; 20] = [
-    "append", "raw", "flush", "roll", "fetch", "elect", "unclean", "learn", "join", "follow",
-    "ack", "shrink", "expand", "copy", "trim", "expire", "raise", "clock", "stop", "up",
+pub static COMMANDS: [&str; 22] = [
+    "append", "raw", "flush", "roll", "fetch", "offset", "elect", "unclean", "learn", "join",
+    "follow", "ack", "shrink", "expand", "copy", "copying", "trim", "expire", "raise", "clock",
+    "stop", "up",
 ];
 
 /// The commands that no program runs yet.
-pub static UNBUILT: [&str; 3] = ["offset", "pack", "copying"];
+pub static UNBUILT: [&str; 1] = ["pack"];
 
 /// The words behind others.
 pub static OTHERS: [&str; 20] = [

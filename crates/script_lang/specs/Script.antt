@@ -20,7 +20,9 @@ use Rattle.tier_base.specs.declared.names.ActorId.{ActorId}
 use Rattle.tier_base.specs.declared.names.PartitionId.{PartitionId}
 use Rattle.tier_base.specs.declared.plain.Keep.{Keep}
 use Rattle.plain_log.specs.declared.command.Command.{Command}
-use Rattle.plain_log.specs.declared.command.Command.TheVariants.{Append, Raw, Flush, Roll, Elect, Unclean, Learn, Join, Follow, Ack, Shrink, Expand, Copy, Trim, Expire, Raise, Clock, Stop, Up, Fetch}
+use Rattle.plain_log.specs.declared.command.Command.TheVariants.{Append, Raw, Flush, Roll, Elect, Unclean, Learn, Join, Follow, Ack, Shrink, Expand, Copy, Trim, Expire, Raise, Clock, Stop, Up, Fetch, Copying, Offset}
+use Rattle.plain_log.specs.declared.command.Which.{Which}
+use Rattle.plain_log.specs.declared.command.Which.TheVariants.{At}
 use Rattle.plain_log.specs.declared.command.Config.{Config}
 use Rattle.plain_log.specs.declared.command.Order.{Order}
 use Rattle.plain_log.specs.declared.command.Pace.{Pace}
@@ -138,6 +140,11 @@ sums_with segment_bytes s (Placed actor partition order at_once) = within segmen
 sums_with segment_bytes s (Turn actor turns) = turns_within (with_turns s turns)
 sums_with segment_bytes s (Faulty partition fault) = Ok s
 
+-- the questions for an offset that are built: all but that by a timestamp
+abbrev pub is_built_question : Which → Bool
+is_built_question (At ts) = false
+is_built_question other = true
+
 -- the commands that are built
 abbrev pub is_built_command : Command → Bool
 is_built_command (Append recs) = true
@@ -160,6 +167,8 @@ is_built_command (Clock ms) = true
 is_built_command Stop = true
 is_built_command Up = true
 is_built_command (Fetch offset limit) = true
+is_built_command (Copying on) = true
+is_built_command (Offset which) = is_built_question which
 is_built_command other = false
 
 -- the forms that are built

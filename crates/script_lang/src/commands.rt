@@ -1,6 +1,6 @@
 //! The commands, each by its name and the words behind it.
 
-ghost use Rattle.std.specs.Prelude.{◌≡◌, ◌<◌, length, IfOk};
+ghost use Rattle.std.specs.Prelude.{◌≡◌, ◌≢◌, ◌<◌, length, IfOk};
 ghost use Rattle.script_lang.specs.Reading.{Reads};
 ghost use Rattle.script_lang.specs.Commands.{alone, append_in, raw_in, fetch_in, follow_in, raise_in, which_behind, offset_in, clock_in, flag_in, command_led, common_led};
 ghost use Rattle.script_lang.specs.Fit.{IsSaid};
@@ -139,37 +139,46 @@ fn alone(command: Command, words: Words) -> Result<Command, Why>
     Ok(command)
 }
 
+/// Reads a command that goes to a broker, other than those that bring batches.
+fn small(verb: Verb, words: Words) -> Result<Command, Why>
+    requires records { verb ≢ Verb.Append }
+    requires bytes { verb ≢ Verb.Raw }
+    ensures value { result ≡ command_led verb words.entry }
+    ensures said { IfOk result IsSaid }
+{
+    match verb {
+        Verb::Flush => alone(Command::Flush, words),
+        Verb::Roll => alone(Command::Roll, words),
+        Verb::Elect => alone(Command::Elect, words),
+        Verb::Unclean => alone(Command::Unclean, words),
+        Verb::Learn => alone(Command::Learn, words),
+        Verb::Join => alone(Command::Join, words),
+        Verb::Follow => follow(words),
+        Verb::Ack => alone(Command::Ack, words),
+        Verb::Shrink => alone(Command::Shrink, words),
+        Verb::Expand => alone(Command::Expand, words),
+        Verb::Copy => alone(Command::Copy, words),
+        Verb::Trim => alone(Command::Trim, words),
+        Verb::Expire => alone(Command::Expire, words),
+        Verb::Raise => raise(words),
+        Verb::Stop => alone(Command::Stop, words),
+        Verb::Up => alone(Command::Up, words),
+        Verb::Fetch => fetch(words),
+        Verb::Offset => offset(words),
+        _ => Err(Why::Word),
+    }
+}
+
 /// Reads a command that goes to a broker.
 pub fn command(alloc: Global, verb: Verb, words: Words) -> Result<Command, LineRefusal>
     ensures value { Reads result (command_led verb words.entry) }
     ensures said { IfOk result IsSaid }
 {
-    let command = match verb {
-        Verb::Append => append(alloc, words)?,
-        Verb::Raw => raw(alloc, words)?,
-        Verb::Flush => alone(Command::Flush, words)?,
-        Verb::Roll => alone(Command::Roll, words)?,
-        Verb::Elect => alone(Command::Elect, words)?,
-        Verb::Unclean => alone(Command::Unclean, words)?,
-        Verb::Learn => alone(Command::Learn, words)?,
-        Verb::Join => alone(Command::Join, words)?,
-        Verb::Follow => follow(words)?,
-        Verb::Ack => alone(Command::Ack, words)?,
-        Verb::Shrink => alone(Command::Shrink, words)?,
-        Verb::Expand => alone(Command::Expand, words)?,
-        Verb::Copy => alone(Command::Copy, words)?,
-        Verb::Trim => alone(Command::Trim, words)?,
-        Verb::Expire => alone(Command::Expire, words)?,
-        Verb::Raise => raise(words)?,
-        Verb::Stop => alone(Command::Stop, words)?,
-        Verb::Up => alone(Command::Up, words)?,
-        Verb::Fetch => fetch(words)?,
-        Verb::Offset => offset(words)?,
-        Verb::Clock | Verb::Pack | Verb::Copying | Verb::Unknown => return Err(LineRefusal::Because(
-            Why::Word,
-        )),
-    };
-    Ok(command)
+    match verb {
+        Verb::Append => append(alloc, words),
+        Verb::Raw => raw(alloc, words),
+        _ => Ok(small(verb, words)?),
+    }
 }
 
 /// Reads a command of the whole partition.

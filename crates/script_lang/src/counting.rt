@@ -55,7 +55,7 @@ fn copies_of(command: &Command) -> u64
 }
 
 /// What the lines so far come to.
-#[derive(Clone, Copy, Debug, PartialEq, Eq)]
+#[derive(Clone, Copy)]
 pub struct Counts {
     pub commands: u64,
     /// The bytes of the largest batch.

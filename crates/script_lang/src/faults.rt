@@ -10,7 +10,7 @@ use crate::form::Form;
 use crate::names::{DeviceName, find_call, find_device};
 use crate::options::Options;
 use crate::refusal::Why;
-use crate::words::Words;
+use crate::words::{Words, is};
 use tier_base::{BrokerId, PartitionId};
 
 /// Reads a device.
@@ -61,10 +61,10 @@ fn call(device: FaultDevice, words: &mut Words) -> Result<FaultCall, Why>
 fn side(word: &[u8]) -> Result<bool, Why>
     ensures { result ≡ side_named word.now }
 {
-    if word == b"after".as_slice() {
+    if is(word, "after") {
         return Ok(true);
     }
-    if word == b"before".as_slice() {
+    if is(word, "before") {
         return Ok(false);
     }
     Err(Why::Word)

@@ -6,7 +6,7 @@ use plain_log::Order;
 use tier_base::{ActorId, PartitionId};
 
 /// What a line says.
-#[derive(Debug, Drop)]
+#[derive(Drop)]
 pub enum Form {
     /// Nothing.
     Blank,

@@ -12,7 +12,7 @@ use crate::names::{Lead, find_lead, find_verb};
 use crate::numbers::number;
 use crate::options::{OptionLine, Options};
 use crate::refusal::{LineRefusal, Why};
-use crate::words::Words;
+use crate::words::{Words, is};
 use plain_log::Order;
 use std::alloc::Global;
 use tier_base::{ActorId, BrokerId, PartitionId};
@@ -62,7 +62,7 @@ fn order(alloc: Global, brokers: u16, words: Words) -> Result<Order, LineRefusal
 {
     let mut words = words;
     let word = words.first(Why::Word)?;
-    if word == b"-".as_slice() {
+    if is(word, "-") {
         return Ok(common_order(brokers, words)?);
     }
     addressed_order(alloc, brokers, word, words)

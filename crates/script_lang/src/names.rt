@@ -8,7 +8,7 @@ use crate::fault::FaultCall;
 use crate::numbers::is_digit;
 
 /// What a line's first word announces.
-#[derive(Clone, Copy, Debug, PartialEq, Eq)]
+#[derive(Clone, Copy)]
 pub enum Lead {
     Comment,
     Brokers,
@@ -27,7 +27,7 @@ pub enum Lead {
 }
 
 /// The name of a command.
-#[derive(Clone, Copy, Debug, PartialEq, Eq)]
+#[derive(Clone, Copy)]
 pub enum Verb {
     Append,
     Raw,
@@ -56,7 +56,7 @@ pub enum Verb {
 }
 
 /// Which offset is asked for.
-#[derive(Clone, Copy, Debug, PartialEq, Eq)]
+#[derive(Clone, Copy)]
 pub enum OffsetName {
     Earliest,
     Latest,
@@ -67,7 +67,7 @@ pub enum OffsetName {
 }
 
 /// The kind of a device.
-#[derive(Clone, Copy, Debug, PartialEq, Eq)]
+#[derive(Clone, Copy)]
 pub enum DeviceName {
     Disk,
     Store,

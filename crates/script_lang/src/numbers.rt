@@ -5,6 +5,7 @@ ghost use Rattle.std.specs.List.{list_all};
 ghost use Rattle.script_lang.specs.Words.{is_digit, is_number, value_of, number_in, signed_in};
 
 use crate::refusal::Why;
+use crate::words::is;
 
 /// Answers whether a byte is a digit.
 pub fn is_digit(byte: u8) -> bool
@@ -63,10 +64,10 @@ pub fn signed(word: &[u8], below: u64, high: u64, why: Why) -> Result<i64, Why>
     requires { high < 2 ^ 63 }
     ensures { result ≡ signed_in below high word.now why }
 {
-    if below >= 1 && word == b"-1".as_slice() {
+    if below >= 1 && is(word, "-1") {
         return Ok(-1);
     }
-    if below >= 2 && word == b"-2".as_slice() {
+    if below >= 2 && is(word, "-2") {
         return Ok(-2);
     }
     Ok(number(word, 0, high, why)? as i64)

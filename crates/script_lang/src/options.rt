@@ -8,7 +8,7 @@ use plain_log::Config;
 use tier_base::{Keep, Settings};
 
 /// An option as a line gives it.
-#[derive(Clone, Copy, Debug, PartialEq, Eq)]
+#[derive(Clone, Copy)]
 pub enum OptionLine {
     Brokers(u16),
     Partitions(u16),
@@ -21,7 +21,7 @@ pub enum OptionLine {
 }
 
 /// The options that were given so far.
-#[derive(Clone, Copy, Debug, PartialEq, Eq)]
+#[derive(Clone, Copy)]
 pub struct Options {
     pub brokers: Option<u16>,
     pub partitions: Option<u16>,

@@ -8,7 +8,7 @@ ghost use Rattle.script_lang.specs.Records.{is_letter, is_name_byte, hex_in, val
 use crate::fields::Fields;
 use crate::numbers::{is_digit, number};
 use crate::refusal::{LineRefusal, Why};
-use crate::words::Words;
+use crate::words::{Words, is};
 use hex::FromHexError;
 use record_batch::{Header, HeaderList, Rec};
 use std::alloc::Global;
@@ -66,7 +66,7 @@ fn value(alloc: Global, word: &[u8]) -> Result<Blob, LineRefusal>
 fn field(alloc: Global, word: &[u8]) -> Result<Option<Blob>, LineRefusal>
     ensures { Reads result (field_in word.now) }
 {
-    if word == b"-".as_slice() {
+    if is(word, "-") {
         return Ok(None);
     }
     Ok(Some(value(alloc, word)?))

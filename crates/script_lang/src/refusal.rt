@@ -5,58 +5,75 @@ ghost use Rattle.script_lang.specs.declared.refusal.LineRefusal.{LineRefusal};
 ghost use Rattle.script_lang.specs.declared.refusal.ScriptRefusal.{ScriptRefusal};
 
 use std::alloc::AllocError;
+use std::{error, fmt};
 use thiserror::Error;
 
 /// Why a line has no reading. The first cause in this order is told, but that of the line's words, from `Word` to
 /// `Hex`, the one that stands leftmost is.
-#[derive(Clone, Copy, Debug, PartialEq, Eq, Error)]
+#[derive(Clone, Copy, Debug, PartialEq, Eq)]
 pub enum Why {
     /// A byte can't stand in a line.
-    #[error("NotText")]
     NotText,
     /// A word is unknown, missing, or one too many.
-    #[error("Word")]
     Word,
     /// A number isn't decimal, or is out of its range.
-    #[error("Number")]
     Number,
     /// A record, a key or a value has no reading.
-    #[error("Field")]
     Field,
     /// The bytes of `raw` aren't hexadecimal.
-    #[error("Hex")]
     Hex,
     /// An option stands behind a command, or behind a `later`, `turn` or `fault` line.
-    #[error("TooLate")]
     TooLate,
     /// An option was given before.
-    #[error("Twice")]
     Twice,
     /// The actor has commands of another partition.
-    #[error("ActorPartition")]
     ActorPartition,
     /// The actor that is to be stepped has no command yet.
-    #[error("NoActor")]
     NoActor,
     /// There are more than 65,536 commands.
-    #[error("TooMany")]
     TooMany,
     /// A batch would pass 1,048,576 bytes.
-    #[error("BatchTooLarge")]
     BatchTooLarge,
     /// The sum over fetches of the limit and the largest batch passes 2^28.
-    #[error("FetchSum")]
     FetchSum,
     /// The number of copies, times the greater of a segment's size and the largest batch, passes 2^31.
-    #[error("CopySum")]
     CopySum,
     /// The `turn` lines step more than 1,048,576 times.
-    #[error("TurnSum")]
     TurnSum,
     /// The line has a reading, and no program runs its form yet.
-    #[error("Unbuilt")]
     Unbuilt,
 }
+
+impl Why {
+    /// Names the cause.
+    fn name(self) -> &'static str {
+        match self {
+            Why::NotText => "NotText",
+            Why::Word => "Word",
+            Why::Number => "Number",
+            Why::Field => "Field",
+            Why::Hex => "Hex",
+            Why::TooLate => "TooLate",
+            Why::Twice => "Twice",
+            Why::ActorPartition => "ActorPartition",
+            Why::NoActor => "NoActor",
+            Why::TooMany => "TooMany",
+            Why::BatchTooLarge => "BatchTooLarge",
+            Why::FetchSum => "FetchSum",
+            Why::CopySum => "CopySum",
+            Why::TurnSum => "TurnSum",
+            Why::Unbuilt => "Unbuilt",
+        }
+    }
+}
+
+impl fmt::Display for Why {
+    fn fmt<W: fmt::Write>(&self, f: &mut fmt::Formatter<W>) -> fmt::Result {
+        f.write_str(self.name())
+    }
+}
+
+impl error::Error for Why {}
 
 /// Why a line isn't read.
 #[derive(Clone, Copy, Debug, PartialEq, Eq, Error)]

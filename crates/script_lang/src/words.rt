@@ -1,12 +1,19 @@
 //! The words of a line, one after another.
 
-ghost use Rattle.std.specs.Prelude.{◌≡◌, ◌-◌, ◌^◌, ◌≤◌, ◌<◌, length, IfOk};
+ghost use Rattle.std.specs.Prelude.{◌≡◌, ◌-◌, ◌^◌, ◌≤◌, ◌<◌, length, bytes_eq, IfOk};
 ghost use Rattle.script_lang.specs.Words.{is_blank, words_of, first_of, end_of, number_first, only_number, only_signed};
 ghost use Rattle.script_lang.specs.Reading.{front_len, word_with_rest, with_rest};
 
 use crate::numbers::{number, signed};
 use crate::refusal::Why;
 use std::marker::Model;
+
+/// Answers whether a word is this one.
+pub fn is(word: &[u8], text: &str) -> bool
+    ensures { result ≡ bytes_eq word.now text.now }
+{
+    word == text.as_bytes()
+}
 
 fn is_blank(byte: u8) -> bool
     ensures { result ≡ is_blank byte }

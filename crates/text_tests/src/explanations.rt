@@ -10,12 +10,12 @@ static ROWS: [(&str, &str, &str); 34] = [
     (
         "an unknown command",
         "# c\n0 0 0 frob\n",
-        "    0 0 0 frob\n          ^\nno such word can stand here\nexpected a command, one of append, raw, flush, roll, fetch, elect, unclean, learn, join, follow, ack, shrink, expand, copy, trim, expire, raise, stop, up or offset\nsee docs/SCRIPT.md, \"Actors and the schedule\"\n",
+        "    0 0 0 frob\n          ^\nno such word can stand here\nexpected a command, one of append, raw, flush, roll, fetch, offset, elect, unclean, learn, join, follow, ack, shrink, expand, copy, trim, expire, raise, stop or up\nsee docs/SCRIPT.md, \"Actors and the schedule\"\n",
     ),
     (
         "a broker's command for the partition",
         "0\t0 - flush\r\n",
-        "    0 0 - flush\n          ^\nno such word can stand here\nexpected a command, one of clock, pack or copying\nsee docs/SCRIPT.md, \"Actors and the schedule\"\n",
+        "    0 0 - flush\n          ^\nno such word can stand here\nexpected a command, one of copying, clock or pack\nsee docs/SCRIPT.md, \"Actors and the schedule\"\n",
     ),
     (
         "an unknown first word",
@@ -55,7 +55,7 @@ static ROWS: [(&str, &str, &str); 34] = [
     (
         "an unknown offset",
         "0 0 0 offset now\n",
-        "    0 0 0 offset now\n                 ^\nno such word can stand here\nexpected earliest, latest, earliest_local, latest_tiered or at\nsee docs/SCRIPT.md, \"What isn't built yet\"\n",
+        "    0 0 0 offset now\n                 ^\nno such word can stand here\nexpected earliest, latest, earliest_local, latest_tiered or at\nsee docs/SCRIPT.md, \"offset\"\n",
     ),
     (
         "a call that the device lacks",
@@ -160,7 +160,7 @@ static ROWS: [(&str, &str, &str); 34] = [
     (
         "a command that isn't built",
         "later 0 0 - pack 1\n",
-        "    later 0 0 - pack 1\n                ^\nno program runs this command yet\nsee docs/SCRIPT.md, \"What isn't built yet\"\n",
+        "    later 0 0 - pack 1\n                ^\nno program runs this yet\nsee docs/SCRIPT.md, \"What isn't built yet\"\n",
     ),
     (
         "the seventh record",

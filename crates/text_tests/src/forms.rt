@@ -56,16 +56,10 @@ static FORMS: [(&str, &str); 35] = [
         "Raise { start: 4611686018427387904 }",
     ),
     ("0 0 0 fetch 7 9", "Fetch { offset: 7, limit: 9 }"),
-    ("0 0 0 offset earliest", "Bad { line: 1, why: Unbuilt }"),
-    ("0 0 0 offset latest", "Bad { line: 1, why: Unbuilt }"),
-    (
-        "0 0 0 offset earliest_local",
-        "Bad { line: 1, why: Unbuilt }",
-    ),
-    (
-        "0 0 0 offset latest_tiered",
-        "Bad { line: 1, why: Unbuilt }",
-    ),
+    ("0 0 0 offset earliest", "Offset(Earliest)"),
+    ("0 0 0 offset latest", "Offset(Latest)"),
+    ("0 0 0 offset earliest_local", "Offset(EarliestLocal)"),
+    ("0 0 0 offset latest_tiered", "Offset(LatestTiered)"),
     (
         "0 0 0 offset at 9223372036854775807",
         "Bad { line: 1, why: Unbuilt }",
@@ -75,7 +69,7 @@ static FORMS: [(&str, &str); 35] = [
         "Clock { ms: 9223372036854775807 }",
     ),
     ("0 0 - pack 0", "Bad { line: 1, why: Unbuilt }"),
-    ("0 0 - copying 01", "Bad { line: 1, why: Unbuilt }"),
+    ("0 0 - copying 01", "Copying(true)"),
     (
         "0 0 0 append 0005,x6bfF,-,:h=-,x=:v.1 6,-,:",
         "Append(Row { items: [Rec { ts: 5, key: Some(Blob { bytes: [107, 255] }), value: None, headers: Row { items: [Header { key: Blob { bytes: [104] }, value: None }, Header { key: Blob { bytes: [] }, value: Some(Blob { bytes: [118, 46, 49] }) }] } }, Rec { ts: 6, key: None, value: Some(Blob { bytes: [] }), headers: Row { items: [] } }] })",

@@ -93,7 +93,7 @@ static GOOD: [(&str, &str); 28] = [
 ];
 
 /// Scripts without one, and what is told of them.
-static BAD: [(&str, &str); 151] = [
+static BAD: [(&str, &str); 148] = [
     // bytes that no line has
     ("# \x7f\n", "line 1: NotText"),
     ("#\u{e9}\n", "line 1: NotText"),
@@ -267,13 +267,10 @@ static BAD: [(&str, &str); 151] = [
         "line 2: FetchSum",
     ),
     // forms that are not built
-    ("0 0 0 offset earliest\n", "line 1: Unbuilt"),
-    ("0 0 0 offset latest\n", "line 1: Unbuilt"),
     ("0 0 0 offset at 0\n", "line 1: Unbuilt"),
     ("0 0 - pack 0\n", "line 1: Unbuilt"),
-    ("0 0 - copying 1\n", "line 1: Unbuilt"),
     (
-        "brokers 8\n0 0 7 expire\n0 0 7 offset latest\n",
+        "brokers 8\n0 0 7 expire\n0 0 7 offset at 1\n",
         "line 3: Unbuilt",
     ),
     (

@@ -4,7 +4,7 @@ ghost use Rattle.segment_meta.specs.Rules.{IsNote};
 ghost use Rattle.meta_log.specs.Content.{AreNotes};
 
 use crate::given::{
-    FINISHED, PARTITION, STATE, batch, batches, failing_log, failing_store, id, tells_with,
+    FINISHED, PARTITION, STATE, batches, failing_log, failing_store, grows, id, tells_with,
 };
 use bytes::Bytes;
 use copy_task::{CopyTurn, Copying, Next, candidate, copy_turn};
@@ -12,7 +12,6 @@ use epoch_line::Line;
 use meta_log::{MemoryLog, MetaCall, MetaLog, Teller};
 use object_store::{MemoryStore, Store, StoreCall, place};
 use plain_log::{Answer, Place};
-use record_batch::read_head;
 use remote_view::View;
 use segment_file::{Closed, Growing};
 use segment_meta::{Note, encode};
@@ -456,22 +455,6 @@ fn a_call_that_fails_ends_the_copy(rt: HostRuntime) {
         let undone = failed(rt.alloc(), *put, *note, false, (*came, *turns));
         let done = failed(rt.alloc(), *put, *note, true, (*came, *turns));
         assert_eq!(rt; (undone, done), (true, true), "turn {turns}");
-    }
-}
-
-/// Whether a segment takes a batch.
-fn pushes(segment: &mut Growing, batch: &[u8]) -> bool {
-    match read_head(batch) {
-        Ok(head) => segment.takes(&head) && segment.push(&head).is_ok(),
-        Err(_) => false,
-    }
-}
-
-/// Whether a segment takes the batch of a letter at an offset.
-fn grows(alloc: Global, segment: &mut Growing, offset: u64) -> bool {
-    match batch(alloc, offset) {
-        Ok(batch) => pushes(segment, batch.as_slice()),
-        Err(_) => false,
     }
 }
 

@@ -2,14 +2,18 @@
 //!
 //! No test holds devices, a view or pieces: each helper makes them, and tells how the calls ended.
 
-use crate::given::{FINISHED, PARTITION, failing_log, failing_store, feeds, id, puts};
+use crate::given::{FINISHED, PARTITION, failing_log, failing_store, feeds, grows, id, puts};
 use epoch_line::Line;
-use expiry_task::{Doomed, ExpiryTurn, Next, expiry_turn, raised_to, rest_behind};
+use expiry_task::{
+    Doomed, ExpiryTurn, Next, end_behind, end_from, expiry_turn, find_uncopied, raised_to,
+    rest_behind,
+};
 use meta_log::{MemoryLog, MetaCall, MetaLog, Teller};
 use object_store::{MemoryStore, ObjectKey, Store, StoreCall, keys_of};
 use plain_log::Answer;
 use remote_find::{Piece, chain};
 use remote_view::View;
+use segment_file::Growing;
 use segment_meta::Note;
 use std::alloc::{AllocError, Global};
 use std::marker::Model;
@@ -275,8 +279,8 @@ fn raised_in(
 ) -> Result<Option<u64>, AllocError> {
     match pieces(alloc, view, known) {
         Some(pieces) => {
-            let rest = rest_behind(pieces.as_slice(), 0, &[], 69, 3);
-            raised_to(alloc, view, pieces.as_slice(), rest, now, keep)
+            let rest = rest_behind(end_from(0, pieces.as_slice()), &[], 69, 3);
+            raised_to(alloc, view, pieces.as_slice(), &[], rest, now, keep)
         }
         None => Err(AllocError),
     }
@@ -317,6 +321,62 @@ fn a_log_start_rises_by_age_and_by_size(rt: HostRuntime) {
     }
 }
 
+/// Where the log start comes to by size, where nothing is remote, of a log that ends at 3 with an open segment of 69 bytes.
+fn raised_behind(
+    alloc: Global,
+    closed: &[Growing],
+    copying: bool,
+    known: u64,
+    bytes: i64,
+) -> Result<Option<u64>, AllocError> {
+    let own = find_uncopied(alloc, copying, 0, 0, known, closed)?;
+    let rest = rest_behind(end_behind(0, own.as_slice()), closed, 69, 3);
+    let view = View::new(alloc);
+    raised_to(
+        alloc,
+        &view,
+        &[],
+        own.as_slice(),
+        rest,
+        0,
+        Keep { ms: -1, bytes },
+    )
+}
+
+/// The same, of two closed segments of 69 bytes, an offset each.
+fn raised_by_two(
+    alloc: Global,
+    copying: bool,
+    known: u64,
+    bytes: i64,
+) -> Result<Option<u64>, AllocError> {
+    let mut closed = [Growing::new(alloc, 0, 4096), Growing::new(alloc, 1, 4096)];
+    let first = grows(alloc, &mut closed[0], 0);
+    let second = grows(alloc, &mut closed[1], 1);
+    if first & second {
+        raised_behind(alloc, closed.as_slice(), copying, known, bytes)
+    } else {
+        Err(AllocError)
+    }
+}
+
+/// Whether segments are copied, the known mark and the limit of size; where the log start comes to.
+static UNCOPIED: [(bool, u64, i64, Option<u64>); 5] = [
+    (false, 3, 69, Some(2)),
+    (false, 3, 70, Some(1)),
+    (false, 3, 139, None),
+    (false, 1, 69, Some(1)),
+    (true, 3, 69, None),
+];
+
+#[test]
+fn closed_segments_go_where_none_is_copied(rt: HostRuntime) {
+    for (i, (copying, known, bytes, start)) in UNCOPIED.iter().enumerate() {
+        let raised = raised_by_two(rt.alloc(), *copying, *known, *bytes);
+        assert_eq!(rt; raised, Ok(*start), "row {i}");
+    }
+}
+
 /// The bytes behind the pieces of a log that ends there, of one whole copy, as far as it is known.
 fn rest(alloc: Global, known: u64, size: u64, end: u64) -> Option<u64> {
     let mut view = View::new(alloc);
@@ -324,7 +384,7 @@ fn rest(alloc: Global, known: u64, size: u64, end: u64) -> Option<u64> {
         return None;
     }
     match pieces(alloc, &view, known) {
-        Some(pieces) => Some(rest_behind(pieces.as_slice(), 0, &[], size, end)),
+        Some(pieces) => Some(rest_behind(end_from(0, pieces.as_slice()), &[], size, end)),
         None => None,
     }
 }

@@ -6,8 +6,9 @@
 use bytes::Bytes;
 use meta_log::{MemoryLog, MetaCall, MetaLog};
 use object_store::{MemoryStore, ObjectKey, Store, StoreCall};
-use record_batch::{Rec, build};
+use record_batch::{Rec, build, read_head};
 use remote_view::View;
+use segment_file::Growing;
 use segment_meta::decode;
 use std::alloc::{AllocError, Global};
 use tier_base::{Blob, BrokerId, Part, PartitionId, Row, SegmentId, segment_id};
@@ -233,4 +234,20 @@ pub(crate) fn batches(alloc: Global, end: u64) -> Result<Vec<u8>, AllocError> {
         bytes.extend_from_slice(batch.as_slice())?;
     }
     Ok(bytes)
+}
+
+/// Whether a segment takes a batch.
+fn pushes(segment: &mut Growing, batch: &[u8]) -> bool {
+    match read_head(batch) {
+        Ok(head) => segment.takes(&head) && segment.push(&head).is_ok(),
+        Err(_) => false,
+    }
+}
+
+/// Whether a segment takes the batch of a letter at an offset.
+pub(crate) fn grows(alloc: Global, segment: &mut Growing, offset: u64) -> bool {
+    match batch(alloc, offset) {
+        Ok(batch) => pushes(segment, batch.as_slice()),
+        Err(_) => false,
+    }
 }

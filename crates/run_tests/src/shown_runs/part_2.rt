@@ -153,6 +153,34 @@ turn 2 1
 0 2 0 = LostLead
 `# docs/SCRIPT.md, script 27
 segment_bytes 200
+0 0 0 append 1000,-,:a
+0 0 0 append 1000,-,:b
+0 0 0 append 1000,-,:c
+0 0 0 flush
+0 0 0 ack
+later 1 0 0 copy
+turn 1 1
+0 0 - copying 0
+0 0 0 copy
+turn 1 8
+0 0 - copying 0
+0 0 - copying 1
+0 0 0 copy
+`0 0 0 = Ok 0 0 0
+0 0 1 = Ok 1 1 0
+0 0 2 = Ok 2 2 0
+0 0 3 = Ok 3
+0 0 4 = Ok 3
+0 1 0 begin
+0 0 5 = Ok
+0 0 6 = CopyOff
+0 1 0 = Copied 00000000-0000-0001-0000-000000000000 0 1
+0 0 7 = Ok
+0 0 8 = Ok
+0 0 9 begin
+0 0 9 = Level
+`# docs/SCRIPT.md, script 28
+segment_bytes 200
 local_retention_bytes 0
 fault 0 meta read 4 before
 fault 0 disk 0 replace 3 before
@@ -215,7 +243,7 @@ turn 1 1
 0 0 19 = Dropped 2 3
 0 0 20 begin
 0 0 20 = Run remote 00000000-0000-0001-0000-000000000001 138 Piece 0000000000000002000000390000000002ccb4b8a500000000000000000000000003e800000000000003e8ffffffffffffffffffffffffffff000000010e000000010263000000000000000003000000390000000002b6d971e000000000000000000000000003e800000000000003e8ffffffffffffffffffffffffffff000000010e00000001026400
-`# docs/SCRIPT.md, script 28
+`# docs/SCRIPT.md, script 29
 segment_bytes 200
 retention_ms -1
 0 0 0 append 1000,-,:a
@@ -238,7 +266,7 @@ retention_ms -1
 0 0 7 = Ok 2
 0 0 8 begin
 0 0 8 = Dropped 0 1
-`# docs/SCRIPT.md, script 29
+`# docs/SCRIPT.md, script 30
 segment_bytes 200
 retention_ms 1000
 fault 0 store delete 3 before
@@ -295,7 +323,40 @@ fault 0 store delete 3 before
 0 0 18 = Deleted 00000000-0000-0001-0000-000000000001
 0 0 19 begin
 0 0 19 = Kept
-`# docs/SCRIPT.md, script 30
+`# docs/SCRIPT.md, script 31
+segment_bytes 200
+retention_bytes 138
+retention_ms -1
+0 0 0 append 1000,-,:a
+0 0 0 append 1000,-,:b
+0 0 0 append 1000,-,:c
+0 0 0 append 1000,-,:d
+0 0 0 append 1000,-,:e
+0 0 0 flush
+0 0 0 ack
+0 0 0 expire
+0 0 - copying 0
+# of 345 bytes 207 are left without the first segment, and 69 without the second
+0 0 0 expire
+0 0 0 expire
+0 0 0 trim
+`0 0 0 = Ok 0 0 0
+0 0 1 = Ok 1 1 0
+0 0 2 = Ok 2 2 0
+0 0 3 = Ok 3 3 0
+0 0 4 = Ok 4 4 0
+0 0 5 = Ok 5
+0 0 6 = Ok 5
+0 0 7 begin
+0 0 7 = Kept
+0 0 8 = Ok
+0 0 9 begin
+0 0 9 = Raised 2
+0 0 10 begin
+0 0 10 = Kept
+0 0 11 begin
+0 0 11 = Dropped 0 1
+`# docs/SCRIPT.md, script 32
 brokers 2
 segment_bytes 200
 retention_bytes 100
@@ -344,7 +405,7 @@ turn 2 1
 0 2 0 begin
 0 1 6 = Ok
 0 2 0 = LostLead
-`# docs/SCRIPT.md, script 31
+`# docs/SCRIPT.md, script 33
 segment_bytes 200
 0 0 0 append 1000,-,:a
 0 0 0 append 1000,-,:b
@@ -369,7 +430,7 @@ turn 1 6
 0 0 6 = Deleted 00000000-0000-0001-0000-000000000000
 0 1 0 = Overtaken DeleteFinished
 0 0 7 = OutOfRange 2 3
-`# docs/SCRIPT.md, script 32
+`# docs/SCRIPT.md, script 34
 brokers 2
 1 0 1 shrink
 0 0 0 append 1000,-,:a 1000,-,:b
@@ -397,15 +458,76 @@ brokers 2
 0 0 8 = StaleEpoch 1
 0 0 9 = Ok
 0 0 10 = Down
-`# docs/SCRIPT.md, script 33
+`# docs/SCRIPT.md, script 35
 0 0 - clock 86400000
 `0 0 0 = Ok
-`# docs/SCRIPT.md, script 34
+`# docs/SCRIPT.md, script 36
+brokers 2
+segment_bytes 200
+local_retention_bytes 0
+fault 0 meta read 6 before
+1 0 1 shrink
+0 0 0 append 1000,-,:a
+0 0 0 append 1000,-,:b
+0 0 0 append 1000,-,:c
+# the end of the log is no answer before it is committed
+0 0 0 offset latest
+0 0 0 flush
+0 0 0 ack
+0 0 0 offset latest
+0 0 0 offset latest_tiered
+0 0 0 copy
+0 0 0 trim
+0 0 0 offset earliest
+0 0 0 offset earliest_local
+0 0 0 offset latest_tiered
+0 0 0 offset latest_tiered
+# once the log start is past the local one, the local log begins there for whoever asks
+0 0 0 raise 3
+0 0 0 offset earliest
+0 0 0 offset earliest_local
+0 0 0 offset latest_tiered
+1 0 1 offset earliest
+later 2 0 0 offset latest_tiered
+turn 2 1
+0 0 0 stop
+turn 2 1
+0 0 0 offset latest
+`0 1 0 = Ok
+0 0 0 = Ok 0 0 0
+0 0 1 = Ok 1 1 0
+0 0 2 = Ok 2 2 0
+0 0 3 = Offset 0
+0 0 4 = Ok 3
+0 0 5 = Ok 3
+0 0 6 = Offset 3
+0 0 7 begin
+0 0 7 = NoOffset
+0 0 8 begin
+0 0 8 = Copied 00000000-0000-0001-0000-000000000000 0 1
+0 0 9 begin
+0 0 9 = Dropped 0 1
+0 0 10 = Offset 0
+0 0 11 = Offset 2
+0 0 12 begin
+0 0 12 = Offset 1
+0 0 13 = MetaFault
+0 0 14 = Ok 3
+0 0 15 = Offset 3
+0 0 16 = Offset 3
+0 0 17 begin
+0 0 17 = NoOffset
+0 1 1 = NotLeader
+0 2 0 begin
+0 0 18 = Ok
+0 2 0 = Stopped
+0 0 19 = Down
+`# docs/SCRIPT.md, script 37
 0 0 0 stop
 0 0 0 stop
 `0 0 0 = Ok
 0 0 1 = Down
-`# docs/SCRIPT.md, script 35
+`# docs/SCRIPT.md, script 38
 fault 0 disk 0 list 1 before
 0 0 0 append 1000,-,:a
 0 0 0 flush
@@ -531,201 +653,4 @@ segment_bytes 200
 0 0 26 = Copied 00000000-0000-0002-0000-000000000000 7 7
 0 0 27 begin
 0 0 27 = Level
-`# examples/failover.script
-# A leader stops, and the other broker takes over. Broker 0 leads epoch 0 at first, and broker 1
-# follows it.
-brokers 2
-0 0 0 append 1000,-,:a
-0 0 0 append 1000,-,:b
-0 0 0 flush
-
-# Broker 1 copies both batches, which takes two turns. Once both brokers have acknowledged them they
-# are committed.
-1 0 1 follow 1000
-1 0 1 flush
-1 0 1 ack
-0 0 0 ack
-
-# A third batch isn't made stable before broker 0 stops.
-0 0 0 append 1000,-,:c
-0 0 0 fetch 0 1000
-0 0 0 stop
-
-# Broker 1 is in sync, so it can be elected. It learns that it leads epoch 1, and appends.
-1 0 1 elect
-1 0 1 learn
-1 0 1 append 1000,-,:d
-
-# Broker 0 comes up with what it had stable, learns whom it follows, and cuts its log to where it
-# meets the leader's.
-0 0 0 up
-0 0 0 learn
-0 0 0 join
-0 0 0 follow 1000
-0 0 0 flush
-0 0 0 ack
-
-# With the leader's own acknowledgement the new batch is committed too. A run ends where its leader
-# epoch does.
-1 0 1 flush
-1 0 1 ack
-1 0 1 fetch 0 1000
-1 0 1 fetch 2 1000
-`0 0 0 = Ok 0 0 0
-0 0 1 = Ok 1 1 0
-0 0 2 = Ok 2
-0 1 0 begin
-0 1 0 = Copied 2
-0 1 1 = Ok 2
-0 1 2 = Ok 0
-0 0 3 = Ok 2
-0 0 4 = Ok 2 2 0
-0 0 5 = Run local 0 138 Mark 0000000000000000000000390000000002ebf1884b00000000000000000000000003e800000000000003e8ffffffffffffffffffffffffffff000000010e000000010261000000000000000001000000390000000002df1620d200000000000000000000000003e800000000000003e8ffffffffffffffffffffffffffff000000010e00000001026200
-0 0 6 = Ok
-0 1 3 = Ok 1
-0 1 4 = Leads 1
-0 1 5 = Ok 2 2 1
-0 0 7 = Up 2
-0 0 8 = Follows 1
-0 0 9 = Cut 2
-0 0 10 begin
-0 0 10 = Copied 3
-0 0 11 = Ok 3
-0 0 12 = Ok 2
-0 1 6 = Ok 3
-0 1 7 = Ok 3
-0 1 8 = Run local 0 138 Piece 0000000000000000000000390000000002ebf1884b00000000000000000000000003e800000000000003e8ffffffffffffffffffffffffffff000000010e000000010261000000000000000001000000390000000002df1620d200000000000000000000000003e800000000000003e8ffffffffffffffffffffffffffff000000010e00000001026200
-0 1 9 = Run local 0 69 Mark 0000000000000002000000390000000102b6d971e000000000000000000000000003e800000000000003e8ffffffffffffffffffffffffffff000000010e00000001026400
-`# examples/fallen-behind.script
-# A follower that was away so long that its leader's local log begins past its own end.
-brokers 3
-segment_bytes 200
-local_retention_bytes 0
-
-# All three brokers have the first two batches. Then broker 2 stops.
-0 0 0 append 1000,-,:a
-0 0 0 append 1000,-,:b
-1 0 1 follow 1000
-2 0 2 follow 1000
-1 0 1 flush
-1 0 1 ack
-2 0 2 flush
-2 0 2 ack
-0 0 0 flush
-0 0 0 ack
-2 0 2 stop
-0 0 2 shrink
-
-# The other two go on, and broker 1 is elected: its epoch is 1.
-0 0 0 append 1000,-,:c
-0 0 0 append 1000,-,:d
-1 0 1 follow 1000
-1 0 1 flush
-1 0 1 ack
-0 0 0 flush
-0 0 0 ack
-1 0 1 elect
-1 0 1 learn
-0 0 0 learn
-0 0 0 join
-1 0 1 append 1000,-,:e
-1 0 1 append 1000,-,:f
-1 0 1 append 1000,-,:g
-0 0 0 follow 1000
-0 0 0 follow 1000
-0 0 0 flush
-0 0 0 ack
-1 0 1 flush
-1 0 1 ack
-
-# The leader copies its closed segments to the remote tier, and trims them: its local log begins at 6.
-1 0 1 copy
-1 0 1 copy
-1 0 1 copy
-1 0 1 trim
-1 0 1 trim
-1 0 1 trim
-
-# Broker 2 comes up again with the end 2. Its log meets the leader's there, and what comes next isn't in
-# the leader's local log. So it begins its own anew at 6, with the line of leader epochs that stands in
-# the remote tier beside the segment before, and follows from there on.
-2 0 2 up
-2 0 2 learn
-2 0 2 join
-2 0 2 follow 1000
-2 0 2 flush
-2 0 2 ack
-0 0 2 expand
-
-# It can lead, and serves what it never had on its disk out of the tier.
-2 0 2 elect
-2 0 2 learn
-2 0 2 fetch 0 1000
-2 0 2 fetch 4 1000
-2 0 2 fetch 6 1000
-`0 0 0 = Ok 0 0 0
-0 0 1 = Ok 1 1 0
-0 1 0 begin
-0 1 0 = Copied 2
-0 2 0 begin
-0 2 0 = Copied 2
-0 1 1 = Ok 2
-0 1 2 = Ok 0
-0 2 1 = Ok 2
-0 2 2 = Ok 0
-0 0 2 = Ok 2
-0 0 3 = Ok 2
-0 2 3 = Ok
-0 0 4 = Ok
-0 0 5 = Ok 2 2 0
-0 0 6 = Ok 3 3 0
-0 1 3 begin
-0 1 3 = Copied 4
-0 1 4 = Ok 4
-0 1 5 = Ok 2
-0 0 7 = Ok 4
-0 0 8 = Ok 4
-0 1 6 = Ok 1
-0 1 7 = Leads 1
-0 0 9 = Follows 1
-0 0 10 = Cut 4
-0 1 8 = Ok 4 4 1
-0 1 9 = Ok 5 5 1
-0 1 10 = Ok 6 6 1
-0 0 11 begin
-0 0 11 = Copied 6
-0 0 12 begin
-0 0 12 = Copied 7
-0 0 13 = Ok 7
-0 0 14 = Ok 4
-0 1 11 = Ok 7
-0 1 12 = Ok 7
-0 1 13 begin
-0 1 13 = Copied 00000001-0000-0001-0000-000000000000 0 1
-0 1 14 begin
-0 1 14 = Copied 00000001-0000-0001-0000-000000000001 2 3
-0 1 15 begin
-0 1 15 = Copied 00000001-0000-0001-0000-000000000002 4 5
-0 1 16 begin
-0 1 16 = Dropped 0 1
-0 1 17 begin
-0 1 17 = Dropped 2 3
-0 1 18 begin
-0 1 18 = Dropped 4 5
-0 2 4 = Up 2
-0 2 5 = Follows 1
-0 2 6 begin cut 2
-0 2 6 = Rebuilt 6
-0 2 7 begin
-0 2 7 = Copied 7
-0 2 8 = Ok 7
-0 2 9 = Ok 7
-0 0 15 = Ok
-0 2 10 = Ok 2
-0 2 11 = Leads 2
-0 2 12 begin
-0 2 12 = Run remote 00000001-0000-0001-0000-000000000000 138 Piece 0000000000000000000000390000000002ebf1884b00000000000000000000000003e800000000000003e8ffffffffffffffffffffffffffff000000010e000000010261000000000000000001000000390000000002df1620d200000000000000000000000003e800000000000003e8ffffffffffffffffffffffffffff000000010e00000001026200
-0 2 13 begin
-0 2 13 = Run remote 00000001-0000-0001-0000-000000000002 138 Piece 0000000000000004000000390000000102a57be99700000000000000000000000003e800000000000003e8ffffffffffffffffffffffffffff000000010e000000010265000000000000000005000000390000000102919c410e00000000000000000000000003e800000000000003e8ffffffffffffffffffffffffffff000000010e00000001026600
-0 2 14 = Run local 6 69 Mark 0000000000000006000000390000000102823ed97900000000000000000000000003e800000000000003e8ffffffffffffffffffffffffffff000000010e00000001026700
 `";

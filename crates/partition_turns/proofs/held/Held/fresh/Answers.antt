@@ -8,6 +8,7 @@ returns-clause-held g c = record {
   registry = c.in-Ok.ensures ∙ ap fresh_registry (omega (arith, c.len-count.ensures));
   nodes = c.arm.ensures.nodes c.args.disks.now.items c.requires.disks (rw c.from_vec-nodes.ensures c.in_ok-nodes.ensures.nodes);
   clock = refl;
+  copying = refl;
 }
 
 pub returns-clause-seen : goal.returns-clause-seen

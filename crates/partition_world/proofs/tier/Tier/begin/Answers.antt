@@ -1,10 +1,11 @@
+use Rattle.std.proofs.Common.{rules}
 use Rattle.std.proofs.lemmas.Result.{IfOk-weaker}
+use Rattle.partition_turns.specs.Turns.{IsOfTier}
 use Rattle.partition_world.proofs.Dispatch.{begin_at}
 use Rattle.partition_world.proofs.tier.Tier.begin.Goals as goal
 
-pub returns-in_default : goal.returns-in_default
-returns-in_default g c = record {
-  row = IfOk-weaker c.begin_own.result _ _ (λ outcome row. begin_at g.D.Disk g.S.Store g.M.MetaLog c.args.held.now c.args.self.now c.args.order.now.broker.0 c.args.order.now.command outcome c.begin_own.new.held c.begin_own.new.self
-      c.requires.side c.in_default.not-Trim row) c.begin_own.ensures.row;
-  err = c.begin_own.ensures.err;
-}
+pub returns-in_default-clause-row : goal.returns-in_default-clause-row
+returns-in_default-clause-row g c =
+    let own : IsOfTier c.args.order.now.command → ⊥ = search rules in
+    IfOk-weaker c.begin_own.result _ _ (λ outcome row. begin_at g.D.Disk g.S.Store g.M.MetaLog c.args.held.now c.args.self.now c.args.order.now.broker.0 c.args.order.now.command outcome c.begin_own.new.held c.begin_own.new.self
+    c.requires.side own row) c.begin_own.ensures.row

@@ -1,0 +1,57 @@
+-- Why a question for an offset is answered, turn by turn.
+--
+--   turn      answer              its cause
+--   first     Down                the broker isn't up
+--             NotLeader           it doesn't lead
+--             Offset              it does, and that is the offset, where it is known without the remote tier
+--             MetaFault           where it isn't, a call of the metadata log failed in this turn
+--   second    Stopped             the broker has stopped since the first turn, or isn't up
+--             NotLeader           it has another role than then
+--             Offset              it has led on, and the remote tier has the log up to that offset
+--             NoOffset            it has, and the remote tier has nothing from the log start on
+--
+-- A call that failed is told by its device's count of faults, which has risen, or stands at its type's end. No other answer
+-- has a cause.
+use Rattle.std.specs.Prelude.{◌≡◌, ◌≢◌, ℕ, true, false, Some, None}
+use Rattle.meta_log.specs.declared.log.MetaLog.{Ghosts as MetaGhosts}
+use Rattle.plain_log.specs.State.{leads}
+use Rattle.plain_log.specs.declared.answer.Answer.{Answer}
+use Rattle.plain_log.specs.declared.answer.Answer.TheVariants.{Down, NotLeader, Offset, MetaFault, Stopped, NoOffset}
+use Rattle.plain_log.specs.declared.command.Which.{Which}
+use Rattle.plain_log.specs.declared.command.Which.TheVariants.{LatestTiered}
+use Rattle.partition_seen.specs.declared.begun.Begun.{Begun}
+use Rattle.partition_turns.specs.declared.held.Node.{Node}
+use Rattle.partition_turns.specs.Held.{is_up}
+use Rattle.partition_turns.specs.Turns.{known_offset}
+use Rattle.partition_world.specs.declared.seat.Work.{Work}
+use Rattle.partition_world.specs.declared.seat.Work.TheVariants.{Idle, Noted}
+use Rattle.partition_world.specs.declared.tier.Side.{Side}
+use Rattle.partition_world.specs.TurnsOfCopy.{KeepsLead}
+use Rattle.partition_world.specs.TurnsOfFetch.{HasStopped}
+use Rattle.partition_world.specs.TurnsOfOffset.{tiered_offset}
+use Rattle.partition_world.specs.Whole.{Whole}
+use Rattle.command_answers.specs.Faults.{MetaFailed}
+
+module _ {D S M : Type 0} where
+  -- the cause of an answer at a question's second turn
+  abbrev pub SecondCause : Whole D S M → Node D → Side → Begun → Answer → Type 0
+  SecondCause w x side g Stopped = HasStopped x g
+  SecondCause w x side g NotLeader = g.role ≢ x.role
+  SecondCause w x side g (Offset n) = KeepsLead x g × (tiered_offset w.held x side ≡ Some n)
+  SecondCause w x side g NoOffset = KeepsLead x g × (tiered_offset w.held x side ≡ None)
+  SecondCause w x side g other = ⊥
+
+module _ {D S M : Type 0} (meta : MetaGhosts M) where
+  -- at its first turn
+  abbrev pub FirstCause : Whole D S M → Node D → Which → Answer → Whole D S M → Type 0
+  FirstCause w x which Down w' = is_up x ≡ false
+  FirstCause w x which NotLeader w' = leads x.role ≡ false
+  FirstCause w x which (Offset n) w' = (is_up x ≡ true) × (leads x.role ≡ true) × (known_offset w.held x which ≡ Some n)
+  FirstCause w x which MetaFault w' = (which ≡ LatestTiered) × MetaFailed meta w w'
+  FirstCause w x which other w' = ⊥
+
+  -- at any turn, by what the seat kept of the question
+  abbrev pub HasCause : Whole D S M → Node D → Side → Work → Which → Answer → Whole D S M → Type 0
+  HasCause w x side Idle which answer w' = FirstCause w x which answer w'
+  HasCause w x side (Noted g) LatestTiered answer w' = SecondCause w x side g answer
+  HasCause w x side work which answer w' = ⊥

@@ -1,0 +1,35 @@
+-- What a turn of a question for an offset comes to, to which nothing changes.
+--
+-- The log start, the high watermark that the leader knows, and where its local log begins are answered at once. Up to where the
+-- remote tier has the log takes a second turn, behind a refresh of the leader's view; it is answered as it comes.
+use Rattle.std.specs.Prelude.{◌≡◌, ℕ, max, true, false, Option, Some, None}
+use Rattle.plain_log.specs.declared.answer.Answer.{Answer}
+use Rattle.plain_log.specs.declared.answer.Answer.TheVariants.{Down, NotLeader, Stopped, Offset, NoOffset}
+use Rattle.plain_log.specs.declared.command.Which.{Which}
+use Rattle.plain_log.specs.declared.command.Which.TheVariants.{Earliest, Latest, EarliestLocal}
+use Rattle.plain_log.specs.State.{leads}
+use Rattle.partition_seen.specs.declared.begun.Begun.{Begun}
+use Rattle.partition_seen.specs.Seen.{Node, Held}
+use Rattle.partition_seen.specs.RowsOfTiers.{GoesLeading}
+
+-- the offset that is known at once; nothing of the log that is below the log start is in the local log
+abbrev pub known_offset : Held → Node → Which → Option ℕ
+known_offset h x Earliest = Some h.registry.start
+known_offset h x Latest = Some x.known
+known_offset h x EarliestLocal = Some (max x.local h.registry.start)
+known_offset h x other = None
+
+-- offset, of what is known at once
+abbrev pub OffsetRow : Held → Node → Which → Answer → Held → Type 0
+OffsetRow h x which Down h' = (x.up ≡ false) × (h' ≡ h)
+OffsetRow h x which NotLeader h' = (x.up ≡ true) × (leads x.role ≡ false) × (h' ≡ h)
+OffsetRow h x which (Offset n) h' = (x.up ≡ true) × (leads x.role ≡ true) × (known_offset h x which ≡ Some n) × (h' ≡ h)
+OffsetRow h x which other h' = ⊥
+
+-- offset, second turn
+abbrev pub OffsetOnRow : Held → Node → Begun → Answer → Held → Type 0
+OffsetOnRow h x g Stopped h' = ((g.stops ≡ x.stops) × (x.up ≡ true) → ⊥) × (h' ≡ h)
+OffsetOnRow h x g NotLeader h' = (g.stops ≡ x.stops) × (x.up ≡ true) × (g.role ≡ x.role → ⊥) × (h' ≡ h)
+OffsetOnRow h x g (Offset n) h' = GoesLeading h x g h'
+OffsetOnRow h x g NoOffset h' = GoesLeading h x g h'
+OffsetOnRow h x g other h' = ⊥
