@@ -25,7 +25,7 @@ use Rattle.expiry_task.specs.Turns.{note_of}
 use Rattle.plain_log.proofs.Options.{map_some}
 use Rattle.remote_view.specs.Fold.{Seen, entry_of, state_of, noted, updated, fold}
 use Rattle.tier_safe.specs.Scene.{Scene, Site, Work, Copies, Expires}
-use Rattle.tier_safe.specs.Changes.{Move, Leaves, Overtakes, Dooms, Wants, Refreshes, Lines, Asks, Finds, Reads, moved, Telling, CopyStarts, CopyEnds, ExpiryStarts, ExpiryEnds, note_for, after_telling, Storing, Puts, Undoes, Deletes, key_for, after_storing, undone, Change, Steps, Moves, Chooses, Tells, Stores, Sees, Caches, Drops, effect}
+use Rattle.tier_safe.specs.Changes.{Move, Leaves, Overtakes, Dooms, Wants, Refreshes, Lines, Asks, Finds, Skips, Reads, moved, Telling, CopyStarts, CopyEnds, ExpiryStarts, ExpiryEnds, note_for, after_telling, Storing, Puts, Undoes, Deletes, key_for, after_storing, undone, Change, Steps, Moves, Chooses, Tells, Stores, Sees, Caches, Drops, effect}
 use Rattle.tier_safe.specs.Views.{IsIdOf, IsUsed}
 use Rattle.tier_safe.specs.Copies.{IsEntryFor, HasPut, HasPutBefore, HasPutAll, CopyHasKey, CopyAt, CopyStands, CopiesStand, is_deleted}
 use Rattle.tier_safe.specs.Safe.{TierSafe}
@@ -195,6 +195,7 @@ moved_works a (Refreshes rebuild) c p m h = (tt, tt)
 moved_works a (Lines rebuild line) c p m h = (tt, tt)
 moved_works a (Asks sought) c p m h = (tt, tt)
 moved_works a (Finds sought piece) c p m h = (tt, tt)
+moved_works a (Skips sought offset) c p m h = (tt, tt)
 moved_works a (Reads sought from) c p m h = (tt, tt)
 
 -- a new id

@@ -25,7 +25,7 @@ use Rattle.expiry_task.specs.Turns.{keys as expiry_keys, delete_at}
 use Rattle.remote_view.specs.Fold.{Seen, entry_of, noted, updated, fold}
 use Rattle.remote_view.specs.Lookup.{is_gone}
 use Rattle.tier_safe.specs.Scene.{Scene, Site, Work, Copies, Expires}
-use Rattle.tier_safe.specs.Changes.{Move, Leaves, Overtakes, Dooms, Wants, Refreshes, Lines, Asks, Finds, Reads, moved, Telling, CopyStarts, CopyEnds, ExpiryStarts, ExpiryEnds, note_for, after_telling, Storing, Puts, Undoes, Deletes, after_storing, undone, Change, Steps, Moves, Chooses, Tells, Stores, Sees, Caches, Drops, effect}
+use Rattle.tier_safe.specs.Changes.{Move, Leaves, Overtakes, Dooms, Wants, Refreshes, Lines, Asks, Finds, Skips, Reads, moved, Telling, CopyStarts, CopyEnds, ExpiryStarts, ExpiryEnds, note_for, after_telling, Storing, Puts, Undoes, Deletes, after_storing, undone, Change, Steps, Moves, Chooses, Tells, Stores, Sees, Caches, Drops, effect}
 use Rattle.tier_safe.specs.Copies.{is_deleted}
 use Rattle.tier_safe.specs.Starts.{DeletedEnd, IsBegun, ExpiryHasKey, ExpiryStands, DeletionsStand}
 use Rattle.tier_safe.specs.Safe.{TierSafe}
@@ -126,6 +126,7 @@ moved_expiry a (Refreshes rebuild) c p m h = tt
 moved_expiry a (Lines rebuild line) c p m h = tt
 moved_expiry a (Asks sought) c p m h = tt
 moved_expiry a (Finds sought piece) c p m h = tt
+moved_expiry a (Skips sought offset) c p m h = tt
 moved_expiry a (Reads sought from) c p m h = tt
 
 told_begun : (broker : BrokerId) (event_ts : ℤ) (x : Entry) → is_deleted (told broker event_ts DeleteStarted x).state ≡ true

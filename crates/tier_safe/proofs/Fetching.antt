@@ -22,13 +22,13 @@ use Rattle.copy_task.specs.declared.turn.Next.TheVariants as copying
 use Rattle.remote_find.specs.declared.piece.Piece.{Piece}
 use Rattle.remote_view.specs.Fold.{Seen, entry_of, fold, view_of}
 use Rattle.tier_safe.specs.Scene.{Scene, Site, Sought, Work, Copies, Seeks}
-use Rattle.tier_safe.specs.Changes.{Move, Leaves, Overtakes, Dooms, Wants, Refreshes, Lines, Asks, Finds, Reads, moved, Telling, CopyStarts, CopyEnds, ExpiryStarts, ExpiryEnds, note_for, after_telling, Storing, Puts, Undoes, Deletes, after_storing, undone, Change, Steps, Moves, Chooses, Tells, Stores, Sees, Caches, Drops, effect}
+use Rattle.tier_safe.specs.Changes.{Move, Leaves, Overtakes, Dooms, Wants, Refreshes, Lines, Asks, Finds, Skips, Reads, moved, Telling, CopyStarts, CopyEnds, ExpiryStarts, ExpiryEnds, note_for, after_telling, Storing, Puts, Undoes, Deletes, after_storing, undone, Change, Steps, Moves, Chooses, Tells, Stores, Sees, Caches, Drops, effect}
 use Rattle.tier_safe.specs.Lineage.{IsPart, Describes}
 use Rattle.plain_log.specs.Grows.{BrokerGrows}
 use Rattle.tier_safe.specs.Starts.{DeletedEnd}
 use Rattle.tier_safe.specs.Fetches.{StillLeads, PieceStands, IsIndexOf, PositionStands, FetchStands, FetchesStand}
 use Rattle.tier_safe.specs.Safe.{TierSafe}
-use Rattle.tier_safe.specs.Moves.{MayMove, MayAsk, MayFind, MayRead}
+use Rattle.tier_safe.specs.Moves.{MayMove, MayAsk, MayFind, MaySkip, MayRead}
 use Rattle.tier_safe.specs.May.{MayAlter}
 use Rattle.tier_safe.proofs.Entries.{Follows}
 use Rattle.tier_safe.proofs.Steps.{StepGoes}
@@ -63,7 +63,7 @@ asked a sought c p m site x is bx =
     record {
       stops = omega (arith, stops);
       taken = (m.x.log, m.path);
-      below = λ leads. subst (λ (s : Site). sought.offset < s.start) one m.below;
+      below = λ none leads. subst (λ (s : Site). sought.offset < s.start) one m.below;
       seen = λ piece has. absurd (cc (has, m.unread.0));
       piece = λ piece has. absurd (cc (has, m.unread.0));
       from = λ piece from has. absurd (cc (has, m.unread.0));
@@ -76,11 +76,25 @@ found a sought piece c p m h site x is bx =
     record {
       stops = f.stops;
       taken = f.taken;
-      below = λ leads. f.below (record { stops = leads.stops; role = leads.role });
+      below = λ none leads. absurd (cc (none));
       seen = λ other has. (let same : other ≡ piece = cc (has) in
           subst (λ (q : Piece). (entry : Entry) × (entry_of q.id site.view.entries ≡ Some entry)) (sym same) (m.seen site is));
       piece = λ other has leads low. (let same : other ≡ piece = cc (has) in
           subst (λ (q : Piece). PieceStands c.notes x.log sought.offset q) (sym same) (m.gives x bx (record { stops = leads.stops; role = leads.role }) low));
+      from = λ other from has read. absurd (cc (read, m.unread));
+    }
+
+skipped : (a : ℕ) (sought : Sought) (offset : ℕ) (c : Scene) (p : Plain) → MaySkip a sought offset c p → TierSafe c p → (site : Site) (x : Broker) → slice_get c.sites sought.broker ≡ Some site
+    → slice_get p.brokers sought.broker ≡ Some x → FetchStands p.paths c.notes p.registry.start site x (record sought { offset = offset })
+skipped a sought offset c p m h site x is bx =
+    let f = h.fetches a sought site x m.seat is bx in
+    record {
+      stops = f.stops;
+      taken = f.taken;
+      below = λ none leads. absurd (cc (none, m.found));
+      seen = f.seen;
+      piece = λ other has leads low. (let same : other ≡ m.piece = cc (has, m.found) in
+          subst (λ (q : Piece). PieceStands c.notes x.log offset q) (sym same) (m.gives x bx (record { stops = leads.stops; role = leads.role }) low));
       from = λ other from has read. absurd (cc (read, m.unread));
     }
 
@@ -91,7 +105,7 @@ placed a sought from c p m h site x is bx =
     record {
       stops = f.stops;
       taken = f.taken;
-      below = λ leads. f.below (record { stops = leads.stops; role = leads.role });
+      below = λ none leads. f.below none (record { stops = leads.stops; role = leads.role });
       seen = f.seen;
       piece = λ piece has leads low. f.piece piece has (record { stops = leads.stops; role = leads.role }) low;
       from = λ piece other has read leads low. (let same : other ≡ from = cc (read) in
@@ -107,6 +121,7 @@ moved_fetch a (Refreshes rebuild) c p m h = tt
 moved_fetch a (Lines rebuild line) c p m h = tt
 moved_fetch a (Asks sought) c p m h = asked a sought c p m
 moved_fetch a (Finds sought piece) c p m h = found a sought piece c p m h
+moved_fetch a (Skips sought offset) c p m h = skipped a sought offset c p m h
 moved_fetch a (Reads sought from) c p m h = placed a sought from c p m h
 
 -- notes
@@ -198,7 +213,7 @@ fetches_site paths notes start sites brokers desk b old new at rises on h = λ a
       record {
         stops = f.stops;
         taken = f.taken;
-        below = λ leads. (let low = f.below leads in subst (λ (s : Site). sought.offset < s.start) (sym here.1) (omega (arith, low, rises)));
+        below = λ none leads. (let low = f.below none leads in subst (λ (s : Site). sought.offset < s.start) (sym here.1) (omega (arith, low, rises)));
         seen = λ piece has. (let k = f.seen piece has in subst (λ (s : Site). (entry : Entry) × (entry_of piece.id s.view.entries ≡ Some entry)) (sym here.1) (on piece.id k.0 k.1));
         piece = f.piece;
         from = f.from;
@@ -264,8 +279,8 @@ fetches_stepped sites c p q m h = λ a sought site y seat is by.
     subst (λ (z : Broker). FetchStands q.paths c.notes q.registry.start site z sought) same (record {
       stops = (let one = f.stops in let two = g.stops in omega (arith, one, two));
       taken = (let k = m.grows.paths sought.epoch f.taken.0 f.taken.1 in (k.0, k.1));
-      below = λ leads. (let b = led_before p.paths sought s.x s.y g f.stops f.taken leads in
-          let low = f.below b.0 in
+      below = λ none leads. (let b = led_before p.paths sought s.x s.y g f.stops f.taken leads in
+          let low = f.below none b.0 in
           let start = s.goes.leads sought.epoch b.2 b.3 leads.role in
           omega (arith, low, start));
       seen = λ piece has. (let k = f.seen piece has in (k.0, subst (λ (v : Seen). entry_of piece.id v.entries ≡ Some k.0) (sym s.goes.view) k.1));

@@ -14,7 +14,7 @@ use Rattle.copy_task.specs.declared.turn.Next.{Next as CopyNext}
 use Rattle.copy_task.specs.declared.turn.Next.TheVariants as copying
 use Rattle.remote_view.specs.Fold.{noted, fold}
 use Rattle.tier_safe.specs.Scene.{Scene, Site, Work, Copies}
-use Rattle.tier_safe.specs.Changes.{Move, Leaves, Overtakes, Dooms, Wants, Refreshes, Lines, Asks, Finds, Reads, moved, Telling, CopyStarts, CopyEnds, ExpiryStarts, ExpiryEnds, note_for, after_telling, Storing, Puts, Undoes, Deletes, after_storing, undone, Change, Steps, Moves, Chooses, Tells, Stores, Sees, Caches, Drops, effect}
+use Rattle.tier_safe.specs.Changes.{Move, Leaves, Overtakes, Dooms, Wants, Refreshes, Lines, Asks, Finds, Skips, Reads, moved, Telling, CopyStarts, CopyEnds, ExpiryStarts, ExpiryEnds, note_for, after_telling, Storing, Puts, Undoes, Deletes, after_storing, undone, Change, Steps, Moves, Chooses, Tells, Stores, Sees, Caches, Drops, effect}
 use Rattle.tier_safe.specs.Views.{IsNamed, IsIdOf, IsChosen, IsUsed, IdsStand}
 use Rattle.tier_safe.specs.Safe.{TierSafe}
 use Rattle.tier_safe.specs.Follow.{IdsGo, SiteGoes}
@@ -49,6 +49,7 @@ moved_used a (Refreshes rebuild) c p m = tt
 moved_used a (Lines rebuild line) c p m = tt
 moved_used a (Asks sought) c p m = tt
 moved_used a (Finds sought piece) c p m = tt
+moved_used a (Skips sought offset) c p m = tt
 moved_used a (Reads sought from) c p m = tt
 
 told_used : (telling : Telling) (a : ℕ) (c : Scene) → MayTell a telling c → UsedWork (fold c.notes) c.desk (after_telling telling)

@@ -7,7 +7,7 @@ use Rattle.tier_base.specs.declared.names.SegmentId.{SegmentId}
 use Rattle.log_terms.specs.Line.{epoch_at}
 use Rattle.log_terms.specs.Log.{end_of}
 use Rattle.log_terms.proofs.Logs.{lt_true}
-use Rattle.epoch_line.specs.Line.{IsLine, start_or}
+use Rattle.epoch_line.specs.Line.{start_or}
 use Rattle.epoch_line.specs.Line as line
 use Rattle.segment_meta.specs.declared.note.Entry.{Entry}
 use Rattle.remote_view.specs.Fold.{Seen, entry_of}
@@ -18,7 +18,7 @@ use Rattle.remote_find.specs.Pieces.{start_of, piece_at}
 use Rattle.remote_find.proofs.Clipping.{piece_lies}
 use Rattle.remote_find.proofs.Covering.{covered}
 use Rattle.tier_safe.specs.Lineage.{Covers, CoversLog}
-use Rattle.tier_safe.specs.Reads.{TellsEpochs, IsRightView, AskedIsFound, FoundStands, ReachedIsCovered, WantedIsFound}
+use Rattle.tier_safe.specs.Reads.{TellsEpochs, IsRightView, LackingIsFound, AskedIsFound, FoundStands, ReachedIsCovered, WantedIsFound}
 use Rattle.tier_safe.proofs.Covering.{covers_is, readable}
 
 -- a test that an id's entry passes leaves entries
@@ -88,17 +88,21 @@ piece_found entries l log_end offset e below at h =
       rw (lt_true offset log_end below, at, best.1, first.1, own.1, end.1, own_end.1) refl,
     )
 
--- what a fetch asks for is found
-pub asked_is_found : AskedIsFound
-asked_is_found c p a sought site x line h seat is bx leads low all tells =
-    let below = (h.fetches a sought site x seat is bx).below leads in
-    let within = (h.sites.each sought.broker site x is bx).within in
-    let high : sought.offset < end_of x.log = omega (arith, below, within) in
-    let k = h.covered sought.broker site x is bx sought.offset low below in
-    let v : Covers site.view.entries k.epoch sought.offset = subst (λ (s : Seen). Covers s.entries k.epoch sought.offset) (sym all) k.covers in
-    piece_found site.view.entries line (end_of x.log) sought.offset k.epoch high (tells.says sought.offset high ∙ k.holds) v
+-- what a local log lacks is found
+pub lacking_is_found : LackingIsFound
+lacking_is_found c p b site x line offset h is bx low below all tells =
+    let within = (h.sites.each b site x is bx).within in
+    let high : offset < end_of x.log = omega (arith, below, within) in
+    let k = h.covered b site x is bx offset low below in
+    let v : Covers site.view.entries k.epoch offset = subst (λ (s : Seen). Covers s.entries k.epoch offset) (sym all) k.covers in
+    piece_found site.view.entries line (end_of x.log) offset k.epoch high (tells.says offset high ∙ k.holds) v
 
--- so is what a rebuild looks up
+-- so is what a fetch asks for
+pub asked_is_found : AskedIsFound
+asked_is_found c p a sought site x line h seat none is bx leads low all tells =
+    lacking_is_found c p sought.broker site x line sought.offset h is bx low ((h.fetches a sought site x seat is bx).below none leads) all tells
+
+-- and what a rebuild looks up
 pub wanted_is_found : WantedIsFound
 wanted_is_found c p a rebuild site line h seat is done below says =
     let r = h.rebuilds a rebuild seat in

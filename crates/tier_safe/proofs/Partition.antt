@@ -14,7 +14,7 @@ use Rattle.copy_task.specs.declared.turn.Next.{Next as CopyNext}
 use Rattle.expiry_task.specs.declared.turn.Doomed.{Doomed}
 use Rattle.expiry_task.specs.declared.turn.Next.{Next as ExpiryNext}
 use Rattle.tier_safe.specs.Scene.{Work, Copies, Expires, Scene}
-use Rattle.tier_safe.specs.Changes.{Move, Leaves, Overtakes, Dooms, Wants, Refreshes, Lines, Asks, Finds, Reads, moved, Telling, CopyStarts, CopyEnds, ExpiryStarts, ExpiryEnds, note_for, after_telling, Storing, Puts, Undoes, Deletes, after_storing, undone, key_for, made_by, Change, Steps, Moves, Chooses, Tells, Stores, Sees, Caches, Drops, effect}
+use Rattle.tier_safe.specs.Changes.{Move, Leaves, Overtakes, Dooms, Wants, Refreshes, Lines, Asks, Finds, Skips, Reads, moved, Telling, CopyStarts, CopyEnds, ExpiryStarts, ExpiryEnds, note_for, after_telling, Storing, Puts, Undoes, Deletes, after_storing, undone, key_for, made_by, Change, Steps, Moves, Chooses, Tells, Stores, Sees, Caches, Drops, effect}
 use Rattle.tier_safe.specs.Views.{AreOfPartition}
 use Rattle.tier_safe.specs.Safe.{TierSafe}
 use Rattle.tier_safe.specs.Moves.{MayMove, MayDoom}
@@ -99,6 +99,7 @@ moved_of (Refreshes rebuild) a c p m h = tt
 moved_of (Lines rebuild line) a c p m h = tt
 moved_of (Asks sought) a c p m h = tt
 moved_of (Finds sought piece) a c p m h = tt
+moved_of (Skips sought offset) a c p m h = tt
 moved_of (Reads sought from) a c p m h = tt
 
 told_work : (telling : Telling) (a : ℕ) (c : Scene) (p : Plain) → MayTell a telling c → TierSafe c p → WorkOf c.partition (after_telling telling)

@@ -13,7 +13,7 @@ use Rattle.remote_view.specs.Fold.{Seen, fold}
 use Rattle.copy_task.specs.Copying.{Copied, keys as copy_keys}
 use Rattle.copy_task.specs.declared.turn.Next.TheVariants as copying
 use Rattle.tier_safe.specs.Scene.{Scene, Site, Rebuild, Work, Copies, Rebuilds}
-use Rattle.tier_safe.specs.Changes.{Move, Leaves, Overtakes, Dooms, Wants, Refreshes, Lines, Asks, Finds, Reads, moved, Telling, CopyStarts, CopyEnds, ExpiryStarts, ExpiryEnds, note_for, after_telling, Storing, Puts, Undoes, Deletes, after_storing, undone, Change, Steps, Moves, Chooses, Tells, Stores, Sees, Caches, Drops, effect}
+use Rattle.tier_safe.specs.Changes.{Move, Leaves, Overtakes, Dooms, Wants, Refreshes, Lines, Asks, Finds, Skips, Reads, moved, Telling, CopyStarts, CopyEnds, ExpiryStarts, ExpiryEnds, note_for, after_telling, Storing, Puts, Undoes, Deletes, after_storing, undone, Change, Steps, Moves, Chooses, Tells, Stores, Sees, Caches, Drops, effect}
 use Rattle.tier_safe.specs.Lineage.{CoversLog}
 use Rattle.tier_safe.specs.Starts.{RebuildStands, RebuildsStand}
 use Rattle.tier_safe.specs.Safe.{TierSafe}
@@ -96,6 +96,7 @@ moved_rebuild a (Refreshes rebuild) c p m h = refreshed a rebuild c p m h
 moved_rebuild a (Lines rebuild line) c p m h = lined a rebuild line c p m h
 moved_rebuild a (Asks sought) c p m h = tt
 moved_rebuild a (Finds sought piece) c p m h = tt
+moved_rebuild a (Skips sought offset) c p m h = tt
 moved_rebuild a (Reads sought from) c p m h = tt
 
 told_rebuild : (paths : List Path) (notes : List Note) (start : ℕ) (sites : List Site) (telling : Telling) → RebuildWork paths notes start sites (after_telling telling)

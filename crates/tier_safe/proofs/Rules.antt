@@ -27,7 +27,7 @@ use Rattle.remote_view.proofs.Folding.{fold_distinct}
 use Rattle.copy_task.specs.Copying.{Copied, keys as copy_keys, IsCopied, start_note}
 use Rattle.copy_task.specs.declared.turn.Next.{Next as CopyNext}
 use Rattle.tier_safe.specs.Scene.{Work, Copies, Scene}
-use Rattle.tier_safe.specs.Changes.{Move, Leaves, Overtakes, Dooms, Wants, Refreshes, Lines, Asks, Finds, Reads, moved, Telling, CopyStarts, CopyEnds, ExpiryStarts, ExpiryEnds, after_telling, note_for, Storing, Puts, Undoes, Deletes, after_storing, undone, Change, Steps, Moves, Chooses, Tells, Stores, Sees, Caches, Drops, effect}
+use Rattle.tier_safe.specs.Changes.{Move, Leaves, Overtakes, Dooms, Wants, Refreshes, Lines, Asks, Finds, Skips, Reads, moved, Telling, CopyStarts, CopyEnds, ExpiryStarts, ExpiryEnds, after_telling, note_for, Storing, Puts, Undoes, Deletes, after_storing, undone, Change, Steps, Moves, Chooses, Tells, Stores, Sees, Caches, Drops, effect}
 use Rattle.tier_safe.specs.Views.{IsRight, NotesStand}
 use Rattle.tier_safe.specs.Safe.{TierSafe}
 use Rattle.tier_safe.specs.Moves.{MayMove}
@@ -133,6 +133,7 @@ moved_id (Refreshes rebuild) a c p m n = tt
 moved_id (Lines rebuild line) a c p m n = tt
 moved_id (Asks sought) a c p m n = tt
 moved_id (Finds sought piece) a c p m n = tt
+moved_id (Skips sought offset) a c p m n = tt
 moved_id (Reads sought from) a c p m n = tt
 
 told_id : (telling : Telling) (a : ℕ) (c : Scene) → MayTell a telling c → NotesStand c.notes c.desk → IdWork (after_telling telling)

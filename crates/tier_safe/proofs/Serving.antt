@@ -16,7 +16,7 @@ use Rattle.remote_view.specs.Fold.{Seen, entry_of, fold}
 use Rattle.remote_find.specs.declared.piece.Piece.{Piece}
 use Rattle.tier_safe.specs.Scene.{Site, Sought, Seeks, Scene}
 use Rattle.tier_safe.specs.Lineage.{IsHeld}
-use Rattle.tier_safe.specs.Fetches.{StillLeads}
+use Rattle.tier_safe.specs.Fetches.{StillLeads, PieceStands}
 use Rattle.tier_safe.specs.Safe.{TierSafe}
 use Rattle.tier_safe.specs.Kept.{Shares, whole_of}
 use Rattle.tier_safe.specs.Reads.{FetchesAreServed, RebuildsAreServed}
@@ -36,16 +36,15 @@ pub record FetchReads (c : Scene) (p : Plain) (x : Broker) (piece : Piece) : Typ
   pub within : (entry.start ≤ piece.from) × (piece.to ≤ entry.end + 1)
   pub shares : Shares (whole_of held) x.log (piece.to - 1)
 
-pub fetch_reads : (a : ℕ) (sought : Sought) (piece : Piece) (c : Scene) (p : Plain) (site : Site) (x : Broker) → PlainSafe p → TierSafe c p
-    → slice_get c.desk a ≡ Some (Seeks sought) → slice_get c.sites sought.broker ≡ Some site → slice_get p.brokers sought.broker ≡ Some x
-    → sought.piece ≡ Some piece → StillLeads sought x → p.registry.start ≤ sought.offset → FetchReads c p x piece
-fetch_reads a sought piece c p site x s h seat site_is x_is is leads past =
-    let k = (h.fetches a sought site x seat site_is x_is).piece piece is leads past in
+-- a piece that stands for a log has such a copy, while the log start isn't above its offset
+pub piece_reads : (offset b : ℕ) (piece : Piece) (c : Scene) (p : Plain) (x : Broker) → PlainSafe p → TierSafe c p → slice_get p.brokers b ≡ Some x
+    → PieceStands c.notes x.log offset piece → p.registry.start ≤ offset → FetchReads c p x piece
+piece_reads offset b piece c p x s h x_is k past =
     let y = prefix_goes k.before c.notes piece.id k.entry k.begins k.there in
     let holds = k.holds in
     let within = k.within in
-    let high : sought.offset ≤ k.entry.end = omega (arith, holds.1, within.1) in
-    let done = finished_stays c.notes c.notes k.before p.registry.start sought.offset piece.id k.entry y.0 h.deletions.ended k.begins (prefix_self c.notes) k.there k.finished past high y.1 y.2 in
+    let high : offset ≤ k.entry.end = omega (arith, holds.1, within.1) in
+    let done = finished_stays c.notes c.notes k.before p.registry.start offset piece.id k.entry y.0 h.deletions.ended k.begins (prefix_self c.notes) k.there k.finished past high y.1 y.2 in
     let held = h.finished piece.id y.0 y.1 done in
     let low : piece.from ≤ piece.to - 1 = omega (arith, holds.0, holds.1) in
     let last : piece.to - 1 < piece.to = omega (arith, holds.1) in
@@ -56,9 +55,16 @@ fetch_reads a sought piece c p site x s h seat site_is x_is is leads past =
       finished = done;
       held = held;
       within = (omega (arith, within.0, y.2.start), omega (arith, within.1, y.2.end));
-      shares = entry_agrees p y.0 held.batches held.line x.log (piece.to - 1) k.epoch s held.describes (s.brokers sought.broker x x_is).log
+      shares = entry_agrees p y.0 held.batches held.line x.log (piece.to - 1) k.epoch s held.describes (s.brokers b x x_is).log
           (omega (arith, within.0, y.2.start, low)) (omega (arith, within.1, y.2.end, holds.1)) map (k.of_log (piece.to - 1) low last);
     }
+
+-- so does that of a fetch on the desk
+pub fetch_reads : (a : ℕ) (sought : Sought) (piece : Piece) (c : Scene) (p : Plain) (site : Site) (x : Broker) → PlainSafe p → TierSafe c p
+    → slice_get c.desk a ≡ Some (Seeks sought) → slice_get c.sites sought.broker ≡ Some site → slice_get p.brokers sought.broker ≡ Some x
+    → sought.piece ≡ Some piece → StillLeads sought x → p.registry.start ≤ sought.offset → FetchReads c p x piece
+fetch_reads a sought piece c p site x s h seat site_is x_is is leads past =
+    piece_reads sought.offset sought.broker piece c p x s h x_is ((h.fetches a sought site x seat site_is x_is).piece piece is leads past) past
 
 -- its position is the one that the index of the same batches gives
 pub fetch_from : (a : ℕ) (sought : Sought) (piece : Piece) (from : ℕ) (c : Scene) (p : Plain) (site : Site) (x : Broker) → PlainSafe p → TierSafe c p

@@ -35,7 +35,7 @@ use Rattle.tier_safe.specs.Scene.{Site, Rebuild, Sought, Work, Free, Copies, Exp
 -- moves: changes of the desk alone
 
 -- a copy finds that it was overtaken; an expiry takes its segment; a rebuild its offset, that all notes were seen, and a line; a
--- fetch its offset, a piece, and the position from which it reads
+-- fetch its offset, a piece, a later offset in it, and the position from which it reads
 pub data Move : Type 0 where
   Leaves : Move
   Overtakes : (copy : Copied) → Move
@@ -45,6 +45,7 @@ pub data Move : Type 0 where
   Lines : (rebuild : Rebuild) → (line : List (ℕ × ℕ)) → Move
   Asks : (sought : Sought) → Move
   Finds : (sought : Sought) → (piece : Piece) → Move
+  Skips : (sought : Sought) → (offset : ℕ) → Move
   Reads : (sought : Sought) → (from : ℕ) → Move
 
 -- what the seat keeps after a move
@@ -57,6 +58,7 @@ moved (Refreshes rebuild) = Rebuilds (record rebuild { refreshed = true })
 moved (Lines rebuild line) = Rebuilds (record rebuild { line = Some line })
 moved (Asks sought) = Seeks sought
 moved (Finds sought piece) = Seeks (record sought { piece = Some piece })
+moved (Skips sought offset) = Seeks (record sought { offset = offset })
 moved (Reads sought from) = Seeks (record sought { from = Some from })
 
 -- notes

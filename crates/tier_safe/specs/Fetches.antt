@@ -7,7 +7,7 @@
 -- long as its broker leads on and the log start isn't above its offset. Otherwise it is answered without it.
 --
 -- Source: KIP-405: fetches below the local log start offset, and RemoteIndexCache.
-use Rattle.std.specs.Prelude.{◌≡◌, ℕ, ◌+◌, ◌<◌, ◌≤◌, List, Some, slice_get}
+use Rattle.std.specs.Prelude.{◌≡◌, ℕ, ◌+◌, ◌<◌, ◌≤◌, List, Some, None, slice_get}
 use mathlib.Core.List.{IsPrefix}
 use Rattle.tier_base.specs.declared.plain.State.TheVariants.{CopyFinished}
 use Rattle.tier_base.specs.declared.names.SegmentId.{SegmentId}
@@ -67,12 +67,12 @@ pub record StillLeads (sought : Sought) (x : Broker) : Type 0 where
   pub role : x.role ≡ Leads sought.epoch
 
 -- a fetch on the desk: its broker's view has the entry of its piece; while that broker leads as it did, its offset is below the
--- local start, and what it has found stands
+-- local start until it has found a piece, and what it has found stands
 pub record FetchStands (paths : List Path) (notes : List Note) (start : ℕ) (site : Site) (x : Broker) (sought : Sought)
     : Type 0 where
   pub stops : sought.stops ≤ x.stops
   pub taken : (log : List (List ℕ)) × (path_of paths sought.epoch ≡ Some log)
-  pub below : StillLeads sought x → sought.offset < site.start
+  pub below : sought.piece ≡ None → StillLeads sought x → sought.offset < site.start
   pub seen : (piece : Piece) → sought.piece ≡ Some piece
       → (entry : Entry) × (entry_of piece.id site.view.entries ≡ Some entry)
   pub piece : (piece : Piece) → sought.piece ≡ Some piece → StillLeads sought x → start ≤ sought.offset

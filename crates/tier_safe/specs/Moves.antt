@@ -19,7 +19,7 @@ use Rattle.copy_task.specs.Copying.{Copied}
 use Rattle.copy_task.specs.declared.turn.Next.TheVariants as copying
 use Rattle.expiry_task.specs.declared.turn.Doomed.{Doomed}
 use Rattle.tier_safe.specs.Scene.{Site, Rebuild, Sought, Free, Copies, Rebuilds, Seeks, Scene}
-use Rattle.tier_safe.specs.Changes.{Move, Leaves, Overtakes, Dooms, Wants, Refreshes, Lines, Asks, Finds, Reads}
+use Rattle.tier_safe.specs.Changes.{Move, Leaves, Overtakes, Dooms, Wants, Refreshes, Lines, Asks, Finds, Skips, Reads}
 use Rattle.tier_safe.specs.Copies.{is_deleted}
 use Rattle.tier_safe.specs.Fetches.{StillLeads, PieceStands, PositionStands}
 
@@ -92,6 +92,15 @@ pub record MayFind (a : ℕ) (sought : Sought) (piece : Piece) (c : Scene) (p : 
   pub gives : (x : Broker) → slice_get p.brokers sought.broker ≡ Some x → StillLeads sought x
       → p.registry.start ≤ sought.offset → PieceStands c.notes x.log sought.offset piece
 
+-- the piece that the fetch has found stands for the later offset too
+pub record MaySkip (a : ℕ) (sought : Sought) (offset : ℕ) (c : Scene) (p : Plain) : Type 0 where
+  pub seat : slice_get c.desk a ≡ Some (Seeks sought)
+  pub unread : sought.from ≡ None
+  pub piece : Piece
+  pub found : sought.piece ≡ Some piece
+  pub gives : (x : Broker) → slice_get p.brokers sought.broker ≡ Some x → StillLeads sought x
+      → p.registry.start ≤ offset → PieceStands c.notes x.log offset piece
+
 -- the position is the one that the index of the piece's segment gives for the offset
 pub record MayRead (a : ℕ) (sought : Sought) (from : ℕ) (c : Scene) (p : Plain) : Type 0 where
   pub seat : slice_get c.desk a ≡ Some (Seeks sought)
@@ -108,4 +117,5 @@ MayMove a (Refreshes rebuild) c p = MayRefresh a rebuild c
 MayMove a (Lines rebuild line) c p = MayLine a rebuild line c p
 MayMove a (Asks sought) c p = MayAsk a sought c p
 MayMove a (Finds sought piece) c p = MayFind a sought piece c p
+MayMove a (Skips sought offset) c p = MaySkip a sought offset c p
 MayMove a (Reads sought from) c p = MayRead a sought from c p

@@ -2,7 +2,7 @@
 --
 -- A look-up goes by the line of the reading log's leader epochs. These laws hold of any line that says in which epoch each offset
 -- of the log is.
-use Rattle.std.specs.Prelude.{◌≡◌, ℕ, ◌-◌, ◌<◌, ◌≤◌, true, List, Some, slice_get}
+use Rattle.std.specs.Prelude.{◌≡◌, ℕ, ◌-◌, ◌<◌, ◌≤◌, true, List, Some, None, slice_get}
 use Rattle.std.specs.List.{AllByRecursion}
 use mathlib.Core.List.{IsPrefix}
 use Rattle.tier_base.specs.declared.names.SegmentId.{SegmentId}
@@ -40,10 +40,17 @@ pub record IsRightView (view : Seen) : Type 0 where
   pub kept : AreKept view.entries
   pub distinct : AreDistinct view.entries
 
--- a fetch whose broker leads on and has seen all notes finds what it reads from
+-- each offset from the log start on that a broker's local log lacks is found in its view, where it has seen all notes
+abbrev pub LackingIsFound : Type 0
+LackingIsFound = (c : Scene) (p : Plain) (b : ℕ) (site : Site) (x : Broker) (line : List (ℕ × ℕ)) (offset : ℕ) → TierSafe c p
+    → slice_get c.sites b ≡ Some site → slice_get p.brokers b ≡ Some x → p.registry.start ≤ offset → offset < site.start
+    → site.view ≡ view_of c.notes → TellsEpochs line x.log
+    → (piece : Piece) × (piece_at site.view.entries line (end_of x.log) offset ≡ Some piece)
+
+-- a fetch that has no piece yet, and whose broker leads on and has seen all notes, finds what it reads from
 abbrev pub AskedIsFound : Type 0
 AskedIsFound = (c : Scene) (p : Plain) (a : ℕ) (sought : Sought) (site : Site) (x : Broker) (line : List (ℕ × ℕ)) → TierSafe c p
-    → slice_get c.desk a ≡ Some (Seeks sought) → slice_get c.sites sought.broker ≡ Some site
+    → slice_get c.desk a ≡ Some (Seeks sought) → sought.piece ≡ None → slice_get c.sites sought.broker ≡ Some site
     → slice_get p.brokers sought.broker ≡ Some x → StillLeads sought x → p.registry.start ≤ sought.offset
     → site.view ≡ view_of c.notes → TellsEpochs line x.log
     → (piece : Piece) × (piece_at site.view.entries line (end_of x.log) sought.offset ≡ Some piece)

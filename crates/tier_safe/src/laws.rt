@@ -2,7 +2,7 @@
 //! cites the law.
 
 ghost use Rattle.tier_safe.specs.Laws.{ChangesKeepSafe, AnswersKeepSafe, SegmentsAreSources, FreshIsSafe, DroppedIsKept, FinishedIsKept};
-ghost use Rattle.tier_safe.specs.Reads.{AskedIsFound, FoundStands, ReachedIsCovered, WantedIsFound, FetchesAreServed, RebuildsAreServed};
+ghost use Rattle.tier_safe.specs.Reads.{LackingIsFound, AskedIsFound, FoundStands, ReachedIsCovered, WantedIsFound, FetchesAreServed, RebuildsAreServed};
 ghost use Rattle.tier_safe.specs.Turns.{CopyTurnsChange, ExpiryTurnsChange, RefreshesChange, HaltsChange};
 
 use meta_log::MetaLog;
@@ -62,6 +62,11 @@ pub fn dropped_is_kept()
 #[tactic(auto, using(crate::proofs::Promises::finished_kept))]
 pub fn finished_is_kept()
     ensures { FinishedIsKept }
+{}
+
+/// A broker that has seen all notes finds each offset, from the log start on, that its local log lacks.
+pub fn what_a_log_lacks_is_found()
+    ensures { LackingIsFound }
 {}
 
 /// A fetch whose broker leads on and has seen all notes finds what it reads from.

@@ -16,6 +16,7 @@ mod laws;
 pub use laws::{
     a_leaders_segments_are_sources, answers_keep_safe, changes_keep_safe, copy_turns_change,
     dropped_is_kept, expiry_turns_change, fetches_are_served, finished_is_kept, fresh_is_safe,
-    halts_change, rebuilds_are_served, refreshes_change, what_a_rebuild_wants_is_found,
-    what_is_asked_for_is_found, what_is_found_stands, what_is_reached_is_covered,
+    halts_change, rebuilds_are_served, refreshes_change, what_a_log_lacks_is_found,
+    what_a_rebuild_wants_is_found, what_is_asked_for_is_found, what_is_found_stands,
+    what_is_reached_is_covered,
 };

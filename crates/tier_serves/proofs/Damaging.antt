@@ -50,11 +50,11 @@ use Rattle.tier_serves.proofs.Reading.{spot_is, copy_of, stands, first_is}
 use Rattle.tier_serves.proofs.Turning.{shown}
 
 -- a scene that changes lead to is safe
-kept_safe : (c d : Scene) (p : Plain) → IsChanged c p d → BothSafe c p → BothSafe d p
+pub kept_safe : (c d : Scene) (p : Plain) → IsChanged c p d → BothSafe c p → BothSafe d p
 kept_safe c d p h safe = subst (λ (e : Scene). BothSafe e p) h.is (all_kept h.changes c p p h.may safe)
 
 -- what a fetch has found has its place in the view
-placed : (c : Scene) (p : Plain) (a b : ℕ) (site : Site) (x : Broker) (stops epoch : ℕ) (wanted : Wanted) (line : List (ℕ × ℕ)) (next : Next) (s : store.Content) (n : meta.Content) (view : Seen)
+pub placed : (c : Scene) (p : Plain) (a b : ℕ) (site : Site) (x : Broker) (stops epoch : ℕ) (wanted : Wanted) (line : List (ℕ × ℕ)) (next : Next) (s : store.Content) (n : meta.Content) (view : Seen)
     (cache : Cache) (piece : Piece) (kind : Part) → IsAtTurn c p a b site x stops epoch wanted line next s n view cache → piece_of next ≡ Some piece
     → (entry : Entry) × (spot_in wanted.partition piece.id kind (entry_of piece.id view.entries) ≡ Some (entry.start, whole (key_of wanted.partition piece.id kind)))
 placed c p a b site x stops epoch wanted line next s n view cache piece kind h is =
@@ -77,7 +77,7 @@ piece_there c p a b site x stops epoch wanted line s n view cache after h all ch
     let d = after_turn c a b site work c.objects c.notes after in
     let safe = kept_safe c d p change h.safe in
     let new : Site = record site { view = after } in
-    let k = asked_is_found d p a (sought_of b stops epoch wanted.offset Refresh) new x line safe.tier (set_get c.desk a work work h.shows.seat)
+    let k = asked_is_found d p a (sought_of b stops epoch wanted.offset Refresh) new x line safe.tier (set_get c.desk a work work h.shows.seat) refl
     (set_get c.sites b site new h.shows.site_is) h.broker_is h.leads h.past all h.tells in
     (k.0, subst (λ (e : ℕ). piece_at after.entries line e wanted.offset ≡ Some k.0) (sym h.end_is) k.1)
 
@@ -98,7 +98,7 @@ module _ {S M : Type 0} (objects : S → store.Content) (calls : S → Control s
       chosen_damage place at after.notes (piece_at after.entries line wanted.log_end wanted.offset) k.0 k.1 row.0
 
   -- the object of a part is given, whole or in part
-  gives : (c : Scene) (p : Plain) (a b : ℕ) (site : Site) (x : Broker) (stops epoch : ℕ) (wanted : Wanted) (line : List (ℕ × ℕ)) (next : Next) (ns : meta.Content) (view : Seen) (cache : Cache)
+  pub gives : (c : Scene) (p : Plain) (a b : ℕ) (site : Site) (x : Broker) (stops epoch : ℕ) (wanted : Wanted) (line : List (ℕ × ℕ)) (next : Next) (ns : meta.Content) (view : Seen) (cache : Cache)
       (old new : S) (piece : Piece) (kind : Part) (place : ℕ × Spot) (part_of : Spot → List ℕ → List ℕ) (given : Option (List ℕ))
       → (h : IsAtTurn c p a b site x stops epoch wanted line next (objects old) ns view cache) → (is : piece_of next ≡ Some piece)
       → spot_in wanted.partition piece.id kind (entry_of piece.id view.entries) ≡ Some place → given ≡ option_map (part_of place.1) ((objects old).objects place.1.key)

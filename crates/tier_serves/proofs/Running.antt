@@ -1,5 +1,5 @@
 -- A run that is cut out of a copy's log is the log's own run.
-use Rattle.std.proofs.Common.{◌≡◌, ◌∙◌, sym, ap, subst, refl, ℕ, ◌+◌, ◌<◌, ◌≤◌, true, List, [], ◌∷◌, ◌++◌, length, take, drop, Option, Some, None, Result, Ok, Err, arith, append_assoc}
+use Rattle.std.proofs.Common.{◌≡◌, ◌∙◌, sym, ap, subst, refl, ℕ, ◌+◌, ◌<◌, ◌≤◌, min, Bool, true, false, cond, nat_lt, List, [], ◌∷◌, ◌++◌, length, take, drop, Option, Some, None, Result, Ok, Err, IsOk, arith, append_assoc}
 use Rattle.std.specs.Prelude.{option_map}
 use Rattle.std.specs.List.{AllByRecursion}
 use Rattle.std.proofs.Math.Nat.{min-le_left, min-le_right}
@@ -14,7 +14,8 @@ use Rattle.log_terms.specs.Batch.{field_at, base_of, epoch_of, last_of}
 use Rattle.log_terms.specs.Line.{epoch_holding}
 use Rattle.log_terms.specs.Log.{IsConsecutive, joined, from_offset, end_from, end_of}
 use Rattle.log_terms.proofs.Logs.{lt_false, end_append, end_above}
-use Rattle.record_batch.specs.Check.{headed}
+use Rattle.record_batch.specs.Check.{checked, headed}
+use Rattle.segment_file.specs.declared.taking.Cutout.{Cutout}
 use Rattle.segment_file.specs.Run.{Fits}
 use Rattle.segment_file.specs.Run as cutting
 use Rattle.segment_file.proofs.Joining.{consecutive_parts}
@@ -31,7 +32,7 @@ use Rattle.plain_log.specs.declared.state.Broker.{Broker}
 use Rattle.plain_log.specs.declared.answer.Answer.TheVariants.{Run}
 use Rattle.plain_log.specs.declared.answer.Tier.{Tier}
 use Rattle.plain_log.specs.Fetch.{is_within}
-use Rattle.partition_seen.specs.Log.{HasBytes, WouldPass, epoch_in, IsRunOf}
+use Rattle.partition_seen.specs.Log.{HasBytes, WouldPass, IsRunOf}
 use Rattle.partition_seen.specs.Log as seen
 use Rattle.partition_seen.proofs.BoolTests.{le_true}
 use Rattle.remote_view.specs.Fold.{Seen, entry_of}
@@ -39,9 +40,10 @@ use Rattle.remote_find.specs.declared.piece.Piece.{Piece}
 use Rattle.remote_find.specs.Pieces.{piece_at}
 use Rattle.tier_fetch.specs.declared.turn.Wanted.{Wanted}
 use Rattle.tier_fetch.specs.declared.turn.Span.{Span}
+use Rattle.tier_fetch.specs.declared.turn.Next.{Next}
 use Rattle.tier_fetch.specs.declared.turn.Next.TheVariants.{Refresh, Index, Log}
 use Rattle.tier_fetch.specs.declared.turn.FetchTurn.TheVariants.{Ends}
-use Rattle.tier_fetch.specs.Turns.{spot_in, chosen, Loads, Cuts, RefreshRow, LoadRow, IndexRow, LogRow, Gets}
+use Rattle.tier_fetch.specs.Turns.{spot_in, chosen, Loads, Cuts, LoadRow, IndexRow, LogRow, Gets}
 use Rattle.tier_fetch.specs.Turns as fetch
 use Rattle.tier_safe.specs.Scene.{Site, Scene}
 use Rattle.tier_safe.proofs.Agreeing.{back_at}
@@ -161,18 +163,41 @@ copied_run c p a b site x stops epoch wanted line piece span s n view cache give
         let more = fetch_next c p x piece wanted.offset m.is.first next m.is.others rest h.safe.plain r k.holds.0 k.holds.1 parts (omega (arith, ends, high, other)) in
         record { rest = next ∷ more.0; parts = more.1; is = (λ e. is.0 (sym ends ∙ e), passing is.2) }
 
+-- batches that follow one another are checked
+follow_checked : (last : Option ℕ) (offset bound : ℕ) (batches : List (List ℕ)) → cutting.AreBatches last offset bound batches → AllByRecursion (λ (b : List ℕ). IsOk (checked b)) batches
+follow_checked last offset bound [] h = tt
+follow_checked last offset bound (b ∷ batches) h = (h.0.is, follow_checked (Some (last_of b + 1)) offset bound batches h.1)
+
+from_checked : (offset : ℕ) (batches : List (List ℕ)) → AllByRecursion (λ (b : List ℕ). IsOk (checked b)) batches → AllByRecursion (λ (b : List ℕ). IsOk (checked b)) (from_offset offset batches)
+from_checked offset [] all = tt
+from_checked offset (b ∷ batches) all = by (nat_lt (last_of b) offset) (from_checked offset batches all.1)
+  where
+    by : (t : Bool) → AllByRecursion (λ (b : List ℕ). IsOk (checked b)) (from_offset offset batches) → AllByRecursion (λ (b : List ℕ). IsOk (checked b)) (cond t (from_offset offset batches) (b ∷ batches))
+    by true rest = rest
+    by false rest = all
+
+-- so those of a run are
+run_checked : {bytes : List ℕ} {limit mark piece_end : ℕ} {cut : Cutout} (offset : ℕ) (m : cutting.IsRun bytes offset limit mark piece_end cut) → AllByRecursion (λ (b : List ℕ). IsOk (checked b)) (m.first ∷ m.others)
+run_checked {bytes} {limit} {mark} {piece_end} offset m =
+    subst (AllByRecursion (λ (b : List ℕ). IsOk (checked b))) m.run (from_checked offset m.batches (follow_checked None offset (min mark piece_end) m.batches m.stand.follow))
+
+-- the run, and that its batches are checked
+abbrev pub ServesChecked : List (List ℕ) → Wanted → Next → Tier → ℕ → Stop → List ℕ → Type 0
+ServesChecked log wanted next tier size stop bytes = (s : ServesRun log wanted next tier size stop bytes) × AllByRecursion (λ (batch : List ℕ). IsOk (checked batch)) s.run.run
+
 module _ {S M : Type 0} (objects : S → store.Content) (calls : S → Control store_call.call_code)
     (notes : M → meta.Content) (notings : M → Control meta_call.call_code) where
   log_run : (c : Scene) (p : Plain) (a b : ℕ) (site : Site) (x : Broker) (stops epoch : ℕ) (wanted : Wanted) (line : List (ℕ × ℕ)) (piece : Piece) (span : Span) (ns : meta.Content) (view : Seen)
       (cache : Cache) (old new : S) (tier : Tier) (size : ℕ) (stop : Stop) (bytes : List ℕ) (place : Option (ℕ × Spot))
       → IsAtTurn c p a b site x stops epoch wanted line (Log piece span) (objects old) ns view cache
       → spot_in wanted.partition piece.id part.Log (entry_of piece.id view.entries) ≡ place
-      → LogRow objects calls wanted piece span view place (Ok (Ends (Run tier size stop bytes))) old new → ServesRun x.log wanted (Log piece span) tier size stop bytes
+      → LogRow objects calls wanted piece span view place (Ok (Ends (Run tier size stop bytes))) old new → ServesChecked x.log wanted (Log piece span) tier size stop bytes
+  unfolding copied_run
   log_run c p a b site x stops epoch wanted line piece span ns view cache old new tier size stop bytes None h at row = absurd (cc (row.0))
   log_run c p a b site x stops epoch wanted line piece span ns view cache old new tier size stop bytes (Some place) h at row = by row.answer row.gets row.cuts
     where
       by : (answer : Result (Option (List ℕ)) Trouble) → Gets objects calls place.1.key (λ object. take span.most (drop (place.1.at + span.from) object)) answer old new
-          → Cuts wanted piece place.1 span answer (Ok (Ends (Run tier size stop bytes))) → ServesRun x.log wanted (Log piece span) tier size stop bytes
+          → Cuts wanted piece place.1 span answer (Ok (Ends (Run tier size stop bytes))) → ServesChecked x.log wanted (Log piece span) tier size stop bytes
       by (Err Failed) gets cuts = absurd (cc (cuts))
       by (Err NoMemory) gets cuts = absurd (cc (cuts))
       by (Ok None) gets cuts = absurd (cc (cuts))
@@ -188,13 +213,15 @@ module _ {S M : Type 0} (objects : S → store.Content) (calls : S → Control s
           read ∙ ap (option_map (λ (object : List ℕ). take span.most (drop (0 + span.from) object))) stand in
           let sum : 0 + span.from ≡ span.from = omega arith in
           let same : given ≡ take span.most (drop span.from (joined r.held.batches)) =
-          one_some (Some given) given (take span.most (drop (0 + span.from) (joined r.held.batches))) refl whole ∙ ap (λ (n : ℕ). take span.most (drop n (joined r.held.batches))) sum in
-          record {
-            piece = piece;
-            found = refl;
-            tier_is = cuts.tier_is;
-            run = copied_run c p a b site x stops epoch wanted line piece span (objects old) ns view cache given tier size stop bytes h r same cuts;
-          }
+          one_some (Some given) given (take span.most (drop (0 + span.from) (joined r.held.batches))) refl whole ∙ ap (λ (n : ℕ). take span.most (drop n (joined r.held.batches))) sum in (
+            record {
+              piece = piece;
+              found = refl;
+              tier_is = cuts.tier_is;
+              run = copied_run c p a b site x stops epoch wanted line piece span (objects old) ns view cache given tier size stop bytes h r same cuts;
+            },
+            run_checked wanted.offset cuts.is,
+          )
 
   -- no other turn answers a run
 
@@ -220,11 +247,18 @@ module _ {S M : Type 0} (objects : S → store.Content) (calls : S → Control s
   index_run wanted piece view None cache cache' old new tier size stop bytes row =
       load_run wanted piece view (spot_in wanted.partition piece.id part.Index (entry_of piece.id view.entries)) cache cache' old new tier size stop bytes row
 
-  pub runs_are_logs : FetchRunsAreLogs objects calls notes notings
-  runs_are_logs wanted line Refresh tier size stop bytes old new c p a b site x stops epoch row h =
+  pub runs_are_checked : (wanted : Wanted) (line : List (ℕ × ℕ)) (next : Next) (tier : Tier) (size : ℕ) (stop : Stop) (bytes : List ℕ) (old new : fetch.Tiers S M) (c : Scene) (p : Plain)
+      (a b : ℕ) (site : Site) (x : Broker) (stops epoch : ℕ) → fetch.FetchRow objects calls notes notings wanted line next (Ok (Ends (Run tier size stop bytes))) old new
+      → IsAtTurn c p a b site x stops epoch wanted line next (objects old.store) (notes old.meta) old.view old.cache → ServesChecked x.log wanted next tier size stop bytes
+  runs_are_checked wanted line Refresh tier size stop bytes old new c p a b site x stops epoch row h =
       absurd (chosen_run wanted new.view.notes (piece_at new.view.entries line wanted.log_end wanted.offset) tier size stop bytes row.1.0)
-  runs_are_logs wanted line (Index piece) tier size stop bytes old new c p a b site x stops epoch row h =
+  runs_are_checked wanted line (Index piece) tier size stop bytes old new c p a b site x stops epoch row h =
       absurd (index_run wanted piece old.view (found piece.id.0 old.cache.pairs) old.cache new.cache old.store new.store tier size stop bytes row.1)
-  runs_are_logs wanted line (Log piece span) tier size stop bytes old new c p a b site x stops epoch row h =
+  runs_are_checked wanted line (Log piece span) tier size stop bytes old new c p a b site x stops epoch row h =
       log_run c p a b site x stops epoch wanted line piece span (notes old.meta) old.view old.cache old.store new.store tier size stop bytes
       (spot_in wanted.partition piece.id part.Log (entry_of piece.id old.view.entries)) h refl row.1
+
+  -- it is the log's
+  pub runs_are_logs : FetchRunsAreLogs objects calls notes notings
+  runs_are_logs wanted line next tier size stop bytes old new c p a b site x stops epoch row h =
+      (runs_are_checked wanted line next tier size stop bytes old new c p a b site x stops epoch row h).0

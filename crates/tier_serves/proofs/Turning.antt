@@ -42,7 +42,8 @@ use Rattle.tier_safe.specs.Views.{IsViewOf}
 use Rattle.tier_safe.specs.Fetches.{PieceStands, PositionStands, IndexStands, CachedStands}
 use Rattle.tier_safe.specs.Moves.{MayFind, MayRead}
 use Rattle.tier_safe.specs.May.{IsChanged}
-use Rattle.tier_safe.specs.Reads.{IsRightView}
+use Rattle.tier_safe.specs.Reads.{TellsEpochs, IsRightView}
+use Rattle.tier_safe.specs.Safe.{TierSafe}
 use Rattle.tier_safe.specs.Turns.{Shows, after_turn}
 use Rattle.tier_safe.proofs.Basics.{one_some}
 use Rattle.tier_safe.proofs.Lookups.{found_stands}
@@ -56,14 +57,14 @@ use Rattle.tier_serves.proofs.Reading.{spot_is, copy_of, stands, seen_start, ind
 -- scenes
 
 -- a cache that stays
-as_fetch : (c : Scene) (p : Plain) (a b : ℕ) (site : Site) (work : Work) (o : store.Objects) (n : List Note) (v : Seen) (cache : Cache) → site.cache ≡ indexes_in cache
+pub as_fetch : (c : Scene) (p : Plain) (a b : ℕ) (site : Site) (work : Work) (o : store.Objects) (n : List Note) (v : Seen) (cache : Cache) → site.cache ≡ indexes_in cache
     → IsChanged c p (after_turn c a b site work o n v) → IsChanged c p (after_fetch c a b site work o n v cache)
 as_fetch c p a b site work o n v cache same h =
     as_scene c (after_turn c a b site work o n v) (after_fetch c a b site work o n v cache) p
     (scene_same _ _ refl refl refl (ap (λ (k : List (SegmentId × OffsetTable)). slice_set c.sites b (record site { view = v; cache = k })) same) refl) h
 
 -- what a turn leaves is said of other names
-named : (c : Scene) (p : Plain) (a b : ℕ) (site : Site) (work other : Work) (o o2 : store.Objects) (n n2 : List Note) (v v2 : Seen) (k k2 : Cache) → work ≡ other → o ≡ o2 → n ≡ n2 → v ≡ v2 → k ≡ k2
+pub named : (c : Scene) (p : Plain) (a b : ℕ) (site : Site) (work other : Work) (o o2 : store.Objects) (n n2 : List Note) (v v2 : Seen) (k k2 : Cache) → work ≡ other → o ≡ o2 → n ≡ n2 → v ≡ v2 → k ≡ k2
     → IsChanged c p (after_fetch c a b site work o n v k) → IsChanged c p (after_fetch c a b site other o2 n2 v2 k2)
 named c p a b site work other o o2 n n2 v v2 k k2 ew eo en ev ek h =
     as_scene c (after_fetch c a b site work o n v k) (after_fetch c a b site other o2 n2 v2 k2) p
@@ -72,7 +73,7 @@ named c p a b site work other o o2 n n2 v v2 k k2 ew eo en ev ek h =
     (ap (slice_set c.desk a) ew)) h
 
 -- a turn that left the view, the cache and the devices as they were
-quiet : (c : Scene) (p : Plain) (a b : ℕ) (site : Site) (before work : Work) (s : store.Content) (ns : meta.Content) (view : Seen) (cache : Cache) (o : store.Objects) (n : List Note) (v : Seen) (k : Cache)
+pub quiet : (c : Scene) (p : Plain) (a b : ℕ) (site : Site) (before work : Work) (s : store.Content) (ns : meta.Content) (view : Seen) (cache : Cache) (o : store.Objects) (n : List Note) (v : Seen) (k : Cache)
     → Shows c a b site before s ns view → site.cache ≡ indexes_in cache → IsChanged c p (after_turn c a b site work c.objects c.notes site.view)
     → o ≡ s.objects → n ≡ ns.notes → v ≡ view → k ≡ cache → IsChanged c p (after_fetch c a b site work o n v k)
 quiet c p a b site before work s ns view cache o n v k h same base eo en ev ek =
@@ -100,30 +101,44 @@ shown c a b site work s n view h = record {
 
 -- the piece
 
--- what is found in a view of all notes may be taken
-may_find : (c : Scene) (p : Plain) (a b : ℕ) (site : Site) (x : Broker) (stops epoch : ℕ) (wanted : Wanted) (line : List (ℕ × ℕ)) (s : store.Content) (n : meta.Content) (view : Seen) (cache : Cache)
-    (after : Seen) (piece : Piece) → IsAtTurn c p a b site x stops epoch wanted line Refresh s n view cache → after ≡ view_of c.notes
-    → piece_at after.entries line wanted.log_end wanted.offset ≡ Some piece
-    → MayFind a (sought_of b stops epoch wanted.offset Refresh) piece (after_turn c a b site (Seeks (sought_of b stops epoch wanted.offset Refresh)) c.objects c.notes after) p
-may_find c p a b site x stops epoch wanted line s n view cache after piece h all made = record {
-  seat = set_get c.desk a (Seeks (sought_of b stops epoch wanted.offset Refresh)) (Seeks (sought_of b stops epoch wanted.offset Refresh)) h.shows.seat;
+-- what is found in a view of all notes may be taken, whatever the seat kept before
+may_find : (c : Scene) (p : Plain) (a b : ℕ) (site : Site) (x : Broker) (stops epoch offset log_end : ℕ) (line : List (ℕ × ℕ)) (before : Work) (after : Seen) (piece : Piece)
+    → TierSafe c p → slice_get c.sites b ≡ Some site → slice_get c.desk a ≡ Some before → slice_get p.brokers b ≡ Some x → log_end ≡ end_of x.log → TellsEpochs line x.log
+    → after ≡ view_of c.notes → piece_at after.entries line log_end offset ≡ Some piece
+    → MayFind a (sought_of b stops epoch offset Refresh) piece (after_turn c a b site (Seeks (sought_of b stops epoch offset Refresh)) c.objects c.notes after) p
+may_find c p a b site x stops epoch offset log_end line before after piece safe site_is seat x_is end_is tells all made = record {
+  seat = set_get c.desk a before (Seeks (sought_of b stops epoch offset Refresh)) seat;
   unread = refl;
   seen = λ other at.
       (let new : Site = record site { view = after } in
-      let same : new ≡ other = one_some (slice_get (slice_set c.sites b new) b) new other (set_get c.sites b site new h.shows.site_is) at in
-      let kept = seen_kept c.notes c.notes c.desk h.safe.tier.notes (prefix_self c.notes) in
-      let k = piece_lies after.entries line wanted.log_end wanted.offset piece (subst (λ (v : Seen). AreKept v.entries) (sym all) kept.0) (subst (λ (v : Seen). AreDistinct v.entries) (sym all) kept.1)
-      h.tells.rises made in
+      let same : new ≡ other = one_some (slice_get (slice_set c.sites b new) b) new other (set_get c.sites b site new site_is) at in
+      let kept = seen_kept c.notes c.notes c.desk safe.notes (prefix_self c.notes) in
+      let k = piece_lies after.entries line log_end offset piece (subst (λ (v : Seen). AreKept v.entries) (sym all) kept.0) (subst (λ (v : Seen). AreDistinct v.entries) (sym all) kept.1)
+      tells.rises made in
       (k.1, subst (λ (t : Site). entry_of piece.id t.view.entries ≡ Some k.1) same k.2.copy));
   gives = λ y y_is leads past.
-      (let same = one_some (slice_get p.brokers b) x y h.broker_is y_is in
-      let kept = seen_kept c.notes c.notes c.desk h.safe.tier.notes (prefix_self c.notes) in
+      (let same = one_some (slice_get p.brokers b) x y x_is y_is in
+      let kept = seen_kept c.notes c.notes c.desk safe.notes (prefix_self c.notes) in
       let right : IsRightView (view_of c.notes) = record { kept = kept.0; distinct = kept.1 } in
       let of : IsViewOf c.notes after = record { before = c.notes; begins = prefix_self c.notes; is = all } in
-      let at : piece_at after.entries line (end_of x.log) wanted.offset ≡ Some piece = subst (λ (e : ℕ). piece_at after.entries line e wanted.offset ≡ Some piece) h.end_is made in
-      subst (λ (z : Broker). PieceStands c.notes z.log wanted.offset piece) same
-      (found_stands c.notes after line x.log wanted.offset piece of (subst IsRightView (sym all) right) h.tells at));
+      let at : piece_at after.entries line (end_of x.log) offset ≡ Some piece = subst (λ (e : ℕ). piece_at after.entries line e offset ≡ Some piece) end_is made in
+      subst (λ (z : Broker). PieceStands c.notes z.log offset piece) same
+      (found_stands c.notes after line x.log offset piece of (subst IsRightView (sym all) right) tells at));
 }
+
+-- and is taken up
+pub takes_up : (c : Scene) (p : Plain) (a b : ℕ) (site : Site) (x : Broker) (stops epoch offset log_end : ℕ) (line : List (ℕ × ℕ)) (before : Work) (after : Seen) (piece : Piece)
+    → TierSafe c p → slice_get c.sites b ≡ Some site → slice_get c.desk a ≡ Some before → slice_get p.brokers b ≡ Some x → log_end ≡ end_of x.log → TellsEpochs line x.log
+    → after ≡ view_of c.notes → piece_at after.entries line log_end offset ≡ Some piece
+    → IsChanged c p (after_turn c a b site (Seeks (sought_of b stops epoch offset Refresh)) c.objects c.notes after)
+    → IsChanged c p (after_turn c a b site (Seeks (sought_of b stops epoch offset (Index piece))) c.objects c.notes after)
+takes_up c p a b site x stops epoch offset log_end line before after piece safe site_is seat x_is end_is tells all made base =
+    let sought = sought_of b stops epoch offset Refresh in
+    let d = after_turn c a b site (Seeks sought) c.objects c.notes after in
+    let may = may_find c p a b site x stops epoch offset log_end line before after piece safe site_is seat x_is end_is tells all made in
+    as_scene c (effect (Moves a (Finds sought piece)) d) (after_turn c a b site (Seeks (sought_of b stops epoch offset (Index piece))) c.objects c.notes after) p
+    (scene_same _ _ refl refl refl refl (set_set c.desk a (Seeks sought) (Seeks (sought_of b stops epoch offset (Index piece)))))
+    (goes_on c d p (Moves a (Finds sought piece)) base (refl, may))
 
 chooses : (c : Scene) (p : Plain) (a b : ℕ) (site : Site) (x : Broker) (stops epoch : ℕ) (wanted : Wanted) (line : List (ℕ × ℕ)) (s : store.Content) (n : meta.Content) (view : Seen) (cache : Cache)
     (after : Seen) (piece : Option Piece) → IsAtTurn c p a b site x stops epoch wanted line Refresh s n view cache → after ≡ view_of c.notes
@@ -133,12 +148,8 @@ chooses : (c : Scene) (p : Plain) (a b : ℕ) (site : Site) (x : Broker) (stops 
 chooses c p a b site x stops epoch wanted line s n view cache after None h all made base =
     leaves c p a b site (Seeks (sought_of b stops epoch wanted.offset Refresh)) c.objects c.notes after base
 chooses c p a b site x stops epoch wanted line s n view cache after (Some piece) h all made base =
-    let sought = sought_of b stops epoch wanted.offset Refresh in
-    let d = after_turn c a b site (Seeks sought) c.objects c.notes after in
-    let may = may_find c p a b site x stops epoch wanted line s n view cache after piece h all made in
-    as_scene c (effect (Moves a (Finds sought piece)) d) (after_turn c a b site (Seeks (sought_of b stops epoch wanted.offset (Index piece))) c.objects c.notes after) p
-    (scene_same _ _ refl refl refl refl (set_set c.desk a (Seeks sought) (Seeks (sought_of b stops epoch wanted.offset (Index piece)))))
-    (goes_on c d p (Moves a (Finds sought piece)) base (refl, may))
+    takes_up c p a b site x stops epoch wanted.offset wanted.log_end line (Seeks (sought_of b stops epoch wanted.offset Refresh)) after piece h.safe.tier h.shows.site_is h.shows.seat h.broker_is h.end_is
+    h.tells all made base
 
 -- the index
 
@@ -190,13 +201,13 @@ module _ {S M : Type 0} (objects : S → store.Content) (calls : S → Control s
   -- reads of the store
 
   -- a turn that was answered, or wanted memory, and left the cache
-  ended : (c : Scene) (p : Plain) (a b : ℕ) (site : Site) (x : Broker) (stops epoch : ℕ) (wanted : Wanted) (line : List (ℕ × ℕ)) (next : Next) (ns : meta.Content) (view : Seen) (cache cache' : Cache)
+  pub ended : (c : Scene) (p : Plain) (a b : ℕ) (site : Site) (x : Broker) (stops epoch : ℕ) (wanted : Wanted) (line : List (ℕ × ℕ)) (next : Next) (ns : meta.Content) (view : Seen) (cache cache' : Cache)
       (old new : S) → IsAtTurn c p a b site x stops epoch wanted line next (objects old) ns view cache → (objects new).objects ≡ (objects old).objects → cache' ≡ cache
       → IsChanged c p (after_fetch c a b site Free (objects new).objects ns.notes view cache')
   ended c p a b site x stops epoch wanted line next ns view cache cache' old new h same kept =
       quiet c p a b site _ Free (objects old) ns view cache (objects new).objects ns.notes view cache' h.shows h.cache_is (left c p a b site h.shows.site_is) same refl refl kept
 
-  halted : (c : Scene) (p : Plain) (a b : ℕ) (site : Site) (x : Broker) (stops epoch : ℕ) (wanted : Wanted) (line : List (ℕ × ℕ)) (next : Next) (ns : meta.Content) (view : Seen) (cache cache' : Cache)
+  pub halted : (c : Scene) (p : Plain) (a b : ℕ) (site : Site) (x : Broker) (stops epoch : ℕ) (wanted : Wanted) (line : List (ℕ × ℕ)) (next : Next) (ns : meta.Content) (view : Seen) (cache cache' : Cache)
       (old new : S) → IsAtTurn c p a b site x stops epoch wanted line next (objects old) ns view cache → (objects new).objects ≡ (objects old).objects → cache' ≡ cache
       → IsChanged c p (after_fetch c a b site (Seeks (sought_of b stops epoch wanted.offset next)) (objects new).objects ns.notes view cache')
   halted c p a b site x stops epoch wanted line next ns view cache cache' old new h same kept =
