@@ -2,6 +2,9 @@
 
 use meta_log::MemoryLog;
 use object_store::MemoryStore;
+use tier_dates::{
+    search_damage_is_of_logs, search_turns_change, searches_are_right, searches_go_on,
+};
 use tier_rebuilds::{a_rebuild_finds_all, a_rebuild_reads_its_path, a_rebuild_refreshes};
 use tier_safe::{copy_turns_change, expiry_turns_change};
 use tier_serves::{damage_is_of_logs, fetch_runs_are_logs, fetch_turns_change};
@@ -13,6 +16,14 @@ fn turns_over_devices_in_memory_are_changes() {
     fetch_turns_change::<MemoryStore, MemoryLog>();
     fetch_runs_are_logs::<MemoryStore, MemoryLog>();
     damage_is_of_logs::<MemoryStore, MemoryLog>();
+}
+
+#[test]
+fn searches_over_devices_in_memory_are_changes() {
+    search_turns_change::<MemoryStore, MemoryLog>();
+    searches_go_on::<MemoryStore, MemoryLog>();
+    searches_are_right::<MemoryStore, MemoryLog>();
+    search_damage_is_of_logs::<MemoryStore, MemoryLog>();
 }
 
 #[test]

@@ -1,0 +1,4 @@
+pub mod Passed
+pub mod Searching
+pub mod Turns
+pub mod Answers

@@ -1,0 +1,3 @@
+pub mod Dates
+pub mod Passing
+pub mod Turns

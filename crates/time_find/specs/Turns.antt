@@ -1,0 +1,216 @@
+-- What each turn of a search by timestamp does, from the one on that follows its first turn.
+--
+--   turn     does                                                             answers
+--   Seek     below the local log: refreshes the view, and passes over          MetaFault, Damaged
+--            remote segments that are too early
+--            in the local log: passes over closed segments, and reads a run    Offset, DiskFault, Damaged
+--   Times    reads the time index of the segment that it has come to           StoreFault, Damaged
+--   Index    has the segment's offset index of the cache, or else reads it     StoreFault, Damaged
+--   Log      reads what is left of the segment's log                           Offset, StoreFault, Damaged
+--
+-- The time index shows a batch up to which all are too early, so the search of the segment goes on behind it. Where a piece or a run
+-- has no batch that isn't too early, the cursor comes to its end.
+--
+-- Source: KIP-405, whose remote segments have time indexes, and Kafka's ListOffsets.
+use Rattle.std.specs.Prelude.{◌≡◌, ◌⊎◌, ℕ, ◌+◌, ◌<◌, ◌≤◌, ◌^◌, ◌-◌, max, nat_lt, if◌then◌else◌, ℤ, List, drop, Option, Some, None, Ok, Err, IsErr}
+use Rattle.std.specs.declared.result.Result.{Result}
+use Rattle.std.specs.declared.alloc.AllocError.{AllocError}
+use Rattle.tier_base.specs.declared.fault.Trouble.{Trouble}
+use Rattle.tier_base.specs.declared.fault.Trouble.TheVariants.{Failed, NoMemory}
+use Rattle.tier_base.specs.declared.plain.Part.TheVariants as part
+use Rattle.tier_base.specs.Device.{Control}
+use Rattle.log_terms.specs.Log.{joined, end_from}
+use Rattle.sparse_index.specs.Bytes.{bytes_of, IsUnread}
+use Rattle.sparse_index.specs.Times.{TimeTable, AreMoments, moment_bytes, below_time}
+use Rattle.object_store.specs.declared.placing.Spot.{Spot}
+use Rattle.object_store.specs.Call as store_call
+use Rattle.object_store.specs.Content as store
+use Rattle.meta_log.specs.Call as meta_call
+use Rattle.meta_log.specs.Content as meta
+use Rattle.disk_model.specs.Call as disk_call
+use Rattle.disk_model.specs.Content as disk
+use Rattle.local_log.specs.declared.reading.RunOut.{RunOut}
+use Rattle.broker_log.specs.Seen.{Kept, Stays, Lasting, Faulted, closed_in}
+use Rattle.broker_log.specs.Turns.{Reads, Misreads}
+use Rattle.remote_view.specs.Fold.{Seen, entry_of}
+use Rattle.remote_find.specs.declared.piece.Piece.{Piece}
+use Rattle.view_refresh.specs.Refreshing.{Refreshed, Unread, Halted}
+use Rattle.plain_log.specs.declared.answer.Answer.TheVariants.{MetaFault, StoreFault, DiskFault, Damaged, Run, Offset}
+use Rattle.plain_log.specs.declared.answer.Place.TheVariants.{Key, Meta, File}
+use Rattle.plain_log.specs.RowsOfReads.{first_at}
+use Rattle.tier_fetch.specs.declared.turn.Wanted.{Wanted}
+use Rattle.tier_fetch.specs.declared.turn.Span.{Span}
+use Rattle.tier_fetch.specs.declared.turn.FetchTurn.{FetchTurn}
+use Rattle.tier_fetch.specs.declared.turn.FetchTurn.TheVariants as fetch
+use Rattle.tier_fetch.specs.declared.turn.Next.TheVariants as fetching
+use Rattle.tier_fetch.specs.Turns.{Tiers, FetchRow, Gets, spot_in}
+use Rattle.time_find.specs.declared.turn.Asked.{Asked}
+use Rattle.time_find.specs.declared.turn.Next.{Next}
+use Rattle.time_find.specs.declared.turn.Next.TheVariants.{Seek, Times as ReadsTimes, Index, Log}
+use Rattle.time_find.specs.declared.turn.TimeTurn.{TimeTurn}
+use Rattle.time_find.specs.declared.turn.TimeTurn.TheVariants.{Goes, Ends}
+use Rattle.time_find.specs.declared.run.Dated.TheVariants.{At}
+use Rattle.time_find.specs.Dates.{AreChecked, IsDated}
+use Rattle.time_find.specs.Passing.{top_of, passed_over, Seeks}
+
+-- what a turn needs of the cursor: a piece ends past it, and is searched from it on or later
+abbrev pub IsSet : ℕ → Next → Type 0
+IsSet cursor Seek = Unit {0}
+IsSet cursor (ReadsTimes piece) = cursor < piece.to
+IsSet cursor (Index piece from) = (cursor ≤ from) × (from < piece.to)
+IsSet cursor (Log piece from span) = (cursor ≤ from) × (from < piece.to)
+
+-- a search that goes on from a cursor has such a turn next: its cursor hasn't fallen, and has risen where it has no piece
+abbrev pub GoesOn : ℕ → TimeTurn → Type 0
+GoesOn cursor (Goes at Seek) = cursor < at
+GoesOn cursor (Goes at next) = (cursor ≤ at) × IsSet at next
+GoesOn cursor (Ends answer) = Unit {0}
+
+-- remote segments are looked for below the local log alone
+abbrev pub IsBelow : Asked → ℕ → Next → Type 0
+IsBelow asked cursor Seek = cursor < asked.local
+IsBelow asked cursor next = Unit {0}
+
+-- what a search comes to with a run of batches that was read at an offset, and ends at or below the known mark: it ends past it
+abbrev pub IsSearched : Asked → ℕ → List ℕ → TimeTurn → Type 0
+IsSearched asked offset run (Ends (Offset n)) =
+    (batches : List (List ℕ)) → AreChecked batches → end_from offset batches ≤ asked.mark → run ≡ joined batches
+    → IsDated asked.ts asked.start offset batches (At n)
+IsSearched asked offset run (Goes end Seek) =
+    (batches : List (List ℕ)) → AreChecked batches → end_from offset batches ≤ asked.mark → run ≡ joined batches
+    → (first_at asked.ts asked.start batches ≡ None) × (end ≡ max (offset + 1) (end_from offset batches))
+IsSearched asked offset run turn = ⊥
+
+-- the time index
+
+-- from where on a segment is to be searched, as its time index shows: behind the last batch up to which all are too early
+abbrev pub from_of : ℕ → Option (ℤ × ℕ) → ℕ
+from_of cursor None = cursor
+from_of cursor (Some moment) = max cursor (moment.1 + 1)
+
+-- what a search does whose piece is to be searched from an offset on
+abbrev pub shown : Asked → ℕ → Piece → ℕ → TimeTurn
+shown asked cursor piece from =
+    if nat_lt from (top_of asked piece) then Goes cursor (Index piece from) else Goes (top_of asked piece) Seek
+
+-- these are the bytes of a time index, and the search goes on as it shows
+pub record IsTimed (asked : Asked) (cursor : ℕ) (piece : Piece) (base : ℕ) (bytes : List ℕ) (turn : TimeTurn) : Type 0 where
+  pub index : TimeTable
+  pub base_is : index.base ≡ base
+  pub rises : AreMoments index.entries
+  pub bytes_are : bytes ≡ bytes_of moment_bytes index.entries
+  pub turn_is : turn ≡ shown asked cursor piece (from_of cursor (below_time index asked.ts))
+
+-- what becomes of a search by what the store answered, of the time index of a segment with this base offset
+abbrev pub Times : Asked → ℕ → Piece → ℕ → Spot → Result (Option (List ℕ)) Trouble → Result TimeTurn AllocError → Type 0
+Times asked cursor piece base spot (Err Failed) result = result ≡ Ok (Ends StoreFault)
+Times asked cursor piece base spot (Err NoMemory) result = IsErr result
+Times asked cursor piece base spot (Ok None) result = result ≡ Ok (Ends (Damaged (Key spot.key) 0))
+Times asked cursor piece base spot (Ok (Some bytes)) (Ok (Goes at next)) = IsTimed asked cursor piece base bytes (Goes at next)
+Times asked cursor piece base spot (Ok (Some bytes)) (Ok (Ends answer)) =
+    (answer ≡ Damaged (Key spot.key) spot.at) × IsUnread AreMoments moment_bytes bytes
+Times asked cursor piece base spot (Ok (Some bytes)) (Err e) = Unit {0}
+
+-- what a fetch would ask for at an offset that a search reads from
+abbrev pub wanted_at : Asked → ℕ → Wanted
+wanted_at asked offset = record {
+  partition = asked.partition;
+  offset = offset;
+  limit = 4294967295;
+  log_end = asked.log_end;
+  mark = asked.mark;
+}
+
+-- what becomes of a search by what a fetch's turn came to, of the segment's offset index
+abbrev pub Indexes : ℕ → Piece → ℕ → Result FetchTurn AllocError → Result TimeTurn AllocError → Type 0
+Indexes cursor piece from (Ok (fetch.Goes (fetching.Log found span))) result =
+    (found ≡ piece) × (result ≡ Ok (Goes cursor (Log piece from span)))
+Indexes cursor piece from (Ok (fetch.Goes next)) result = ⊥
+Indexes cursor piece from (Ok (fetch.Ends answer)) result = result ≡ Ok (Ends answer)
+Indexes cursor piece from (Err e) result = IsErr result
+
+-- by what it came to of the segment's log
+abbrev pub Searches : Asked → ℕ → Result FetchTurn AllocError → Result TimeTurn AllocError → Type 0
+Searches asked from (Ok (fetch.Ends (Run tier size stop bytes))) (Ok turn) = IsSearched asked from bytes turn
+Searches asked from (Ok (fetch.Ends (Run tier size stop bytes))) (Err e) = ⊥
+Searches asked from (Ok (fetch.Ends answer)) result = result ≡ Ok (Ends answer)
+Searches asked from (Ok (fetch.Goes next)) result = ⊥
+Searches asked from (Err e) result = IsErr result
+
+module _ {M : Type 0} (notes : M → meta.Content) (calls : M → Control meta_call.call_code) where
+  -- remote segments that are too early are passed over
+  abbrev pub SeekRow : Asked → List (ℕ × ℕ) → ℕ → Result TimeTurn AllocError → Seen → Seen → M → M → Type 0
+  SeekRow asked line cursor (Ok (Ends MetaFault)) before after old new = Unread notes calls before after old new
+  SeekRow asked line cursor (Ok turn) before after old new =
+      Seeks asked line after cursor turn × Refreshed notes calls before after old new
+  SeekRow asked line cursor (Err e) before after old new = Halted notes calls before after old new
+
+module _ {S : Type 0} (objects : S → store.Content) (calls : S → Control store_call.call_code) where
+  -- one read of a segment's time index
+  pub record ReadsIndex (asked : Asked) (cursor : ℕ) (piece : Piece) (place : ℕ × Spot) (result : Result TimeTurn AllocError)
+      (old new : S) : Type 0 where
+    pub answer : Result (Option (List ℕ)) Trouble
+    pub gets : Gets objects calls place.1.key (drop place.1.at) answer old new
+    pub times : Times asked cursor piece place.0 place.1 answer result
+
+  -- the time index is read where it stands
+  abbrev pub TimesRow : Asked → ℕ → Piece → Seen → Option (ℕ × Spot) → Result TimeTurn AllocError → S → S → Type 0
+  TimesRow asked cursor piece view None result old new = (result ≡ Ok (Ends (Damaged Meta view.notes))) × (new ≡ old)
+  TimesRow asked cursor piece view (Some place) result old new = ReadsIndex asked cursor piece place result old new
+
+module _ {S M : Type 0} (objects : S → store.Content) (calls : S → Control store_call.call_code)
+    (notes : M → meta.Content) (notings : M → Control meta_call.call_code) where
+  -- the offset index is had as a fetch from this offset has it; none is where the known mark isn't past it
+  abbrev pub IndexRow : Asked → List (ℕ × ℕ) → ℕ → Piece → ℕ → Result TimeTurn AllocError → Tiers S M → Tiers S M → Type 0
+  IndexRow asked line cursor piece from result old new =
+      ((asked.mark ≤ from) × (result ≡ Ok (Goes (top_of asked piece) Seek)) × (new ≡ old))
+      ⊎ ((from < asked.mark) × ((turn : Result FetchTurn AllocError)
+      × FetchRow objects calls notes notings (wanted_at asked from) line (fetching.Index piece) turn old new
+      × Indexes cursor piece from turn result))
+
+  -- the log is read as that fetch reads it
+  abbrev pub LogRow : Asked → List (ℕ × ℕ) → Piece → ℕ → Span → Result TimeTurn AllocError → Tiers S M → Tiers S M → Type 0
+  LogRow asked line piece from span result old new =
+      ((asked.mark ≤ from) × (result ≡ Ok (Goes (top_of asked piece) Seek)) × (new ≡ old))
+      ⊎ ((from < asked.mark) × ((turn : Result FetchTurn AllocError)
+      × FetchRow objects calls notes notings (wanted_at asked from) line (fetching.Log piece span) turn old new
+      × Searches asked from turn result))
+
+  -- a turn of a search among the remote segments, by what was next: what it came to, or that it wanted memory
+  abbrev pub TimeRow : Asked → List (ℕ × ℕ) → ℕ → Next → Result TimeTurn AllocError → Tiers S M → Tiers S M → Type 0
+  TimeRow asked line cursor Seek result old new =
+      (new ≡ record old { view = new.view; meta = new.meta })
+      × SeekRow notes notings asked line cursor result old.view new.view old.meta new.meta
+  TimeRow asked line cursor (ReadsTimes piece) result old new =
+      (new ≡ record old { store = new.store })
+      × TimesRow objects calls asked cursor piece old.view (spot_in asked.partition piece.id part.TimeIndex (entry_of piece.id old.view.entries))
+      result old.store new.store
+  TimeRow asked line cursor (Index piece from) result old new = IndexRow asked line cursor piece from result old new
+  TimeRow asked line cursor (Log piece from span) result old new = LogRow asked line piece from span result old new
+
+module _ {D : Type 0} (content : D → disk.Content) (control : D → Control disk_call.call_code) where
+  -- a run was read at an offset, and was searched
+  pub record SearchesRun (old : Kept D) (asked : Asked) (at : ℕ) (turn : TimeTurn) (new : Kept D) : Type 0 where
+    pub out : RunOut
+    pub reads : Reads content control old new at (2 ^ 64 - 1) asked.mark out
+    pub lasts : Lasting control old new
+    pub searched : IsSearched asked at out.bytes turn
+
+  -- the disk failed in a read, and the log is as it was
+  abbrev pub Fails : Kept D → Kept D → Type 0
+  Fails old new = Stays content old new × Lasting control old new × Faulted control old new
+
+  -- a search in the local log that has come to an offset
+  abbrev pub ReadRow : Kept D → Asked → ℕ → TimeTurn → Kept D → Type 0
+  ReadRow old asked at (Ends DiskFault) new = Fails old new
+  ReadRow old asked at (Ends (Damaged (File name) place)) new =
+      Misreads content control old new at (2 ^ 64 - 1) asked.mark name place × Lasting control old new
+  ReadRow old asked at turn new = SearchesRun old asked at turn new
+
+  -- a turn of a search in the local log: nothing is read at or past the known mark
+  abbrev pub OwnRow : Kept D → Asked → ℕ → TimeTurn → Kept D → Type 0
+  OwnRow old asked cursor turn new =
+      ((asked.mark ≤ passed_over asked.ts cursor (closed_in old)) × (turn ≡ Goes (passed_over asked.ts cursor (closed_in old)) Seek)
+      × (new ≡ old))
+      ⊎ ((passed_over asked.ts cursor (closed_in old) < asked.mark)
+      × ReadRow old asked (passed_over asked.ts cursor (closed_in old)) turn new)

@@ -1,0 +1,290 @@
+//! The turns of a search among the remote segments, at most one call of a device each.
+
+ghost use Rattle.std.specs.Prelude.{◌≡◌, ◌<◌, ◌≤◌, ◌^◌, Ok, IfOk, IfSome};
+ghost use Rattle.tier_base.specs.declared.plain.Part.TheVariants as part;
+ghost use Rattle.remote_view.specs.Fold.{entry_of};
+ghost use Rattle.plain_log.specs.declared.answer.Answer.TheVariants.{Damaged};
+ghost use Rattle.plain_log.specs.declared.answer.Place.TheVariants.{Key, Meta};
+ghost use Rattle.tier_fetch.specs.Turns.{spot_in};
+ghost use Rattle.time_find.specs.declared.turn.TimeTurn.TheVariants.{Ends};
+ghost use Rattle.time_find.specs.Turns.{IsSet, GoesOn, IsBelow, wanted_at, shown, Times, SeekRow, TimesRow, IndexRow, LogRow, TimeRow};
+
+use crate::passing::seek;
+use crate::run::search_run;
+use crate::turn::{Asked, Next, TimeTurn};
+use bytes::Bytes;
+use epoch_line::Line;
+use index_cache::IndexCache;
+use meta_log::MetaLog;
+use object_store::{Spot, Store, place};
+use plain_log::{Answer, Place};
+use remote_find::Piece;
+use remote_view::View;
+use sparse_index::{IndexRefusal, TimeIndex};
+use std::alloc::{AllocError, Global};
+use tier_base::{Part, Trouble};
+use tier_fetch::{FetchTurn, Next as Fetch, Span, Wanted, fetch_turn};
+use view_refresh::refresh;
+
+/// Takes the next turn of a search whose cursor is below the local log, or that has taken up a remote segment. The line is that
+/// of its broker's log.
+pub fn time_turn<S: Store, M: MetaLog>(
+    alloc: Global,
+    asked: &Asked,
+    cursor: u64,
+    next: Next,
+    line: &Line,
+    view: &mut View,
+    cache: &mut IndexCache,
+    store: &mut S,
+    meta: &mut M,
+) -> Result<TimeTurn, AllocError>
+    requires below { cursor < asked.now.mark }
+    requires remote { IsBelow asked.now cursor next }
+    requires holds { IsSet cursor next }
+    ensures row { TimeRow S.content S.control M.content M.control asked.now line.now cursor next result
+        (record { view = view.old; cache = cache.old; store = store.old; meta = meta.old })
+        (record { view = view.new; cache = cache.new; store = store.new; meta = meta.new }) }
+    ensures goes { IfOk result (GoesOn cursor) }
+{
+    match next {
+        Next::Seek => refresh_and_seek(asked, cursor, line, view, meta),
+        Next::Times(piece) => times(alloc, asked, cursor, &piece, view, store),
+        Next::Index(piece, from) => index(
+            alloc, asked, cursor, &piece, from, line, view, cache, store, meta,
+        ),
+        Next::Log(piece, from, span) => log(
+            alloc, asked, cursor, &piece, from, span, line, view, cache, store, meta,
+        ),
+    }
+}
+
+/// Refreshes a view, and passes over what is too early in it.
+fn refresh_and_seek<M: MetaLog>(
+    asked: &Asked,
+    cursor: u64,
+    line: &Line,
+    view: &mut View,
+    meta: &mut M,
+) -> Result<TimeTurn, AllocError>
+    requires mark { cursor < asked.now.mark }
+    requires local { cursor < asked.now.local }
+    ensures row { SeekRow M.content M.control asked.now line.now cursor result view.old view.new meta.old meta.new }
+    ensures goes { IfOk result (GoesOn cursor) }
+{
+    match refresh(view, meta) {
+        Ok(()) => Ok(seek(asked, line, view, cursor)),
+        Err(Trouble::Failed) => Ok(TimeTurn::Ends(Answer::MetaFault)),
+        Err(Trouble::NoMemory) => Err(AllocError),
+    }
+}
+
+/// A view that lacks what the notes must hold is damage of the metadata log.
+fn lost(view: &View) -> TimeTurn
+    ensures { result ≡ Ends (Damaged Meta view.now.notes) }
+{
+    TimeTurn::Ends(Answer::Damaged(Place::Meta, view.seen()))
+}
+
+/// An object that lacks what is read, or has no reading.
+fn damaged(spot: &Spot, at: u64) -> TimeTurn
+    ensures { result ≡ Ends (Damaged (Key spot.now.key) at) }
+{
+    TimeTurn::Ends(Answer::Damaged(Place::Key(spot.key), at))
+}
+
+/// The base offset of a piece's segment, and where its time index stands.
+fn spot_of(asked: &Asked, piece: &Piece, view: &View) -> Option<(u64, Spot)>
+    ensures spot { result ≡ spot_in asked.now.partition piece.now.id part.TimeIndex (entry_of piece.now.id view.now.entries) }
+    ensures low { IfSome result (λ found. found.0 ≤ 2 ^ 62) }
+{
+    let _entries = view.entries();
+    let Some(entry) = view.entry(piece.id) else {
+        return None;
+    };
+    match place(
+        asked.partition,
+        piece.id,
+        entry.packed,
+        entry.custom.as_ref(),
+        Part::TimeIndex,
+    ) {
+        Some(spot) => Some((entry.start, spot)),
+        None => None,
+    }
+}
+
+/// Reads the time index of a piece's segment, which shows from where on its log is to be searched.
+fn times<S: Store>(
+    alloc: Global,
+    asked: &Asked,
+    cursor: u64,
+    piece: &Piece,
+    view: &View,
+    store: &mut S,
+) -> Result<TimeTurn, AllocError>
+    requires mark { cursor < asked.now.mark }
+    requires holds { cursor < piece.now.to }
+    ensures row { TimesRow S.content S.control asked.now cursor piece.now view.now
+        (spot_in asked.now.partition piece.now.id part.TimeIndex (entry_of piece.now.id view.now.entries)) result
+        store.old store.new }
+    ensures goes { IfOk result (GoesOn cursor) }
+{
+    let Some((base, spot)) = spot_of(asked, piece, view) else {
+        return Ok(lost(view));
+    };
+    match store.get(&spot.key, spot.at) {
+        Ok(given) => read_times(alloc, asked, cursor, piece, base, &spot, given),
+        Err(Trouble::Failed) => Ok(TimeTurn::Ends(Answer::StoreFault)),
+        Err(Trouble::NoMemory) => Err(AllocError),
+    }
+}
+
+/// Reads the time index in what the store gave.
+fn read_times(
+    alloc: Global,
+    asked: &Asked,
+    cursor: u64,
+    piece: &Piece,
+    base: u64,
+    spot: &Spot,
+    given: Option<Bytes>,
+) -> Result<TimeTurn, AllocError>
+    requires low { base ≤ 2 ^ 62 }
+    requires mark { cursor < asked.now.mark }
+    requires holds { cursor < piece.now.to }
+    ensures row { Times asked.now cursor piece.now base spot.now (Ok given) result }
+    ensures goes { IfOk result (GoesOn cursor) }
+{
+    let Some(bytes) = given else {
+        return Ok(damaged(spot, 0));
+    };
+    match TimeIndex::from_bytes(alloc, base, bytes.as_slice()) {
+        Ok(index) => {
+            let from = match index.below(asked.ts) {
+                Some((_, last)) => cursor.max(last.saturating_add(1)),
+                None => cursor,
+            };
+            let _rises = index.offsets();
+            Ok(shown(asked, cursor, piece, from))
+        }
+        Err(IndexRefusal::BadLength | IndexRefusal::NotRising { .. }) => Ok(damaged(spot, spot.at)),
+        Err(IndexRefusal::NoMemory) => Err(AllocError),
+    }
+}
+
+/// What a search does whose piece is to be searched from an offset on.
+fn shown(asked: &Asked, cursor: u64, piece: &Piece, from: u64) -> TimeTurn
+    requires low { cursor ≤ from }
+    requires mark { cursor < asked.now.mark }
+    requires holds { cursor < piece.now.to }
+    ensures row { result ≡ shown asked.now cursor piece.now from }
+    ensures goes { GoesOn cursor result }
+{
+    let top = piece.to.min(asked.mark);
+    if from < top {
+        TimeTurn::Goes(cursor, Next::Index(*piece, from))
+    } else {
+        TimeTurn::Goes(top, Next::Seek)
+    }
+}
+
+/// What a fetch would ask for at an offset that a search reads from.
+fn wanted_at(asked: &Asked, offset: u64) -> Wanted
+    ensures { result ≡ wanted_at asked.now offset }
+{
+    Wanted {
+        partition: asked.partition,
+        offset,
+        limit: u32::MAX,
+        log_end: asked.log_end,
+        mark: asked.mark,
+    }
+}
+
+/// Has the offset index of a piece's segment, as a fetch has it.
+fn index<S: Store, M: MetaLog>(
+    alloc: Global,
+    asked: &Asked,
+    cursor: u64,
+    piece: &Piece,
+    from: u64,
+    line: &Line,
+    view: &mut View,
+    cache: &mut IndexCache,
+    store: &mut S,
+    meta: &mut M,
+) -> Result<TimeTurn, AllocError>
+    requires mark { cursor < asked.now.mark }
+    requires low { cursor ≤ from }
+    requires holds { from < piece.now.to }
+    ensures row { IndexRow S.content S.control M.content M.control asked.now line.now cursor piece.now from result
+        (record { view = view.old; cache = cache.old; store = store.old; meta = meta.old })
+        (record { view = view.new; cache = cache.new; store = store.new; meta = meta.new }) }
+    ensures goes { IfOk result (GoesOn cursor) }
+{
+    if from >= asked.mark {
+        return Ok(shown(asked, cursor, piece, from));
+    }
+    let wanted = wanted_at(asked, from);
+    let turn = fetch_turn(
+        alloc,
+        &wanted,
+        Fetch::Index(*piece),
+        line,
+        view,
+        cache,
+        store,
+        meta,
+    )?;
+    match turn {
+        FetchTurn::Goes(Fetch::Log(piece, span)) => {
+            Ok(TimeTurn::Goes(cursor, Next::Log(piece, from, span)))
+        }
+        FetchTurn::Ends(answer) => Ok(TimeTurn::Ends(answer)),
+        FetchTurn::Goes(_) => unreachable!(),
+    }
+}
+
+/// Reads what is left of a piece's log, as a fetch reads it, and searches it.
+fn log<S: Store, M: MetaLog>(
+    alloc: Global,
+    asked: &Asked,
+    cursor: u64,
+    piece: &Piece,
+    from: u64,
+    span: Span,
+    line: &Line,
+    view: &mut View,
+    cache: &mut IndexCache,
+    store: &mut S,
+    meta: &mut M,
+) -> Result<TimeTurn, AllocError>
+    requires mark { cursor < asked.now.mark }
+    requires low { cursor ≤ from }
+    requires holds { from < piece.now.to }
+    ensures row { LogRow S.content S.control M.content M.control asked.now line.now piece.now from span result
+        (record { view = view.old; cache = cache.old; store = store.old; meta = meta.old })
+        (record { view = view.new; cache = cache.new; store = store.new; meta = meta.new }) }
+    ensures goes { IfOk result (GoesOn cursor) }
+{
+    if from >= asked.mark {
+        return Ok(TimeTurn::Goes(piece.to.min(asked.mark), Next::Seek));
+    }
+    let wanted = wanted_at(asked, from);
+    let turn = fetch_turn(
+        alloc,
+        &wanted,
+        Fetch::Log(*piece, span),
+        line,
+        view,
+        cache,
+        store,
+        meta,
+    )?;
+    match turn {
+        FetchTurn::Ends(Answer::Run { bytes, .. }) => Ok(search_run(bytes.as_slice(), asked, from)),
+        FetchTurn::Ends(answer) => Ok(TimeTurn::Ends(answer)),
+        FetchTurn::Goes(_) => unreachable!(),
+    }
+}
