@@ -6,7 +6,7 @@ use Rattle.std.specs.Prelude.{is_some, ◌*◌, ◌-◌, if◌then◌else◌, re
 use Rattle.plain_log.specs.declared.command.ActorList.{ActorList}
 use Rattle.plain_log.specs.declared.command.Command.{Command}
 use Rattle.plain_log.specs.declared.command.Command.TheVariants.{Follow, Offset}
-use Rattle.plain_log.specs.declared.command.Which.TheVariants.{LatestTiered}
+use Rattle.plain_log.specs.declared.command.Which.TheVariants.{LatestTiered, At}
 use Rattle.plain_log.specs.declared.command.Order.{Order}
 use Rattle.plain_log.specs.Orders.{AreRising}
 use Rattle.plain_log.specs.Runs.{orders_of}
@@ -76,6 +76,7 @@ list_or_none (k ∷ lists) a = go (k.actor.0 == a) refl (list_or_none lists a)
 later_answers : (h : Held) (b : ℕ) (x : Node) (command : Command) (k g : Begun) (h' : Held) → LaterRow h b x command k (Begins g) h' → ⊥
 later_answers h b x (Follow limit) k g h' r = r
 later_answers h b x (Offset LatestTiered) k g h' r = r
+later_answers h b x (Offset (At ts)) k g h' r = r
 later_answers h b x other k g h' r = r
 
 begun_none : (h : Held) (b : ℕ) (x : Node) (o : Option Begun) (command : Command) (g : Begun) (h' : Held) → Row h b x o command (Begins g) h' → o ≡ None

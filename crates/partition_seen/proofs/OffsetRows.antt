@@ -1,22 +1,24 @@
 -- The rows of questions for offsets are the plain log's.
-use Rattle.std.proofs.Common.{◌≡◌, ◌∙◌, sym, ap, subst, refl, ℕ, ◌==◌, ◌&&◌, Option, Some, None, true}
+use Rattle.std.proofs.Common.{◌≡◌, ◌∙◌, ap, subst, refl, ℕ, ℤ, Option, Some, None, true}
 use Rattle.std.specs.Prelude.{unwrap_or}
+use Rattle.log_terms.specs.Log.{up_to, from_offset}
 use Rattle.registry.specs.declared.registry.Replica.{Replica}
 use Rattle.registry.specs.declared.registry.Registry.{Registry}
 use Rattle.plain_log.specs.declared.answer.Answer.{Answer}
-use Rattle.plain_log.specs.declared.answer.Answer.TheVariants.{Down, NotLeader, MetaFault, Stopped, Offset as OffsetAnswer, NoOffset}
+use Rattle.plain_log.specs.declared.answer.Answer.TheVariants.{Down, NotLeader, MetaFault, StoreFault, DiskFault, Damaged, Stopped, Offset as OffsetAnswer, NoOffset}
 use Rattle.plain_log.specs.declared.command.Command.TheVariants.{Offset}
 use Rattle.plain_log.specs.declared.command.Order.{Order}
 use Rattle.plain_log.specs.declared.command.Which.{Which}
 use Rattle.plain_log.specs.declared.command.Which.TheVariants.{Earliest, Latest, EarliestLocal, LatestTiered, At}
 use Rattle.plain_log.specs.declared.state.Role.TheVariants.{Leads}
 use Rattle.plain_log.specs.declared.state.State.{State}
+use Rattle.plain_log.specs.RowsOfReads.{is_long, first_at, offset_at, same_offset, tells}
 use Rattle.partition_seen.specs.declared.begun.Begun.{Begun}
 use Rattle.partition_seen.specs.declared.begun.Turned.TheVariants.{Answers}
 use Rattle.partition_seen.specs.Seen.{Node, Held}
 use Rattle.partition_seen.specs.Held.{broker_of, noted_of}
 use Rattle.partition_seen.specs.RowsOfTiers.{LeadersRow}
-use Rattle.partition_seen.specs.RowsOfOffsets.{OffsetRow, OffsetOnRow}
+use Rattle.partition_seen.specs.RowsOfOffsets.{OffsetRow, OffsetOnRow, dated_offset, OffsetAtRow}
 use Rattle.partition_seen.proofs.BoolTests.{and_true, not_false, when_true, eq_same}
 use Rattle.partition_seen.proofs.Standing.{Standing, Allowed, silent}
 use Rattle.partition_seen.proofs.TierRows.{and_false, role_differs, gone, served}
@@ -45,16 +47,16 @@ offset_allowed h p b x s which NotLeader h' st w = silent h p b x s None (Offset
 offset_allowed h p b x s which (OffsetAnswer n) h' st w = offset_given h p b x s which n h' st w
 offset_allowed h p b x s which other h' st w = elim w [ ]
 
--- the offset of the remote tier, first turn
-pub tiered_allowed : (h : Held) (p : State) (b : ℕ) (x : Node) (s : Replica) (answer : Answer) (h' : Held) → Standing h p b x s → LeadersRow h x (Answers answer) h'
-    → Allowed p b x s None (Offset LatestTiered) answer h'
-tiered_allowed h p b x s Down h' st w = silent h p b x s None (Offset LatestTiered) Down h' st (rw w.0 refl) w.1
-tiered_allowed h p b x s NotLeader h' st w = silent h p b x s None (Offset LatestTiered) NotLeader h' st (rw (w.0, w.1) refl) w.2
-tiered_allowed h p b x s MetaFault h' st w =
-    silent h p b x s None (Offset LatestTiered) MetaFault h' st (when_true _ p (and_true _ _ (and_true _ _ w.0 w.1) refl)) w.2
-tiered_allowed h p b x s other h' st w = elim w [ ]
+-- the offset of the remote tier or of a timestamp, first turn
+pub long_allowed : (h : Held) (p : State) (b : ℕ) (x : Node) (s : Replica) (which : Which) (answer : Answer) (h' : Held)
+    → is_long which ≡ true → Standing h p b x s → LeadersRow h x (Answers answer) h' → Allowed p b x s None (Offset which) answer h'
+long_allowed h p b x s which Down h' long st w = silent h p b x s None (Offset which) Down h' st (rw w.0 refl) w.1
+long_allowed h p b x s which NotLeader h' long st w = silent h p b x s None (Offset which) NotLeader h' st (rw (w.0, w.1) refl) w.2
+long_allowed h p b x s which MetaFault h' long st w =
+    silent h p b x s None (Offset which) MetaFault h' st (when_true _ p (and_true _ _ (and_true _ _ w.0 w.1) long)) w.2
+long_allowed h p b x s which other h' long st w = elim w [ ]
 
--- and second turn
+-- the offset of the remote tier, second turn
 pub tiered_on_allowed : (h : Held) (p : State) (b : ℕ) (x : Node) (s : Replica) (order : Order) (g : Begun) (answer : Answer) (h' : Held) → Standing h p b x s
     → (e : ℕ) × (g.role ≡ Leads e) → OffsetOnRow h x g answer h' → Allowed p b x s (Some (noted_of order g)) (Offset LatestTiered) answer h'
 tiered_on_allowed h p b x s order g Stopped h' st lead w =
@@ -69,3 +71,45 @@ tiered_on_allowed h p b x s order g NoOffset h' st lead w =
     silent h p b x s (Some (noted_of order g)) (Offset LatestTiered) NoOffset h' st
     (when_true _ p (and_true _ _ (and_true _ _ (served x order g lead w.0) refl) refl)) w.1
 tiered_on_allowed h p b x s order g other h' st lead w = elim w [ ]
+
+-- the offset that the plain log gives a timestamp is the leader's
+dated_same : (h : Held) (p : State) (x : Node) (ts : ℤ) → p.registry ≡ h.registry → offset_at p (broker_of x) ts ≡ dated_offset h x ts
+dated_same h p x ts registry = ap (λ (k : Registry). first_at ts k.start (from_offset k.start (up_to x.known x.log.batches))) registry
+
+-- what is given is the offset
+same_given : (o answer : Option ℕ) → o ≡ answer → same_offset o answer ≡ true
+same_given o answer is = subst (λ (k : Option ℕ). same_offset o k ≡ true) is (itself o)
+  where
+    itself : (o : Option ℕ) → same_offset o o ≡ true
+    itself None = refl
+    itself (Some n) = eq_same n n refl
+
+-- so the plain log tells it
+told : (h : Held) (p : State) (b : ℕ) (x : Node) (s : Replica) (ts : ℤ) (answer : Option ℕ) → Standing h p b x s
+    → dated_offset h x ts ≡ answer → tells p (broker_of x) (At ts) answer ≡ true
+told h p b x s ts answer st is = same_given (offset_at p (broker_of x) ts) answer (dated_same h p x ts st.held.registry ∙ is)
+
+-- the offset of a timestamp, the turn that is answered
+pub dated_allowed : (h : Held) (p : State) (b : ℕ) (x : Node) (s : Replica) (order : Order) (ts : ℤ) (g : Begun) (answer : Answer) (h' : Held)
+    → Standing h p b x s → (e : ℕ) × (g.role ≡ Leads e) → OffsetAtRow h x ts g answer h'
+    → Allowed p b x s (Some (noted_of order g)) (Offset (At ts)) answer h'
+dated_allowed h p b x s order ts g Stopped h' st lead w =
+    silent h p b x s (Some (noted_of order g)) (Offset (At ts)) Stopped h' st (when_true _ p (not_false _ (gone x order g w.0))) w.1
+dated_allowed h p b x s order ts g NotLeader h' st lead w =
+    silent h p b x s (Some (noted_of order g)) (Offset (At ts)) NotLeader h' st
+    (when_true _ p (and_true _ _ (and_true _ _ w.1 (eq_same g.stops x.stops w.0)) (not_false _ (and_false _ _ (role_differs g.role x.role w.2))))) w.3
+dated_allowed h p b x s order ts g MetaFault h' st lead w =
+    silent h p b x s (Some (noted_of order g)) (Offset (At ts)) MetaFault h' st (when_true _ p (served x order g lead w.0)) w.1
+dated_allowed h p b x s order ts g StoreFault h' st lead w =
+    silent h p b x s (Some (noted_of order g)) (Offset (At ts)) StoreFault h' st (when_true _ p (served x order g lead w.0)) w.1
+dated_allowed h p b x s order ts g DiskFault h' st lead w =
+    silent h p b x s (Some (noted_of order g)) (Offset (At ts)) DiskFault h' st (when_true _ p (served x order g lead w.0)) w.1
+dated_allowed h p b x s order ts g (Damaged place at) h' st lead w =
+    silent h p b x s (Some (noted_of order g)) (Offset (At ts)) (Damaged place at) h' st (when_true _ p (served x order g lead w.0)) w.1
+dated_allowed h p b x s order ts g (OffsetAnswer n) h' st lead w =
+    silent h p b x s (Some (noted_of order g)) (Offset (At ts)) (OffsetAnswer n) h' st
+    (when_true _ p (and_true _ _ (and_true _ _ (served x order g lead w.1.0) refl) (told h p b x s ts (Some n) st w.0))) w.1.1
+dated_allowed h p b x s order ts g NoOffset h' st lead w =
+    silent h p b x s (Some (noted_of order g)) (Offset (At ts)) NoOffset h' st
+    (when_true _ p (and_true _ _ (and_true _ _ (served x order g lead w.1.0) refl) (told h p b x s ts None st w.0))) w.1.1
+dated_allowed h p b x s order ts g other h' st lead w = elim w [ ]

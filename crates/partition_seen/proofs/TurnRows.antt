@@ -1,6 +1,7 @@
 -- A turn of any command is one that the plain log allows.
-use Rattle.std.proofs.Common.{◌≡◌, ◌∙◌, sym, ap, subst, refl, ℕ, ℤ, List, slice_set, Option, Some, None, Bool, true, arith}
-use Rattle.std.specs.Prelude.{map}
+use Rattle.std.proofs.Common.{◌≡◌, ◌∙◌, sym, ap, subst, refl, ℕ, ℤ, List, slice_set, Option, Some, None, Bool, true, ◌&&◌, arith}
+use Rattle.std.specs.Prelude.{map, int_le}
+use Rattle.std.proofs.lemmas.Int.{ints}
 use Rattle.record_batch.specs.Build.{built}
 use Rattle.record_batch.proofs.BuildLaws.{built_long}
 use Rattle.registry.specs.declared.registry.Replica.{Replica}
@@ -8,7 +9,7 @@ use Rattle.plain_log.specs.declared.answer.Answer.{Answer}
 use Rattle.plain_log.specs.declared.answer.Answer.TheVariants.{Ok}
 use Rattle.plain_log.specs.declared.command.Command.{Command}
 use Rattle.plain_log.specs.declared.command.Command.TheVariants.{Append, Raw, Flush, Roll, Elect, Unclean, Learn, Join, Follow, Copy, Trim, Expire, Ack, Shrink, Expand, Raise, Clock, Stop as StopCommand, Up as UpCommand, Fetch, Copying, Offset}
-use Rattle.plain_log.specs.declared.command.Which.TheVariants.{LatestTiered}
+use Rattle.plain_log.specs.declared.command.Which.TheVariants.{LatestTiered, At}
 use Rattle.plain_log.specs.declared.command.Order.{Order}
 use Rattle.plain_log.specs.declared.journal.Event.TheVariants.{Begins as Began}
 use Rattle.plain_log.specs.declared.state.Broker.{Broker}
@@ -38,7 +39,7 @@ use Rattle.partition_seen.proofs.FollowRows.{join_allowed, join_starts, follow_a
 use Rattle.partition_seen.proofs.RebuildRows.{join_on_allowed}
 use Rattle.partition_seen.proofs.TrimRows.{trim_allowed, trim_on_allowed}
 use Rattle.partition_seen.proofs.TierRows.{copy_allowed, copy_on_allowed, expire_allowed, expire_on_allowed, fetch_gives, fetch_on_allowed}
-use Rattle.partition_seen.proofs.OffsetRows.{offset_allowed, tiered_allowed, tiered_on_allowed}
+use Rattle.partition_seen.proofs.OffsetRows.{offset_allowed, long_allowed, tiered_on_allowed, dated_allowed}
 use Rattle.partition_seen.proofs.FollowOnRows.{follow_on_allowed}
 
 -- the clock is no part of the plain log
@@ -91,7 +92,8 @@ first_allowed h p b x s Join answer h' st w = join_allowed h p b x s answer h' s
 first_allowed h p b x s Trim answer h' st w = trim_allowed h p b x s answer h' st w
 first_allowed h p b x s Copy answer h' st w = copy_allowed h p b x s answer h' st w
 first_allowed h p b x s Expire answer h' st w = expire_allowed h p b x s answer h' st w
-first_allowed h p b x s (Offset LatestTiered) answer h' st w = tiered_allowed h p b x s answer h' st w
+first_allowed h p b x s (Offset LatestTiered) answer h' st w = long_allowed h p b x s LatestTiered answer h' refl st w
+first_allowed h p b x s (Offset (At ts)) answer h' st w = long_allowed h p b x s (At ts) answer h' refl st w
 first_allowed h p b x s command answer h' st w = one_turn h p b x s command answer h' st w
 
 -- a beginning, as the plain log's
@@ -166,6 +168,8 @@ first_starts h p b x s Copy g h' st w = notes h p b x s Copy g h' st refl (when_
 first_starts h p b x s Expire g h' st w = notes h p b x s Expire g h' st refl (when_true _ (broker_of x) (and_true _ _ w.0 w.1)) w.2 w.3 tt
 first_starts h p b x s (Offset LatestTiered) g h' st w =
     notes h p b x s (Offset LatestTiered) g h' st refl (when_true _ (broker_of x) (and_true _ _ (and_true _ _ w.0 w.1) refl)) w.2 w.3 tt
+first_starts h p b x s (Offset (At ts)) g h' st w =
+    notes h p b x s (Offset (At ts)) g h' st refl (when_true _ (broker_of x) (and_true _ _ (and_true _ _ w.0 w.1) refl)) w.2 w.3 tt
 first_starts h p b x s (Fetch offset limit) g h' st w =
     notes h p b x s (Fetch offset limit) g h' st refl (when_true _ (broker_of x) (fetch_gives h p x offset g h' st.held w)) w.5 w.6 tt
 first_starts h p b x s command g h' st w = elim w [ ]
@@ -177,6 +181,10 @@ pub record GoingOn (p : State) (x : Node) (order : Order) (command : Command) (g
   pub up : g.stops ≡ x.stops → x.up ≡ true
   pub leads : is_leaders command ≡ true → (e : ℕ) × (g.role ≡ Leads e)
 
+-- a timestamp is itself
+moment_same : (ts : ℤ) → int_le ts ts && int_le ts ts ≡ true
+moment_same ts = let itself : int_le ts ts ≡ true = grind (arith, ints) in and_true _ _ itself itself
+
 -- a command that goes on is one of several turns
 pub later_same : (h : Held) (b : ℕ) (x : Node) (command : Command) (g : Begun) (turned : Turned) (h' : Held) → LaterRow h b x command g turned h' → same_command command command ≡ true
 later_same h b x (Follow limit) g turned h' w = eq_same limit limit refl
@@ -185,6 +193,7 @@ later_same h b x Trim g turned h' w = refl
 later_same h b x Copy g turned h' w = refl
 later_same h b x Expire g turned h' w = refl
 later_same h b x (Offset LatestTiered) g turned h' w = refl
+later_same h b x (Offset (At ts)) g turned h' w = moment_same ts
 later_same h b x (Fetch offset limit) g turned h' w = and_true _ _ (eq_same offset offset refl) (eq_same limit limit refl)
 later_same h b x command g turned h' w = elim w [ ]
 
@@ -196,6 +205,7 @@ later_allowed h p b x s order Trim g answer h' st k w = trim_on_allowed h p b x 
 later_allowed h p b x s order Copy g answer h' st k w = copy_on_allowed h p b x s order g answer h' st k.up w
 later_allowed h p b x s order Expire g answer h' st k w = expire_on_allowed h p b x s order g answer h' st k.up w
 later_allowed h p b x s order (Offset LatestTiered) g answer h' st k w = tiered_on_allowed h p b x s order g answer h' st (k.leads refl) w
+later_allowed h p b x s order (Offset (At ts)) g answer h' st k w = dated_allowed h p b x s order ts g answer h' st (k.leads refl) w
 later_allowed h p b x s order (Fetch offset limit) g answer h' st k w = fetch_on_allowed h p b x s offset limit order g answer h' st (k.leads refl) w
 later_allowed h p b x s order command g answer h' st k w = elim w [ ]
 
@@ -208,4 +218,5 @@ no_later h b x Copy g f h' w = w
 no_later h b x Expire g f h' w = w
 no_later h b x (Fetch offset limit) g f h' w = w
 no_later h b x (Offset LatestTiered) g f h' w = w
+no_later h b x (Offset (At ts)) g f h' w = w
 no_later h b x command g f h' w = w

@@ -1,7 +1,7 @@
 -- What a turn of each command comes to: its answer's cause, or what its seat keeps, and what it does to the partition.
 --
 -- A row says for each answer exactly when it is given, the tests in their order, and the partition afterwards. Follow,
--- trim, copy, expire, some joins, some fetches and the offset of the remote tier take more than one turn.
+-- trim, copy, expire, some joins, some fetches, and the offsets of the remote tier and of a timestamp take more than one turn.
 use Rattle.std.specs.Prelude.{◌≡◌, ◌⊎◌, ◌<◌, ℕ, ℤ, true, false, Option, None, Some}
 use Rattle.log_terms.specs.Log.{end_of, up_to}
 use Rattle.record_batch.specs.Build.{built}
@@ -9,7 +9,7 @@ use Rattle.plain_log.specs.declared.answer.Answer.{Answer}
 use Rattle.plain_log.specs.declared.answer.Answer.TheVariants.{Ok, Down, IsUp, DiskFault, LastIncarnation, Up}
 use Rattle.plain_log.specs.declared.command.Command.{Command}
 use Rattle.plain_log.specs.declared.command.Command.TheVariants.{Append, Raw, Flush, Roll, Elect, Unclean, Learn, Join, Follow, Copy, Trim, Expire, Ack, Shrink, Expand, Raise, Clock, Stop as StopCommand, Up as UpCommand, Fetch, Copying, Offset}
-use Rattle.plain_log.specs.declared.command.Which.TheVariants.{LatestTiered}
+use Rattle.plain_log.specs.declared.command.Which.TheVariants.{LatestTiered, At}
 use Rattle.partition_seen.specs.declared.begun.Begun.{Begun}
 use Rattle.partition_seen.specs.declared.begun.Turned.{Turned}
 use Rattle.partition_seen.specs.declared.begun.Turned.TheVariants.{Answers, Begins}
@@ -19,7 +19,7 @@ use Rattle.partition_seen.specs.RowsOfLog.{AppendRow, RawRow, FlushRow, RollRow,
 use Rattle.partition_seen.specs.RowsOfElections.{ElectRow, UncleanRow, LearnRow, AckRow, ShrinkRow, ExpandRow, RaiseRow}
 use Rattle.partition_seen.specs.RowsOfFollowers.{JoinRow, JoinOnRow, FollowRow, FollowOnRow}
 use Rattle.partition_seen.specs.RowsOfTiers.{LeadersRow, CopyRow, CopyOnRow, ExpireOnRow, FetchBegins, FetchOnRow}
-use Rattle.partition_seen.specs.RowsOfOffsets.{OffsetRow, OffsetOnRow}
+use Rattle.partition_seen.specs.RowsOfOffsets.{OffsetRow, OffsetOnRow, OffsetAtRow}
 
 -- stop
 abbrev pub StopRow : Held → ℕ → Node → Answer → Held → Type 0
@@ -92,6 +92,7 @@ FirstRow h b x Copy turned h' = CopyRow h x turned h'
 FirstRow h b x Expire turned h' = LeadersRow h x turned h'
 FirstRow h b x (Fetch offset limit) (Begins g) h' = FetchBegins h x offset g h'
 FirstRow h b x (Offset LatestTiered) turned h' = LeadersRow h x turned h'
+FirstRow h b x (Offset (At ts)) turned h' = LeadersRow h x turned h'
 FirstRow h b x command (Answers answer) h' = AnswerRow h b x command answer h'
 FirstRow h b x command (Begins g) h' = ⊥
 
@@ -104,6 +105,7 @@ LaterRow h b x Copy g (Answers answer) h' = CopyOnRow h x g answer h'
 LaterRow h b x Expire g (Answers answer) h' = ExpireOnRow h x g answer h'
 LaterRow h b x (Fetch offset limit) g (Answers answer) h' = FetchOnRow h x offset limit g answer h'
 LaterRow h b x (Offset LatestTiered) g (Answers answer) h' = OffsetOnRow h x g answer h'
+LaterRow h b x (Offset (At ts)) g (Answers answer) h' = OffsetAtRow h x ts g answer h'
 LaterRow h b x command g turned h' = ⊥
 
 -- a turn of a command of broker b, of which so much has begun

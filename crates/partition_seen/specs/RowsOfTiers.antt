@@ -29,7 +29,8 @@ pub record KeepsLead (x : Node) (g : Begun) : Type 0 where
 abbrev pub GoesLeading : Held → Node → Begun → Held → Type 0
 GoesLeading h x g h' = KeepsLead x g × (h' ≡ h)
 
--- copy, expire, and the offset up to which the remote tier has the log, first turn: the leader's view of that tier is refreshed
+-- copy, expire, and the offsets up to which the remote tier has the log and of a timestamp, first turn: the leader's view of that tier
+-- is refreshed
 abbrev pub LeadersRow : Held → Node → Turned → Held → Type 0
 LeadersRow h x (Answers Down) h' = (x.up ≡ false) × (h' ≡ h)
 LeadersRow h x (Answers NotLeader) h' = (x.up ≡ true) × (leads x.role ≡ false) × (h' ≡ h)

@@ -4,7 +4,7 @@ use Rattle.record_batch.specs.Build.{built}
 use Rattle.plain_log.specs.declared.answer.Answer.{Answer}
 use Rattle.plain_log.specs.declared.command.Command.{Command}
 use Rattle.plain_log.specs.declared.command.Command.TheVariants.{Append, Raw, Flush, Roll, Elect, Unclean, Learn, Join, Follow, Trim, Copy, Expire, Ack, Shrink, Expand, Raise, Clock, Stop as StopCommand, Up as UpCommand, Fetch, Copying, Offset}
-use Rattle.plain_log.specs.declared.command.Which.TheVariants.{LatestTiered}
+use Rattle.plain_log.specs.declared.command.Which.TheVariants.{LatestTiered, At}
 use Rattle.partition_seen.specs.declared.begun.Begun.{Begun}
 use Rattle.partition_seen.specs.declared.begun.Turned.{Turned}
 use Rattle.partition_seen.specs.declared.begun.Turned.TheVariants.{Answers, Begins}
@@ -14,7 +14,7 @@ use Rattle.partition_seen.specs.Sound.{NodeSound}
 use Rattle.partition_tier.specs.Turns.{may_raise}
 use Rattle.partition_tier.proofs.Nodes.{Goes, stays}
 use Rattle.partition_tier.proofs.OwnRows.{append_goes, raw_goes, flush_goes, roll_goes, stop_goes, up_goes, clock_goes, copying_goes, fetch_goes, trim_goes}
-use Rattle.partition_tier.proofs.RegistryRows.{elect_goes, unclean_goes, learn_goes, ack_goes, shrink_goes, expand_goes, raise_goes, leaders_goes, copy_goes, copy_on_goes, expire_on_goes, fetch_on_goes, offset_goes, offset_on_goes}
+use Rattle.partition_tier.proofs.RegistryRows.{elect_goes, unclean_goes, learn_goes, ack_goes, shrink_goes, expand_goes, raise_goes, leaders_goes, copy_goes, copy_on_goes, expire_on_goes, fetch_on_goes, offset_goes, offset_on_goes, offset_at_goes}
 use Rattle.partition_tier.proofs.FollowerRows.{join_goes, join_on_goes, follow_goes, follow_on_goes, trim_on_goes}
 
 answer_goes : (h : Held) (b : ℕ) (x : Node) (command : Command) (answer : Answer) (h' : Held) → slice_get h.nodes b ≡ Some x → NodeSound x → AnswerRow h b x command answer h' → Goes h b x h'
@@ -45,6 +45,7 @@ first_goes h b x Copy turned h' at s w = copy_goes h b x turned h' at s w
 first_goes h b x Expire turned h' at s w = leaders_goes h b x turned h' at s w
 first_goes h b x (Fetch offset limit) (Begins g) h' at s w = stays h b x h' at s w.6
 first_goes h b x (Offset LatestTiered) turned h' at s w = leaders_goes h b x turned h' at s w
+first_goes h b x (Offset (At ts)) turned h' at s w = leaders_goes h b x turned h' at s w
 first_goes h b x command (Answers answer) h' at s w = answer_goes h b x command answer h' at s w
 first_goes h b x command (Begins g) h' at s w = elim w [ ]
 
@@ -57,6 +58,7 @@ later_goes h b x Copy g (Answers answer) h' at s w low = copy_on_goes h b x g an
 later_goes h b x Expire g (Answers answer) h' at s w low = expire_on_goes h b x g answer h' at s w
 later_goes h b x (Fetch offset limit) g (Answers answer) h' at s w low = fetch_on_goes h b x offset limit g answer h' at s w
 later_goes h b x (Offset LatestTiered) g (Answers answer) h' at s w low = offset_on_goes h b x g answer h' at s w
+later_goes h b x (Offset (At ts)) g (Answers answer) h' at s w low = offset_at_goes h b x ts g answer h' at s w
 later_goes h b x command g turned h' at s w low = elim w [ ]
 
 pub row_goes : (h : Held) (b : ℕ) (x : Node) (begun : Option Begun) (command : Command) (turned : Turned) (h' : Held) → slice_get h.nodes b ≡ Some x → NodeSound x

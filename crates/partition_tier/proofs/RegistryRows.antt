@@ -1,5 +1,5 @@
 -- Turns of commands to the registry, of one that learns of it, and of those on the remote tier: no local start rises.
-use Rattle.std.proofs.Common.{◌≡◌, ap, refl, ℕ, Some, Option, slice_get, min, Ok as Done, arith}
+use Rattle.std.proofs.Common.{◌≡◌, ap, refl, ℕ, ℤ, Some, Option, slice_get, min, Ok as Done, arith}
 use Rattle.log_terms.specs.Log.{end_of}
 use Rattle.log_terms.proofs.Lists.{prefix_self}
 use Rattle.epoch_line.specs.Line.{assign}
@@ -18,7 +18,7 @@ use Rattle.partition_seen.specs.declared.begun.Turned.TheVariants.{Answers, Begi
 use Rattle.partition_seen.specs.Seen.{Back, Node, Held}
 use Rattle.partition_seen.specs.Held.{broken}
 use Rattle.partition_seen.specs.RowsOfElections.{Leaves, ElectRow, UncleanRow, led, LearnRow, AckRow, ShrinkRow, ExpandRow, RaiseRow}
-use Rattle.partition_seen.specs.RowsOfOffsets.{OffsetRow, OffsetOnRow}
+use Rattle.partition_seen.specs.RowsOfOffsets.{OffsetRow, OffsetOnRow, OffsetAtRow}
 use Rattle.partition_seen.specs.RowsOfTiers.{LeadersRow, CopyRow, CopyOnRow, ExpireOnRow, FetchOnRow}
 use Rattle.partition_seen.specs.Sound.{NodeSound}
 use Rattle.partition_seen.proofs.BoolTests.{some_of}
@@ -151,3 +151,15 @@ offset_on_goes h b x g NotLeader h' at s w = stays h b x h' at s w.3
 offset_on_goes h b x g (Offset n) h' at s w = stays h b x h' at s w.1
 offset_on_goes h b x g NoOffset h' at s w = stays h b x h' at s w.1
 offset_on_goes h b x g other h' at s w = elim w [ ]
+
+pub offset_at_goes : (h : Held) (b : ℕ) (x : Node) (ts : ℤ) (g : Begun) (answer : Answer) (h' : Held)
+    → slice_get h.nodes b ≡ Some x → NodeSound x → OffsetAtRow h x ts g answer h' → Goes h b x h'
+offset_at_goes h b x ts g Stopped h' at s w = stays h b x h' at s w.1
+offset_at_goes h b x ts g NotLeader h' at s w = stays h b x h' at s w.3
+offset_at_goes h b x ts g MetaFault h' at s w = stays h b x h' at s w.1
+offset_at_goes h b x ts g StoreFault h' at s w = stays h b x h' at s w.1
+offset_at_goes h b x ts g DiskFault h' at s w = stays h b x h' at s w.1
+offset_at_goes h b x ts g (Damaged place n) h' at s w = stays h b x h' at s w.1
+offset_at_goes h b x ts g (Offset n) h' at s w = stays h b x h' at s w.1.1
+offset_at_goes h b x ts g NoOffset h' at s w = stays h b x h' at s w.1.1
+offset_at_goes h b x ts g other h' at s w = elim w [ ]

@@ -8,7 +8,7 @@ use Rattle.plain_log.specs.declared.answer.Answer.{Answer}
 use Rattle.plain_log.specs.declared.answer.Answer.TheVariants.{Ok}
 use Rattle.plain_log.specs.declared.command.Command.{Command}
 use Rattle.plain_log.specs.declared.command.Command.TheVariants.{Append, Raw, Flush, Roll, Elect, Unclean, Learn, Join, Follow, Copy, Trim, Expire, Ack, Shrink, Expand, Raise, Clock, Stop as StopCommand, Up as UpCommand, Fetch, Copying, Offset}
-use Rattle.plain_log.specs.declared.command.Which.TheVariants.{LatestTiered}
+use Rattle.plain_log.specs.declared.command.Which.TheVariants.{LatestTiered, At}
 use Rattle.broker_log.specs.Seen as log
 use Rattle.partition_seen.specs.declared.begun.Begun.{Begun}
 use Rattle.partition_seen.specs.declared.begun.Turned.{Turned}
@@ -75,6 +75,7 @@ module _ {D : Type 0} (content : D → Content) (control : D → Control call_co
   first_refined h a b x s (Fetch offset limit) turned h' v k w = fetch_turn_refined content control h a b x s offset limit turned h' v (k.sound b (node_of x s) v.there) w
   first_refined h a b x s Copy (Answers answer) h' v k w = absurd w
   first_refined h a b x s (Offset LatestTiered) turned h' v k w = absurd w
+  first_refined h a b x s (Offset (At ts)) turned h' v k w = absurd w
   first_refined h a b x s Expire (Answers answer) h' v k w = absurd w
   first_refined h a b x s command (Answers answer) h' v k w = answer_refined h a b x s command answer h' v k w
   first_refined h a b x s command (Begins g) h' v k w = elim w [ ]

@@ -22,7 +22,7 @@ use Rattle.plain_log.specs.declared.answer.Place.TheVariants.{File}
 use Rattle.plain_log.specs.declared.command.Command.{Command}
 use Rattle.plain_log.specs.declared.command.Command.TheVariants.{Append, Raw, Flush, Roll, Elect, Unclean, Learn, Join, Follow, Trim, Ack, Shrink, Expand, Raise, Clock, Stop as StopCommand, Up as UpCommand, Fetch, Copying, Offset}
 use Rattle.plain_log.specs.declared.command.Which.{Which}
-use Rattle.plain_log.specs.declared.command.Which.TheVariants.{LatestTiered}
+use Rattle.plain_log.specs.declared.command.Which.TheVariants.{LatestTiered, At}
 use Rattle.plain_log.specs.declared.state.Role.{Role}
 use Rattle.plain_log.specs.declared.state.Role.TheVariants.{Idle, Leads as LeadsIn, Follows as FollowsIn, Joined as JoinedIn}
 use Rattle.plain_log.specs.State.{acking, joined, leads_in}
@@ -450,6 +450,7 @@ module _ {D : Type 0} (content : D → Content) (control : D → Control call_co
   first_sound n h b x Trim turned h' at s w = trim_sound n h x turned h' s w
   first_sound n h b x (Fetch offset limit) turned h' at s w = fetch_turn_sound n h b x offset limit turned h' at s w
   first_sound n h b x (Offset LatestTiered) turned h' at s w = elim w [ ]
+  first_sound n h b x (Offset (At ts)) turned h' at s w = elim w [ ]
   first_sound n h b x command (Answers answer) h' at s w = answer_sound n h b x command answer h' at s w
   first_sound n h b x command (Begins g) h' at s w = elim w [ ]
 

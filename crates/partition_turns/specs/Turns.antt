@@ -15,7 +15,7 @@ use Rattle.plain_log.specs.declared.answer.Place.TheVariants.{File}
 use Rattle.plain_log.specs.declared.command.Command.{Command}
 use Rattle.plain_log.specs.declared.command.Command.TheVariants.{Append, Raw, Flush, Roll, Elect, Unclean, Learn, Join, Follow, Copy, Trim, Expire, Ack, Shrink, Expand, Raise, Clock, Stop as StopCommand, Up as UpCommand, Fetch, Copying, Offset}
 use Rattle.plain_log.specs.declared.command.Which.{Which}
-use Rattle.plain_log.specs.declared.command.Which.TheVariants.{Earliest, Latest, EarliestLocal, LatestTiered}
+use Rattle.plain_log.specs.declared.command.Which.TheVariants.{Earliest, Latest, EarliestLocal, LatestTiered, At}
 use Rattle.plain_log.specs.State.{leads}
 use Rattle.broker_log.specs.Seen.{Kept, Lasting}
 use Rattle.broker_log.specs.Turns.{Stops, ComesUp, Unopened, IsSpent}
@@ -43,6 +43,7 @@ IsOfTier Copy = Unit {0}
 IsOfTier Trim = Unit {0}
 IsOfTier Expire = Unit {0}
 IsOfTier (Offset LatestTiered) = Unit {0}
+IsOfTier (Offset (At ts)) = Unit {0}
 IsOfTier command = ⊥
 
 module _ {D : Type 0} where
@@ -118,6 +119,7 @@ module _ {D : Type 0} (content : D → Content) (control : D → Control call_co
   FirstRow h b x Trim turned h' = TrimRow content control h x turned h'
   FirstRow h b x (Fetch offset limit) turned h' = FetchTurn content control h b x offset limit turned h'
   FirstRow h b x (Offset LatestTiered) turned h' = ⊥
+  FirstRow h b x (Offset (At ts)) turned h' = ⊥
   FirstRow h b x command (Answers answer) h' = AnswerRow h b x command answer h'
   FirstRow h b x command (Begins g) h' = ⊥
 

@@ -164,7 +164,7 @@ impl<D: Disk> Held<D> {
             Command::Copy
             | Command::Trim
             | Command::Expire
-            | Command::Offset(Which::LatestTiered) => Ok(None),
+            | Command::Offset(Which::LatestTiered | Which::At(_)) => Ok(None),
             Command::Offset(which) => Ok(at_once(self.offset(b, *which))),
             // No world runs it yet.
             Command::Pack(_) => unreachable!(),

@@ -3,16 +3,9 @@ use Rattle.std.specs.Prelude.{◌≤◌, ◌<◌, ◌^◌, ◌≤ℤ◌, ◌<ℤ
 use Rattle.record_batch.specs.Build.{IsBuildable}
 use Rattle.plain_log.specs.declared.command.Command.{Command}
 use Rattle.plain_log.specs.declared.command.Command.TheVariants.{Append, Raw, Flush, Roll, Elect, Unclean, Learn, Join, Follow, Trim, Copy, Expire, Ack, Shrink, Expand, Raise, Clock, Stop, Up, Fetch, Copying, Offset}
-use Rattle.plain_log.specs.declared.command.Which.{Which}
-use Rattle.plain_log.specs.declared.command.Which.TheVariants.{At}
 use Rattle.plain_log.specs.declared.command.Order.{Order}
 use Rattle.plain_log.specs.declared.command.ActorList.{ActorList}
 use Rattle.plain_log.specs.declared.command.Config.{Config}
-
--- no world looks an offset up by its timestamp yet
-abbrev pub IsAnswered : Which → Type 0
-IsAnswered (At ts) = ⊥
-IsAnswered other = Unit {0}
 
 -- the command's numbers are in range, and the records of an append make a batch; no world packs a copy's parts yet
 abbrev pub IsInRange : Command → Type 0
@@ -37,7 +30,7 @@ IsInRange Stop = Unit {0}
 IsInRange Up = Unit {0}
 IsInRange (Fetch offset limit) = (offset ≤ 4611686018427387904) × (limit ≤ 2147483647)
 IsInRange (Copying on) = Unit {0}
-IsInRange (Offset which) = IsAnswered which
+IsInRange (Offset which) = Unit {0}
 IsInRange other = ⊥
 
 -- the order is in range, and goes to a broker of the configuration

@@ -7,7 +7,6 @@ use Rattle.tier_base.specs.declared.names.ActorId.{ActorId}
 use Rattle.tier_base.specs.declared.names.PartitionId.{PartitionId}
 use Rattle.plain_log.specs.declared.command.Command.{Command}
 use Rattle.plain_log.specs.declared.command.Command.TheVariants.{Append, Raw, Flush, Roll, Elect, Unclean, Learn, Join, Follow, Ack, Shrink, Expand, Copy, Trim, Expire, Raise, Clock, Stop, Up, Fetch, Pack, Copying, Offset}
-use Rattle.plain_log.specs.declared.command.Which.TheVariants.{At}
 use Rattle.plain_log.specs.declared.command.Order.{Order}
 use Rattle.plain_log.specs.declared.command.Pace.{Pace}
 use Rattle.plain_log.specs.declared.command.Pace.TheVariants.{Times}
@@ -102,7 +101,6 @@ in-range Up said fits built = tt
 in-range (Fetch offset limit) said fits built = said
 in-range (Pack on) said fits built = absurd (cc)
 in-range (Copying on) said fits built = tt
-in-range (Offset (At ts)) said fits built = absurd (cc)
 in-range (Offset which) said fits built = tt
 
 order-for : (options : Options) (order : Order) → IsSaidTo (brokers_of options) order → size_of order.command ≤ 1048576 → is_built_command order.command ≡ true → IsOrderFor (config_of options) order

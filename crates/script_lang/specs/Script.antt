@@ -9,7 +9,7 @@
 --   5. TooMany, BatchTooLarge, FetchSum, CopySum, TurnSum     the limits (Limits)
 --   6. Unbuilt                            a form that isn't built yet
 --
--- Built are blank lines and comments, all options, later, turn, fault, and all commands but pack, copying and offset.
+-- Built are blank lines and comments, all options, later, turn, fault, and all commands but pack.
 --
 -- Behind the last line each partition's schedule steps its actors in rising order, each to the end of its list.
 use Rattle.std.specs.Prelude.{◌≡◌, ℕ, zero, suc, ◌+◌, ◌==◌, Bool, true, false, if◌then◌else◌, is_some, ℤ, pos, negsuc, List, [], ◌∷◌, ◌++◌, length, replicate, take, Option, Some, None, Result, Ok, Err}
@@ -21,8 +21,6 @@ use Rattle.tier_base.specs.declared.names.PartitionId.{PartitionId}
 use Rattle.tier_base.specs.declared.plain.Keep.{Keep}
 use Rattle.plain_log.specs.declared.command.Command.{Command}
 use Rattle.plain_log.specs.declared.command.Command.TheVariants.{Append, Raw, Flush, Roll, Elect, Unclean, Learn, Join, Follow, Ack, Shrink, Expand, Copy, Trim, Expire, Raise, Clock, Stop, Up, Fetch, Copying, Offset}
-use Rattle.plain_log.specs.declared.command.Which.{Which}
-use Rattle.plain_log.specs.declared.command.Which.TheVariants.{At}
 use Rattle.plain_log.specs.declared.command.Config.{Config}
 use Rattle.plain_log.specs.declared.command.Order.{Order}
 use Rattle.plain_log.specs.declared.command.Pace.{Pace}
@@ -140,11 +138,6 @@ sums_with segment_bytes s (Placed actor partition order at_once) = within segmen
 sums_with segment_bytes s (Turn actor turns) = turns_within (with_turns s turns)
 sums_with segment_bytes s (Faulty partition fault) = Ok s
 
--- the questions for an offset that are built: all but that by a timestamp
-abbrev pub is_built_question : Which → Bool
-is_built_question (At ts) = false
-is_built_question other = true
-
 -- the commands that are built
 abbrev pub is_built_command : Command → Bool
 is_built_command (Append recs) = true
@@ -168,7 +161,7 @@ is_built_command Stop = true
 is_built_command Up = true
 is_built_command (Fetch offset limit) = true
 is_built_command (Copying on) = true
-is_built_command (Offset which) = is_built_question which
+is_built_command (Offset which) = true
 is_built_command other = false
 
 -- the forms that are built

@@ -5,14 +5,13 @@ ghost use Rattle.script_lang.specs.Script.{is_built_command, is_built, built_for
 
 use crate::form::Form;
 use crate::refusal::Why;
-use plain_log::{Command, Which};
+use plain_log::Command;
 
 fn is_built_command(command: &Command) -> bool
     ensures { result ≡ is_built_command command.now }
 {
     match command {
         Command::Pack(_) => false,
-        Command::Offset(Which::At(_)) => false,
         _ => true,
     }
 }
