@@ -1,6 +1,6 @@
--- Each turn of a command leaves fewer: an order takes at most 14 of them.
-use Rattle.std.proofs.Common.{◌≡◌, inl, inr, refl, ap, subst, ℕ, zero, suc, ◌+◌, ◌-◌, ◌*◌, ◌<◌, ◌≤◌, List, [], ◌∷◌, length, slice_get, slice_set, Some, None, Option, Ok, arith}
-use Rattle.std.specs.Prelude.{min}
+-- Each turn of a command leaves fewer: an order takes at most 14 of them, and a search by timestamp at most four for each offset more.
+use Rattle.std.proofs.Common.{◌≡◌, inl, inr, refl, ap, subst, ℕ, zero, suc, ◌+◌, ◌-◌, ◌*◌, ◌<◌, ◌≤◌, List, [], ◌∷◌, length, slice_get, slice_set, Some, None, Option, Ok, Bool, true, false, arith}
+use Rattle.std.specs.Prelude.{◌^◌, min, ℤ}
 use Rattle.disk_model.specs.declared.disk.Disk.{Ghosts as DiskGhosts}
 use Rattle.object_store.specs.declared.store.Store.{Ghosts as StoreGhosts}
 use Rattle.meta_log.specs.declared.log.MetaLog.{Ghosts as MetaGhosts}
@@ -26,31 +26,36 @@ use Rattle.rebuild_task.specs.declared.turn.RebuildTurn.{RebuildTurn}
 use Rattle.rebuild_task.specs.declared.turn.RebuildTurn.TheVariants as rebuild
 use Rattle.tier_fetch.specs.declared.turn.Next.{Next as Search}
 use Rattle.tier_fetch.specs.declared.turn.Next.TheVariants.{Refresh}
+use Rattle.time_find.specs.declared.turn.Asked.{Asked}
+use Rattle.time_find.specs.declared.turn.Next.{Next as Dating}
+use Rattle.time_find.specs.declared.turn.TimeTurn.TheVariants as dating
 use Rattle.plain_log.specs.declared.command.ActorList.{ActorList}
 use Rattle.plain_log.specs.declared.command.Command.{Command}
 use Rattle.plain_log.specs.declared.command.Command.TheVariants.{Copy, Trim, Expire, Fetch, Join, Offset}
-use Rattle.plain_log.specs.declared.command.Which.TheVariants.{LatestTiered}
+use Rattle.plain_log.specs.declared.command.Which.TheVariants.{LatestTiered, At}
 use Rattle.plain_log.specs.declared.command.Config.{Config}
 use Rattle.plain_log.specs.declared.command.Order.{Order}
 use Rattle.partition_seen.specs.declared.begun.Begun.{Begun}
 use Rattle.partition_turns.specs.declared.held.Node.{Node}
 use Rattle.partition_turns.specs.declared.held.Held.{Held}
-use Rattle.partition_turns.specs.Held.{line_of}
+use Rattle.partition_turns.specs.Held.{line_of, local_of}
 use Rattle.partition_world.specs.declared.tier.Side.{Side}
 use Rattle.partition_world.specs.declared.tier.Tier.{Tier}
 use Rattle.partition_world.specs.declared.seat.Outcome.{Outcome}
-use Rattle.partition_world.specs.declared.seat.Outcome.TheVariants.{Answers, Begins, Chose, Goes, Seeks as Sought, Dooms, Deletes, Rebuilds as Rebuilding}
+use Rattle.partition_world.specs.declared.seat.Outcome.TheVariants.{Answers, Begins, Chose, Goes, Seeks as Sought, Dates as Dated, Dooms, Deletes, Rebuilds as Rebuilding}
 use Rattle.partition_world.specs.declared.seat.Seat.{Seat}
 use Rattle.partition_world.specs.declared.seat.Work.{Work}
-use Rattle.partition_world.specs.declared.seat.Work.TheVariants.{Idle, Noted, Copies, Seeks, Expires, Rebuilds}
-use Rattle.partition_world.specs.Seats.{chosen, moved, sought, doomed, deleting, rebuilding, copy_outcome, expiry_outcome, rebuild_outcome, seat_after}
+use Rattle.partition_world.specs.declared.seat.Work.TheVariants.{Idle, Noted, Copies, Seeks, Dates, Expires, Rebuilds}
+use Rattle.partition_world.specs.Seats.{chosen, moved, sought, dated, doomed, deleting, rebuilding, copy_outcome, expiry_outcome, rebuild_outcome, seat_after}
 use Rattle.partition_world.specs.TurnsOfFetch.{FetchOnRow, fetch_tiers, wanted_of}
-use Rattle.partition_world.specs.Turns.{NotedRow, CopyingRow, SeekingRow, DeletingRow, RebuildingRow, Row, TurnRow}
+use Rattle.partition_world.specs.TurnsOfDate.{SearchRow, DateOnRow, asked_of, is_own, resumed_at, resumed_with}
+use Rattle.partition_world.specs.Turns.{NotedRow, CopyingRow, SeekingRow, DatingRow, DeletingRow, RebuildingRow, Row, TurnRow}
 use Rattle.partition_world.proofs.Begins.{MayComeTo, row_of, row_may}
 use Rattle.partition_world.proofs.ExpiryAdvances.{deleting_before, few_deleting, expiry_advances}
 use Rattle.partition_world.proofs.RebuildEnds.{MayTurn, rebuild_may_turn}
 use Rattle.partition_world.specs.TurnsOfRebuild.{wanted_of as rebuilt_to}
 use Rattle.partition_world.proofs.FetchAdvances.{sought_before, few_sought, fetch_advances}
+use Rattle.partition_world.proofs.DateAdvances.{Rises, taken_to, few_taken_to, own_rises, time_rises, goes_further}
 
 -- how many turns a copy has taken at most that does this next
 abbrev pub taken_before : Next → ℕ
@@ -79,17 +84,18 @@ taken_of Idle = 0
 taken_of (Noted g) = 1
 taken_of (Copies g copy next) = taken_before next
 taken_of (Seeks g next) = sought_before next
+taken_of (Dates g cursor next) = taken_to cursor next
 taken_of (Expires g segment next) = deleting_before next
 taken_of (Rebuilds g next) = rebuilding_before next
 
--- the turns that are left of a list
+-- the turns that are left of a list, of which no order takes more than this
 abbrev pub turns_of : List Order → Seat → ℕ
-turns_of orders seat = 14 * (length orders - seat.number) - taken_of seat.work
+turns_of orders seat = (4 * 2 ^ 64 + 6) * (length orders - seat.number) - taken_of seat.work
 
 -- the turns that are left
 abbrev pub turns_left : List ActorList → List Seat → ℕ
 turns_left [] desk = 0
-turns_left (l ∷ lists) [] = 14 * length l.orders + turns_left lists []
+turns_left (l ∷ lists) [] = (4 * 2 ^ 64 + 6) * length l.orders + turns_left lists []
 turns_left (l ∷ lists) (seat ∷ desk) = turns_of l.orders seat + turns_left lists desk
 
 -- the command has taken a turn more
@@ -99,6 +105,7 @@ Advances work (Begins g) = taken_of work < taken_of (Noted g)
 Advances work (Chose copy) = taken_of work < taken_of (chosen work copy)
 Advances work (Goes next) = taken_of work < taken_of (moved work next)
 Advances work (Sought next) = taken_of work < taken_of (sought work next)
+Advances work (Dated cursor next) = taken_of work < taken_of (dated work cursor next)
 Advances work (Dooms segment) = taken_of work < taken_of (doomed work segment)
 Advances work (Deletes next) = taken_of work < taken_of (deleting work next)
 Advances work (Rebuilding next) = taken_of work < taken_of (rebuilding work next)
@@ -110,13 +117,14 @@ few_before Finish = omega arith
 few_before Check = omega arith
 few_before (Delete n) = omega arith
 
-few_taken : (work : Work) → taken_of work ≤ 13
+few_taken : (work : Work) → taken_of work ≤ 4 * 2 ^ 64 + 5
 few_taken Idle = omega arith
 few_taken (Noted g) = omega arith
-few_taken (Copies g copy next) = few_before next
-few_taken (Seeks g next) = few_sought next
-few_taken (Expires g segment next) = few_deleting next
-few_taken (Rebuilds g next) = few_rebuilding next
+few_taken (Copies g copy next) = let few = few_before next in omega (arith, few)
+few_taken (Seeks g next) = let few = few_sought next in omega (arith, few)
+few_taken (Dates g cursor next) = few_taken_to cursor next
+few_taken (Expires g segment next) = let few = few_deleting next in omega (arith, few)
+few_taken (Rebuilds g next) = let few = few_rebuilding next in omega (arith, few)
 
 -- a copy goes on with a later turn
 to : (before next after : Next) → GoesOn next ≡ GoesOn after → taken_before before < taken_before after → taken_before before < taken_before next
@@ -194,6 +202,7 @@ module _ {D S M : Type 0} (disk : DiskGhosts D) (store : StoreGhosts S) (meta : 
   noted_sought p config h t b x side g Copy next h' t' (inr (keeps, inr reads)) = elim reads.row [ ]
   noted_sought p config h t b x side g Trim next h' t' w = elim w.0 [ ]
   noted_sought p config h t b x side g (Offset LatestTiered) next h' t' w = elim w.0 [ ]
+  noted_sought p config h t b x side g (Offset (At ts)) next h' t' w = elim w [ ]
   noted_sought p config h t b x side g Expire next h' t' (inl lost, same) = let e = lost.1 in absurd (cc (e))
   noted_sought p config h t b x side g Expire next h' t' (inr (keeps, by), same) = elim by [ ]
   noted_sought p config h t b x side g Join next h' t' (inl (low, own)) = let e = own.0.1 in absurd (cc (e))
@@ -206,6 +215,31 @@ module _ {D S M : Type 0} (disk : DiskGhosts D) (store : StoreGhosts S) (meta : 
       → SeekingRow store meta p h t b x side g before command (Sought next) h' t' → sought_before before < sought_before next
   seeking_sought p h t b x side g before (Fetch offset limit) next h' t' w = seek_advances p h t b x side g offset limit before next t' w.0
   seeking_sought p h t b x side g before other next h' t' w = elim w [ ]
+
+  search_rises : (h : Held D) (t : Tier S M) (b : ℕ) (x : Node D) (side : Side) (asked : Asked) (cursor : ℕ) (before : Dating) (own : Bool)
+      (at : ℕ) (next : Dating) (h' : Held D) (t' : Tier S M)
+      → SearchRow disk store meta h t b x side asked cursor before own (dating.Goes at next) h' t' → Rises before next
+  search_rises h t b x side asked cursor before true at next h' t' w = own_rises disk x.log asked cursor before next at w.0.kept w.0.row
+  search_rises h t b x side asked cursor before false at next h' t' w =
+      let old = fetch_tiers side.view side.cache t in
+      let new = fetch_tiers w.0.view w.0.cache t' in
+      time_rises store meta asked (line_of x) cursor before next at old new w.0.row
+
+  date_advances : (p : PartitionId) (h : Held D) (t : Tier S M) (b : ℕ) (x : Node D) (side : Side) (g : Begun) (ts : ℤ) (cursor : ℕ)
+      (before : Dating) (at : ℕ) (next : Dating) (h' : Held D) (t' : Tier S M)
+      → DateOnRow disk store meta p h t b x side g ts cursor before (Dated at next) h' t' → taken_to cursor before < taken_to at next
+  date_advances p h t b x side g ts cursor before at next h' t' w =
+      let on = resumed_at h.registry.start cursor in
+      let with = resumed_with h.registry.start cursor before in
+      goes_further h.registry.start cursor at before next w.0.fits w.1
+      (search_rises h t b x side (asked_of p h x ts) on with (is_own (local_of x) on with) at next h' t' w.0.row)
+
+  dating_dated : (p : PartitionId) (h : Held D) (t : Tier S M) (b : ℕ) (x : Node D) (side : Side) (g : Begun) (cursor : ℕ) (before : Dating)
+      (command : Command) (at : ℕ) (next : Dating) (h' : Held D) (t' : Tier S M)
+      → DatingRow disk store meta p h t b x side g cursor before command (Dated at next) h' t' → taken_to cursor before < taken_to at next
+  dating_dated p h t b x side g cursor before (Offset (At ts)) at next h' t' w =
+      date_advances p h t b x side g ts cursor before at next h' t' w
+  dating_dated p h t b x side g cursor before other at next h' t' w = elim w [ ]
 
   copying_goes : (h : Held D) (t : Tier S M) (b : ℕ) (x : Node D) (side : Side) (g : Begun) (copy : Copied) (before : Next) (command : Command) (next : Next) (h' : Held D) (t' : Tier S M)
       → CopyingRow store meta h t b x side g copy before command (Goes next) h' t' → taken_before before < taken_before next
@@ -238,9 +272,12 @@ module _ {D S M : Type 0} (disk : DiskGhosts D) (store : StoreGhosts S) (meta : 
   advances p config h t b x side Idle command (Begins g) h' t' may w = omega arith
   advances p config h t b x side (Noted g) command (Chose copy) h' t' may w = omega arith
   advances p config h t b x side (Noted g) command (Sought next) h' t' may w = noted_sought p config h t b x side g command next h' t' w
+  advances p config h t b x side (Noted g) command (Dated at next) h' t' may w = omega arith
   advances p config h t b x side (Noted g) command (Dooms segment) h' t' may w = omega arith
   advances p config h t b x side (Copies g c before) command (Goes next) h' t' may w = copying_goes h t b x side g c before command next h' t' w
   advances p config h t b x side (Seeks g before) command (Sought next) h' t' may w = seeking_sought p h t b x side g before command next h' t' w
+  advances p config h t b x side (Dates g cursor before) command (Dated at next) h' t' may w =
+      dating_dated p h t b x side g cursor before command at next h' t' w
   advances p config h t b x side (Expires g segment before) command (Deletes next) h' t' may w = deleting_deletes h t b x g segment before command next h' t' w
   advances p config h t b x side (Noted g) command (Rebuilding next) h' t' may w = second_rebuilding next
   advances p config h t b x side (Rebuilds g before) command (Rebuilding next) h' t' may w = rebuilding_goes p h t b x side g before command next h' t' w
@@ -259,6 +296,7 @@ of_less orders seat (Begins g) lt on = omega (arith, lt, on)
 of_less orders seat (Chose copy) lt on = let few = few_taken (chosen seat.work copy) in omega (arith, lt, few, on)
 of_less orders seat (Goes next) lt on = let few = few_taken (moved seat.work next) in omega (arith, lt, few, on)
 of_less orders seat (Sought next) lt on = let few = few_taken (sought seat.work next) in omega (arith, lt, few, on)
+of_less orders seat (Dated cursor next) lt on = let few = few_taken (dated seat.work cursor next) in omega (arith, lt, few, on)
 of_less orders seat (Dooms segment) lt on = let few = few_taken (doomed seat.work segment) in omega (arith, lt, few, on)
 of_less orders seat (Deletes next) lt on = let few = few_taken (deleting seat.work next) in omega (arith, lt, few, on)
 of_less orders seat (Rebuilding next) lt on = let few = few_taken (rebuilding seat.work next) in omega (arith, lt, few, on)

@@ -17,9 +17,10 @@ use Rattle.rebuild_task.specs.declared.turn.Next.TheVariants.{Epochs, Restart}
 use Rattle.rebuild_task.specs.declared.turn.RebuildTurn.{RebuildTurn}
 use Rattle.rebuild_task.specs.declared.turn.RebuildTurn.TheVariants as rebuild
 use Rattle.tier_fetch.specs.declared.turn.Next.{Next as Search}
+use Rattle.time_find.specs.declared.turn.Next.{Next as Dating}
 use Rattle.plain_log.specs.declared.command.Command.{Command}
 use Rattle.plain_log.specs.declared.command.Command.TheVariants.{Copy, Trim, Expire, Fetch, Join, Offset}
-use Rattle.plain_log.specs.declared.command.Which.TheVariants.{LatestTiered}
+use Rattle.plain_log.specs.declared.command.Which.TheVariants.{LatestTiered, At}
 use Rattle.plain_log.specs.declared.command.Config.{Config}
 use Rattle.partition_seen.specs.declared.begun.Begun.{Begun}
 use Rattle.partition_seen.specs.declared.begun.Turned.{Turned}
@@ -30,12 +31,12 @@ use Rattle.partition_turns.specs.declared.held.Held.{Held}
 use Rattle.partition_world.specs.declared.tier.Side.{Side}
 use Rattle.partition_world.specs.declared.tier.Tier.{Tier}
 use Rattle.partition_world.specs.declared.seat.Outcome.{Outcome}
-use Rattle.partition_world.specs.declared.seat.Outcome.TheVariants.{Answers, Begins, Chose, Goes, Seeks as Sought, Dooms, Deletes, Rebuilds as Rebuilding}
+use Rattle.partition_world.specs.declared.seat.Outcome.TheVariants.{Answers, Begins, Chose, Goes, Seeks as Sought, Dates as Dated, Dooms, Deletes, Rebuilds as Rebuilding}
 use Rattle.partition_world.specs.declared.seat.Work.{Work}
-use Rattle.partition_world.specs.declared.seat.Work.TheVariants.{Idle, Noted, Copies, Seeks, Expires, Rebuilds}
+use Rattle.partition_world.specs.declared.seat.Work.TheVariants.{Idle, Noted, Copies, Seeks, Dates, Expires, Rebuilds}
 use Rattle.partition_world.specs.Tier.{AtSide}
 use Rattle.partition_world.specs.Seats.{outcome_of, copy_outcome, expiry_outcome, rebuild_outcome}
-use Rattle.partition_world.specs.Turns.{BeginRow, NotedRow, CopyingRow, SeekingRow, DeletingRow, RebuildingRow, Row, TurnRow}
+use Rattle.partition_world.specs.Turns.{BeginRow, NotedRow, CopyingRow, SeekingRow, DatingRow, DeletingRow, RebuildingRow, Row, TurnRow}
 
 -- what a turn may come to where its seat keeps this
 abbrev pub MayComeTo : Work → Outcome → Type 0
@@ -43,10 +44,12 @@ MayComeTo work (Answers answer) = Unit {0}
 MayComeTo Idle (Begins g) = Unit {0}
 MayComeTo (Noted g) (Chose copy) = Unit {0}
 MayComeTo (Noted g) (Sought next) = Unit {0}
+MayComeTo (Noted g) (Dated at next) = Unit {0}
 MayComeTo (Noted g) (Dooms segment) = Unit {0}
 MayComeTo (Noted g) (Rebuilding next) = Unit {0}
 MayComeTo (Copies g copy before) (Goes next) = Unit {0}
 MayComeTo (Seeks g before) (Sought next) = Unit {0}
+MayComeTo (Dates g cursor before) (Dated at next) = Unit {0}
 MayComeTo (Expires g segment before) (Deletes next) = Unit {0}
 MayComeTo (Rebuilds g before) (Rebuilding next) = Unit {0}
 MayComeTo work outcome = ⊥
@@ -91,6 +94,7 @@ module _ {D S M : Type 0} (disk : DiskGhosts D) (store : StoreGhosts S) (meta : 
   begin_may h t b x side Trim outcome h' t' w = elim w.0 [ ]
   begin_may h t b x side Expire outcome h' t' w = elim w.0 [ ]
   begin_may h t b x side (Offset LatestTiered) outcome h' t' w = elim w.0 [ ]
+  begin_may h t b x side (Offset (At ts)) outcome h' t' w = elim w.0 [ ]
   begin_may h t b x side other outcome h' t' w = own_may w.0.0 outcome w.0.1
 
   noted_may : (p : PartitionId) (config : Config) (h : Held D) (t : Tier S M) (b : ℕ) (x : Node D) (side : Side) (g : Begun) (command : Command) (outcome : Outcome) (h' : Held D) (t' : Tier S M)
@@ -98,6 +102,7 @@ module _ {D S M : Type 0} (disk : DiskGhosts D) (store : StoreGhosts S) (meta : 
   noted_may p config h t b x side g command (Answers answer) h' t' w = tt
   noted_may p config h t b x side g command (Chose copy) h' t' w = tt
   noted_may p config h t b x side g command (Sought next) h' t' w = tt
+  noted_may p config h t b x side g command (Dated at next) h' t' w = tt
   noted_may p config h t b x side g command (Dooms segment) h' t' w = tt
   noted_may p config h t b x side g command (Rebuilding next) h' t' w = tt
   noted_may p config h t b x side g Copy outcome h' t' (inl lost) = let e = lost.1 in absurd (cc (e))
@@ -111,6 +116,7 @@ module _ {D S M : Type 0} (disk : DiskGhosts D) (store : StoreGhosts S) (meta : 
   noted_may p config h t b x side g Join outcome h' t' (inr (high, inr (may, row), same)) = elim row [ ]
   noted_may p config h t b x side g (Fetch offset limit) outcome h' t' w = elim w.0 [ ]
   noted_may p config h t b x side g (Offset LatestTiered) outcome h' t' w = elim w.0 [ ]
+  noted_may p config h t b x side g (Offset (At ts)) outcome h' t' w = elim w [ ]
   noted_may p config h t b x side g other outcome h' t' w = let e = w.0.1 in absurd (cc (e))
 
   copying_may : (h : Held D) (t : Tier S M) (b : ℕ) (x : Node D) (side : Side) (g : Begun) (copy : Copied) (next : Next) (command : Command) (outcome : Outcome) (h' : Held D) (t' : Tier S M)
@@ -125,6 +131,14 @@ module _ {D S M : Type 0} (disk : DiskGhosts D) (store : StoreGhosts S) (meta : 
   seeking_may p h t b x side g next command (Sought later) h' t' w = tt
   seeking_may p h t b x side g next (Fetch offset limit) outcome h' t' w = elim w.0 [ ]
   seeking_may p h t b x side g next other outcome h' t' w = elim w [ ]
+
+  dating_may : (p : PartitionId) (h : Held D) (t : Tier S M) (b : ℕ) (x : Node D) (side : Side) (g : Begun) (cursor : ℕ) (next : Dating)
+      (command : Command) (outcome : Outcome) (h' : Held D) (t' : Tier S M)
+      → DatingRow disk store meta p h t b x side g cursor next command outcome h' t' → MayComeTo (Dates g cursor next) outcome
+  dating_may p h t b x side g cursor next command (Answers answer) h' t' w = tt
+  dating_may p h t b x side g cursor next command (Dated at later) h' t' w = tt
+  dating_may p h t b x side g cursor next (Offset (At ts)) outcome h' t' w = elim w [ ]
+  dating_may p h t b x side g cursor next other outcome h' t' w = elim w [ ]
 
   deleting_may : (h : Held D) (t : Tier S M) (b : ℕ) (x : Node D) (g : Begun) (segment : Doomed) (next : Deletion) (command : Command) (outcome : Outcome) (h' : Held D) (t' : Tier S M)
       → DeletingRow store meta h t b x g segment next command outcome h' t' → MayComeTo (Expires g segment next) outcome
@@ -147,6 +161,8 @@ module _ {D S M : Type 0} (disk : DiskGhosts D) (store : StoreGhosts S) (meta : 
   row_may p config h t b x side (Noted g) command outcome h' t' w = noted_may p config h t b x side g command outcome h' t' w
   row_may p config h t b x side (Copies g copy next) command outcome h' t' w = copying_may h t b x side g copy next command outcome h' t' w
   row_may p config h t b x side (Seeks g next) command outcome h' t' w = seeking_may p h t b x side g next command outcome h' t' w
+  row_may p config h t b x side (Dates g cursor next) command outcome h' t' w =
+      dating_may p h t b x side g cursor next command outcome h' t' w
   row_may p config h t b x side (Expires g segment next) command outcome h' t' w = deleting_may h t b x g segment next command outcome h' t' w
   row_may p config h t b x side (Rebuilds g next) command outcome h' t' w = rebuilding_may p h t b x side g next command outcome h' t' w
 

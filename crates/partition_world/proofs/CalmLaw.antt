@@ -1,6 +1,6 @@
 -- While no call of the devices can fail, none does: each turn without a fault keeps that, and one with a fault is impossible.
 use Rattle.std.proofs.Common.{◌≡◌, inl, inr, sym, ap, subst, ℕ, zero, suc, List, [], ◌∷◌, ◌++◌, slice_get, slice_set, Some, None, Bool, true, false, arith}
-use Rattle.std.specs.Prelude.{IsTrue}
+use Rattle.std.specs.Prelude.{IsTrue, ℤ}
 use Rattle.tier_base.specs.Device.{Control, Arms}
 use Rattle.tier_base.specs.declared.names.PartitionId.{PartitionId}
 use Rattle.tier_base.specs.declared.plain.Keep.{Keep}
@@ -18,13 +18,18 @@ use Rattle.rebuild_task.specs.declared.turn.Next.{Next as Rebuild}
 use Rattle.rebuild_task.specs.declared.turn.Next.TheVariants.{Epochs, Restart}
 use Rattle.tier_fetch.specs.declared.turn.Next.{Next as Search}
 use Rattle.tier_fetch.specs.declared.turn.Next.TheVariants.{Refresh}
+use Rattle.time_find.specs.declared.turn.Asked.{Asked}
+use Rattle.time_find.specs.declared.turn.Next.{Next as Dating}
+use Rattle.time_find.specs.declared.turn.Next.TheVariants.{Seek}
+use Rattle.time_find.specs.declared.turn.TimeTurn.{TimeTurn}
+use Rattle.time_find.specs.declared.turn.TimeTurn.TheVariants as dating
 use Rattle.plain_log.specs.declared.answer.Answer.{Answer}
 use Rattle.plain_log.specs.declared.answer.Answer.TheVariants.{Down, NotLeader, CopyOff, MetaFault, DiskFault, Damaged, Stopped, OutOfRange, Empty, Kept as Remains, StaleEpoch, Raised, OkAt, Passed, BelowStart, Offset as OffsetAnswer, NoOffset}
 use Rattle.plain_log.specs.declared.answer.Place.TheVariants.{File}
 use Rattle.plain_log.specs.declared.command.ActorList.{ActorList}
 use Rattle.plain_log.specs.declared.command.Command.{Command}
 use Rattle.plain_log.specs.declared.command.Command.TheVariants.{Join, Copy, Trim, Expire, Fetch, Raise, Offset}
-use Rattle.plain_log.specs.declared.command.Which.TheVariants.{LatestTiered}
+use Rattle.plain_log.specs.declared.command.Which.TheVariants.{LatestTiered, At}
 use Rattle.plain_log.specs.declared.command.Config.{Config}
 use Rattle.plain_log.specs.declared.command.Pace.{Pace}
 use Rattle.plain_log.specs.declared.command.Pace.TheVariants.{Until, Times}
@@ -36,33 +41,35 @@ use Rattle.partition_seen.specs.declared.begun.Turned.TheVariants as turned
 use Rattle.partition_seen.specs.Turn.{event_of}
 use Rattle.partition_turns.specs.declared.held.Node.{Node}
 use Rattle.partition_turns.specs.declared.held.Held.{Held}
-use Rattle.partition_turns.specs.Held.{is_up, line_of, IsCalm as IsCalmDisk}
+use Rattle.partition_turns.specs.Held.{is_up, line_of, local_of, IsCalm as IsCalmDisk}
 use Rattle.partition_turns.specs.Calm.{AreCalm, AreUnplanned, HasNoFault, AreFaultless}
 use Rattle.partition_turns.specs.Fresh.{IsArmed, AreFreshFrom}
 use Rattle.partition_turns.proofs.CalmRows.{lasting_calm, calm_fault, calm_get, calm_set, row_calm, HasNone}
 use Rattle.partition_world.specs.declared.tier.Side.{Side}
 use Rattle.partition_world.specs.declared.tier.Tier.{Tier}
 use Rattle.partition_world.specs.declared.seat.Outcome.{Outcome}
-use Rattle.partition_world.specs.declared.seat.Outcome.TheVariants.{Answers, Begins, Chose, Goes, Seeks as Sought, Dooms, Deletes, Rebuilds as Rebuilding}
+use Rattle.partition_world.specs.declared.seat.Outcome.TheVariants.{Answers, Begins, Chose, Goes, Seeks as Sought, Dates as Dated, Dooms, Deletes, Rebuilds as Rebuilding}
 use Rattle.partition_world.specs.declared.seat.Work.{Work}
-use Rattle.partition_world.specs.declared.seat.Work.TheVariants.{Idle, Noted, Copies, Seeks, Expires, Rebuilds}
+use Rattle.partition_world.specs.declared.seat.Work.TheVariants.{Idle, Noted, Copies, Seeks, Dates, Expires, Rebuilds}
 use Rattle.partition_world.specs.Calm.{IsCalm, IsUnplanned, IsUnfailing}
 use Rattle.partition_world.specs.Fresh.{IsFresh}
-use Rattle.partition_world.specs.Seats.{outcome_of, fetch_outcome, told_of}
+use Rattle.partition_world.specs.Seats.{outcome_of, fetch_outcome, date_outcome, told_of}
 use Rattle.partition_world.specs.Turn.{IsTurn}
 use Rattle.partition_world.specs.TurnsOfCopy.{ReadsLog, ReadRow, LeadersFirstRow, CopyFirstRow, ChooseRow, tiers_of, teller_of}
 use Rattle.partition_world.specs.TurnsOfFetch.{FetchOnRow, GoesOnFetch, fetch_tiers, wanted_of}
+use Rattle.partition_world.specs.TurnsOfDate.{SearchRow, Searches, DateOnRow, asked_of, is_own, resumed_at, resumed_with}
 use Rattle.partition_world.specs.TurnsOfExpiry.{RaiseRow, ExpireOnRow, ExpiresBy, expiry_tiers}
 use Rattle.partition_world.specs.TurnsOfRebuild.{AnswersAtOnce, RefreshedRow, with_line, wanted_of as rebuilt_to}
 use Rattle.partition_world.specs.TurnsOfOffset.{OffsetOnRow}
 use Rattle.partition_world.specs.TurnsOfTrim.{TrimFirstRow, TrimOnRow}
-use Rattle.partition_world.specs.Turns.{OwnOnRow, BeginRow, NotedRow, CopyingRow, SeekingRow, DeletingRow, JoinSecondRow, RebuildingRow, Row}
+use Rattle.partition_world.specs.Turns.{OwnOnRow, BeginRow, NotedRow, CopyingRow, SeekingRow, DatingRow, DeletingRow, JoinSecondRow, RebuildingRow, Row}
 use Rattle.partition_world.specs.Reaches.{Goes as GoesOnce, GoesTimes, GoesUntil, Paces, Reaches}
 use Rattle.partition_world.specs.Whole.{Whole}
 use Rattle.partition_world.proofs.Begins.{row_of}
 use Rattle.partition_world.proofs.Quiet.{IsQuiet, AreQuiet, call_calm, no_fault}
 use Rattle.partition_world.proofs.CopyCalm.{copy_calm}
 use Rattle.partition_world.proofs.FetchCalm.{fetch_calm}
+use Rattle.partition_world.proofs.DateCalm.{own_calm, time_calm}
 use Rattle.partition_world.proofs.ExpiryCalm.{expiry_calm}
 use Rattle.partition_world.proofs.RebuildEnds.{rebuild_calm}
 
@@ -134,6 +141,7 @@ module _ {D S M : Type 0} (disk : DiskGhosts D) (store : StoreGhosts S) (meta : 
   begin_calm h t b x side Trim outcome h' t' at c w = trim_calm h t b x side outcome h' t' c w.1 w.0
   begin_calm h t b x side Expire outcome h' t' at c w = leaders_calm h t b x side outcome h' t' c w.1 w.0
   begin_calm h t b x side (Offset LatestTiered) outcome h' t' at c w = leaders_calm h t b x side outcome h' t' c w.1 w.0
+  begin_calm h t b x side (Offset (At ts)) outcome h' t' at c w = leaders_calm h t b x side outcome h' t' c w.1 w.0
   begin_calm h t b x side other outcome h' t' at c w =
       let k = row_calm disk.content disk.control h b x None other w.0.0 h' at c.held w.0.2 in
       (record { held = k.0; stores = rw w.1 c.stores }, rw w.0.1 (own_quiet w.0.0 k.1))
@@ -256,6 +264,41 @@ module _ {D S M : Type 0} (disk : DiskGhosts D) (store : StoreGhosts S) (meta : 
   offset_quiet h x side g (Answers other) w = elim w.1 [ ]
   offset_quiet h x side g other w = elim w [ ]
 
+  -- and of a search by timestamp
+
+  search_calm : (h : Held D) (t : Tier S M) (b : ℕ) (x : Node D) (side : Side) (asked : Asked) (cursor : ℕ) (next : Dating) (own : Bool)
+      (turn : TimeTurn) (h' : Held D) (t' : Tier S M) → slice_get h.nodes b ≡ Some x → AreAllCalm h t
+      → SearchRow disk store meta h t b x side asked cursor next own turn h' t' → Calmly h' t' (date_outcome turn)
+  search_calm h t b x side asked cursor next true turn h' t' at c w =
+      let k = own_calm disk x.log asked cursor turn w.0.kept w.0.row (calm_get disk.control h.nodes b x c.held at) in
+      let nodes = calm_set disk.control h.nodes b (record x { log = w.0.kept }) c.held k.0 in
+      (record { held = rw w.0.after nodes; stores = rw w.1 c.stores }, k.1)
+  search_calm h t b x side asked cursor next false turn h' t' at c w =
+      let old = fetch_tiers side.view side.cache t in
+      let new = fetch_tiers w.0.view w.0.cache t' in
+      let k = time_calm store meta asked (line_of x) cursor next turn old new w.0.row c.stores in
+      (record { held = rw w.1 c.held; stores = k.0 }, k.1)
+
+  searches_calm : (p : PartitionId) (h : Held D) (t : Tier S M) (b : ℕ) (x : Node D) (side : Side) (g : Begun) (ts : ℤ) (cursor : ℕ)
+      (next : Dating) (turn : TimeTurn) (h' : Held D) (t' : Tier S M) → slice_get h.nodes b ≡ Some x → AreAllCalm h t
+      → Searches disk store meta p h t b x side g ts cursor next turn h' t' → Calmly h' t' (date_outcome turn)
+  searches_calm p h t b x side g ts cursor next turn h' t' at c w =
+      let on = resumed_at h.registry.start cursor in
+      let with = resumed_with h.registry.start cursor next in
+      search_calm h t b x side (asked_of p h x ts) on with (is_own (local_of x) on with) turn h' t' at c w.row
+
+  date_calm : (p : PartitionId) (h : Held D) (t : Tier S M) (b : ℕ) (x : Node D) (side : Side) (g : Begun) (ts : ℤ) (cursor : ℕ)
+      (next : Dating) (outcome : Outcome) (h' : Held D) (t' : Tier S M) → slice_get h.nodes b ≡ Some x → AreAllCalm h t
+      → DateOnRow disk store meta p h t b x side g ts cursor next outcome h' t' → Calmly h' t' outcome
+  date_calm p h t b x side g ts cursor next (Answers Stopped) h' t' at c w = (same_calm h t h' t' w.1 w.2 c, tt)
+  date_calm p h t b x side g ts cursor next (Answers NotLeader) h' t' at c w = (same_calm h t h' t' w.3 w.4 c, tt)
+  date_calm p h t b x side g ts cursor next (Answers NoOffset) h' t' at c w = (same_calm h t h' t' w.2 w.3 c, tt)
+  date_calm p h t b x side g ts cursor next (Answers answer) h' t' at c w =
+      searches_calm p h t b x side g ts cursor next (dating.Ends answer) h' t' at c w
+  date_calm p h t b x side g ts cursor next (Dated later after) h' t' at c w =
+      searches_calm p h t b x side g ts cursor next (dating.Goes later after) h' t' at c w.0
+  date_calm p h t b x side g ts cursor next other h' t' at c w = elim w [ ]
+
   noted_calm : (p : PartitionId) (config : Config) (h : Held D) (t : Tier S M) (b : ℕ) (x : Node D) (side : Side) (g : Begun) (command : Command) (outcome : Outcome) (h' : Held D) (t' : Tier S M) → slice_get h.nodes b ≡ Some x
       → AreAllCalm h t → NotedRow disk store meta p config h t b x side g command outcome h' t' → Calmly h' t' outcome
   noted_calm p config h t b x side g Copy outcome h' t' at c w = choose_calm p h t b x side g outcome h' t' at c w
@@ -264,6 +307,8 @@ module _ {D S M : Type 0} (disk : DiskGhosts D) (store : StoreGhosts S) (meta : 
   noted_calm p config h t b x side g Expire outcome h' t' at c w = expire_calm p h t b x side g config.keep outcome h' t' at c w.1 w.0
   noted_calm p config h t b x side g (Fetch offset limit) outcome h' t' at c w = seek_calm p h t b x side g offset limit Refresh outcome h' t' c w.1 w.0
   noted_calm p config h t b x side g (Offset LatestTiered) outcome h' t' at c w = (same_calm h t h' t' w.1 w.2 c, offset_quiet h x side g outcome w.0)
+  noted_calm p config h t b x side g (Offset (At ts)) outcome h' t' at c w =
+      date_calm p h t b x side g ts 0 Seek outcome h' t' at c w
   noted_calm p config h t b x side g other outcome h' t' at c w =
       let k = row_calm disk.content disk.control h b x (Some g) other (turned.Answers w.0.0) h' at c.held w.0.2 in
       (record { held = k.0; stores = rw w.1 c.stores }, rw w.0.1 k.1)
@@ -280,6 +325,13 @@ module _ {D S M : Type 0} (disk : DiskGhosts D) (store : StoreGhosts S) (meta : 
       → AreAllCalm h t → SeekingRow store meta p h t b x side g next command outcome h' t' → Calmly h' t' outcome
   seeking_calm p h t b x side g next (Fetch offset limit) outcome h' t' c w = seek_calm p h t b x side g offset limit next outcome h' t' c w.1 w.0
   seeking_calm p h t b x side g next other outcome h' t' c w = elim w [ ]
+
+  dating_calm : (p : PartitionId) (h : Held D) (t : Tier S M) (b : ℕ) (x : Node D) (side : Side) (g : Begun) (cursor : ℕ) (next : Dating)
+      (command : Command) (outcome : Outcome) (h' : Held D) (t' : Tier S M) → slice_get h.nodes b ≡ Some x → AreAllCalm h t
+      → DatingRow disk store meta p h t b x side g cursor next command outcome h' t' → Calmly h' t' outcome
+  dating_calm p h t b x side g cursor next (Offset (At ts)) outcome h' t' at c w =
+      date_calm p h t b x side g ts cursor next outcome h' t' at c w
+  dating_calm p h t b x side g cursor next other outcome h' t' at c w = elim w [ ]
 
   deleting_calm : (h : Held D) (t : Tier S M) (b : ℕ) (x : Node D) (g : Begun) (segment : Doomed) (next : Deletion) (command : Command) (outcome : Outcome) (h' : Held D) (t' : Tier S M)
       → AreAllCalm h t → DeletingRow store meta h t b x g segment next command outcome h' t' → Calmly h' t' outcome
@@ -304,6 +356,8 @@ module _ {D S M : Type 0} (disk : DiskGhosts D) (store : StoreGhosts S) (meta : 
   work_calm p config h t b x side (Noted g) command outcome h' t' at c w = noted_calm p config h t b x side g command outcome h' t' at c w
   work_calm p config h t b x side (Copies g copy next) command outcome h' t' at c w = copying_calm h t b x side g copy next command outcome h' t' c w
   work_calm p config h t b x side (Seeks g next) command outcome h' t' at c w = seeking_calm p h t b x side g next command outcome h' t' c w
+  work_calm p config h t b x side (Dates g cursor next) command outcome h' t' at c w =
+      dating_calm p h t b x side g cursor next command outcome h' t' at c w
   work_calm p config h t b x side (Expires g segment next) command outcome h' t' at c w = deleting_calm h t b x g segment next command outcome h' t' c w
   work_calm p config h t b x side (Rebuilds g next) command outcome h' t' at c w = rebuilding_calm p h t b x side g next command outcome h' t' at c w
 
@@ -333,6 +387,7 @@ module _ {D S M : Type 0} (disk : DiskGhosts D) (store : StoreGhosts S) (meta : 
       told (Chose copy) q = faultless_same w.journal.items u.journal
       told (Goes next) q = faultless_same w.journal.items u.journal
       told (Sought next) q = faultless_same w.journal.items u.journal
+      told (Dated cursor next) q = faultless_same w.journal.items u.journal
       told (Dooms segment) q = faultless_same w.journal.items u.journal
       told (Deletes next) q = faultless_same w.journal.items u.journal
       told (Rebuilding next) q = faultless_same w.journal.items u.journal

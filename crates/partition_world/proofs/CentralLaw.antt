@@ -13,7 +13,7 @@ use Rattle.plain_log.specs.declared.answer.Answer.TheVariants.{Kept, StaleEpoch,
 use Rattle.plain_log.specs.declared.command.ActorList.{ActorList}
 use Rattle.plain_log.specs.declared.command.Command.{Command}
 use Rattle.plain_log.specs.declared.command.Command.TheVariants.{Follow, Join, Trim, Copy, Expire, Fetch, Offset}
-use Rattle.plain_log.specs.declared.command.Which.TheVariants.{LatestTiered}
+use Rattle.plain_log.specs.declared.command.Which.TheVariants.{LatestTiered, At}
 use Rattle.plain_log.specs.declared.command.Order.{Order}
 use Rattle.plain_log.specs.declared.state.Actor.{Actor}
 use Rattle.plain_log.specs.declared.state.Broker.{Broker}
@@ -57,7 +57,7 @@ use Rattle.partition_world.specs.declared.seat.Outcome.{Outcome}
 use Rattle.partition_world.specs.declared.seat.Outcome.TheVariants.{Answers, Dooms}
 use Rattle.partition_world.specs.declared.seat.Seat.{Seat}
 use Rattle.partition_world.specs.declared.seat.Work.{Work}
-use Rattle.partition_world.specs.declared.seat.Work.TheVariants.{Idle, Noted, Copies, Seeks, Expires, Rebuilds}
+use Rattle.partition_world.specs.declared.seat.Work.TheVariants.{Idle, Noted, Copies, Seeks, Dates, Expires, Rebuilds}
 use Rattle.partition_world.specs.declared.tier.Side.{Side}
 use Rattle.partition_world.specs.declared.tier.Tier.{Tier}
 use Rattle.partition_world.specs.Seats.{noted_in, outcome_of, seat_after, seat_seen, desk_seen}
@@ -78,6 +78,7 @@ use Rattle.index_cache.specs.Cache.{Cache}
 use Rattle.remote_view.specs.Fold.{Seen as View}
 use Rattle.view_refresh.specs.Refreshing.{Halted}
 use Rattle.tier_fetch.specs.declared.turn.Next.TheVariants.{Refresh}
+use Rattle.time_find.specs.declared.turn.Next.TheVariants.{Seek}
 use Rattle.partition_turns.specs.declared.held.Node.{Node}
 use Rattle.partition_turns.specs.Shown.{StaysUp, Refines}
 use Rattle.partition_turns.specs.Held.{line_of}
@@ -94,10 +95,12 @@ use Rattle.rebuild_task.specs.declared.turn.Next.TheVariants.{Epochs, Restart}
 use Rattle.partition_turns.specs.TurnsOfFollowers.{JoinOnRow}
 use Rattle.partition_world.specs.TurnsOfRebuild.{with_line, wanted_of as rebuilt_to}
 use Rattle.partition_world.specs.Turns.{JoinSecondRow, RebuildingRow}
-use Rattle.partition_world.specs.Central.{IsNoted, AreNoted, rebuilds_of}
+use Rattle.partition_world.specs.Central.{IsNoted, AreNoted, IsDated, AreDated, HasGone, dates_of, rebuilds_of}
 use Rattle.partition_world.proofs.Noting.{own_noted, turn_noted}
 use Rattle.partition_world.proofs.RebuildEnds.{rebuild_kept}
 use Rattle.partition_world.proofs.RebuildCentral.{once_row, noted_row, join_refreshes, join_reads}
+use Rattle.partition_world.proofs.DateCentral.{none_gone, date_first, date_on}
+use Rattle.partition_world.proofs.DateEnds.{date_dry}
 use Rattle.partition_world.proofs.FetchCentral.{fetch_asks, fetch_on}
 use Rattle.partition_world.proofs.FetchEnds.{Dries, fetch_dry}
 use Rattle.partition_world.proofs.OffsetCentral.{offset_first, offset_on}
@@ -352,12 +355,14 @@ module _ {D S M : Type 0} (disk : DiskGhosts D) (store : StoreGhosts S) (meta : 
     by_command Trim is (Noted g) keeps row = trims_on is g keeps outcome refl row.0 row.1
     by_command Trim is (Copies g copy next) keeps row = absurd row
     by_command Trim is (Seeks g next) keeps row = absurd row
+    by_command Trim is (Dates g cursor next) keeps row = absurd row
     by_command Trim is (Expires g segment next) keeps row = absurd row
     by_command Trim is (Rebuilds g next) keeps row = absurd row
     by_command Expire is Idle keeps row = expire_first disk store meta opening w a outcome w' t c z is keeps outcome refl row.0 row.1
     by_command Expire is (Noted g) keeps row = expires_on is g keeps row.0 row.1
     by_command Expire is (Copies g copy next) keeps row = absurd row
     by_command Expire is (Seeks g next) keeps row = absurd row
+    by_command Expire is (Dates g cursor next) keeps row = absurd row
     by_command Expire is (Expires g segment next) keeps row = deletes disk store meta opening w a outcome w' t c z is g segment next keeps row.0 row.1
     by_command Expire is (Rebuilds g next) keeps row = absurd row
     by_command Join is (Noted g) keeps row = join_on is g keeps row
@@ -369,14 +374,30 @@ module _ {D S M : Type 0} (disk : DiskGhosts D) (store : StoreGhosts S) (meta : 
     by_command (Fetch offset limit) is (Copies g copy next) keeps row = absurd row
     by_command (Fetch offset limit) is (Seeks g next) keeps row =
         fetch_on disk store meta opening w a outcome w' t c z offset limit is (Seeks g next) keeps g refl next refl (λ later. refl) outcome refl row.0 row.1
+    by_command (Fetch offset limit) is (Dates g cursor next) keeps row = absurd row
     by_command (Fetch offset limit) is (Expires g segment next) keeps row = absurd row
     by_command (Fetch offset limit) is (Rebuilds g next) keeps row = absurd row
     by_command (Offset LatestTiered) is Idle keeps row = offset_first disk store meta opening w a outcome w' t c z is keeps outcome refl row.0 row.1
     by_command (Offset LatestTiered) is (Noted g) keeps row = offset_on disk store meta opening w a outcome w' t c z is g keeps outcome refl row.0 row.1 row.2
     by_command (Offset LatestTiered) is (Copies g copy next) keeps row = absurd row
     by_command (Offset LatestTiered) is (Seeks g next) keeps row = absurd row
+    by_command (Offset LatestTiered) is (Dates g cursor next) keeps row = absurd row
     by_command (Offset LatestTiered) is (Expires g segment next) keeps row = absurd row
     by_command (Offset LatestTiered) is (Rebuilds g next) keeps row = absurd row
+    by_command (Offset (At ts)) is Idle keeps row = date_first disk store meta opening w a outcome w' t c z ts is keeps outcome refl row.0 row.1
+    by_command (Offset (At ts)) is (Noted g) keeps row =
+        date_on disk store meta opening w a outcome w' t c z ts is (Noted g) keeps g refl 0 Seek
+        (ap (begun_of t.order.broker.0 g) is ∙ sym (ap (dates_of t.order.broker.0 g 0 Seek) is)) (λ to later. refl) (λ x there stops role.
+        none_gone ts c.central.plain.registry.start x.log (c.central.safe.brokers t.order.broker.0 x there).log.consecutive) tt outcome refl row
+    by_command (Offset (At ts)) is (Copies g copy next) keeps row = absurd row
+    by_command (Offset (At ts)) is (Seeks g next) keeps row = absurd row
+    by_command (Offset (At ts)) is (Dates g cursor next) keeps row =
+        let gone : IsDated c.central.plain (Some t.order) (Dates g cursor next) = subst (λ (k : Work). IsDated c.central.plain (Some t.order) k) keeps
+        (subst (λ (o : Option Order). IsDated c.central.plain o t.seat.work) t.next (c.dated t.place t.list t.seat t.at.list t.at.seat_is)) in
+        date_on disk store meta opening w a outcome w' t c z ts is (Dates g cursor next) keeps g refl cursor next refl (λ to later. refl)
+        (subst (λ (k : Command). HasGone c.central.plain t.order.broker.0 g k cursor next) is gone.1) gone.0 outcome refl row
+    by_command (Offset (At ts)) is (Expires g segment next) keeps row = absurd row
+    by_command (Offset (At ts)) is (Rebuilds g next) keeps row = absurd row
     by_command command is Idle keeps row =
         own_central row.0.0 row.0.1 (seat_own (subst IsOwn (sym is) tt) row.0.0) (row_at command is Idle keeps row.0.0 row.0.2) row.1 (works_at Idle keeps (keeps_none t.order.broker.0 t.order.command))
         (λ h'. owes_at command is h' tt)
@@ -385,6 +406,7 @@ module _ {D S M : Type 0} (disk : DiskGhosts D) (store : StoreGhosts S) (meta : 
         (works_at (Noted g) keeps (begun_keeps t.order.broker.0 t.order.command g (subst IsOwn (sym is) tt))) (λ h'. owes_at command is h' tt)
     by_command command is (Copies g copy next) keeps row = elim row [ ]
     by_command command is (Seeks g next) keeps row = elim row [ ]
+    by_command command is (Dates g cursor next) keeps row = elim row [ ]
     by_command command is (Expires g segment next) keeps row = elim row [ ]
     by_command command is (Rebuilds g next) keeps row = elim row [ ]
 
@@ -419,6 +441,7 @@ module _ {D S M : Type 0} (disk : DiskGhosts D) (store : StoreGhosts S) (meta : 
     waits : ShowsHeld disk.content w'.held c.partition → (d : Scene) → IsChanged c.scene c.central.plain d → ShowsTier store meta w' c.partition d → IsCentral disk store meta opening w'
     waits held d changed shows =
         silent_central disk store meta opening w w' c same_lists (ap desk_seen same_desk) (ap (λ (k : Whole D S M). k.journal.items) s.fields) held d changed shows (subst AreNoted (sym same_desk) c.noted)
+        (subst (λ (l : List ActorList). AreDated c.central.plain l w'.desk) (sym same_lists) (subst (AreDated c.central.plain w.lists) (sym same_desk) c.dated))
         (few_stays opening w a w' s c d shows)
 
     -- nothing has changed
@@ -433,7 +456,7 @@ module _ {D S M : Type 0} (disk : DiskGhosts D) (store : StoreGhosts S) (meta : 
       desk = c.shows_tier.desk ∙ (ap (λ (k : List ActorList). desk_of k w.desk) (sym same_lists) ∙ ap (λ (k : List Seat). desk_of w'.lists k) (sym same_desk));
     })
 
-    -- a fetch has read in vain
+    -- a fetch or a search has read in vain
     dried : (z : Place disk store meta opening w c s.place s.list s.seat s.order) → w'.held ≡ w.held → {view : View} {cache : Cache} → w'.tier.sides ≡ slice_set w.tier.sides s.order.broker.0 (record z.side { view = view; cache = cache })
         → Dries store meta (fetch_tiers z.side.view z.side.cache w.tier) (fetch_tiers view cache w'.tier) → IsCentral disk store meta opening w'
     dried z same {view} {cache} sides d = by d.why
@@ -480,7 +503,7 @@ module _ {D S M : Type 0} (disk : DiskGhosts D) (store : StoreGhosts S) (meta : 
         (shows_kept disk store meta opening w c s.place s.list s.seat s.order z w' (store.content w'.tier.store).objects (meta.content w'.tier.meta).notes k.view same_part same_lists same_desk
         (ap (λ (u : Tier S M). u.sides) k.after)
         (dry_tells store meta copy (teller_of w.held s.order.broker.0) next k.error (tiers_of z.side.view w.tier) (tiers_of k.view w'.tier) k.row) refl refl)
-    halted z same (inr (inr (inr (inr (p, g, k))))) =
+    halted z same (inr (inr (inr (inr (inr (p, g, k)))))) =
         let kept = rebuild_kept store (rebuilt_to p g) g.line z.side.view (Err k.error) w.tier.store w'.tier.store k.row in
         waits (subst (λ (h : Held D). ShowsHeld disk.content h c.partition) (sym same) c.shows)
         (scene_after disk store meta opening w c s.place s.list s.seat s.order z (work_of (Some s.order) s.seat.work) c.scene.objects c.scene.notes z.side.view)
@@ -499,6 +522,9 @@ module _ {D S M : Type 0} (disk : DiskGhosts D) (store : StoreGhosts S) (meta : 
         (ap (λ (u : S). (store.content u).tells) d.store_is, d.tells) (c.shows_tier.objects ∙ sym (ap (λ (u : S). (store.content u).objects) d.store_is)) (c.shows_tier.notes ∙ sym (d.notes c.shows_tier.meta_tells)))
     halted z same (inr (inr (inl (p, offset, limit, next, k)))) =
         let d = fetch_dry store meta (wanted_of p z.x offset limit) (line_of z.x) next k.error (fetch_tiers z.side.view z.side.cache w.tier) (fetch_tiers k.view k.cache w'.tier) k.row in
+        dried z same (ap (λ (u : Tier S M). u.sides) k.after) d
+    halted z same (inr (inr (inr (inr (inl (line, asked, cursor, next, k)))))) =
+        let d = date_dry store meta asked line cursor next k.error (fetch_tiers z.side.view z.side.cache w.tier) (fetch_tiers k.view k.cache w'.tier) k.row in
         dried z same (ap (λ (u : Tier S M). u.sides) k.after) d
 
     by_tier : StaysTier disk store meta w.held w.tier s.order.broker.0 w'.held w'.tier → IsCentral disk store meta opening w'

@@ -32,7 +32,7 @@ use Rattle.tier_safe.proofs.Turning.{copy_turns}
 use Rattle.partition_world.specs.declared.seat.Outcome.{Outcome}
 use Rattle.partition_world.specs.declared.seat.Outcome.TheVariants.{Answers, Begins, Chose}
 use Rattle.partition_world.specs.declared.seat.Work.{Work}
-use Rattle.partition_world.specs.declared.seat.Work.TheVariants.{Idle, Noted, Copies, Seeks, Expires, Rebuilds}
+use Rattle.partition_world.specs.declared.seat.Work.TheVariants.{Idle, Noted, Copies, Seeks, Dates, Expires, Rebuilds}
 use Rattle.partition_world.specs.declared.tier.Side.{Side}
 use Rattle.partition_world.specs.declared.tier.Tier.{Tier}
 use Rattle.partition_world.specs.Seats.{moved, copy_outcome, seat_after, seat_seen, told_of}
@@ -46,6 +46,7 @@ use Rattle.partition_world.proofs.Choosing.{chosen_scene, chosen_changed, chosen
 use Rattle.partition_world.proofs.CopyEnds.{copy_ends, copy_tells, keeps_seen, keeps_back, end_row}
 use Rattle.partition_world.proofs.Scenes.{Place, shows_at, answered_free, few_now}
 use Rattle.partition_world.proofs.Noting.{GoesAsNoted}
+use Rattle.partition_world.proofs.Dating.{IsNoDate}
 use Rattle.partition_world.proofs.Sides.{set_same}
 use Rattle.partition_world.proofs.TurnCentral.{here, after, seat_shows, shown, entered, stands, held_same, leads_first, silent, untold, unseen}
 use Rattle.partition_world.proofs.WorldSound.{chosen_seen, moved_seen}
@@ -105,7 +106,7 @@ module _ {D S M : Type 0} (disk : DiskGhosts D) (store : StoreGhosts S) (meta : 
         stands disk store meta opening w a outcome w' t c z Copy copies (Noted g) noted (Damaged (File name) at) is refl (side_kept n row.1) (held_read n.node row.0.reads n.held) (keeps_seen z.x z.s g keeps, refl)
     reads g noted keeps n (Chose copy) is row =
         let i = some_of (λ i. n.side_after ≡ counted z.side i) (incarnation_in z.x.log) row.2 in
-        silent disk store meta opening w a outcome w' t c z Copy copies (subst (GoesAsNoted t.seat.work) (sym is) tt) (unseen disk store meta opening w a outcome w' t c z Copy copies (ap (λ (o : Outcome). seat_seen (seat_after t.seat o)) is ∙ ap (λ (o : Option Begun). record { number = t.seat.number; begun = o }) (chosen_seen t.seat.work copy)))
+        silent disk store meta opening w a outcome w' t c z Copy copies (subst (GoesAsNoted t.seat.work) (sym is) tt) (subst IsNoDate (sym is) tt) (unseen disk store meta opening w a outcome w' t c z Copy copies (ap (λ (o : Outcome). seat_seen (seat_after t.seat o)) is ∙ ap (λ (o : Option Begun). record { number = t.seat.number; begun = o }) (chosen_seen t.seat.work copy)))
         (untold disk store meta opening w a outcome w' t c z Copy copies (ap (told_of t.list.actor t.seat.number t.order.command) is)) (held_read n.node row.0.reads n.held)
         (chosen_scene disk store meta opening w c t.place t.list t.seat t.order z copy)
         (chosen_changed disk store meta opening w c t.place t.list t.seat t.order z g copy (copied_to z.x z.side w.held.registry.start) n.node noted copies keeps row.0 row.1)
@@ -142,7 +143,7 @@ module _ {D S M : Type 0} (disk : DiskGhosts D) (store : StoreGhosts S) (meta : 
             (copy_tells store meta copy (teller_of w.held t.order.broker.0) next (Ends answer) (tiers_of z.side.view w.tier) (tiers_of goes.view w'.tier) goes.row) refl refl
             (answered_free disk store meta opening w c t.place t.list t.seat t.order z outcome answer is))
         by (GoesOn further) is goes k =
-            silent disk store meta opening w a outcome w' t c z Copy copies (subst (GoesAsNoted t.seat.work) (sym is) tt) (unseen disk store meta opening w a outcome w' t c z Copy copies (ap (λ (o : Outcome). seat_seen (seat_after t.seat o)) is ∙ ap (λ (o : Option Begun). record { number = t.seat.number; begun = o }) (moved_seen t.seat.work further)))
+            silent disk store meta opening w a outcome w' t c z Copy copies (subst (GoesAsNoted t.seat.work) (sym is) tt) (subst IsNoDate (sym is) tt) (unseen disk store meta opening w a outcome w' t c z Copy copies (ap (λ (o : Outcome). seat_seen (seat_after t.seat o)) is ∙ ap (λ (o : Option Begun). record { number = t.seat.number; begun = o }) (moved_seen t.seat.work further)))
             (untold disk store meta opening w a outcome w' t c z Copy copies (ap (told_of t.list.actor t.seat.number t.order.command) is)) (same_held same)
             (then (CopiesSeen copy further) (store.content w'.tier.store).objects (meta.content w'.tier.meta).notes goes.view) k
             (shown disk store meta opening w a outcome w' t c z Copy copies (CopiesSeen copy further) (store.content w'.tier.store).objects (meta.content w'.tier.meta).notes goes.view (ap (λ (u : Tier S M). u.sides) goes.after)
@@ -161,5 +162,6 @@ module _ {D S M : Type 0} (disk : DiskGhosts D) (store : StoreGhosts S) (meta : 
     copy_central (Noted g) is row = second g is row
     copy_central (Copies g copy next) is row = later g copy next is row.0 row.1
     copy_central (Seeks g next) is row = absurd row
+    copy_central (Dates g cursor next) is row = absurd row
     copy_central (Expires g segment next) is row = absurd row
     copy_central (Rebuilds g next) is row = absurd row

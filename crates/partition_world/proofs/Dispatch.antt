@@ -8,7 +8,7 @@ use Rattle.object_store.specs.declared.store.Store.{Ghosts as StoreGhosts}
 use Rattle.meta_log.specs.declared.log.MetaLog.{Ghosts as MetaGhosts}
 use Rattle.plain_log.specs.declared.command.Command.{Command}
 use Rattle.plain_log.specs.declared.command.Command.TheVariants.{Copy, Trim, Expire, Offset}
-use Rattle.plain_log.specs.declared.command.Which.TheVariants.{LatestTiered}
+use Rattle.plain_log.specs.declared.command.Which.TheVariants.{LatestTiered, At}
 use Rattle.tier_base.specs.declared.plain.Settings.{Settings}
 use Rattle.broker_log.specs.Seen.{Kept, Up, Down, Away, is_up, settings_in, WhileUp}
 use Rattle.partition_turns.specs.declared.held.Node.{Node}
@@ -51,6 +51,7 @@ module _ {D S M : Type 0} (disk : DiskGhosts D) (store : StoreGhosts S) (meta : 
   begin_row h t b x side Trim outcome h' t' own w = absurd (own tt)
   begin_row h t b x side Expire outcome h' t' own w = absurd (own tt)
   begin_row h t b x side (Offset LatestTiered) outcome h' t' own w = absurd (own tt)
+  begin_row h t b x side (Offset (At ts)) outcome h' t' own w = absurd (own tt)
   begin_row h t b x side other outcome h' t' own w = w
 
   -- the first turn of a command that the remote tier has no part in

@@ -17,6 +17,7 @@ use Rattle.plain_log.specs.declared.state.Actor.{Actor}
 use Rattle.plain_log.specs.declared.state.Broker.{Broker}
 use Rattle.plain_log.specs.declared.state.State.{State}
 use Rattle.plain_log.specs.Orders.{AreRising}
+use Rattle.plain_log.proofs.StepsGrow.{steps_grow}
 use Rattle.partition_seen.specs.declared.begun.Turned.{Turned}
 use Rattle.partition_seen.specs.declared.begun.Turned.TheVariants as turned
 use Rattle.partition_seen.specs.declared.seat.Seat as seen_seat
@@ -41,9 +42,10 @@ use Rattle.tier_safe.proofs.Kept.{all_kept}
 use Rattle.partition_world.specs.declared.seat.Outcome.{Outcome}
 use Rattle.partition_world.specs.declared.seat.Seat.{Seat}
 use Rattle.partition_world.specs.Seats.{seat_seen, desk_seen, noted_in, outcome_of, seat_after, told_of}
-use Rattle.partition_world.specs.Central.{AreNoted, sides_seen, notes_left, ShowsTier, IsCentral}
+use Rattle.partition_world.specs.Central.{AreNoted, AreDated, sides_seen, notes_left, ShowsTier, IsCentral}
 use Rattle.partition_world.specs.Turn.{IsTurn}
 use Rattle.partition_world.specs.Whole.{Whole, seen_as}
+use Rattle.partition_world.proofs.Dating.{undated, told_undated, desk_gone, turn_dated}
 
 -- an entry, and its seat, as they are seen
 pub told_as : (actor : ActorId) (number : ℕ) (command : Command) (t : Turned)
@@ -157,6 +159,16 @@ module _ {D S M : Type 0} (disk : DiskGhosts D) (store : StoreGhosts S) (meta : 
         is = k.step_is;
       }
 
+  -- what searches have gone through, after it
+  entered_dated : (opening : State) (w : Whole D S M) (a : ℕ) (outcome : Outcome) (w' : Whole D S M) (t : IsTurn disk store meta w a outcome w') (c : IsCentral disk store meta opening w)
+      → (e : IsEntered w outcome w' c.partition t.list t.seat t.order)
+      → (k : seen_law.Went opening (seen_as w c.partition) a e.turned (seen_as w' e.after) (seen_turn_of w a outcome w' c.partition t e) c.central) → AreDated k.central.plain w'.lists w'.desk
+  entered_dated opening w a outcome w' t c e k =
+      let entry = entry_for w outcome w' c.partition t.list t.seat t.order e in
+      let grows = steps_grow c.central.plain t.order entry k.central.plain k.step_is c.central.safe in
+      turn_dated disk store meta w a outcome w' t k.central.plain (desk_gone disk store meta opening w c k.central.plain grows k.central.safe)
+      (undated k.central.plain (slice_get t.list.orders t.seat.number) t.seat.work outcome (told_undated t.list.actor t.seat.number t.order.command outcome entry e.told))
+
   -- the tier after such a turn: changes, and then the plain log's step, in which each local start stays or falls
   pub entered_central : (opening : State) (w : Whole D S M) (a : ℕ) (outcome : Outcome) (w' : Whole D S M) (t : IsTurn disk store meta w a outcome w') (c : IsCentral disk store meta opening w)
       → (e : IsEntered w outcome w' c.partition t.list t.seat t.order) → (d : Scene) → IsChanged c.scene c.central.plain d → ShowsTier store meta w' c.partition d
@@ -190,6 +202,7 @@ module _ {D S M : Type 0} (disk : DiskGhosts D) (store : StoreGhosts S) (meta : 
         };
         tier = after.tier;
         noted = noted;
+        dated = entered_dated opening w a outcome w' t c e k;
         few = few;
       }
 
@@ -209,14 +222,15 @@ module _ {D S M : Type 0} (disk : DiskGhosts D) (store : StoreGhosts S) (meta : 
         shows_tier = shows;
         tier = safe.tier;
         noted = noted;
+        dated = entered_dated opening w a outcome w' t c e k;
         few = few;
       }
 
   -- a turn that is entered nowhere, or one that wanted memory: changes of the tier alone
   pub silent_central : (opening : State) (w w' : Whole D S M) (c : IsCentral disk store meta opening w) → w'.lists ≡ w.lists → desk_seen w'.desk ≡ desk_seen w.desk
       → w'.journal.items ≡ w.journal.items → ShowsHeld disk.content w'.held c.partition → (d : Scene) → IsChanged c.scene c.central.plain d → ShowsTier store meta w' c.partition d
-      → AreNoted w'.desk → length d.notes + notes_left w'.lists w'.desk < 2 ^ 64 → IsCentral disk store meta opening w'
-  silent_central opening w w' c lists desk items held d changed shows noted few =
+      → AreNoted w'.desk → AreDated c.central.plain w'.lists w'.desk → length d.notes + notes_left w'.lists w'.desk < 2 ^ 64 → IsCentral disk store meta opening w'
+  silent_central opening w w' c lists desk items held d changed shows noted dated few =
       let safe : BothSafe d c.central.plain = subst (λ (z : Scene). BothSafe z c.central.plain) changed.is (all_kept changed.changes c.scene c.central.plain c.central.plain changed.may (both_of opening w c)) in
       record {
         partition = c.partition;
@@ -238,5 +252,6 @@ module _ {D S M : Type 0} (disk : DiskGhosts D) (store : StoreGhosts S) (meta : 
         shows_tier = shows;
         tier = safe.tier;
         noted = noted;
+        dated = dated;
         few = few;
       }

@@ -59,6 +59,7 @@ use Rattle.partition_world.proofs.ExpiryEnds.{expiry_ends, expiry_tells, end_row
 use Rattle.partition_world.proofs.LineTells.{right_view}
 use Rattle.partition_world.proofs.Scenes.{Place, site_is, seated, shows_at, work_after, same_sides, answered_free}
 use Rattle.partition_world.proofs.Noting.{GoesAsNoted}
+use Rattle.partition_world.proofs.Dating.{IsNoDate}
 use Rattle.partition_world.proofs.Sides.{set_same}
 use Rattle.partition_world.proofs.TurnCentral.{here, after, shown, entered, stands, held_same, leads_first, silent, untold, unseen}
 use Rattle.partition_world.proofs.WorldSound.{doomed_seen, deleting_seen}
@@ -192,7 +193,7 @@ module _ {D S M : Type 0} (disk : DiskGhosts D) (store : StoreGhosts S) (meta : 
     pub dooms : (g : Begun) (segment : Doomed) → t.seat.work ≡ Noted g → outcome ≡ outcomes.Dooms segment → TakesUp w.partition w.held z.side segment w'.held → w'.tier ≡ w.tier
         → IsCentral disk store meta opening w'
     dooms g segment noted is k same =
-        silent disk store meta opening w a outcome w' t c z Expire expires (subst (GoesAsNoted t.seat.work) (sym is) tt)
+        silent disk store meta opening w a outcome w' t c z Expire expires (subst (GoesAsNoted t.seat.work) (sym is) tt) (subst IsNoDate (sym is) tt)
         (unseen disk store meta opening w a outcome w' t c z Expire expires
         (ap (λ (o : Outcome). seat_seen (seat_after t.seat o)) is ∙ ap (λ (o : Option Begun). record { number = t.seat.number; begun = o }) (doomed_seen t.seat.work segment)))
         (untold disk store meta opening w a outcome w' t c z Expire expires (ap (told_of t.list.actor t.seat.number t.order.command) is)) (same_held k.stays) _ (doom_changed g segment noted k)
@@ -229,7 +230,7 @@ module _ {D S M : Type 0} (disk : DiskGhosts D) (store : StoreGhosts S) (meta : 
             (expiry_tells store meta segment (teller_of w.held t.order.broker.0) next (Ends answer) (expiry_tiers w.tier) (expiry_tiers w'.tier) goes.row) refl refl
             (answered_free disk store meta opening w c t.place t.list t.seat t.order z outcome answer is))
         by (GoesOn further) is goes k =
-            silent disk store meta opening w a outcome w' t c z Expire expires (subst (GoesAsNoted t.seat.work) (sym is) tt)
+            silent disk store meta opening w a outcome w' t c z Expire expires (subst (GoesAsNoted t.seat.work) (sym is) tt) (subst IsNoDate (sym is) tt)
             (unseen disk store meta opening w a outcome w' t c z Expire expires
             (ap (λ (o : Outcome). seat_seen (seat_after t.seat o)) is ∙ ap (λ (o : Option Begun). record { number = t.seat.number; begun = o }) (deleting_seen t.seat.work further)))
             (untold disk store meta opening w a outcome w' t c z Expire expires (ap (told_of t.list.actor t.seat.number t.order.command) is)) (same_held same)

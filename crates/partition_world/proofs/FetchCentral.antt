@@ -66,6 +66,7 @@ use Rattle.partition_world.proofs.FetchEnds.{MayEnd, fetch_ends, fetch_tells}
 use Rattle.partition_world.proofs.LineTells.{line_tells}
 use Rattle.partition_world.proofs.Scenes.{Place, site, site_is, seated, shows_at, scene_with, shows_with, work_after, answered_free, few_now}
 use Rattle.partition_world.proofs.Noting.{GoesAsNoted}
+use Rattle.partition_world.proofs.Dating.{IsNoDate}
 use Rattle.partition_world.proofs.Sides.{set_same}
 use Rattle.partition_world.proofs.TurnCentral.{after, shown, entered, stands, held_same, begun_shows, silent, untold, unseen}
 
@@ -255,7 +256,7 @@ module _ {D S M : Type 0} (disk : DiskGhosts D) (store : StoreGhosts S) (meta : 
       goes_on : (later : Next) → outcome ≡ Seeks later → Serves w.held z.x g offset → GoesOnFetch store meta w.partition w.tier t.order.broker.0 z.x z.side offset limit next (GoesOn later) w'.tier
           → w'.held ≡ w.held → IsCentral disk store meta opening w'
       goes_on later is k goes held =
-          silent disk store meta opening w a outcome w' t c z (Fetch offset limit) fetches (subst (GoesAsNoted t.seat.work) (sym is) tt)
+          silent disk store meta opening w a outcome w' t c z (Fetch offset limit) fetches (subst (GoesAsNoted t.seat.work) (sym is) tt) (subst IsNoDate (sym is) tt)
           (unseen disk store meta opening w a outcome w' t c z (Fetch offset limit) fetches
           (ap (λ (o : Outcome). seat_seen (seat_after t.seat o)) is
           ∙ ap (λ (o : Option Begun). record { number = t.seat.number; begun = o })

@@ -37,7 +37,7 @@ use Rattle.partition_world.specs.declared.seat.Work.TheVariants.{Idle}
 use Rattle.partition_world.specs.declared.tier.Side.{Side}
 use Rattle.partition_world.specs.Seats.{desk_seen}
 use Rattle.partition_world.specs.Whole.{Whole, seen_as}
-use Rattle.partition_world.specs.Central.{IsNoted, AreNoted, IsCentral, ShowsTier, sides_seen, work_of, desk_of, notes_left}
+use Rattle.partition_world.specs.Central.{IsNoted, AreNoted, IsDated, AreDated, IsCentral, ShowsTier, sides_seen, work_of, desk_of, notes_left}
 use Rattle.partition_world.specs.Fresh.{IsFresh, IsSeenEmpty, fresh_seat, fresh_side}
 use Rattle.partition_world.proofs.WorldFresh.{all_fresh}
 
@@ -153,6 +153,20 @@ module _ {D S M : Type 0} (disk : DiskGhosts D) (store : StoreGhosts S) (meta : 
   fresh_noted : (n : ℕ) (desk : List Seat) → desk ≡ replicate n fresh_seat → AreNoted desk
   fresh_noted n desk is = λ place seat at. idle_noted n place seat (ap (λ (k : List Seat). slice_get k place) (sym is) ∙ at)
 
+  idle_dated : (p : State) (order : Option Order) → IsDated p order Idle
+  idle_dated p None = tt
+  idle_dated p (Some order) = tt
+
+  seats_idle : (n place : ℕ) (seat : Seat) → slice_get (replicate n fresh_seat) place ≡ Some seat → fresh_seat ≡ seat
+  seats_idle zero place seat at = absurd cc
+  seats_idle (suc n) zero seat at = cc (at)
+  seats_idle (suc n) (suc place) seat at = seats_idle n place seat at
+
+  fresh_dated : (p : State) (lists : List ActorList) (n : ℕ) (desk : List Seat) → desk ≡ replicate n fresh_seat → AreDated p lists desk
+  fresh_dated p lists n desk is = λ place l seat there at.
+      let same = seats_idle n place seat (ap (λ (k : List Seat). slice_get k place) (sym is) ∙ at) in
+      subst (λ (k : Seat). IsDated p (slice_get l.orders k.number) k.work) same (idle_dated p (slice_get l.orders 0))
+
   pub fresh_is_central : (partition : PartitionId) (config : Config) (lists : List ActorList) (disks : List D) (s : S) (m : M) (w : Whole D S M) → IsConfig config → AreListsFor config lists
       → IsFresh disk store meta partition config lists disks s m w → IsSeenEmpty disk store meta w → IsCentral disk store meta (fresh config) w
   fresh_is_central partition config lists disks s m w fits fit f seen = record {
@@ -167,6 +181,7 @@ module _ {D S M : Type 0} (disk : DiskGhosts D) (store : StoreGhosts S) (meta : 
     shows_tier = tier_shown partition config lists disks s m w f seen;
     tier = subst (λ (p : State). TierSafe (scene_of config lists w) p) (plain_fresh (fresh config) (seen_as w (fresh_held config.brokers)) central f.journal) safe;
     noted = fresh_noted (length lists) w.desk f.desk;
+    dated = fresh_dated central.plain w.lists (length lists) w.desk f.desk;
     few = left config lists w.lists w.desk fit f.lists_are f.desk;
   }
     where

@@ -30,13 +30,13 @@ use Rattle.partition_world.specs.Reaches.{Goes as GoesOnce, GoesTimes, GoesUntil
 use Rattle.partition_world.specs.Turn.{IsTurn, IsAtEnd}
 use Rattle.partition_world.specs.Whole.{Whole}
 use Rattle.partition_world.specs.declared.seat.Outcome.{Outcome}
-use Rattle.partition_world.specs.declared.seat.Outcome.TheVariants.{Answers, Begins, Chose, Goes, Seeks, Dooms, Deletes, Rebuilds}
+use Rattle.partition_world.specs.declared.seat.Outcome.TheVariants.{Answers, Begins, Chose, Goes, Seeks, Dates, Dooms, Deletes, Rebuilds}
 use Rattle.partition_world.specs.declared.seat.Seat.{Seat}
 use Rattle.partition_world.specs.declared.seat.Work.TheVariants.{Idle}
 use Rattle.partition_world.specs.Seats.{seat_after, told_of, noted_in}
 use Rattle.partition_world.specs.Turns.{TurnRow}
 use Rattle.partition_world.proofs.Begins.{begins_idle}
-use Rattle.partition_world.proofs.WorldSound.{chosen_seen, moved_seen, sought_seen, doomed_seen, deleting_seen, rebuilding_seen}
+use Rattle.partition_world.proofs.WorldSound.{chosen_seen, moved_seen, sought_seen, dated_seen, doomed_seen, deleting_seen, rebuilding_seen}
 use Rattle.partition_turns.proofs.Shown.{some_at}
 
 -- the entries lead from the n-th command, which has begun or not, to the m-th one, which has or not
@@ -132,6 +132,8 @@ enters actor seat command (Begins g) idle =
 enters actor seat command (Chose copy) idle = inr (record { told = refl; number = refl; going = ap (λ (o : Option Begun). is_some o) (chosen_seen seat.work copy) })
 enters actor seat command (Goes next) idle = inr (record { told = refl; number = refl; going = ap (λ (o : Option Begun). is_some o) (moved_seen seat.work next) })
 enters actor seat command (Seeks next) idle = inr (record { told = refl; number = refl; going = ap (λ (o : Option Begun). is_some o) (sought_seen seat.work next) })
+enters actor seat command (Dates cursor next) idle =
+    inr (record { told = refl; number = refl; going = ap (λ (o : Option Begun). is_some o) (dated_seen seat.work cursor next) })
 enters actor seat command (Dooms segment) idle = inr (record { told = refl; number = refl; going = ap (λ (o : Option Begun). is_some o) (doomed_seen seat.work segment) })
 enters actor seat command (Deletes next) idle = inr (record { told = refl; number = refl; going = ap (λ (o : Option Begun). is_some o) (deleting_seen seat.work next) })
 enters actor seat command (Rebuilds next) idle = inr (record { told = refl; number = refl; going = ap (λ (o : Option Begun). is_some o) (rebuilding_seen seat.work next) })

@@ -4,6 +4,7 @@ pub mod Dispatch
 pub mod Begins
 pub mod Works
 pub mod FetchAdvances
+pub mod DateAdvances
 pub mod ExpiryAdvances
 pub mod Advancing
 pub mod TurnSound
@@ -16,12 +17,16 @@ pub mod InTurnLaw
 pub mod Quiet
 pub mod CopyCalm
 pub mod FetchCalm
+pub mod DateCalm
 pub mod ExpiryCalm
 pub mod CalmLaw
 pub mod Chains
 pub mod FreshLaw
 pub mod SceneParts
 pub mod Noting
+pub mod Dating
+pub mod Passing
+pub mod DateCentral
 pub mod Entered
 pub mod CopyEnds
 pub mod ExpiryEnds
@@ -34,6 +39,9 @@ pub mod CopyCentral
 pub mod LineTells
 pub mod TrimCentral
 pub mod FetchEnds
+pub mod DateEnds
+pub mod DateRows
+pub mod DateTurns
 pub mod FetchTurns
 pub mod FetchCentral
 pub mod ExpiryCentral

@@ -1,5 +1,6 @@
 -- Each turn of a command leaves room for the notes that are appended yet: a command appends at most two.
-use Rattle.std.proofs.Common.{◌≡◌, inl, inr, ap, ℕ, zero, suc, ◌+◌, ◌-◌, ◌*◌, ◌<◌, ◌≤◌, List, [], ◌∷◌, length, slice_get, slice_set, Some, IsTrue, arith}
+use Rattle.std.proofs.Common.{◌≡◌, inl, inr, ap, ℕ, zero, suc, ◌+◌, ◌-◌, ◌*◌, ◌<◌, ◌≤◌, List, [], ◌∷◌, length, slice_get, slice_set, Some, Bool, true, false, IsTrue, arith}
+use Rattle.std.specs.Prelude.{ℤ}
 use Rattle.disk_model.specs.declared.disk.Disk.{Ghosts as DiskGhosts}
 use Rattle.object_store.specs.declared.store.Store.{Ghosts as StoreGhosts}
 use Rattle.meta_log.specs.declared.log.MetaLog.{Ghosts as MetaGhosts}
@@ -13,37 +14,43 @@ use Rattle.rebuild_task.specs.declared.turn.Next.TheVariants.{Epochs, Restart}
 use Rattle.tier_fetch.specs.declared.turn.FetchTurn.{FetchTurn}
 use Rattle.tier_fetch.specs.declared.turn.Next.{Next as Search}
 use Rattle.tier_fetch.specs.declared.turn.Next.TheVariants.{Refresh}
-use Rattle.plain_log.specs.declared.answer.Answer.TheVariants.{Down, NotLeader, CopyOff, MetaFault, Stopped, OutOfRange, Empty}
+use Rattle.time_find.specs.declared.turn.Asked.{Asked}
+use Rattle.time_find.specs.declared.turn.Next.{Next as Dating}
+use Rattle.time_find.specs.declared.turn.Next.TheVariants.{Seek}
+use Rattle.time_find.specs.declared.turn.TimeTurn.{TimeTurn}
+use Rattle.time_find.specs.declared.turn.TimeTurn.TheVariants as dating
+use Rattle.plain_log.specs.declared.answer.Answer.TheVariants.{Down, NotLeader, CopyOff, MetaFault, Stopped, OutOfRange, Empty, NoOffset}
 use Rattle.plain_log.specs.declared.command.ActorList.{ActorList}
 use Rattle.plain_log.specs.declared.command.Command.{Command}
 use Rattle.plain_log.specs.declared.command.Command.TheVariants.{Copy, Trim, Expire, Fetch, Join, Offset}
-use Rattle.plain_log.specs.declared.command.Which.TheVariants.{LatestTiered}
+use Rattle.plain_log.specs.declared.command.Which.TheVariants.{LatestTiered, At}
 use Rattle.plain_log.specs.declared.command.Config.{Config}
 use Rattle.partition_seen.specs.declared.begun.Begun.{Begun}
 use Rattle.partition_seen.proofs.BoolTests.{some_of}
 use Rattle.partition_turns.specs.declared.held.Node.{Node}
 use Rattle.partition_turns.specs.declared.held.Held.{Held}
-use Rattle.partition_turns.specs.Held.{line_of}
+use Rattle.partition_turns.specs.Held.{line_of, local_of}
 use Rattle.partition_world.specs.declared.tier.Side.{Side}
 use Rattle.partition_world.specs.declared.tier.Tier.{Tier}
 use Rattle.partition_world.specs.declared.seat.Outcome.{Outcome}
-use Rattle.partition_world.specs.declared.seat.Outcome.TheVariants.{Answers, Begins, Chose, Goes, Seeks as Sought, Dooms, Deletes, Rebuilds as Rebuilding}
+use Rattle.partition_world.specs.declared.seat.Outcome.TheVariants.{Answers, Begins, Chose, Goes, Seeks as Sought, Dates as Dated, Dooms, Deletes, Rebuilds as Rebuilding}
 use Rattle.partition_world.specs.declared.seat.Seat.{Seat}
 use Rattle.partition_world.specs.declared.seat.Work.{Work}
-use Rattle.partition_world.specs.declared.seat.Work.TheVariants.{Idle, Noted, Copies, Seeks, Expires, Rebuilds}
+use Rattle.partition_world.specs.declared.seat.Work.TheVariants.{Idle, Noted, Copies, Seeks, Dates, Expires, Rebuilds}
 use Rattle.partition_world.specs.Central.{told_by, notes_left}
-use Rattle.partition_world.specs.Seats.{chosen, moved, sought, doomed, deleting, rebuilding, seat_after}
+use Rattle.partition_world.specs.Seats.{chosen, moved, sought, dated, doomed, deleting, rebuilding, seat_after}
 use Rattle.partition_world.specs.Turn.{IsTurn, StaysWhole}
 use Rattle.partition_world.specs.Tier.{AtSide}
 use Rattle.partition_world.specs.TurnsOfCopy.{LeadersFirstRow, CopyFirstRow, ChooseRow, tiers_of, teller_of}
 use Rattle.partition_world.specs.TurnsOfFetch.{FetchOnRow, GoesOnFetch, fetch_tiers, wanted_of}
+use Rattle.partition_world.specs.TurnsOfDate.{SearchRow, Searches, DateOnRow, asked_of, is_own, resumed_at, resumed_with}
 use Rattle.partition_world.specs.TurnsOfTrim.{TrimFirstRow}
 use Rattle.partition_world.specs.TurnsOfExpiry.{expiry_tiers}
 use Rattle.partition_world.specs.TurnsOfRebuild.{RefreshedRow}
-use Rattle.partition_world.specs.Turns.{BeginRow, NotedRow, CopyingRow, SeekingRow, DeletingRow, JoinSecondRow, RebuildingRow, Row, HaltsTier, StaysTier}
+use Rattle.partition_world.specs.Turns.{BeginRow, NotedRow, CopyingRow, SeekingRow, DatingRow, DeletingRow, JoinSecondRow, RebuildingRow, Row, HaltsTier, StaysTier}
 use Rattle.partition_world.specs.Whole.{Whole}
 use Rattle.partition_world.proofs.Begins.{row_of}
-use Rattle.partition_world.proofs.NotesTold.{told_after, few_told, count, keeps_count, same_count, copy_told, copy_wants, fetch_count, fetch_wants, expiry_told, expiry_wants, turn_told, deletes_told}
+use Rattle.partition_world.proofs.NotesTold.{told_after, few_told, count, keeps_count, same_count, copy_told, copy_wants, fetch_count, fetch_wants, time_count, time_wants, expiry_told, expiry_wants, turn_told, deletes_told}
 
 module _ {D S M : Type 0} (disk : DiskGhosts D) (store : StoreGhosts S) (meta : MetaGhosts M) where
   leaders_count : (h : Held D) (t : Tier S M) (b : ℕ) (x : Node D) (side : Side) (outcome : Outcome) (t' : Tier S M) → LeadersFirstRow meta h t b x side outcome t' → count meta t'.meta ≤ count meta t.meta
@@ -71,6 +78,7 @@ module _ {D S M : Type 0} (disk : DiskGhosts D) (store : StoreGhosts S) (meta : 
   begin_count h t b x side Trim outcome h' t' w = trim_count h t b x side outcome t' w.0
   begin_count h t b x side Expire outcome h' t' w = leaders_count h t b x side outcome t' w.0
   begin_count h t b x side (Offset LatestTiered) outcome h' t' w = leaders_count h t b x side outcome t' w.0
+  begin_count h t b x side (Offset (At ts)) outcome h' t' w = leaders_count h t b x side outcome t' w.0
   begin_count h t b x side other outcome h' t' w = same_count meta t.meta t'.meta (ap (λ (k : Tier S M). k.meta) w.1)
 
   choose_count : (p : PartitionId) (h : Held D) (t : Tier S M) (b : ℕ) (x : Node D) (side : Side) (g : Begun) (outcome : Outcome) (h' : Held D) (t' : Tier S M)
@@ -94,6 +102,38 @@ module _ {D S M : Type 0} (disk : DiskGhosts D) (store : StoreGhosts S) (meta : 
   seek_count p h t b x side g offset limit next (Sought later) t' w = goes_count p t b x side offset limit next _ t' w.1
   seek_count p h t b x side g offset limit next other t' w = elim w [ ]
 
+  search_count : (h : Held D) (t : Tier S M) (b : ℕ) (x : Node D) (side : Side) (asked : Asked) (cursor : ℕ) (next : Dating) (own : Bool)
+      (turn : TimeTurn) (h' : Held D) (t' : Tier S M) → SearchRow disk store meta h t b x side asked cursor next own turn h' t'
+      → count meta t'.meta ≤ count meta t.meta
+  search_count h t b x side asked cursor next true turn h' t' w = same_count meta t.meta t'.meta (ap (λ (k : Tier S M). k.meta) w.1)
+  search_count h t b x side asked cursor next false turn h' t' w =
+      let old = fetch_tiers side.view side.cache t in
+      let new = fetch_tiers w.0.view w.0.cache t' in
+      time_count store meta asked (line_of x) cursor next turn old new w.0.row
+
+  searches_count : (p : PartitionId) (h : Held D) (t : Tier S M) (b : ℕ) (x : Node D) (side : Side) (g : Begun) (ts : ℤ) (cursor : ℕ)
+      (next : Dating) (turn : TimeTurn) (h' : Held D) (t' : Tier S M)
+      → Searches disk store meta p h t b x side g ts cursor next turn h' t' → count meta t'.meta ≤ count meta t.meta
+  searches_count p h t b x side g ts cursor next turn h' t' w =
+      let on = resumed_at h.registry.start cursor in
+      let with = resumed_with h.registry.start cursor next in
+      search_count h t b x side (asked_of p h x ts) on with (is_own (local_of x) on with) turn h' t' w.row
+
+  date_count : (p : PartitionId) (h : Held D) (t : Tier S M) (b : ℕ) (x : Node D) (side : Side) (g : Begun) (ts : ℤ) (cursor : ℕ)
+      (next : Dating) (outcome : Outcome) (h' : Held D) (t' : Tier S M)
+      → DateOnRow disk store meta p h t b x side g ts cursor next outcome h' t' → count meta t'.meta ≤ count meta t.meta
+  date_count p h t b x side g ts cursor next (Answers Stopped) h' t' w =
+      same_count meta t.meta t'.meta (ap (λ (k : Tier S M). k.meta) w.2)
+  date_count p h t b x side g ts cursor next (Answers NotLeader) h' t' w =
+      same_count meta t.meta t'.meta (ap (λ (k : Tier S M). k.meta) w.4)
+  date_count p h t b x side g ts cursor next (Answers NoOffset) h' t' w =
+      same_count meta t.meta t'.meta (ap (λ (k : Tier S M). k.meta) w.3)
+  date_count p h t b x side g ts cursor next (Answers answer) h' t' w =
+      searches_count p h t b x side g ts cursor next (dating.Ends answer) h' t' w
+  date_count p h t b x side g ts cursor next (Dated later after) h' t' w =
+      searches_count p h t b x side g ts cursor next (dating.Goes later after) h' t' w.0
+  date_count p h t b x side g ts cursor next other h' t' w = elim w [ ]
+
   refresh_count : (t : Tier S M) (b : ℕ) (side : Side) (outcome : Outcome) (t' : Tier S M) → RefreshedRow meta t b side outcome t' → count meta t'.meta ≤ count meta t.meta
   refresh_count t b side (Answers MetaFault) t' w = keeps_count meta t.meta t'.meta w.reads.content
   refresh_count t b side (Rebuilding Epochs) t' w = keeps_count meta t.meta t'.meta w.reads.content
@@ -113,6 +153,8 @@ module _ {D S M : Type 0} (disk : DiskGhosts D) (store : StoreGhosts S) (meta : 
   noted_count p config h t b x side g Expire outcome h' t' w = same_count meta t.meta t'.meta (ap (λ (k : Tier S M). k.meta) w.1)
   noted_count p config h t b x side g (Fetch offset limit) outcome h' t' w = seek_count p h t b x side g offset limit Refresh outcome t' w.0
   noted_count p config h t b x side g (Offset LatestTiered) outcome h' t' w = same_count meta t.meta t'.meta (ap (λ (k : Tier S M). k.meta) w.2)
+  noted_count p config h t b x side g (Offset (At ts)) outcome h' t' w =
+      date_count p h t b x side g ts 0 Seek outcome h' t' w
   noted_count p config h t b x side g other outcome h' t' w = same_count meta t.meta t'.meta (ap (λ (k : Tier S M). k.meta) w.1)
 
   copying_told : (h : Held D) (t : Tier S M) (b : ℕ) (x : Node D) (side : Side) (g : Begun) (copy : Copied) (next : Next) (command : Command) (outcome : Outcome) (h' : Held D) (t' : Tier S M)
@@ -133,6 +175,13 @@ module _ {D S M : Type 0} (disk : DiskGhosts D) (store : StoreGhosts S) (meta : 
       → SeekingRow store meta p h t b x side g next command outcome h' t' → count meta t'.meta ≤ count meta t.meta
   seeking_count p h t b x side g next (Fetch offset limit) outcome h' t' w = seek_count p h t b x side g offset limit next outcome t' w.0
   seeking_count p h t b x side g next other outcome h' t' w = elim w [ ]
+
+  dating_count : (p : PartitionId) (h : Held D) (t : Tier S M) (b : ℕ) (x : Node D) (side : Side) (g : Begun) (cursor : ℕ) (next : Dating)
+      (command : Command) (outcome : Outcome) (h' : Held D) (t' : Tier S M)
+      → DatingRow disk store meta p h t b x side g cursor next command outcome h' t' → count meta t'.meta ≤ count meta t.meta
+  dating_count p h t b x side g cursor next (Offset (At ts)) outcome h' t' w =
+      date_count p h t b x side g ts cursor next outcome h' t' w
+  dating_count p h t b x side g cursor next other outcome h' t' w = elim w [ ]
 
   deleting_told : (h : Held D) (t : Tier S M) (b : ℕ) (x : Node D) (g : Begun) (segment : Doomed) (next : Deletion) (command : Command) (outcome : Outcome) (h' : Held D) (t' : Tier S M)
       → DeletingRow store meta h t b x g segment next command outcome h' t' → IsTrue (meta.content t.meta).tells
@@ -162,6 +211,8 @@ module _ {D S M : Type 0} (disk : DiskGhosts D) (store : StoreGhosts S) (meta : 
   row_told p config h t b x side (Noted g) command outcome h' t' w tells = let most = noted_count p config h t b x side g command outcome h' t' w in omega (arith, most)
   row_told p config h t b x side (Copies g copy next) command outcome h' t' w tells = copying_told h t b x side g copy next command outcome h' t' w tells
   row_told p config h t b x side (Seeks g next) command outcome h' t' w tells = let most = seeking_count p h t b x side g next command outcome h' t' w in omega (arith, most)
+  row_told p config h t b x side (Dates g cursor next) command outcome h' t' w tells =
+      let most = dating_count p h t b x side g cursor next command outcome h' t' w in omega (arith, most)
   row_told p config h t b x side (Expires g segment next) command outcome h' t' w tells = deleting_told h t b x g segment next command outcome h' t' w tells
   row_told p config h t b x side (Rebuilds g next) command outcome h' t' w tells = let most = rebuilding_count p h t b x side g next command outcome h' t' w in omega (arith, most)
 
@@ -174,7 +225,11 @@ module _ {D S M : Type 0} (disk : DiskGhosts D) (store : StoreGhosts S) (meta : 
       fetch_wants store meta (wanted_of p x offset limit) (line_of x) next wants.error (fetch_tiers side.view side.cache t) (fetch_tiers wants.view wants.cache t') wants.row
   halts_count h t b x side t' (inr (inr (inr (inl (segment, next, wants))))) tells =
       expiry_wants store meta segment (teller_of h b) next wants.error (expiry_tiers t) (expiry_tiers t') wants.row tells
-  halts_count h t b x side t' (inr (inr (inr (inr (p, g, wants))))) tells = same_count meta t.meta t'.meta (ap (λ (k : Tier S M). k.meta) wants.after)
+  halts_count h t b x side t' (inr (inr (inr (inr (inl (line, asked, cursor, next, wants)))))) tells =
+      time_wants store meta asked line cursor next wants.error (fetch_tiers side.view side.cache t) (fetch_tiers wants.view wants.cache t')
+      wants.row
+  halts_count h t b x side t' (inr (inr (inr (inr (inr (p, g, wants)))))) tells =
+      same_count meta t.meta t'.meta (ap (λ (k : Tier S M). k.meta) wants.after)
 
   stays_count : (h : Held D) (t : Tier S M) (b : ℕ) (h' : Held D) (t' : Tier S M) → StaysTier disk store meta h t b h' t' → IsTrue (meta.content t.meta).tells → count meta t'.meta ≤ count meta t.meta
   stays_count h t b h' t' (inl same) tells = same_count meta t.meta t'.meta (ap (λ (k : Tier S M). k.meta) same.1)
@@ -194,6 +249,8 @@ seat_told l seat (Begins g) old new lt told = let few = few_told seat.work in om
 seat_told l seat (Chose copy) old new lt told = let few = few_told seat.work in let after = few_told (chosen seat.work copy) in omega (arith, lt, few, after, told)
 seat_told l seat (Goes next) old new lt told = let few = few_told seat.work in let after = few_told (moved seat.work next) in omega (arith, lt, few, after, told)
 seat_told l seat (Sought next) old new lt told = let few = few_told seat.work in let after = few_told (sought seat.work next) in omega (arith, lt, few, after, told)
+seat_told l seat (Dated cursor next) old new lt told =
+    let few = few_told seat.work in let after = few_told (dated seat.work cursor next) in omega (arith, lt, few, after, told)
 seat_told l seat (Dooms segment) old new lt told = let few = few_told seat.work in let after = few_told (doomed seat.work segment) in omega (arith, lt, few, after, told)
 seat_told l seat (Deletes next) old new lt told = let few = few_told seat.work in let after = few_told (deleting seat.work next) in omega (arith, lt, few, after, told)
 seat_told l seat (Rebuilding next) old new lt told = let few = few_told seat.work in let after = few_told (rebuilding seat.work next) in omega (arith, lt, few, after, told)

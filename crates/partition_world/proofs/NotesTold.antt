@@ -1,5 +1,6 @@
 -- How many notes a turn of a copy, of a fetch and of an expiry append.
 use Rattle.std.proofs.Common.{◌≡◌, ◌∙◌, inl, inr, refl, ap, ℕ, ◌+◌, ◌≤◌, List, length, slice_get, Some, None, Option, Ok, Err, Bool, true, false, IsTrue, arith}
+use Rattle.std.specs.declared.result.Result.{Result}
 use Rattle.std.specs.declared.alloc.AllocError.{AllocError}
 use Rattle.object_store.specs.declared.store.Store.{Ghosts as StoreGhosts}
 use Rattle.meta_log.specs.declared.log.MetaLog.{Ghosts as MetaGhosts}
@@ -24,21 +25,29 @@ use Rattle.expiry_task.specs.declared.turn.ExpiryTurn.{ExpiryTurn}
 use Rattle.expiry_task.specs.declared.turn.ExpiryTurn.TheVariants as expiry
 use Rattle.expiry_task.specs.declared.turn.Next.{Next as Deletion}
 use Rattle.expiry_task.specs.declared.turn.Next.TheVariants as deletion
+use Rattle.remote_find.specs.declared.piece.Piece.{Piece}
+use Rattle.tier_fetch.specs.declared.turn.Span.{Span}
 use Rattle.tier_fetch.specs.Turns.{Tiers as Fetched, FetchRow, RefreshRow}
 use Rattle.tier_fetch.specs.declared.turn.FetchTurn.{FetchTurn}
 use Rattle.tier_fetch.specs.declared.turn.FetchTurn.TheVariants as fetch
 use Rattle.tier_fetch.specs.declared.turn.Next.{Next as Search}
 use Rattle.tier_fetch.specs.declared.turn.Next.TheVariants.{Refresh, Index, Log}
 use Rattle.tier_fetch.specs.declared.turn.Wanted.{Wanted}
+use Rattle.time_find.specs.Turns.{SeekRow, IndexRow, LogRow, TimeRow, wanted_at}
+use Rattle.time_find.specs.declared.turn.Asked.{Asked}
+use Rattle.time_find.specs.declared.turn.Next.{Next as Dating}
+use Rattle.time_find.specs.declared.turn.Next.TheVariants as search
+use Rattle.time_find.specs.declared.turn.TimeTurn.{TimeTurn}
+use Rattle.time_find.specs.declared.turn.TimeTurn.TheVariants as dating
 use Rattle.plain_log.specs.declared.answer.Answer.TheVariants.{MetaFault, StoreFault}
 use Rattle.partition_seen.specs.declared.begun.Begun.{Begun}
 use Rattle.partition_turns.proofs.FreshNodes.{length_more}
 use Rattle.partition_world.specs.declared.seat.Outcome.{Outcome}
-use Rattle.partition_world.specs.declared.seat.Outcome.TheVariants.{Answers, Begins, Chose, Goes, Seeks as Sought, Dooms, Deletes, Rebuilds as Rebuilding}
+use Rattle.partition_world.specs.declared.seat.Outcome.TheVariants.{Answers, Begins, Chose, Goes, Seeks as Sought, Dates as Dated, Dooms, Deletes, Rebuilds as Rebuilding}
 use Rattle.partition_world.specs.declared.seat.Work.{Work}
-use Rattle.partition_world.specs.declared.seat.Work.TheVariants.{Idle, Noted, Copies, Seeks, Expires, Rebuilds}
+use Rattle.partition_world.specs.declared.seat.Work.TheVariants.{Idle, Noted, Copies, Seeks, Dates, Expires, Rebuilds}
 use Rattle.partition_world.specs.Central.{told_by}
-use Rattle.partition_world.specs.Seats.{chosen, moved, sought, doomed, deleting, rebuilding, copy_outcome, expiry_outcome}
+use Rattle.partition_world.specs.Seats.{chosen, moved, sought, dated, doomed, deleting, rebuilding, copy_outcome, expiry_outcome}
 
 -- how many notes a command has appended at most after a turn; once it is answered it appends none
 abbrev pub told_after : Work → Outcome → ℕ
@@ -47,6 +56,7 @@ told_after work (Begins g) = told_by (Noted g)
 told_after work (Chose copy) = told_by (chosen work copy)
 told_after work (Goes next) = told_by (moved work next)
 told_after work (Sought next) = told_by (sought work next)
+told_after work (Dated cursor next) = told_by (dated work cursor next)
 told_after work (Dooms segment) = told_by (doomed work segment)
 told_after work (Deletes next) = told_by (deleting work next)
 told_after work (Rebuilding next) = told_by (rebuilding work next)
@@ -60,6 +70,7 @@ few_told (Copies g copy Finish) = omega arith
 few_told (Copies g copy Check) = omega arith
 few_told (Copies g copy (Delete n)) = omega arith
 few_told (Seeks g next) = omega arith
+few_told (Dates g cursor next) = omega arith
 few_told (Expires g segment deletion.Start) = omega arith
 few_told (Expires g segment (deletion.Delete n)) = omega arith
 few_told (Expires g segment deletion.Finish) = omega arith
@@ -193,6 +204,52 @@ module _ {S M : Type 0} (store : StoreGhosts S) (meta : MetaGhosts M) where
   fetch_wants wanted line Refresh e old new w = keeps_count meta old.meta new.meta w.1.content
   fetch_wants wanted line (Index piece) e old new w = same_count meta old.meta new.meta (ap (λ (t : Fetched S M). t.meta) w.0)
   fetch_wants wanted line (Log piece span) e old new w = same_count meta old.meta new.meta (ap (λ (t : Fetched S M). t.meta) w.0)
+
+  -- nor does one of a search by timestamp
+
+  seeking_count : (asked : Asked) (line : List (ℕ × ℕ)) (cursor : ℕ) (turn : TimeTurn) (before after : Seen) (old new : M)
+      → SeekRow meta.content meta.control asked line cursor (Ok turn) before after old new → count meta new ≤ count meta old
+  seeking_count asked line cursor (dating.Ends MetaFault) before after old new w = keeps_count meta old new w.content
+  seeking_count asked line cursor turn before after old new w = keeps_count meta old new w.1.content
+
+  fetched_count : (wanted : Wanted) (line : List (ℕ × ℕ)) (next : Search) (result : Result FetchTurn AllocError) (old new : Fetched S M)
+      → FetchRow store.content store.control meta.content meta.control wanted line next result old new
+      → count meta new.meta ≤ count meta old.meta
+  fetched_count wanted line next (Ok turn) old new w = fetch_count wanted line next turn old new w
+  fetched_count wanted line next (Err e) old new w = fetch_wants wanted line next e old new w
+
+  index_count : (asked : Asked) (line : List (ℕ × ℕ)) (cursor : ℕ) (piece : Piece) (from : ℕ) (result : Result TimeTurn AllocError)
+      (old new : Fetched S M) → IndexRow store.content store.control meta.content meta.control asked line cursor piece from result old new
+      → count meta new.meta ≤ count meta old.meta
+  index_count asked line cursor piece from result old new (inl w) =
+      same_count meta old.meta new.meta (ap (λ (t : Fetched S M). t.meta) w.2)
+  index_count asked line cursor piece from result old new (inr w) =
+      fetched_count (wanted_at asked from) line (Index piece) w.1.0 old new w.1.1
+
+  log_count : (asked : Asked) (line : List (ℕ × ℕ)) (piece : Piece) (from : ℕ) (span : Span) (result : Result TimeTurn AllocError)
+      (old new : Fetched S M) → LogRow store.content store.control meta.content meta.control asked line piece from span result old new
+      → count meta new.meta ≤ count meta old.meta
+  log_count asked line piece from span result old new (inl w) = same_count meta old.meta new.meta (ap (λ (t : Fetched S M). t.meta) w.2)
+  log_count asked line piece from span result old new (inr w) =
+      fetched_count (wanted_at asked from) line (Log piece span) w.1.0 old new w.1.1
+
+  pub time_count : (asked : Asked) (line : List (ℕ × ℕ)) (cursor : ℕ) (next : Dating) (turn : TimeTurn) (old new : Fetched S M)
+      → TimeRow store.content store.control meta.content meta.control asked line cursor next (Ok turn) old new
+      → count meta new.meta ≤ count meta old.meta
+  time_count asked line cursor search.Seek turn old new w = seeking_count asked line cursor turn old.view new.view old.meta new.meta w.1
+  time_count asked line cursor (search.Times piece) turn old new w =
+      same_count meta old.meta new.meta (ap (λ (t : Fetched S M). t.meta) w.0)
+  time_count asked line cursor (search.Index piece from) turn old new w = index_count asked line cursor piece from (Ok turn) old new w
+  time_count asked line cursor (search.Log piece from span) turn old new w = log_count asked line piece from span (Ok turn) old new w
+
+  pub time_wants : (asked : Asked) (line : List (ℕ × ℕ)) (cursor : ℕ) (next : Dating) (e : AllocError) (old new : Fetched S M)
+      → TimeRow store.content store.control meta.content meta.control asked line cursor next (Err e) old new
+      → count meta new.meta ≤ count meta old.meta
+  time_wants asked line cursor search.Seek e old new w = keeps_count meta old.meta new.meta w.1.content
+  time_wants asked line cursor (search.Times piece) e old new w =
+      same_count meta old.meta new.meta (ap (λ (t : Fetched S M). t.meta) w.0)
+  time_wants asked line cursor (search.Index piece from) e old new w = index_count asked line cursor piece from (Err e) old new w
+  time_wants asked line cursor (search.Log piece from span) e old new w = log_count asked line piece from span (Err e) old new w
 
   -- a turn of an expiry
 

@@ -10,16 +10,17 @@ use Rattle.expiry_task.specs.declared.turn.Doomed.{Doomed}
 use Rattle.expiry_task.specs.declared.turn.Next.{Next as Deletion}
 use Rattle.rebuild_task.specs.declared.turn.Next.{Next as Rebuild}
 use Rattle.tier_fetch.specs.declared.turn.Next.{Next as Search}
+use Rattle.time_find.specs.declared.turn.Next.{Next as Dating}
 use Rattle.partition_seen.specs.declared.begun.Begun.{Begun}
 use Rattle.partition_seen.specs.declared.begun.Turned.{Turned}
 use Rattle.partition_seen.specs.declared.begun.Turned.TheVariants as turned
 use Rattle.partition_world.specs.declared.seat.Outcome.{Outcome}
-use Rattle.partition_world.specs.declared.seat.Outcome.TheVariants.{Answers, Begins, Chose, Goes, Seeks as Sought, Dooms, Deletes, Rebuilds as Rebuilding}
+use Rattle.partition_world.specs.declared.seat.Outcome.TheVariants.{Answers, Begins, Chose, Goes, Seeks as Sought, Dates as Dated, Dooms, Deletes, Rebuilds as Rebuilding}
 use Rattle.partition_world.specs.declared.seat.Seat.{Seat}
 use Rattle.partition_world.specs.declared.seat.Work.{Work}
-use Rattle.partition_world.specs.declared.seat.Work.TheVariants.{Idle, Noted, Copies, Seeks, Expires, Rebuilds}
+use Rattle.partition_world.specs.declared.seat.Work.TheVariants.{Idle, Noted, Copies, Seeks, Dates, Expires, Rebuilds}
 use Rattle.partition_world.specs.Central.{IsNoted, AreNoted}
-use Rattle.partition_world.specs.Seats.{noted_in, chosen, moved, sought, doomed, deleting, rebuilding, outcome_of, seat_after}
+use Rattle.partition_world.specs.Seats.{noted_in, chosen, moved, sought, dated, doomed, deleting, rebuilding, outcome_of, seat_after}
 use Rattle.partition_world.specs.Turn.{IsTurn}
 use Rattle.partition_world.specs.Whole.{Whole}
 
@@ -38,6 +39,7 @@ chosen_noted Idle copy k = tt
 chosen_noted (Noted g) copy k = tt
 chosen_noted (Copies g c next) copy k = tt
 chosen_noted (Seeks g next) copy k = tt
+chosen_noted (Dates g cursor then) copy k = tt
 chosen_noted (Expires g segment next) copy k = tt
 chosen_noted (Rebuilds g next) copy k = k
 
@@ -46,6 +48,7 @@ moved_noted Idle next k = tt
 moved_noted (Noted g) next k = tt
 moved_noted (Copies g c before) next k = tt
 moved_noted (Seeks g before) next k = tt
+moved_noted (Dates g cursor was) next k = tt
 moved_noted (Expires g segment before) next k = tt
 moved_noted (Rebuilds g before) next k = k
 
@@ -54,14 +57,25 @@ sought_noted Idle next k = tt
 sought_noted (Noted g) next k = tt
 sought_noted (Copies g c before) next k = tt
 sought_noted (Seeks g before) next k = tt
+sought_noted (Dates g cursor was) next k = tt
 sought_noted (Expires g segment before) next k = tt
 sought_noted (Rebuilds g before) next k = k
+
+dated_noted : (work : Work) (cursor : ℕ) (next : Dating) → IsNoted work → IsNoted (dated work cursor next)
+dated_noted Idle cursor next k = tt
+dated_noted (Noted g) cursor next k = tt
+dated_noted (Copies g c before) cursor next k = tt
+dated_noted (Seeks g before) cursor next k = tt
+dated_noted (Dates g at before) cursor next k = tt
+dated_noted (Expires g segment before) cursor next k = tt
+dated_noted (Rebuilds g before) cursor next k = k
 
 doomed_noted : (work : Work) (segment : Doomed) → IsNoted work → IsNoted (doomed work segment)
 doomed_noted Idle segment k = tt
 doomed_noted (Noted g) segment k = tt
 doomed_noted (Copies g c before) segment k = tt
 doomed_noted (Seeks g before) segment k = tt
+doomed_noted (Dates g cursor was) segment k = tt
 doomed_noted (Expires g before next) segment k = tt
 doomed_noted (Rebuilds g before) segment k = k
 
@@ -70,6 +84,7 @@ deleting_noted Idle next k = tt
 deleting_noted (Noted g) next k = tt
 deleting_noted (Copies g c before) next k = tt
 deleting_noted (Seeks g before) next k = tt
+deleting_noted (Dates g cursor was) next k = tt
 deleting_noted (Expires g segment before) next k = tt
 deleting_noted (Rebuilds g before) next k = k
 
@@ -78,6 +93,7 @@ rebuilding_noted Idle next goes k = tt
 rebuilding_noted (Noted g) next goes k = goes g refl
 rebuilding_noted (Copies g c before) next goes k = tt
 rebuilding_noted (Seeks g before) next goes k = tt
+rebuilding_noted (Dates g cursor was) next goes k = tt
 rebuilding_noted (Expires g segment before) next goes k = tt
 rebuilding_noted (Rebuilds g before) next goes k = goes g refl
 
@@ -87,6 +103,7 @@ seat_noted seat (Begins g) goes k = tt
 seat_noted seat (Chose copy) goes k = chosen_noted seat.work copy k
 seat_noted seat (Goes next) goes k = moved_noted seat.work next k
 seat_noted seat (Sought next) goes k = sought_noted seat.work next k
+seat_noted seat (Dated cursor next) goes k = dated_noted seat.work cursor next k
 seat_noted seat (Dooms segment) goes k = doomed_noted seat.work segment k
 seat_noted seat (Deletes next) goes k = deleting_noted seat.work next k
 seat_noted seat (Rebuilding next) goes k = rebuilding_noted seat.work next goes k

@@ -54,6 +54,7 @@ use Rattle.partition_world.specs.TurnsOfRebuild.{with_line, wanted_of, AnswersAt
 use Rattle.partition_world.specs.Whole.{Whole}
 use Rattle.partition_world.proofs.Entered.{both_of}
 use Rattle.partition_world.proofs.Noting.{GoesAsNoted}
+use Rattle.partition_world.proofs.Dating.{IsNoDate}
 use Rattle.partition_world.proofs.RebuildEnds.{MayTurn, rebuild_may_turn, rebuild_kept}
 use Rattle.partition_world.proofs.Scenes.{Place, site_is, seated, scene_after, shows_at, work_after, same_sides, stayed, few_now}
 use Rattle.partition_world.proofs.TurnCentral.{here, shown, rests, held_same, silent, untold, unseen}
@@ -121,7 +122,7 @@ module _ {D S M : Type 0} (disk : DiskGhosts D) (store : StoreGhosts S) (meta : 
         let changed = rebuild_refreshes store.content store.control meta.content meta.control w.tier.meta r.view c.scene c.central.plain t.place rebuild its (store.content w.tier.store) at (few_now disk store meta opening w c)
         c.tier r.reads.view in
         silent disk store meta opening w a outcome w' t c z Join joins
-        (subst (GoesAsNoted t.seat.work) (sym is) (λ (f : Begun) k. (let one : g ≡ f = cc (ap noted_in noted, k) in subst (λ (h : Begun). h.start < h.wanted) one low)))
+        (subst (GoesAsNoted t.seat.work) (sym is) (λ (f : Begun) k. (let one : g ≡ f = cc (ap noted_in noted, k) in subst (λ (h : Begun). h.start < h.wanted) one low))) (subst IsNoDate (sym is) tt)
         (unseen disk store meta opening w a outcome w' t c z Join joins
         (ap (λ (o : Outcome). seat_seen (seat_after t.seat o)) is ∙ ap (λ (o : Option Begun). record { number = t.seat.number; begun = o }) (rebuilding_seen t.seat.work Epochs)))
         (untold disk store meta opening w a outcome w' t c z Join joins (ap (told_of t.list.actor t.seat.number t.order.command) is)) (same_held same)
@@ -199,7 +200,7 @@ module _ {D S M : Type 0} (disk : DiskGhosts D) (store : StoreGhosts S) (meta : 
           let one : line ≡ g.line = lines_are_paths store.content store.control (wanted_of w.partition g) g.line line z.side.view w.tier.store w'.tier.store c.scene c.central.plain t.place
           (seen_all (rebuild_of t.order.broker.0 g)) its goes.row to_read in
           silent disk store meta opening w a outcome w' t c z Join joins
-          (subst (GoesAsNoted t.seat.work) (sym is) (λ (f : Begun) k. (let same : g ≡ f = cc (ap noted_in works, k) in one ∙ ap (λ (h : Begun). h.line) same)))
+          (subst (GoesAsNoted t.seat.work) (sym is) (λ (f : Begun) k. (let same : g ≡ f = cc (ap noted_in works, k) in one ∙ ap (λ (h : Begun). h.line) same))) (subst IsNoDate (sym is) tt)
           (unseen disk store meta opening w a outcome w' t c z Join joins
           (ap (λ (o : Outcome). seat_seen (seat_after t.seat o)) is ∙ ap (λ (o : Option Begun). record { number = t.seat.number; begun = o }) (rebuilding_seen t.seat.work (Restart line))))
           (untold disk store meta opening w a outcome w' t c z Join joins (ap (told_of t.list.actor t.seat.number t.order.command) is)) (same_held same)

@@ -1,7 +1,7 @@
 -- A turn that changes nothing that is seen of the partition keeps the central fact, where it makes changes of the tier.
 --
 -- It is entered, or it isn't; and it leaves the tier as it was, or the command leaves the desk, or a broker's view takes in notes.
-use Rattle.std.proofs.Common.{◌≡◌, ◌∙◌, sym, ap, subst, refl, ℕ, ◌++◌, List, [], slice_set, Some, None, Option, false, append-nil}
+use Rattle.std.proofs.Common.{◌≡◌, ◌∙◌, sym, ap, subst, refl, ℕ, ◌++◌, List, [], slice_get, slice_set, Some, None, Option, false, append-nil}
 use Rattle.disk_model.specs.declared.disk.Disk.{Ghosts as DiskGhosts}
 use Rattle.object_store.specs.declared.store.Store.{Ghosts as StoreGhosts}
 use Rattle.object_store.specs.Content.{Objects}
@@ -43,6 +43,7 @@ use Rattle.partition_world.proofs.CopyEnds.{TellsOn}
 use Rattle.partition_world.proofs.Entered.{enters, entered_central, silent_central}
 use Rattle.partition_world.proofs.Scenes.{Place, site, scene_after, shows_at, shows_after, work_after, same_sides, left_changed, answered_free, few_now, few_after}
 use Rattle.partition_world.proofs.Noting.{GoesAsNoted, own_noted, turn_noted}
+use Rattle.partition_world.proofs.Dating.{GoesAsDated, IsNoDate, undated, turn_dated}
 use Rattle.partition_world.proofs.WorldSound.{seen_stays}
 
 module _ {D S M : Type 0} (disk : DiskGhosts D) (store : StoreGhosts S) (meta : MetaGhosts M) where
@@ -141,11 +142,19 @@ module _ {D S M : Type 0} (disk : DiskGhosts D) (store : StoreGhosts S) (meta : 
     leads_first idle low free row_of other is row same = elim row [ ]
 
     -- a turn that enters nothing
-    pub silent : GoesAsNoted t.seat.work outcome → desk_seen w'.desk ≡ desk_seen w.desk → w'.journal.items ≡ w.journal.items → ShowsHeld disk.content w'.held c.partition → (d : Scene) → IsChanged c.scene c.central.plain d
-        → ShowsTier store meta w' c.partition d → IsCentral disk store meta opening w'
-    silent goes desk items held d changed shows =
+    pub silent_dated : GoesAsNoted t.seat.work outcome → GoesAsDated c.central.plain (slice_get t.list.orders t.seat.number) t.seat.work outcome → desk_seen w'.desk ≡ desk_seen w.desk
+        → w'.journal.items ≡ w.journal.items → ShowsHeld disk.content w'.held c.partition → (d : Scene) → IsChanged c.scene c.central.plain d → ShowsTier store meta w' c.partition d
+        → IsCentral disk store meta opening w'
+    silent_dated goes far desk items held d changed shows =
         silent_central disk store meta opening w w' c t.lists desk items held d changed shows (turn_noted disk store meta w a outcome w' t c.noted goes)
+        (turn_dated disk store meta w a outcome w' t c.central.plain c.dated far)
         (few_after disk store meta opening w a outcome w' t c c.partition d shows)
+
+    -- of a command that isn't a search by timestamp
+    pub silent : GoesAsNoted t.seat.work outcome → IsNoDate outcome → desk_seen w'.desk ≡ desk_seen w.desk → w'.journal.items ≡ w.journal.items → ShowsHeld disk.content w'.held c.partition → (d : Scene)
+        → IsChanged c.scene c.central.plain d → ShowsTier store meta w' c.partition d → IsCentral disk store meta opening w'
+    silent goes none desk items held d changed shows =
+        silent_dated goes (undated c.central.plain (slice_get t.list.orders t.seat.number) t.seat.work outcome none) desk items held d changed shows
 
     pub untold : told_of t.list.actor t.seat.number t.order.command outcome ≡ [] → w'.journal.items ≡ w.journal.items
     untold none = t.entered ∙ (ap (λ (more : List JournalEntry). w.journal.items ++ more) none ∙ append-nil w.journal.items)

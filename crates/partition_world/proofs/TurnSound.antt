@@ -1,6 +1,6 @@
 -- Each turn keeps what the turns need, over any devices.
-use Rattle.std.proofs.Common.{◌≡◌, ◌∙◌, inl, inr, sym, ap, refl, ℕ, List, [], length, slice_get, slice_set, Some, Option, true}
-use Rattle.std.specs.Prelude.{unwrap_or}
+use Rattle.std.proofs.Common.{◌≡◌, ◌∙◌, inl, inr, sym, ap, subst, refl, ℕ, List, [], length, slice_get, slice_set, Some, Option, Bool, true, false}
+use Rattle.std.specs.Prelude.{unwrap_or, ℤ}
 use Rattle.disk_model.specs.declared.disk.Disk.{Ghosts as DiskGhosts}
 use Rattle.object_store.specs.declared.store.Store.{Ghosts as StoreGhosts}
 use Rattle.meta_log.specs.declared.log.MetaLog.{Ghosts as MetaGhosts}
@@ -17,34 +17,42 @@ use Rattle.rebuild_task.specs.declared.turn.Next.TheVariants.{Epochs, Restart}
 use Rattle.tier_fetch.specs.declared.turn.Next.{Next as Search}
 use Rattle.tier_fetch.specs.declared.turn.Next.TheVariants.{Refresh}
 use Rattle.tier_fetch.specs.declared.turn.FetchTurn.{FetchTurn}
+use Rattle.time_find.specs.Turns.{OwnRow as OwnSearchRow, ReadRow as SearchReadRow}
+use Rattle.time_find.specs.declared.turn.Asked.{Asked}
+use Rattle.time_find.specs.declared.turn.Next.{Next as Dating}
+use Rattle.time_find.specs.declared.turn.Next.TheVariants.{Seek}
+use Rattle.time_find.specs.declared.turn.TimeTurn.{TimeTurn}
+use Rattle.time_find.specs.declared.turn.TimeTurn.TheVariants as dating
 use Rattle.plain_log.specs.declared.answer.Answer.{Answer}
-use Rattle.plain_log.specs.declared.answer.Answer.TheVariants.{Down, NotLeader, CopyOff, MetaFault, DiskFault, Damaged, Stopped, OutOfRange, Empty, Kept, StaleEpoch, Raised, OkAt}
+use Rattle.plain_log.specs.declared.answer.Answer.TheVariants.{Down, NotLeader, CopyOff, MetaFault, DiskFault, Damaged, Stopped, OutOfRange, Empty, Kept, StaleEpoch, Raised, OkAt, NoOffset}
 use Rattle.plain_log.specs.declared.answer.Place.TheVariants.{File}
 use Rattle.plain_log.specs.declared.command.Command.{Command}
 use Rattle.plain_log.specs.declared.command.Command.TheVariants.{Copy, Trim, Expire, Fetch, Join, Raise, Offset}
-use Rattle.plain_log.specs.declared.command.Which.TheVariants.{LatestTiered}
+use Rattle.plain_log.specs.declared.command.Which.TheVariants.{LatestTiered, At}
 use Rattle.plain_log.specs.declared.command.Config.{Config}
+use Rattle.broker_log.specs.Seen.{Kept as KeptLog, Stays}
 use Rattle.partition_seen.specs.declared.begun.Begun.{Begun}
 use Rattle.partition_seen.specs.declared.begun.Turned.TheVariants as turned
 use Rattle.partition_seen.proofs.BoolTests.{some_of}
 use Rattle.partition_turns.specs.declared.held.Node.{Node}
 use Rattle.partition_turns.specs.declared.held.Held.{Held}
-use Rattle.partition_turns.specs.Held.{is_up, line_of}
+use Rattle.partition_turns.specs.Held.{is_up, line_of, local_of}
 use Rattle.partition_turns.specs.Sound.{NodeSound, HeldSound}
 use Rattle.partition_turns.proofs.SoundLaw.{same, put_is, first_sound, later_sound, stays_held_sound}
 use Rattle.partition_world.specs.declared.tier.Side.{Side}
 use Rattle.partition_world.specs.declared.tier.Tier.{Tier}
 use Rattle.partition_world.specs.declared.seat.Outcome.{Outcome}
-use Rattle.partition_world.specs.declared.seat.Outcome.TheVariants.{Answers, Begins, Chose, Seeks as Sought, Dooms, Rebuilds as Rebuilding}
+use Rattle.partition_world.specs.declared.seat.Outcome.TheVariants.{Answers, Begins, Chose, Seeks as Sought, Dates as Dated, Dooms, Rebuilds as Rebuilding}
 use Rattle.partition_world.specs.declared.seat.Work.{Work}
-use Rattle.partition_world.specs.declared.seat.Work.TheVariants.{Idle, Noted, Copies, Seeks, Expires, Rebuilds}
+use Rattle.partition_world.specs.declared.seat.Work.TheVariants.{Idle, Noted, Copies, Seeks, Dates, Expires, Rebuilds}
 use Rattle.partition_world.specs.Tier.{AtSide}
 use Rattle.partition_world.specs.TurnsOfCopy.{ReadsLog, ReadRow, ChooseRow, LeadersFirstRow, CopyFirstRow}
 use Rattle.partition_world.specs.TurnsOfFetch.{FetchOnRow, GoesOnFetch}
+use Rattle.partition_world.specs.TurnsOfDate.{SearchRow, Searches, DateOnRow, asked_of, is_own, resumed_at, resumed_with}
 use Rattle.partition_world.specs.TurnsOfExpiry.{RaiseRow, ExpireOnRow, ExpiresBy}
 use Rattle.partition_world.specs.TurnsOfRebuild.{with_line, RefreshedRow}
 use Rattle.partition_world.specs.TurnsOfTrim.{TrimFirstRow, TrimOnRow}
-use Rattle.partition_world.specs.Turns.{NotedRow, CopyingRow, SeekingRow, DeletingRow, JoinSecondRow, RebuildingRow, BeginRow, Row, TurnRow, HaltsTier, StaysTier}
+use Rattle.partition_world.specs.Turns.{NotedRow, CopyingRow, SeekingRow, DatingRow, DeletingRow, JoinSecondRow, RebuildingRow, BeginRow, Row, TurnRow, HaltsTier, StaysTier}
 use Rattle.partition_world.proofs.Begins.{row_of}
 
 module _ {D : Type 0} where
@@ -79,6 +87,21 @@ module _ {D : Type 0} (disk : DiskGhosts D) where
   next_alike p b x side offset (Chose copy) x' side' w = read_alike x x' w.0.reads
   next_alike p b x side offset other x' side' w = elim w [ ]
 
+  -- a node whose log a search read
+  search_stays : (old : KeptLog D) (asked : Asked) (at : ℕ) (turn : TimeTurn) (new : KeptLog D)
+      → SearchReadRow disk.content disk.control old asked at turn new → Stays disk.content old new
+  search_stays old asked at (dating.Ends DiskFault) new w = w.0
+  search_stays old asked at (dating.Ends (Damaged (File name) place)) new w = w.0.stays
+  search_stays old asked at turn new w = w.reads.stays
+
+  search_alike : (x : Node D) (asked : Asked) (cursor : ℕ) (turn : TimeTurn) (kept : KeptLog D)
+      → OwnSearchRow disk.content disk.control x.log asked cursor turn kept → Alike x (record x { log = kept })
+  search_alike x asked cursor turn kept (inl (past, is, same)) =
+      subst (λ (k : KeptLog D). Alike x (record x { log = k })) (sym same) (record { role = refl; known = refl; up = refl; line = refl })
+  search_alike x asked cursor turn kept (inr (below, row)) =
+      let stays = search_stays x.log asked _ turn kept row in
+      record { role = refl; known = refl; up = stays.up; line = ap (λ (o : Option (List (ℕ × ℕ))). unwrap_or o []) stays.line }
+
 module _ {D S M : Type 0} (disk : DiskGhosts D) (store : StoreGhosts S) (meta : MetaGhosts M) where
   choose_sound : (n : ℕ) (p : PartitionId) (h : Held D) (t : Tier S M) (b : ℕ) (x : Node D) (side : Side) (g : Begun) (outcome : Outcome) (h' : Held D) (t' : Tier S M)
       → slice_get h.nodes b ≡ Some x → HeldSound n h → ChooseRow disk p h t b x side g outcome h' t' → HeldSound n h'
@@ -111,6 +134,35 @@ module _ {D S M : Type 0} (disk : DiskGhosts D) (store : StoreGhosts S) (meta : 
   expire_sound n p h b x side g keep outcome h' at s (inl lost) = same n h h' lost.2 s
   expire_sound n p h b x side g keep outcome h' at s (inr k) = expires_sound n p h b x side keep outcome h' at k.0.up s k.1
 
+  -- a search by timestamp reads its broker's log at most
+  search_sound : (n : ℕ) (h : Held D) (t : Tier S M) (b : ℕ) (x : Node D) (side : Side) (asked : Asked) (cursor : ℕ) (next : Dating)
+      (own : Bool) (turn : TimeTurn) (h' : Held D) (t' : Tier S M) → slice_get h.nodes b ≡ Some x → HeldSound n h
+      → SearchRow disk store meta h t b x side asked cursor next own turn h' t' → HeldSound n h'
+  search_sound n h t b x side asked cursor next true turn h' t' at s w =
+      put_is n h b (record x { log = w.0.kept }) h' w.0.after s
+      (alike_sound x (record x { log = w.0.kept }) (s.nodes b x at) (search_alike disk x asked cursor turn w.0.kept w.0.row))
+  search_sound n h t b x side asked cursor next false turn h' t' at s w = same n h h' w.1 s
+
+  searches_sound : (n : ℕ) (p : PartitionId) (h : Held D) (t : Tier S M) (b : ℕ) (x : Node D) (side : Side) (g : Begun) (ts : ℤ)
+      (cursor : ℕ) (next : Dating) (turn : TimeTurn) (h' : Held D) (t' : Tier S M) → slice_get h.nodes b ≡ Some x → HeldSound n h
+      → Searches disk store meta p h t b x side g ts cursor next turn h' t' → HeldSound n h'
+  searches_sound n p h t b x side g ts cursor next turn h' t' at s w =
+      let on = resumed_at h.registry.start cursor in
+      let with = resumed_with h.registry.start cursor next in
+      search_sound n h t b x side (asked_of p h x ts) on with (is_own (local_of x) on with) turn h' t' at s w.row
+
+  date_sound : (n : ℕ) (p : PartitionId) (h : Held D) (t : Tier S M) (b : ℕ) (x : Node D) (side : Side) (g : Begun) (ts : ℤ)
+      (cursor : ℕ) (next : Dating) (outcome : Outcome) (h' : Held D) (t' : Tier S M) → slice_get h.nodes b ≡ Some x → HeldSound n h
+      → DateOnRow disk store meta p h t b x side g ts cursor next outcome h' t' → HeldSound n h'
+  date_sound n p h t b x side g ts cursor next (Answers Stopped) h' t' at s w = same n h h' w.1 s
+  date_sound n p h t b x side g ts cursor next (Answers NotLeader) h' t' at s w = same n h h' w.3 s
+  date_sound n p h t b x side g ts cursor next (Answers NoOffset) h' t' at s w = same n h h' w.2 s
+  date_sound n p h t b x side g ts cursor next (Answers answer) h' t' at s w =
+      searches_sound n p h t b x side g ts cursor next (dating.Ends answer) h' t' at s w
+  date_sound n p h t b x side g ts cursor next (Dated later after) h' t' at s w =
+      searches_sound n p h t b x side g ts cursor next (dating.Goes later after) h' t' at s w.0
+  date_sound n p h t b x side g ts cursor next other h' t' at s w = elim w [ ]
+
   noted_sound : (n : ℕ) (p : PartitionId) (config : Config) (h : Held D) (t : Tier S M) (b : ℕ) (x : Node D) (side : Side) (g : Begun) (command : Command) (outcome : Outcome) (h' : Held D) (t' : Tier S M)
       → slice_get h.nodes b ≡ Some x → HeldSound n h → NotedRow disk store meta p config h t b x side g command outcome h' t' → HeldSound n h'
   noted_sound n p config h t b x side g Copy outcome h' t' at s w = choose_sound n p h t b x side g outcome h' t' at s w
@@ -120,6 +172,8 @@ module _ {D S M : Type 0} (disk : DiskGhosts D) (store : StoreGhosts S) (meta : 
   noted_sound n p config h t b x side g Trim outcome h' t' at s w = trim_sound n h b x side g config.local_keep outcome h' at s w.0
   noted_sound n p config h t b x side g (Fetch offset limit) outcome h' t' at s w = same n h h' w.1 s
   noted_sound n p config h t b x side g (Offset LatestTiered) outcome h' t' at s w = same n h h' w.1 s
+  noted_sound n p config h t b x side g (Offset (At ts)) outcome h' t' at s w =
+      date_sound n p h t b x side g ts 0 Seek outcome h' t' at s w
   noted_sound n p config h t b x side g other outcome h' t' at s w = later_sound disk.content disk.control n h b x other g (turned.Answers w.0.0) h' at s w.0.2
 
   begins_sound : (n : ℕ) (h : Held D) (t : Tier S M) (b : ℕ) (x : Node D) (side : Side) (command : Command) (outcome : Outcome) (h' : Held D) (t' : Tier S M)
@@ -128,6 +182,7 @@ module _ {D S M : Type 0} (disk : DiskGhosts D) (store : StoreGhosts S) (meta : 
   begins_sound n h t b x side Trim outcome h' t' at s w = same n h h' w.1 s
   begins_sound n h t b x side Expire outcome h' t' at s w = same n h h' w.1 s
   begins_sound n h t b x side (Offset LatestTiered) outcome h' t' at s w = same n h h' w.1 s
+  begins_sound n h t b x side (Offset (At ts)) outcome h' t' at s w = same n h h' w.1 s
   begins_sound n h t b x side other outcome h' t' at s w = first_sound disk.content disk.control n h b x other w.0.0 h' at s w.0.2
 
   copying_sound : (n : ℕ) (h : Held D) (t : Tier S M) (b : ℕ) (x : Node D) (side : Side) (g : Begun) (copy : Copied) (next : Next) (command : Command) (outcome : Outcome) (h' : Held D) (t' : Tier S M)
@@ -139,6 +194,13 @@ module _ {D S M : Type 0} (disk : DiskGhosts D) (store : StoreGhosts S) (meta : 
       → HeldSound n h → SeekingRow store meta p h t b x side g next command outcome h' t' → HeldSound n h'
   seeking_sound n p h t b x side g next (Fetch offset limit) outcome h' t' s w = same n h h' w.1 s
   seeking_sound n p h t b x side g next other outcome h' t' s w = elim w [ ]
+
+  dating_sound : (n : ℕ) (p : PartitionId) (h : Held D) (t : Tier S M) (b : ℕ) (x : Node D) (side : Side) (g : Begun) (cursor : ℕ)
+      (next : Dating) (command : Command) (outcome : Outcome) (h' : Held D) (t' : Tier S M) → slice_get h.nodes b ≡ Some x
+      → HeldSound n h → DatingRow disk store meta p h t b x side g cursor next command outcome h' t' → HeldSound n h'
+  dating_sound n p h t b x side g cursor next (Offset (At ts)) outcome h' t' at s w =
+      date_sound n p h t b x side g ts cursor next outcome h' t' at s w
+  dating_sound n p h t b x side g cursor next other outcome h' t' at s w = elim w [ ]
 
   deleting_sound : (n : ℕ) (h : Held D) (t : Tier S M) (b : ℕ) (x : Node D) (g : Begun) (segment : Doomed) (next : Deletion) (command : Command) (outcome : Outcome) (h' : Held D) (t' : Tier S M)
       → HeldSound n h → DeletingRow store meta h t b x g segment next command outcome h' t' → HeldSound n h'
@@ -157,6 +219,8 @@ module _ {D S M : Type 0} (disk : DiskGhosts D) (store : StoreGhosts S) (meta : 
   row_sound n p config h t b x side (Noted g) command outcome h' t' at s w = noted_sound n p config h t b x side g command outcome h' t' at s w
   row_sound n p config h t b x side (Copies g copy next) command outcome h' t' at s w = copying_sound n h t b x side g copy next command outcome h' t' s w
   row_sound n p config h t b x side (Seeks g next) command outcome h' t' at s w = seeking_sound n p h t b x side g next command outcome h' t' s w
+  row_sound n p config h t b x side (Dates g cursor next) command outcome h' t' at s w =
+      dating_sound n p h t b x side g cursor next command outcome h' t' at s w
   row_sound n p config h t b x side (Expires g segment next) command outcome h' t' at s w = deleting_sound n h t b x g segment next command outcome h' t' s w
   row_sound n p config h t b x side (Rebuilds g next) command outcome h' t' at s w = rebuilding_sound n p h t b x side g next command outcome h' t' at s w
 
@@ -195,6 +259,33 @@ module _ {D S M : Type 0} (disk : DiskGhosts D) (store : StoreGhosts S) (meta : 
   fetch_sides p h t b x side g offset limit next (Sought later) t' w = goes_sides p t b x side offset limit next _ t' w.1
   fetch_sides p h t b x side g offset limit next other t' w = elim w [ ]
 
+  search_sides : (h : Held D) (t : Tier S M) (b : ℕ) (x : Node D) (side : Side) (asked : Asked) (cursor : ℕ) (next : Dating) (own : Bool)
+      (turn : TimeTurn) (h' : Held D) (t' : Tier S M) → SearchRow disk store meta h t b x side asked cursor next own turn h' t'
+      → length t'.sides ≡ length t.sides
+  search_sides h t b x side asked cursor next true turn h' t' w = ap (λ (k : Tier S M). length k.sides) w.1
+  search_sides h t b x side asked cursor next false turn h' t' w =
+      sides_put t b (record side { view = w.0.view; cache = w.0.cache }) t' (ap (λ (k : Tier S M). k.sides) w.0.after)
+
+  searches_sides : (p : PartitionId) (h : Held D) (t : Tier S M) (b : ℕ) (x : Node D) (side : Side) (g : Begun) (ts : ℤ) (cursor : ℕ)
+      (next : Dating) (turn : TimeTurn) (h' : Held D) (t' : Tier S M)
+      → Searches disk store meta p h t b x side g ts cursor next turn h' t' → length t'.sides ≡ length t.sides
+  searches_sides p h t b x side g ts cursor next turn h' t' w =
+      let on = resumed_at h.registry.start cursor in
+      let with = resumed_with h.registry.start cursor next in
+      search_sides h t b x side (asked_of p h x ts) on with (is_own (local_of x) on with) turn h' t' w.row
+
+  date_sides : (p : PartitionId) (h : Held D) (t : Tier S M) (b : ℕ) (x : Node D) (side : Side) (g : Begun) (ts : ℤ) (cursor : ℕ)
+      (next : Dating) (outcome : Outcome) (h' : Held D) (t' : Tier S M)
+      → DateOnRow disk store meta p h t b x side g ts cursor next outcome h' t' → length t'.sides ≡ length t.sides
+  date_sides p h t b x side g ts cursor next (Answers Stopped) h' t' w = ap (λ (k : Tier S M). length k.sides) w.2
+  date_sides p h t b x side g ts cursor next (Answers NotLeader) h' t' w = ap (λ (k : Tier S M). length k.sides) w.4
+  date_sides p h t b x side g ts cursor next (Answers NoOffset) h' t' w = ap (λ (k : Tier S M). length k.sides) w.3
+  date_sides p h t b x side g ts cursor next (Answers answer) h' t' w =
+      searches_sides p h t b x side g ts cursor next (dating.Ends answer) h' t' w
+  date_sides p h t b x side g ts cursor next (Dated later after) h' t' w =
+      searches_sides p h t b x side g ts cursor next (dating.Goes later after) h' t' w.0
+  date_sides p h t b x side g ts cursor next other h' t' w = elim w [ ]
+
   refresh_sides : (t : Tier S M) (b : ℕ) (side : Side) (outcome : Outcome) (t' : Tier S M) → RefreshedRow meta t b side outcome t' → length t'.sides ≡ length t.sides
   refresh_sides t b side (Answers MetaFault) t' w = ap (λ (k : Tier S M). length k.sides) w.after
   refresh_sides t b side (Rebuilding Epochs) t' w = sides_put t b (record side { view = w.view }) t' (ap (λ (k : Tier S M). k.sides) w.after)
@@ -214,6 +305,8 @@ module _ {D S M : Type 0} (disk : DiskGhosts D) (store : StoreGhosts S) (meta : 
   noted_sides p config h t b x side g Expire outcome h' t' w = ap (λ (k : Tier S M). length k.sides) w.1
   noted_sides p config h t b x side g (Fetch offset limit) outcome h' t' w = fetch_sides p h t b x side g offset limit Refresh outcome t' w.0
   noted_sides p config h t b x side g (Offset LatestTiered) outcome h' t' w = ap (λ (k : Tier S M). length k.sides) w.2
+  noted_sides p config h t b x side g (Offset (At ts)) outcome h' t' w =
+      date_sides p h t b x side g ts 0 Seek outcome h' t' w
   noted_sides p config h t b x side g other outcome h' t' w = ap (λ (k : Tier S M). length k.sides) w.1
 
   leaders_sides : (h : Held D) (t : Tier S M) (b : ℕ) (x : Node D) (side : Side) (outcome : Outcome) (t' : Tier S M) → LeadersFirstRow meta h t b x side outcome t' → length t'.sides ≡ length t.sides
@@ -241,6 +334,7 @@ module _ {D S M : Type 0} (disk : DiskGhosts D) (store : StoreGhosts S) (meta : 
   begins_sides h t b x side Trim outcome h' t' w = trim_sides h t b x side outcome t' w.0
   begins_sides h t b x side Expire outcome h' t' w = leaders_sides h t b x side outcome t' w.0
   begins_sides h t b x side (Offset LatestTiered) outcome h' t' w = leaders_sides h t b x side outcome t' w.0
+  begins_sides h t b x side (Offset (At ts)) outcome h' t' w = leaders_sides h t b x side outcome t' w.0
   begins_sides h t b x side other outcome h' t' w = ap (λ (k : Tier S M). length k.sides) w.1
 
   copying_sides : (h : Held D) (t : Tier S M) (b : ℕ) (x : Node D) (side : Side) (g : Begun) (copy : Copied) (next : Next) (command : Command) (outcome : Outcome) (h' : Held D) (t' : Tier S M)
@@ -253,6 +347,13 @@ module _ {D S M : Type 0} (disk : DiskGhosts D) (store : StoreGhosts S) (meta : 
       → SeekingRow store meta p h t b x side g next command outcome h' t' → length t'.sides ≡ length t.sides
   seeking_sides p h t b x side g next (Fetch offset limit) outcome h' t' w = fetch_sides p h t b x side g offset limit next outcome t' w.0
   seeking_sides p h t b x side g next other outcome h' t' w = elim w [ ]
+
+  dating_sides : (p : PartitionId) (h : Held D) (t : Tier S M) (b : ℕ) (x : Node D) (side : Side) (g : Begun) (cursor : ℕ) (next : Dating)
+      (command : Command) (outcome : Outcome) (h' : Held D) (t' : Tier S M)
+      → DatingRow disk store meta p h t b x side g cursor next command outcome h' t' → length t'.sides ≡ length t.sides
+  dating_sides p h t b x side g cursor next (Offset (At ts)) outcome h' t' w =
+      date_sides p h t b x side g ts cursor next outcome h' t' w
+  dating_sides p h t b x side g cursor next other outcome h' t' w = elim w [ ]
 
   deleting_sides : (h : Held D) (t : Tier S M) (b : ℕ) (x : Node D) (g : Begun) (segment : Doomed) (next : Deletion) (command : Command) (outcome : Outcome) (h' : Held D) (t' : Tier S M)
       → DeletingRow store meta h t b x g segment next command outcome h' t' → length t'.sides ≡ length t.sides
@@ -273,6 +374,8 @@ module _ {D S M : Type 0} (disk : DiskGhosts D) (store : StoreGhosts S) (meta : 
   row_sides p config h t b x side (Noted g) command outcome h' t' w = noted_sides p config h t b x side g command outcome h' t' w
   row_sides p config h t b x side (Copies g copy next) command outcome h' t' w = copying_sides h t b x side g copy next command outcome h' t' w
   row_sides p config h t b x side (Seeks g next) command outcome h' t' w = seeking_sides p h t b x side g next command outcome h' t' w
+  row_sides p config h t b x side (Dates g cursor next) command outcome h' t' w =
+      dating_sides p h t b x side g cursor next command outcome h' t' w
   row_sides p config h t b x side (Expires g segment next) command outcome h' t' w = deleting_sides h t b x g segment next command outcome h' t' w
   row_sides p config h t b x side (Rebuilds g next) command outcome h' t' w = rebuilding_sides p h t b x side g next command outcome h' t' w
 
@@ -287,7 +390,9 @@ module _ {D S M : Type 0} (disk : DiskGhosts D) (store : StoreGhosts S) (meta : 
   halts_sides h t b x side t' (inr (inr (inl (p, offset, limit, next, wants)))) =
       sides_put t b (record side { view = wants.view; cache = wants.cache }) t' (ap (λ (k : Tier S M). k.sides) wants.after)
   halts_sides h t b x side t' (inr (inr (inr (inl (segment, next, wants))))) = ap (λ (k : Tier S M). length k.sides) wants.after
-  halts_sides h t b x side t' (inr (inr (inr (inr (p, g, wants))))) = ap (λ (k : Tier S M). length k.sides) wants.after
+  halts_sides h t b x side t' (inr (inr (inr (inr (inl (line, asked, cursor, next, wants)))))) =
+      sides_put t b (record side { view = wants.view; cache = wants.cache }) t' (ap (λ (k : Tier S M). k.sides) wants.after)
+  halts_sides h t b x side t' (inr (inr (inr (inr (inr (p, g, wants)))))) = ap (λ (k : Tier S M). length k.sides) wants.after
 
   pub stays_sides : (h : Held D) (t : Tier S M) (b : ℕ) (h' : Held D) (t' : Tier S M) → StaysTier disk store meta h t b h' t' → length t'.sides ≡ length t.sides
   stays_sides h t b h' t' (inl k) = ap (λ (k : Tier S M). length k.sides) k.1

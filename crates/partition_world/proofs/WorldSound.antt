@@ -23,6 +23,7 @@ use Rattle.expiry_task.specs.declared.turn.Doomed.{Doomed}
 use Rattle.expiry_task.specs.declared.turn.Next.{Next as Deletion}
 use Rattle.rebuild_task.specs.declared.turn.Next.{Next as Rebuild}
 use Rattle.tier_fetch.specs.declared.turn.Next.{Next as Search}
+use Rattle.time_find.specs.declared.turn.Next.{Next as Dating}
 use Rattle.partition_seen.specs.declared.begun.Begun.{Begun}
 use Rattle.partition_seen.specs.declared.begun.Turned.TheVariants as seen
 use Rattle.partition_seen.specs.Sound.{turns_left}
@@ -30,11 +31,11 @@ use Rattle.partition_seen.proofs.Standing.{map_set, map_get}
 use Rattle.partition_world.specs.declared.tier.Side.{Side}
 use Rattle.partition_world.specs.declared.tier.Tier.{Tier}
 use Rattle.partition_world.specs.declared.seat.Outcome.{Outcome}
-use Rattle.partition_world.specs.declared.seat.Outcome.TheVariants.{Answers, Begins, Chose, Goes, Seeks as Sought, Dooms, Deletes, Rebuilds as Rebuilding}
+use Rattle.partition_world.specs.declared.seat.Outcome.TheVariants.{Answers, Begins, Chose, Goes, Seeks as Sought, Dates as Dated, Dooms, Deletes, Rebuilds as Rebuilding}
 use Rattle.partition_world.specs.declared.seat.Seat.{Seat}
 use Rattle.partition_world.specs.declared.seat.Work.{Work}
-use Rattle.partition_world.specs.declared.seat.Work.TheVariants.{Idle, Noted, Copies, Seeks, Expires, Rebuilds}
-use Rattle.partition_world.specs.Seats.{seat_seen, desk_seen, noted_in, chosen, moved, sought, doomed, deleting, rebuilding, seat_after, told_count, stepped_of}
+use Rattle.partition_world.specs.declared.seat.Work.TheVariants.{Idle, Noted, Copies, Seeks, Dates, Expires, Rebuilds}
+use Rattle.partition_world.specs.Seats.{seat_seen, desk_seen, noted_in, chosen, moved, sought, dated, doomed, deleting, rebuilding, seat_after, told_count, stepped_of}
 use Rattle.partition_world.specs.Turn.{IsSeat, IsAtEnd, IsTurn, Steps}
 use Rattle.partition_world.specs.Turns.{TurnRow, StaysTier}
 use Rattle.partition_world.proofs.Begins.{begins_idle}
@@ -49,6 +50,7 @@ chosen_seen Idle copy = refl
 chosen_seen (Noted g) copy = refl
 chosen_seen (Copies g c next) copy = refl
 chosen_seen (Seeks g next) copy = refl
+chosen_seen (Dates g cursor next) copy = refl
 chosen_seen (Expires g segment next) copy = refl
 chosen_seen (Rebuilds g next) copy = refl
 
@@ -57,6 +59,7 @@ moved_seen Idle next = refl
 moved_seen (Noted g) next = refl
 moved_seen (Copies g c before) next = refl
 moved_seen (Seeks g before) next = refl
+moved_seen (Dates g cursor before) next = refl
 moved_seen (Expires g segment before) next = refl
 moved_seen (Rebuilds g before) next = refl
 
@@ -65,14 +68,25 @@ sought_seen Idle next = refl
 sought_seen (Noted g) next = refl
 sought_seen (Copies g c before) next = refl
 sought_seen (Seeks g before) next = refl
+sought_seen (Dates g cursor before) next = refl
 sought_seen (Expires g segment before) next = refl
 sought_seen (Rebuilds g before) next = refl
+
+pub dated_seen : (work : Work) (cursor : ℕ) (next : Dating) → noted_in (dated work cursor next) ≡ noted_in work
+dated_seen Idle cursor next = refl
+dated_seen (Noted g) cursor next = refl
+dated_seen (Copies g c before) cursor next = refl
+dated_seen (Seeks g before) cursor next = refl
+dated_seen (Dates g was before) cursor next = refl
+dated_seen (Expires g segment before) cursor next = refl
+dated_seen (Rebuilds g before) cursor next = refl
 
 pub doomed_seen : (work : Work) (segment : Doomed) → noted_in (doomed work segment) ≡ noted_in work
 doomed_seen Idle segment = refl
 doomed_seen (Noted g) segment = refl
 doomed_seen (Copies g c before) segment = refl
 doomed_seen (Seeks g before) segment = refl
+doomed_seen (Dates g cursor before) segment = refl
 doomed_seen (Expires g before next) segment = refl
 doomed_seen (Rebuilds g before) segment = refl
 
@@ -81,6 +95,7 @@ deleting_seen Idle next = refl
 deleting_seen (Noted g) next = refl
 deleting_seen (Copies g c before) next = refl
 deleting_seen (Seeks g before) next = refl
+deleting_seen (Dates g cursor before) next = refl
 deleting_seen (Expires g segment before) next = refl
 deleting_seen (Rebuilds g before) next = refl
 
@@ -89,6 +104,7 @@ rebuilding_seen Idle next = refl
 rebuilding_seen (Noted g) next = refl
 rebuilding_seen (Copies g c before) next = refl
 rebuilding_seen (Seeks g before) next = refl
+rebuilding_seen (Dates g cursor before) next = refl
 rebuilding_seen (Expires g segment before) next = refl
 rebuilding_seen (Rebuilds g before) next = refl
 
@@ -135,6 +151,11 @@ module _ {D S M : Type 0} (disk : DiskGhosts D) (store : StoreGhosts S) (meta : 
       omega (arith, ap (λ k. turns_left lists k) same)
   entries_after lists p config h t h' t' desk place l seat order (Sought next) at to lt row =
       let same = seen_stays desk place seat (seat_after seat (Sought next)) to (ap (λ (o : Option Begun). record { number = seat.number; begun = o }) (sought_seen seat.work next)) in
+      omega (arith, ap (λ k. turns_left lists k) same)
+  entries_after lists p config h t h' t' desk place l seat order (Dated cursor next) at to lt row =
+      let same =
+      seen_stays desk place seat (seat_after seat (Dated cursor next)) to
+      (ap (λ (o : Option Begun). record { number = seat.number; begun = o }) (dated_seen seat.work cursor next)) in
       omega (arith, ap (λ k. turns_left lists k) same)
   entries_after lists p config h t h' t' desk place l seat order (Dooms segment) at to lt row =
       let same = seen_stays desk place seat (seat_after seat (Dooms segment)) to (ap (λ (o : Option Begun). record { number = seat.number; begun = o }) (doomed_seen seat.work segment)) in
@@ -198,6 +219,7 @@ module _ {D S M : Type 0} (disk : DiskGhosts D) (store : StoreGhosts S) (meta : 
   steps_of w a (Chose copy) w' t = (Chose copy, tt, t)
   steps_of w a (Goes next) w' t = (Goes next, tt, t)
   steps_of w a (Sought next) w' t = (Sought next, tt, t)
+  steps_of w a (Dated cursor next) w' t = (Dated cursor next, tt, t)
   steps_of w a (Dooms segment) w' t = (Dooms segment, tt, t)
   steps_of w a (Deletes next) w' t = (Deletes next, tt, t)
   steps_of w a (Rebuilding next) w' t = (Rebuilding next, tt, t)

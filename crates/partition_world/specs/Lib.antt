@@ -2,6 +2,7 @@ pub mod Tier
 pub mod Seats
 pub mod TurnsOfCopy
 pub mod TurnsOfExpiry
+pub mod TurnsOfDate
 pub mod TurnsOfFetch
 pub mod TurnsOfRebuild
 pub mod TurnsOfOffset

@@ -17,6 +17,9 @@ use Rattle.tier_fetch.specs.declared.turn.Next.{Next as Search}
 use Rattle.rebuild_task.specs.declared.turn.Next.{Next as Rebuild}
 use Rattle.rebuild_task.specs.declared.turn.RebuildTurn.{RebuildTurn}
 use Rattle.rebuild_task.specs.declared.turn.RebuildTurn.TheVariants as rebuild
+use Rattle.time_find.specs.declared.turn.Next.{Next as Dating}
+use Rattle.time_find.specs.declared.turn.TimeTurn.{TimeTurn}
+use Rattle.time_find.specs.declared.turn.TimeTurn.TheVariants as dating
 use Rattle.plain_log.specs.declared.command.Command.{Command}
 use Rattle.plain_log.specs.declared.journal.Event.TheVariants as event
 use Rattle.plain_log.specs.declared.journal.JournalEntry.{JournalEntry}
@@ -28,7 +31,7 @@ use Rattle.partition_seen.specs.declared.seat.Stepped.{Stepped}
 use Rattle.partition_seen.specs.declared.seat.Stepped.TheVariants.{Ran, Done}
 use Rattle.partition_seen.specs.Turn.{event_of}
 use Rattle.partition_world.specs.declared.seat.Outcome.{Outcome}
-use Rattle.partition_world.specs.declared.seat.Outcome.TheVariants.{Answers, Begins, Chose, Goes, Seeks, Dooms, Deletes, Rebuilds}
+use Rattle.partition_world.specs.declared.seat.Outcome.TheVariants.{Answers, Begins, Chose, Goes, Seeks, Dates, Dooms, Deletes, Rebuilds}
 use Rattle.partition_world.specs.declared.seat.Seat.{Seat}
 use Rattle.partition_world.specs.declared.seat.Work.{Work}
 use Rattle.partition_world.specs.declared.seat.Work.TheVariants as work
@@ -40,6 +43,7 @@ noted_in Idle = None
 noted_in (Noted g) = Some g
 noted_in (Copies g copy next) = Some g
 noted_in (work.Seeks g next) = Some g
+noted_in (work.Dates g cursor next) = Some g
 noted_in (Expires g segment next) = Some g
 noted_in (work.Rebuilds g next) = Some g
 
@@ -59,6 +63,12 @@ sought (Noted g) next = work.Seeks g next
 sought (work.Seeks g before) next = work.Seeks g next
 sought other next = other
 
+-- a search by timestamp goes on at this cursor with this
+abbrev pub dated : Work → ℕ → Dating → Work
+dated (Noted g) cursor next = work.Dates g cursor next
+dated (work.Dates g before was) cursor next = work.Dates g cursor next
+dated other cursor next = other
+
 -- an expiry that has taken up a remote segment starts its deletion next
 abbrev pub doomed : Work → Doomed → Work
 doomed (Noted g) segment = Expires g segment deletion.Start
@@ -75,8 +85,8 @@ rebuilding (Noted g) next = work.Rebuilds g next
 rebuilding (work.Rebuilds g before) next = work.Rebuilds g next
 rebuilding other next = other
 
--- the seat as it is seen: what was noted is seen, and not the segment of a copy or an expiry, nor what a fetch or a rebuild has
--- found
+-- the seat as it is seen: what was noted is seen, and not the segment of a copy or an expiry, nor what a fetch, a search by
+-- timestamp or a rebuild has found
 abbrev pub seat_seen : Seat → seen_seat.Seat
 seat_seen seat = record { number = seat.number; begun = noted_in seat.work }
 
@@ -99,6 +109,11 @@ abbrev pub fetch_outcome : FetchTurn → Outcome
 fetch_outcome (fetch.Goes next) = Seeks next
 fetch_outcome (fetch.Ends answer) = Answers answer
 
+-- what a turn of a search by timestamp came to
+abbrev pub date_outcome : TimeTurn → Outcome
+date_outcome (dating.Goes cursor next) = Dates cursor next
+date_outcome (dating.Ends answer) = Answers answer
+
 -- what a turn of an expiry came to
 abbrev pub expiry_outcome : ExpiryTurn → Outcome
 expiry_outcome (expiry.Goes next) = Deletes next
@@ -116,6 +131,7 @@ seat_after seat (Begins g) = record seat { work = Noted g }
 seat_after seat (Chose copy) = record seat { work = chosen seat.work copy }
 seat_after seat (Goes next) = record seat { work = moved seat.work next }
 seat_after seat (Seeks next) = record seat { work = sought seat.work next }
+seat_after seat (Dates cursor next) = record seat { work = dated seat.work cursor next }
 seat_after seat (Dooms segment) = record seat { work = doomed seat.work segment }
 seat_after seat (Deletes next) = record seat { work = deleting seat.work next }
 seat_after seat (Rebuilds next) = record seat { work = rebuilding seat.work next }

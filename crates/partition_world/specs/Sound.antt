@@ -3,7 +3,7 @@ use Rattle.std.specs.Prelude.{◌≡◌, ◌≤◌, ℕ, true, List, Some, lengt
 use Rattle.plain_log.specs.declared.command.ActorList.{ActorList}
 use Rattle.plain_log.specs.declared.command.Command.{Command}
 use Rattle.plain_log.specs.declared.command.Command.TheVariants.{Join, Follow, Copy, Trim, Expire, Fetch, Offset}
-use Rattle.plain_log.specs.declared.command.Which.TheVariants.{LatestTiered}
+use Rattle.plain_log.specs.declared.command.Which.TheVariants.{LatestTiered, At}
 use Rattle.plain_log.specs.declared.command.Config.{Config}
 use Rattle.plain_log.specs.declared.command.Order.{Order}
 use Rattle.plain_log.specs.Orders.{AreListsFor, IsConfig}
@@ -14,9 +14,11 @@ use Rattle.partition_turns.specs.declared.held.Held.{Held}
 use Rattle.partition_turns.specs.Sound.{HeldSound}
 use Rattle.tier_fetch.specs.Turns.{IsFor}
 use Rattle.tier_fetch.specs.declared.turn.Next.{Next}
+use Rattle.time_find.specs.declared.turn.Next.{Next as Dating}
+use Rattle.time_find.specs.Turns.{IsSet}
 use Rattle.partition_world.specs.declared.seat.Seat.{Seat}
 use Rattle.partition_world.specs.declared.seat.Work.{Work}
-use Rattle.partition_world.specs.declared.seat.Work.TheVariants.{Idle, Noted, Copies, Seeks, Expires, Rebuilds}
+use Rattle.partition_world.specs.declared.seat.Work.TheVariants.{Idle, Noted, Copies, Seeks, Dates, Expires, Rebuilds}
 use Rattle.partition_world.specs.declared.tier.Side.{Side}
 use Rattle.partition_world.specs.Seats.{desk_seen}
 
@@ -29,6 +31,7 @@ MayGoOn Trim g = Unit {0}
 MayGoOn Expire g = leads g.role ≡ true
 MayGoOn (Fetch offset limit) g = Unit {0}
 MayGoOn (Offset LatestTiered) g = Unit {0}
+MayGoOn (Offset (At ts)) g = Unit {0}
 MayGoOn command g = ⊥
 
 -- a fetch does this next, for its offset
@@ -36,12 +39,18 @@ abbrev pub SeeksBy : Command → Next → Type 0
 SeeksBy (Fetch offset limit) next = IsFor offset next
 SeeksBy command next = ⊥
 
+-- a search by timestamp does this next, at a cursor
+abbrev pub DatesBy : Command → ℕ → Dating → Type 0
+DatesBy (Offset (At ts)) cursor next = IsSet cursor next
+DatesBy command cursor next = ⊥
+
 -- what a seat keeps is of a turn that its command has
 abbrev pub IsWorkFor : Command → Work → Type 0
 IsWorkFor command Idle = Unit {0}
 IsWorkFor command (Noted g) = MayGoOn command g
 IsWorkFor command (Copies g copy next) = command ≡ Copy
 IsWorkFor command (Seeks g next) = SeeksBy command next
+IsWorkFor command (Dates g cursor next) = DatesBy command cursor next
 IsWorkFor command (Expires g segment next) = command ≡ Expire
 IsWorkFor command (Rebuilds g next) = command ≡ Join
 

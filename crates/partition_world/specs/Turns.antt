@@ -1,7 +1,7 @@
 -- A turn of a command of any kind, over all devices.
 --
 -- Commands on brokers' logs and the registry leave the remote tier as it is (the crate `partition_turns` has their rows).
-use Rattle.std.specs.Prelude.{◌≡◌, ◌⊎◌, ◌<◌, ◌≤◌, ℕ}
+use Rattle.std.specs.Prelude.{◌≡◌, ◌⊎◌, ◌<◌, ◌≤◌, ℕ, List}
 use Rattle.disk_model.specs.declared.disk.Disk.{Ghosts as DiskGhosts}
 use Rattle.object_store.specs.declared.store.Store.{Ghosts as StoreGhosts}
 use Rattle.meta_log.specs.declared.log.MetaLog.{Ghosts as MetaGhosts}
@@ -12,12 +12,15 @@ use Rattle.expiry_task.specs.declared.turn.Doomed.{Doomed}
 use Rattle.expiry_task.specs.declared.turn.Next.{Next as Deletion}
 use Rattle.tier_fetch.specs.declared.turn.Next.{Next as Search}
 use Rattle.tier_fetch.specs.declared.turn.Next.TheVariants.{Refresh}
+use Rattle.time_find.specs.declared.turn.Asked.{Asked}
+use Rattle.time_find.specs.declared.turn.Next.{Next as Dating}
+use Rattle.time_find.specs.declared.turn.Next.TheVariants.{Seek}
 use Rattle.rebuild_task.specs.declared.turn.Next.{Next as Rebuild}
 use Rattle.rebuild_task.specs.declared.turn.Next.TheVariants.{Epochs, Restart}
 use Rattle.plain_log.specs.declared.answer.Answer.{Answer}
 use Rattle.plain_log.specs.declared.command.Command.{Command}
 use Rattle.plain_log.specs.declared.command.Command.TheVariants.{Copy, Trim, Expire, Fetch, Join, Offset}
-use Rattle.plain_log.specs.declared.command.Which.TheVariants.{LatestTiered}
+use Rattle.plain_log.specs.declared.command.Which.TheVariants.{LatestTiered, At}
 use Rattle.plain_log.specs.declared.command.Config.{Config}
 use Rattle.partition_seen.specs.declared.begun.Begun.{Begun}
 use Rattle.partition_seen.specs.declared.begun.Turned.{Turned}
@@ -31,12 +34,13 @@ use Rattle.partition_world.specs.declared.tier.Tier.{Tier}
 use Rattle.partition_world.specs.declared.seat.Outcome.{Outcome}
 use Rattle.partition_world.specs.declared.seat.Outcome.TheVariants.{Answers}
 use Rattle.partition_world.specs.declared.seat.Work.{Work}
-use Rattle.partition_world.specs.declared.seat.Work.TheVariants.{Idle, Noted, Copies, Seeks, Expires, Rebuilds}
+use Rattle.partition_world.specs.declared.seat.Work.TheVariants.{Idle, Noted, Copies, Seeks, Dates, Expires, Rebuilds}
 use Rattle.partition_world.specs.Tier.{AtSide, Halts}
 use Rattle.partition_world.specs.Seats.{outcome_of}
 use Rattle.partition_world.specs.TurnsOfCopy.{CopyFirstRow, ChooseRow, CopyOnRow, WantsForCopy}
 use Rattle.partition_world.specs.TurnsOfExpiry.{ExpireFirstRow, ExpireOnRow, DeleteOnRow, WantsForDeletion}
 use Rattle.partition_world.specs.TurnsOfFetch.{FetchOnRow, WantsForFetch}
+use Rattle.partition_world.specs.TurnsOfDate.{DateOnRow, WantsForDate}
 use Rattle.partition_world.specs.TurnsOfRebuild.{with_line, RefreshOnRow, EpochsOnRow, WantsForRebuild}
 use Rattle.partition_world.specs.TurnsOfOffset.{OffsetFirstRow, OffsetOnRow}
 use Rattle.partition_world.specs.TurnsOfTrim.{TrimFirstRow, TrimOnRow}
@@ -70,6 +74,13 @@ module _ {D S M : Type 0} (store : StoreGhosts S) (meta : MetaGhosts M) where
   DeletingRow h t b x g doomed next Expire outcome h' t' = DeleteOnRow store meta h t b x g doomed next outcome t' × (h' ≡ h)
   DeletingRow h t b x g doomed next command outcome h' t' = ⊥
 
+module _ {D S M : Type 0} (disk : DiskGhosts D) (store : StoreGhosts S) (meta : MetaGhosts M) where
+  -- a later turn of a search by timestamp that has come to a cursor; no other command has one
+  abbrev pub DatingRow : PartitionId → Held D → Tier S M → ℕ → Node D → Side → Begun → ℕ → Dating → Command → Outcome → Held D → Tier S M → Type 0
+  DatingRow p h t b x side g cursor next (Offset (At ts)) outcome h' t' =
+      DateOnRow disk store meta p h t b x side g ts cursor next outcome h' t'
+  DatingRow p h t b x side g cursor next command outcome h' t' = ⊥
+
 module _ {D S M : Type 0} (disk : DiskGhosts D) (meta : MetaGhosts M) where
   -- the second turn of a join: where the log start had come up to the wanted offset when it began, the log begins anew at once
   abbrev pub JoinSecondRow : Held D → Tier S M → ℕ → Node D → Side → Begun → Outcome → Held D → Tier S M → Type 0
@@ -89,7 +100,8 @@ module _ {D S M : Type 0} (disk : DiskGhosts D) (store : StoreGhosts S) where
   RebuildingRow p h t b x side g next command outcome h' t' = ⊥
 
 module _ {D S M : Type 0} (disk : DiskGhosts D) (store : StoreGhosts S) (meta : MetaGhosts M) where
-  -- the second turn, of a command of which its seat keeps what was noted: a fetch begins with a refresh
+  -- the second turn, of a command of which its seat keeps what was noted: a fetch begins with a refresh, and a search by timestamp at
+  -- the log start
   abbrev pub NotedRow : PartitionId → Config → Held D → Tier S M → ℕ → Node D → Side → Begun → Command → Outcome → Held D → Tier S M → Type 0
   NotedRow p config h t b x side g Copy outcome h' t' = ChooseRow disk p h t b x side g outcome h' t'
   NotedRow p config h t b x side g Trim outcome h' t' = TrimOnRow disk h b x side g config.local_keep outcome h' × (t' ≡ t)
@@ -98,6 +110,7 @@ module _ {D S M : Type 0} (disk : DiskGhosts D) (store : StoreGhosts S) (meta : 
       FetchOnRow store meta p h t b x side g offset limit Refresh outcome t' × (h' ≡ h)
   NotedRow p config h t b x side g Join outcome h' t' = JoinSecondRow disk meta h t b x side g outcome h' t'
   NotedRow p config h t b x side g (Offset LatestTiered) outcome h' t' = OffsetOnRow h x side g outcome × (h' ≡ h) × (t' ≡ t)
+  NotedRow p config h t b x side g (Offset (At ts)) outcome h' t' = DateOnRow disk store meta p h t b x side g ts 0 Seek outcome h' t'
   NotedRow p config h t b x side g command outcome h' t' = OwnOnRow disk h t b x g command outcome h' t'
 
   -- a command's first turn
@@ -106,6 +119,7 @@ module _ {D S M : Type 0} (disk : DiskGhosts D) (store : StoreGhosts S) (meta : 
   BeginRow h t b x side Trim outcome h' t' = TrimFirstRow meta h t b x side outcome t' × (h' ≡ h)
   BeginRow h t b x side Expire outcome h' t' = ExpireFirstRow meta h t b x side outcome t' × (h' ≡ h)
   BeginRow h t b x side (Offset LatestTiered) outcome h' t' = OffsetFirstRow meta h t b x side outcome t' × (h' ≡ h)
+  BeginRow h t b x side (Offset (At ts)) outcome h' t' = OffsetFirstRow meta h t b x side outcome t' × (h' ≡ h)
   BeginRow h t b x side command outcome h' t' = OwnRow disk h t b x command outcome h' t'
 
   -- a turn of a command of broker b, of which so much is kept
@@ -116,6 +130,8 @@ module _ {D S M : Type 0} (disk : DiskGhosts D) (store : StoreGhosts S) (meta : 
       CopyingRow store meta h t b x side g copy next command outcome h' t'
   Row p config h t b x side (Seeks g next) command outcome h' t' =
       SeekingRow store meta p h t b x side g next command outcome h' t'
+  Row p config h t b x side (Dates g cursor next) command outcome h' t' =
+      DatingRow disk store meta p h t b x side g cursor next command outcome h' t'
   Row p config h t b x side (Expires g doomed next) command outcome h' t' =
       DeletingRow store meta h t b x g doomed next command outcome h' t'
   Row p config h t b x side (Rebuilds g next) command outcome h' t' =
@@ -132,7 +148,8 @@ module _ {D S M : Type 0} (disk : DiskGhosts D) (store : StoreGhosts S) (meta : 
       Halts meta t b side t' ⊎ (((copy : Copied) × (next : Next) × WantsForCopy store meta h t b side copy next t')
       ⊎ (((p : PartitionId) × (offset : ℕ) × (limit : ℕ) × (next : Search) × WantsForFetch store meta p t b x side offset limit next t')
       ⊎ (((doomed : Doomed) × (next : Deletion) × WantsForDeletion store meta h t b doomed next t')
-      ⊎ ((p : PartitionId) × (g : Begun) × WantsForRebuild store p t side g t'))))
+      ⊎ (((line : List (ℕ × ℕ)) × (asked : Asked) × (cursor : ℕ) × (next : Dating) × WantsForDate store meta t b side line asked cursor next t')
+      ⊎ ((p : PartitionId) × (g : Begun) × WantsForRebuild store p t side g t')))))
 
   -- memory was wanting
   abbrev pub StaysTier : Held D → Tier S M → ℕ → Held D → Tier S M → Type 0

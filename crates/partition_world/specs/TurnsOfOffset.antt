@@ -1,4 +1,4 @@
--- What a turn comes to of the question up to which offset the remote tier has the log.
+-- What a turn comes to of the question up to which offset the remote tier has the log. A search by timestamp has the same first turn.
 --
 --   turn      does                                       answers
 --   first     refreshes the leader's view                Down, NotLeader, MetaFault

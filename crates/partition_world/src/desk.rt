@@ -7,7 +7,7 @@ ghost use Rattle.partition_seen.specs.Sound.{turns_left};
 ghost use Rattle.partition_seen.specs.Turn.{event_of};
 ghost use Rattle.partition_seen.specs.declared.begun.Turned.TheVariants as turned;
 ghost use Rattle.plain_log.specs.declared.journal.Event.TheVariants as event;
-ghost use Rattle.partition_world.specs.declared.seat.Outcome.TheVariants.{Chose, Goes, Seeks, Dooms, Deletes, Rebuilds};
+ghost use Rattle.partition_world.specs.declared.seat.Outcome.TheVariants.{Chose, Goes, Seeks, Dates, Dooms, Deletes, Rebuilds};
 ghost use Rattle.partition_world.specs.Seats.{seat_after, told_of, told_count, stepped_of};
 
 use crate::seat::{Outcome, Seat, Work};
@@ -19,6 +19,7 @@ use rebuild_task::Next as Rebuild;
 use std::alloc::{AllocError, Global};
 use tier_base::{ActorId, Row};
 use tier_fetch::Next as Search;
+use time_find::Next as Dating;
 
 /// Finds the place of an actor's list.
 pub(crate) fn place_of(lists: &[ActorList], actor: ActorId) -> Option<usize>
@@ -113,6 +114,18 @@ fn seek_at(desk: &mut Row<Seat>, place: usize, next: Search)
     let seat = take_seat(desk, place);
     let number = seat.number;
     let work = seat.work.sought(next);
+    set_seat(desk, place, number, work);
+}
+
+/// Lets a search by timestamp go on.
+#[tactic(auto, using(crate::proofs::Sides::set_twice))]
+fn date_at(desk: &mut Row<Seat>, place: usize, cursor: u64, next: Dating)
+    requires { place < length desk.old }
+    ensures { IsSomeAnd (slice_get desk.old place) (λ seat. desk.new ≡ slice_set desk.old place (seat_after seat (Dates cursor next))) }
+{
+    let seat = take_seat(desk, place);
+    let number = seat.number;
+    let work = seat.work.dated(cursor, next);
     set_seat(desk, place, number, work);
 }
 
@@ -211,6 +224,10 @@ pub(crate) fn enter(
         }
         Outcome::Seeks(next) => {
             seek_at(desk, place, next);
+            Stepped::Ran
+        }
+        Outcome::Dates(cursor, next) => {
+            date_at(desk, place, cursor, next);
             Stepped::Ran
         }
         Outcome::Dooms(segment) => {

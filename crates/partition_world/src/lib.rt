@@ -16,6 +16,7 @@
 
 mod copies;
 mod covering;
+mod dates;
 mod desk;
 mod expiries;
 mod fetches;

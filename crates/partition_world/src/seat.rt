@@ -1,7 +1,7 @@
 //! How far an actor has come, what is kept of its command between two turns, and what a turn came to.
 
 ghost use Rattle.std.specs.Prelude.{◌≡◌};
-ghost use Rattle.partition_world.specs.Seats.{chosen, moved, sought, doomed, deleting, rebuilding, outcome_of, copy_outcome, fetch_outcome, expiry_outcome, rebuild_outcome};
+ghost use Rattle.partition_world.specs.Seats.{chosen, moved, sought, dated, doomed, deleting, rebuilding, outcome_of, copy_outcome, fetch_outcome, date_outcome, expiry_outcome, rebuild_outcome};
 
 use copy_task::{CopyTurn, Copying, Next};
 use expiry_task::{Doomed, ExpiryTurn, Next as Deletion};
@@ -9,6 +9,7 @@ use partition_seen::{Begun, Turned};
 use plain_log::Answer;
 use rebuild_task::{Next as Rebuild, RebuildTurn};
 use tier_fetch::{FetchTurn, Next as Search};
+use time_find::{Next as Dating, TimeTurn};
 
 /// What is kept of a command between its turns.
 #[derive(Drop)]
@@ -21,6 +22,8 @@ pub enum Work {
     Copies(Begun, Copying, Next),
     /// A fetch from the remote tier, and what it does next.
     Seeks(Begun, Search),
+    /// A search by timestamp, the offset that it has come to, and what it does next.
+    Dates(Begun, u64, Dating),
     /// An expiry of a remote segment, and what it does next.
     Expires(Begun, Doomed, Deletion),
     /// A join whose broker has refreshed its view to begin its log anew, and what it does next.
@@ -49,6 +52,8 @@ pub enum Outcome {
     Goes(Next),
     /// A fetch from the remote tier goes on with this turn.
     Seeks(Search),
+    /// A search by timestamp goes on at this offset with this turn.
+    Dates(u64, Dating),
     /// An expiry has taken up a remote segment.
     Dooms(Doomed),
     /// An expiry goes on with this turn.
@@ -84,6 +89,17 @@ impl Work {
     {
         match self {
             Work::Noted(begun) | Work::Seeks(begun, _) => Work::Seeks(begun, next),
+            other => other,
+        }
+    }
+
+    /// The work of a search by timestamp that goes on.
+    pub(crate) fn dated(self, cursor: u64, next: Dating) -> Work
+        ensures { result ≡ dated self cursor next }
+    {
+        match self {
+            Work::Noted(begun) => Work::Dates(begun, cursor, next),
+            Work::Dates(begun, _, _) => Work::Dates(begun, cursor, next),
             other => other,
         }
     }
@@ -147,6 +163,16 @@ pub(crate) fn fetch_outcome(turn: FetchTurn) -> Outcome
     match turn {
         FetchTurn::Goes(next) => Outcome::Seeks(next),
         FetchTurn::Ends(answer) => Outcome::Answers(answer),
+    }
+}
+
+/// What a turn of a search by timestamp came to.
+pub(crate) fn date_outcome(turn: TimeTurn) -> Outcome
+    ensures { result ≡ date_outcome turn }
+{
+    match turn {
+        TimeTurn::Goes(cursor, next) => Outcome::Dates(cursor, next),
+        TimeTurn::Ends(answer) => Outcome::Answers(answer),
     }
 }
 

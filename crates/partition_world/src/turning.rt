@@ -6,9 +6,9 @@ ghost use Rattle.partition_turns.specs.Held.{AtNode, CanStop};
 ghost use Rattle.partition_turns.specs.Sound.{HeldSound};
 ghost use Rattle.partition_world.specs.Tier.{AtSide};
 ghost use Rattle.partition_turns.specs.Turns.{IsOfTier};
-ghost use Rattle.partition_world.specs.declared.seat.Work.TheVariants.{Noted, Copies, Seeks, Expires, Rebuilds};
+ghost use Rattle.partition_world.specs.declared.seat.Work.TheVariants.{Noted, Copies, Seeks, Dates, Expires, Rebuilds};
 ghost use Rattle.partition_world.specs.Sound.{IsWorkFor};
-ghost use Rattle.partition_world.specs.Turns.{OwnRow, BeginRow, NotedRow, CopyingRow, SeekingRow, DeletingRow, RebuildingRow, TurnRow, StaysTier};
+ghost use Rattle.partition_world.specs.Turns.{OwnRow, BeginRow, NotedRow, CopyingRow, SeekingRow, DatingRow, DeletingRow, RebuildingRow, TurnRow, StaysTier};
 
 use crate::seat::{Outcome, Work, outcome_of};
 use crate::tier::Tier;
@@ -24,6 +24,7 @@ use rebuild_task::Next as Rebuild;
 use std::alloc::{AllocError, Global};
 use tier_base::PartitionId;
 use tier_fetch::Next as Search;
+use time_find::Next as Dating;
 
 impl<S: Store, M: MetaLog> Tier<S, M> {
     /// Carries out a turn of a command, of which so much is kept.
@@ -57,6 +58,9 @@ impl<S: Store, M: MetaLog> Tier<S, M> {
             Work::Seeks(noted, next) => {
                 self.go_seeking(alloc, partition, order, noted, *next, held)
             }
+            Work::Dates(noted, cursor, next) => {
+                self.go_dating(alloc, partition, order, noted, *cursor, *next, held)
+            }
             Work::Expires(noted, doomed, next) => {
                 self.go_deleting(order, noted, *doomed, *next, held)
             }
@@ -85,7 +89,7 @@ impl<S: Store, M: MetaLog> Tier<S, M> {
             Command::Copy => self.copy(alloc, order.broker.0 as usize, held),
             Command::Trim => self.trim(alloc, order.broker.0 as usize, held),
             Command::Expire => self.expire(alloc, order.broker.0 as usize, held),
-            Command::Offset(Which::LatestTiered) => {
+            Command::Offset(Which::LatestTiered | Which::At(_)) => {
                 self.begin_leading(alloc, order.broker.0 as usize, held)
             }
             _ => self.begin_own(alloc, order, held),
@@ -147,6 +151,16 @@ impl<S: Store, M: MetaLog> Tier<S, M> {
             ),
             Command::Join => self.join_on(alloc, order.broker, noted, held),
             Command::Offset(Which::LatestTiered) => Ok(self.offset_on(b, noted, held)),
+            Command::Offset(Which::At(ts)) => self.date_on(
+                alloc,
+                partition,
+                order.broker,
+                noted,
+                *ts,
+                0,
+                Dating::Seek,
+                held,
+            ),
             Command::Follow { .. } => Ok(Outcome::Answers(held.follow_on(b, noted)?)),
             _ => unreachable!(),
         }
@@ -199,6 +213,40 @@ impl<S: Store, M: MetaLog> Tier<S, M> {
                 next,
                 *offset,
                 *limit,
+                held,
+            ),
+            _ => unreachable!(),
+        }
+    }
+
+    /// Carries out a turn of a search by timestamp that has come to an offset.
+    fn go_dating<D: Disk>(
+        &mut self,
+        alloc: Global,
+        partition: PartitionId,
+        order: &Order,
+        noted: &Begun,
+        cursor: u64,
+        next: Dating,
+        held: &mut Held<D>,
+    ) -> Result<Outcome, AllocError>
+        requires node { order.now.broker.0 < length held.old.nodes }
+        requires side { order.now.broker.0 < length self.old.sides }
+        requires work { IsWorkFor order.now.command (Dates noted.now cursor next) }
+        ensures row { IfOk result (λ outcome. AtNode held.old order.now.broker.0 (λ x. AtSide self.old order.now.broker.0 (λ side.
+            DatingRow D.Disk S.Store M.MetaLog partition held.old self.old order.now.broker.0 x side noted.now cursor next
+            order.now.command outcome held.new self.new))) }
+        ensures err { OnErr result (StaysTier D.Disk S.Store M.MetaLog held.old self.old order.now.broker.0 held.new self.new) }
+    {
+        match &order.command {
+            Command::Offset(Which::At(ts)) => self.date_on(
+                alloc,
+                partition,
+                order.broker,
+                noted,
+                *ts,
+                cursor,
+                next,
                 held,
             ),
             _ => unreachable!(),

@@ -1,0 +1,291 @@
+-- What a turn of a search by timestamp is answered, and what it leaves of the devices.
+use Rattle.std.proofs.Common.{◌≡◌, inl, inr, ap, sym, subst, ℕ, true, false, List, Option, Some, None, Ok, Err}
+use Rattle.std.specs.declared.result.Result.{Result}
+use Rattle.std.specs.declared.alloc.AllocError.{AllocError}
+use mathlib.Core.Path.{fun_ext}
+use Rattle.tier_base.specs.declared.fault.Trouble.{Trouble}
+use Rattle.tier_base.specs.declared.fault.Trouble.TheVariants.{Failed, NoMemory}
+use Rattle.tier_base.specs.declared.plain.Part.TheVariants as part
+use Rattle.object_store.specs.declared.store.Store.{Ghosts as StoreGhosts}
+use Rattle.object_store.specs.declared.placing.Spot.{Spot}
+use Rattle.meta_log.specs.declared.log.MetaLog.{Ghosts as MetaGhosts}
+use Rattle.disk_model.specs.declared.disk.Disk.{Ghosts as DiskGhosts}
+use Rattle.sparse_index.specs.Offsets.{OffsetTable}
+use Rattle.index_cache.specs.Cache.{Cache, found}
+use Rattle.broker_log.specs.Seen.{Kept, closed_in}
+use Rattle.remote_view.specs.Fold.{Seen as View, entry_of}
+use Rattle.remote_find.specs.declared.piece.Piece.{Piece}
+use Rattle.plain_log.specs.declared.answer.Answer.{Answer}
+use Rattle.plain_log.specs.declared.answer.Place.TheVariants.{Key, Meta, File}
+use Rattle.plain_log.specs.declared.answer.Answer.TheVariants.{MetaFault, StoreFault, DiskFault, Damaged, Run, Offset}
+use Rattle.tier_fetch.specs.declared.turn.FetchTurn.{FetchTurn}
+use Rattle.tier_fetch.specs.declared.turn.FetchTurn.TheVariants as fetch
+use Rattle.tier_fetch.specs.declared.turn.Next.TheVariants as fetching
+use Rattle.tier_fetch.specs.declared.turn.Span.{Span}
+use Rattle.tier_fetch.specs.declared.turn.Wanted.{Wanted}
+use Rattle.tier_fetch.specs.Turns.{spot_in, Loads, LoadRow, FetchRow, Tiers}
+use Rattle.tier_fetch.specs.Turns as rows
+use Rattle.time_find.specs.declared.turn.Asked.{Asked}
+use Rattle.time_find.specs.declared.turn.Next.{Next}
+use Rattle.time_find.specs.declared.turn.Next.TheVariants.{Seek, Times as ReadsTimes, Index, Log}
+use Rattle.time_find.specs.declared.turn.TimeTurn.{TimeTurn}
+use Rattle.time_find.specs.declared.turn.TimeTurn.TheVariants.{Goes, Ends}
+use Rattle.time_find.specs.Passing.{Seeks, passed_over}
+use Rattle.time_find.specs.Turns.{
+  IsSearched,
+  Times,
+  Indexes,
+  Searches,
+  SeekRow,
+  TimesRow,
+  IndexRow,
+  LogRow,
+  TimeRow,
+  wanted_at,
+  ReadRow,
+  OwnRow,
+}
+use Rattle.partition_world.proofs.CopyEnds.{TellsOn}
+use Rattle.partition_world.proofs.FetchEnds.{StoreStays, Dries, fetch_ends, fetch_tells, fetch_dry}
+use Rattle.partition_world.proofs.FetchEnds as fetches
+
+-- what one among the remote segments may be answered
+abbrev pub MayEnd : Answer → Type 0
+MayEnd MetaFault = Unit {0}
+MayEnd StoreFault = Unit {0}
+MayEnd (Damaged place at) = Unit {0}
+MayEnd (Offset n) = Unit {0}
+MayEnd other = ⊥
+
+-- what one in the local log may be answered
+abbrev pub MayEndOwn : Answer → Type 0
+MayEndOwn DiskFault = Unit {0}
+MayEndOwn (Damaged (File name) at) = Unit {0}
+MayEndOwn (Offset n) = Unit {0}
+MayEndOwn other = ⊥
+
+seeks_ends : (asked : Asked) (line : List (ℕ × ℕ)) (view : View) (cursor : ℕ) (answer : Answer)
+    → Seeks asked line view cursor (Ends answer) → MayEnd answer
+seeks_ends asked line view cursor (Damaged Meta n) w = tt
+seeks_ends asked line view cursor answer w = elim w [ ]
+
+searched_ends : (asked : Asked) (from : ℕ) (run : List ℕ) (answer : Answer) → IsSearched asked from run (Ends answer) → MayEnd answer
+searched_ends asked from run (Offset n) w = tt
+searched_ends asked from run answer w = elim w [ ]
+
+times_ends : (asked : Asked) (cursor : ℕ) (piece : Piece) (base : ℕ) (spot : Spot) (given : Result (Option (List ℕ)) Trouble)
+    (answer : Answer) → Times asked cursor piece base spot given (Ok (Ends answer)) → MayEnd answer
+times_ends asked cursor piece base spot (Err Failed) answer w = let e : answer ≡ StoreFault = cc (w) in subst MayEnd (sym e) tt
+times_ends asked cursor piece base spot (Err NoMemory) answer w = absurd (cc (w))
+times_ends asked cursor piece base spot (Ok None) answer w = let e : answer ≡ Damaged (Key spot.key) 0 = cc (w) in subst MayEnd (sym e) tt
+times_ends asked cursor piece base spot (Ok (Some bytes)) answer w = subst MayEnd (sym w.0) tt
+
+loads_ends : (wanted : Wanted) (piece : Piece) (base : ℕ) (spot : Spot) (given : Result (Option (List ℕ)) Trouble) (answer : Answer)
+    (old new : Cache) → Loads wanted piece base spot given (Ok (fetch.Ends answer)) old new → MayEnd answer
+loads_ends wanted piece base spot (Err Failed) answer old new w = let e : answer ≡ StoreFault = cc (w.0) in subst MayEnd (sym e) tt
+loads_ends wanted piece base spot (Err NoMemory) answer old new w = let no = w.0 in absurd (cc (no))
+loads_ends wanted piece base spot (Ok None) answer old new w =
+    let e : answer ≡ Damaged (Key spot.key) 0 = cc (w.0) in subst MayEnd (sym e) tt
+loads_ends wanted piece base spot (Ok (Some bytes)) answer old new w = subst MayEnd (sym w.0) tt
+
+-- by what a fetch's turn came to, of the segment's log
+searches_ends : (asked : Asked) (from : ℕ) (told answer : Answer) → fetches.MayEnd told
+    → Searches asked from (Ok (fetch.Ends told)) (Ok (Ends answer)) → MayEnd answer
+searches_ends asked from MetaFault answer may w = let e : answer ≡ MetaFault = cc (w) in subst MayEnd (sym e) tt
+searches_ends asked from StoreFault answer may w = let e : answer ≡ StoreFault = cc (w) in subst MayEnd (sym e) tt
+searches_ends asked from (Damaged place at) answer may w = let e : answer ≡ Damaged place at = cc (w) in subst MayEnd (sym e) tt
+searches_ends asked from (Run tier size stop bytes) answer may w = searched_ends asked from bytes answer w
+searches_ends asked from other answer may w = absurd may
+
+module _ {S M : Type 0} (store : StoreGhosts S) (meta : MetaGhosts M) (asked : Asked) (line : List (ℕ × ℕ)) where
+  seek_ends : (cursor : ℕ) (answer : Answer) (before after : View) (old new : M)
+      → SeekRow meta.content meta.control asked line cursor (Ok (Ends answer)) before after old new → MayEnd answer
+  seek_ends cursor MetaFault before after old new w = tt
+  seek_ends cursor answer before after old new w = seeks_ends asked line after cursor answer w.0
+
+  timed_ends : (cursor : ℕ) (piece : Piece) (view : View) (place : Option (ℕ × Spot)) (answer : Answer) (old new : S)
+      → TimesRow store.content store.control asked cursor piece view place (Ok (Ends answer)) old new → MayEnd answer
+  timed_ends cursor piece view None answer old new w = let e : answer ≡ Damaged Meta view.notes = cc (w.0) in subst MayEnd (sym e) tt
+  timed_ends cursor piece view (Some place) answer old new w = times_ends asked cursor piece place.0 place.1 w.answer answer w.times
+
+  load_ends : (wanted : Wanted) (piece : Piece) (view : View) (place : Option (ℕ × Spot)) (answer : Answer) (cache cache' : Cache)
+      (old new : S)
+      → LoadRow store.content store.control wanted piece view place (Ok (fetch.Ends answer)) cache cache' old new → MayEnd answer
+  load_ends wanted piece view None answer cache cache' old new w =
+      let e : answer ≡ Damaged Meta view.notes = cc (w.0) in subst MayEnd (sym e) tt
+  load_ends wanted piece view (Some place) answer cache cache' old new w =
+      loads_ends wanted piece place.0 place.1 w.answer answer cache cache' w.loads
+
+  cached_ends : (wanted : Wanted) (piece : Piece) (view : View) (answer : Answer) (held : Option OffsetTable) (cache cache' : Cache)
+      (old new : S)
+      → rows.IndexRow store.content store.control wanted piece view (Ok (fetch.Ends answer)) held cache cache' old new → MayEnd answer
+  cached_ends wanted piece view answer (Some index) cache cache' old new w = let e = w.0 in absurd (cc (e))
+  cached_ends wanted piece view answer None cache cache' old new w =
+      load_ends wanted piece view (spot_in wanted.partition piece.id part.Index (entry_of piece.id view.entries)) answer cache cache' old
+      new w
+
+  indexes_ends : (cursor from : ℕ) (piece : Piece) (answer : Answer) (turn : Result FetchTurn AllocError) (old new : Tiers S M)
+      → FetchRow store.content store.control meta.content meta.control (wanted_at asked from) line (fetching.Index piece) turn old new
+      → Indexes cursor piece from turn (Ok (Ends answer)) → MayEnd answer
+  indexes_ends cursor from piece answer (Ok (fetch.Goes (fetching.Log p span))) old new row k = let e = k.1 in absurd (cc (e))
+  indexes_ends cursor from piece answer (Ok (fetch.Goes next)) old new row k = absurd k
+  indexes_ends cursor from piece answer (Ok (fetch.Ends told)) old new row k =
+      let e : answer ≡ told = cc (k) in
+      subst MayEnd (sym e) (cached_ends (wanted_at asked from) piece old.view told (found piece.id.0 old.cache.pairs) old.cache new.cache
+      old.store new.store row.1)
+  indexes_ends cursor from piece answer (Err e) old new row k = absurd (let no : false ≡ true = k in cc)
+
+  logs_ends : (from : ℕ) (piece : Piece) (span : Span) (answer : Answer) (turn : Result FetchTurn AllocError) (old new : Tiers S M)
+      → FetchRow store.content store.control meta.content meta.control (wanted_at asked from) line (fetching.Log piece span) turn old new
+      → Searches asked from turn (Ok (Ends answer)) → MayEnd answer
+  logs_ends from piece span answer (Ok (fetch.Goes next)) old new row k = absurd k
+  logs_ends from piece span answer (Ok (fetch.Ends told)) old new row k =
+      searches_ends asked from told answer (fetch_ends store meta (wanted_at asked from) line (fetching.Log piece span) told old new row) k
+  logs_ends from piece span answer (Err e) old new row k = absurd (let no : false ≡ true = k in cc)
+
+  index_ends : (cursor from : ℕ) (piece : Piece) (answer : Answer) (old new : Tiers S M)
+      → IndexRow store.content store.control meta.content meta.control asked line cursor piece from (Ok (Ends answer)) old new
+      → MayEnd answer
+  index_ends cursor from piece answer old new (inl (low, is, same)) = absurd (cc (is))
+  index_ends cursor from piece answer old new (inr (high, (came, row, k))) = indexes_ends cursor from piece answer came old new row k
+
+  log_ends : (from : ℕ) (piece : Piece) (span : Span) (answer : Answer) (old new : Tiers S M)
+      → LogRow store.content store.control meta.content meta.control asked line piece from span (Ok (Ends answer)) old new → MayEnd answer
+  log_ends from piece span answer old new (inl (low, is, same)) = absurd (cc (is))
+  log_ends from piece span answer old new (inr (high, (came, row, k))) = logs_ends from piece span answer came old new row k
+
+  -- what a turn among the remote segments is answered
+  pub date_ends : (cursor : ℕ) (next : Next) (answer : Answer) (old new : Tiers S M)
+      → TimeRow store.content store.control meta.content meta.control asked line cursor next (Ok (Ends answer)) old new → MayEnd answer
+  date_ends cursor Seek answer old new w = seek_ends cursor answer old.view new.view old.meta new.meta w.1
+  date_ends cursor (ReadsTimes piece) answer old new w =
+      timed_ends cursor piece old.view (spot_in asked.partition piece.id part.TimeIndex (entry_of piece.id old.view.entries)) answer
+      old.store new.store w.1
+  date_ends cursor (Index piece from) answer old new w = index_ends cursor from piece answer old new w
+  date_ends cursor (Log piece from span) answer old new w = log_ends from piece span answer old new w
+
+  same_store : (old new : S) → new ≡ old → StoreStays store meta old new
+  same_store old new is = record {
+    tells = ap (λ (s : S). (store.content s).tells) is;
+    objects = ap (λ (s : S). (store.content s).objects) is;
+  }
+
+  times_stays : (cursor : ℕ) (piece : Piece) (view : View) (place : Option (ℕ × Spot)) (result : Result TimeTurn AllocError) (old new : S)
+      → TimesRow store.content store.control asked cursor piece view place result old new → StoreStays store meta old new
+  times_stays cursor piece view None result old new w = same_store old new w.1
+  times_stays cursor piece view (Some place) result old new w = record {
+    tells = w.gets.content.tells;
+    objects = fun_ext (λ k. w.gets.content.objects k);
+  }
+
+  seek_tells : (cursor : ℕ) (turn : TimeTurn) (before after : View) (old new : M)
+      → SeekRow meta.content meta.control asked line cursor (Ok turn) before after old new
+      → (meta.content new).tells ≡ (meta.content old).tells
+  seek_tells cursor (Ends MetaFault) before after old new w = w.content.tells
+  seek_tells cursor turn before after old new w = w.1.content.tells
+
+  same_tells : (old new : Tiers S M) → new ≡ old → TellsOn store meta old.store old.meta new.store new.meta
+  same_tells old new is = (ap (λ (t : Tiers S M). (store.content t.store).tells) is, ap (λ (t : Tiers S M). (meta.content t.meta).tells) is)
+
+  indexes_tell : (cursor from : ℕ) (piece : Piece) (turn : TimeTurn) (came : Result FetchTurn AllocError) (old new : Tiers S M)
+      → FetchRow store.content store.control meta.content meta.control (wanted_at asked from) line (fetching.Index piece) came old new
+      → Indexes cursor piece from came (Ok turn) → TellsOn store meta old.store old.meta new.store new.meta
+  indexes_tell cursor from piece turn (Ok came) old new row k =
+      fetch_tells store meta (wanted_at asked from) line (fetching.Index piece) came old new row
+  indexes_tell cursor from piece turn (Err e) old new row k = absurd (let no : false ≡ true = k in cc)
+
+  logs_tell : (from : ℕ) (piece : Piece) (span : Span) (turn : TimeTurn) (came : Result FetchTurn AllocError) (old new : Tiers S M)
+      → FetchRow store.content store.control meta.content meta.control (wanted_at asked from) line (fetching.Log piece span) came old new
+      → Searches asked from came (Ok turn) → TellsOn store meta old.store old.meta new.store new.meta
+  logs_tell from piece span turn (Ok came) old new row k =
+      fetch_tells store meta (wanted_at asked from) line (fetching.Log piece span) came old new row
+  logs_tell from piece span turn (Err e) old new row k = absurd (let no : false ≡ true = k in cc)
+
+  index_tells : (cursor from : ℕ) (piece : Piece) (turn : TimeTurn) (old new : Tiers S M)
+      → IndexRow store.content store.control meta.content meta.control asked line cursor piece from (Ok turn) old new
+      → TellsOn store meta old.store old.meta new.store new.meta
+  index_tells cursor from piece turn old new (inl (low, is, same)) = same_tells old new same
+  index_tells cursor from piece turn old new (inr (high, (came, row, k))) = indexes_tell cursor from piece turn came old new row k
+
+  log_tells : (from : ℕ) (piece : Piece) (span : Span) (turn : TimeTurn) (old new : Tiers S M)
+      → LogRow store.content store.control meta.content meta.control asked line piece from span (Ok turn) old new
+      → TellsOn store meta old.store old.meta new.store new.meta
+  log_tells from piece span turn old new (inl (low, is, same)) = same_tells old new same
+  log_tells from piece span turn old new (inr (high, (came, row, k))) = logs_tell from piece span turn came old new row k
+
+  -- the devices tell as they did
+  pub date_tells : (cursor : ℕ) (next : Next) (turn : TimeTurn) (old new : Tiers S M)
+      → TimeRow store.content store.control meta.content meta.control asked line cursor next (Ok turn) old new
+      → TellsOn store meta old.store old.meta new.store new.meta
+  date_tells cursor Seek turn old new w =
+      (ap (λ (t : Tiers S M). (store.content t.store).tells) w.0, seek_tells cursor turn old.view new.view old.meta new.meta w.1)
+  date_tells cursor (ReadsTimes piece) turn old new w =
+      let stays = times_stays cursor piece old.view (spot_in asked.partition piece.id part.TimeIndex (entry_of piece.id old.view.entries))
+      (Ok turn) old.store new.store w.1 in
+      (stays.tells, ap (λ (t : Tiers S M). (meta.content t.meta).tells) w.0)
+  date_tells cursor (Index piece from) turn old new w = index_tells cursor from piece turn old new w
+  date_tells cursor (Log piece from span) turn old new w = log_tells from piece span turn old new w
+
+  indexes_dry : (cursor from : ℕ) (piece : Piece) (e : AllocError) (came : Result FetchTurn AllocError) (old new : Tiers S M)
+      → FetchRow store.content store.control meta.content meta.control (wanted_at asked from) line (fetching.Index piece) came old new
+      → Indexes cursor piece from came (Err e) → Dries store meta old new
+  indexes_dry cursor from piece e (Ok (fetch.Goes (fetching.Log p span))) old new row k = let is = k.1 in absurd (cc (is))
+  indexes_dry cursor from piece e (Ok (fetch.Goes next)) old new row k = absurd k
+  indexes_dry cursor from piece e (Ok (fetch.Ends told)) old new row k = absurd (cc (k))
+  indexes_dry cursor from piece e (Err why) old new row k =
+      fetch_dry store meta (wanted_at asked from) line (fetching.Index piece) why old new row
+
+  logs_dry : (from : ℕ) (piece : Piece) (span : Span) (e : AllocError) (came : Result FetchTurn AllocError) (old new : Tiers S M)
+      → FetchRow store.content store.control meta.content meta.control (wanted_at asked from) line (fetching.Log piece span) came old new
+      → Searches asked from came (Err e) → Dries store meta old new
+  logs_dry from piece span e (Ok (fetch.Goes next)) old new row k = absurd k
+  logs_dry from piece span e (Ok (fetch.Ends (Run tier size stop bytes))) old new row k = absurd k
+  logs_dry from piece span e (Ok (fetch.Ends told)) old new row k = absurd (cc (k))
+  logs_dry from piece span e (Err why) old new row k =
+      fetch_dry store meta (wanted_at asked from) line (fetching.Log piece span) why old new row
+
+  index_dry : (cursor from : ℕ) (piece : Piece) (e : AllocError) (old new : Tiers S M)
+      → IndexRow store.content store.control meta.content meta.control asked line cursor piece from (Err e) old new
+      → Dries store meta old new
+  index_dry cursor from piece e old new (inl (low, is, same)) = absurd (cc (is))
+  index_dry cursor from piece e old new (inr (high, (came, row, k))) = indexes_dry cursor from piece e came old new row k
+
+  log_dry : (from : ℕ) (piece : Piece) (span : Span) (e : AllocError) (old new : Tiers S M)
+      → LogRow store.content store.control meta.content meta.control asked line piece from span (Err e) old new → Dries store meta old new
+  log_dry from piece span e old new (inl (low, is, same)) = absurd (cc (is))
+  log_dry from piece span e old new (inr (high, (came, row, k))) = logs_dry from piece span e came old new row k
+
+  -- what one leaves that wanted memory
+  pub date_dry : (cursor : ℕ) (next : Next) (e : AllocError) (old new : Tiers S M)
+      → TimeRow store.content store.control meta.content meta.control asked line cursor next (Err e) old new → Dries store meta old new
+  date_dry cursor Seek e old new w = record {
+    store_stays = same_store old.store new.store (ap (λ (t : Tiers S M). t.store) w.0);
+    cache = ap (λ (t : Tiers S M). t.cache) w.0;
+    why = inl w.1;
+  }
+  date_dry cursor (ReadsTimes piece) e old new w = record {
+    store_stays = times_stays cursor piece old.view (spot_in asked.partition piece.id part.TimeIndex (entry_of piece.id old.view.entries))
+        (Err e) old.store new.store w.1;
+    cache = ap (λ (t : Tiers S M). t.cache) w.0;
+    why = inr (ap (λ (t : Tiers S M). t.view) w.0, ap (λ (t : Tiers S M). t.meta) w.0);
+  }
+  date_dry cursor (Index piece from) e old new w = index_dry cursor from piece e old new w
+  date_dry cursor (Log piece from span) e old new w = log_dry from piece span e old new w
+
+module _ {D : Type 0} (disk : DiskGhosts D) where
+  read_ends : (old : Kept D) (asked : Asked) (at : ℕ) (answer : Answer) (new : Kept D)
+      → ReadRow disk.content disk.control old asked at (Ends answer) new → MayEndOwn answer
+  read_ends old asked at DiskFault new w = tt
+  read_ends old asked at (Damaged (File name) place) new w = tt
+  read_ends old asked at answer new w = own_searched asked at w.out.bytes answer w.searched
+    where
+      own_searched : (asked : Asked) (from : ℕ) (run : List ℕ) (answer : Answer) → IsSearched asked from run (Ends answer)
+          → MayEndOwn answer
+      own_searched asked from run (Offset n) w = tt
+      own_searched asked from run answer w = elim w [ ]
+
+  -- what a turn in the local log is answered
+  pub own_ends : (old : Kept D) (asked : Asked) (cursor : ℕ) (answer : Answer) (new : Kept D)
+      → OwnRow disk.content disk.control old asked cursor (Ends answer) new → MayEndOwn answer
+  own_ends old asked cursor answer new (inl (low, is, same)) = absurd (cc (is))
+  own_ends old asked cursor answer new (inr (high, row)) = read_ends old asked (passed_over asked.ts cursor (closed_in old)) answer new row

@@ -1,0 +1,108 @@
+-- A later turn of a search by timestamp is its row.
+use Rattle.std.proofs.Common.{◌≡◌, ◌⊎◌, inl, inr, sym, subst, ℕ, ◌<◌, Option, Some, None, Bool, true, false, slice_get}
+use Rattle.std.specs.Prelude.{◌^◌, ℤ, IsSomeAnd}
+use Rattle.tier_base.specs.declared.names.PartitionId.{PartitionId}
+use Rattle.disk_model.specs.declared.disk.Disk.{Ghosts as DiskGhosts}
+use Rattle.object_store.specs.declared.store.Store.{Ghosts as StoreGhosts}
+use Rattle.meta_log.specs.declared.log.MetaLog.{Ghosts as MetaGhosts}
+use Rattle.time_find.specs.declared.turn.Asked.{Asked}
+use Rattle.time_find.specs.declared.turn.Next.{Next}
+use Rattle.time_find.specs.declared.turn.TimeTurn.{TimeTurn}
+use Rattle.time_find.specs.declared.turn.TimeTurn.TheVariants.{Goes, Ends}
+use Rattle.time_find.specs.Turns.{GoesOn}
+use Rattle.plain_log.specs.declared.answer.Answer.{Answer}
+use Rattle.plain_log.specs.declared.answer.Place.TheVariants.{File}
+use Rattle.plain_log.specs.declared.answer.Answer.TheVariants.{MetaFault, StoreFault, DiskFault, Damaged, Offset}
+use Rattle.partition_seen.specs.declared.begun.Begun.{Begun}
+use Rattle.partition_turns.specs.declared.held.Node.{Node}
+use Rattle.partition_turns.specs.declared.held.Held.{Held}
+use Rattle.partition_turns.specs.Held.{AtNode, line_of, local_of}
+use Rattle.partition_world.specs.declared.tier.Side.{Side}
+use Rattle.partition_world.specs.declared.tier.Tier.{Tier}
+use Rattle.partition_world.specs.declared.seat.Outcome.TheVariants.{Answers}
+use Rattle.partition_world.specs.Tier.{AtSide}
+use Rattle.partition_world.specs.Seats.{date_outcome}
+use Rattle.partition_world.specs.TurnsOfCopy.{KeepsLead}
+use Rattle.partition_world.specs.TurnsOfDate.{resumed_at, resumed_with, is_own, asked_of, SearchRow, Searches, DateOnRow}
+use Rattle.partition_world.proofs.DateEnds.{MayEnd, MayEndOwn, date_ends, own_ends}
+
+-- a fact of what is there implies another
+some_more : {A : Type 0} (P Q : A → Type 0) (o : Option A) → ((x : A) → P x → Q x) → IsSomeAnd o P → IsSomeAnd o Q
+some_more P Q None f h = h
+some_more P Q (Some x) f h = f x h
+
+module _ {D S M : Type 0} (disk : DiskGhosts D) (store : StoreGhosts S) (meta : MetaGhosts M) where
+  -- what a turn is answered, in the local log or not
+  answers_of : (h : Held D) (t : Tier S M) (b : ℕ) (x : Node D) (side : Side) (asked : Asked) (cursor : ℕ) (next : Next) (own : Bool)
+      (answer : Answer) (h' : Held D) (t' : Tier S M) → SearchRow disk store meta h t b x side asked cursor next own (Ends answer) h' t'
+      → MayEnd answer ⊎ MayEndOwn answer
+  answers_of h t b x side asked cursor next true answer h' t' w = inr (own_ends disk x.log asked cursor answer w.0.kept w.0.row)
+  answers_of h t b x side asked cursor next false answer h' t' w =
+      inl (date_ends store meta asked (line_of x) cursor next answer _ _ w.0.row)
+
+module _ {D S M : Type 0} (disk : DiskGhosts D) (store : StoreGhosts S) (meta : MetaGhosts M) (p : PartitionId) (h : Held D)
+    (t : Tier S M) (b : ℕ) (x : Node D) (side : Side) (g : Begun) (ts : ℤ) (cursor : ℕ) (next : Next) (h' : Held D) (t' : Tier S M) where
+  ends_row : (answer : Answer) → MayEnd answer → Searches disk store meta p h t b x side g ts cursor next (Ends answer) h' t'
+      → DateOnRow disk store meta p h t b x side g ts cursor next (Answers answer) h' t'
+  ends_row MetaFault may w = w
+  ends_row StoreFault may w = w
+  ends_row (Damaged place at) may w = w
+  ends_row (Offset n) may w = w
+  ends_row other may w = absurd may
+
+  own_row : (answer : Answer) → MayEndOwn answer → Searches disk store meta p h t b x side g ts cursor next (Ends answer) h' t'
+      → DateOnRow disk store meta p h t b x side g ts cursor next (Answers answer) h' t'
+  own_row DiskFault may w = w
+  own_row (Damaged (File name) at) may w = w
+  own_row (Offset n) may w = w
+  own_row other may w = absurd may
+
+  either_row : (answer : Answer) → MayEnd answer ⊎ MayEndOwn answer
+      → Searches disk store meta p h t b x side g ts cursor next (Ends answer) h' t'
+      → DateOnRow disk store meta p h t b x side g ts cursor next (Answers answer) h' t'
+  either_row answer (inl may) w = ends_row answer may w
+  either_row answer (inr may) w = own_row answer may w
+
+  goes_row : (turn : TimeTurn) → Searches disk store meta p h t b x side g ts cursor next turn h' t'
+      → GoesOn (resumed_at h.registry.start cursor) turn
+      → DateOnRow disk store meta p h t b x side g ts cursor next (date_outcome turn) h' t'
+  goes_row (Goes at later) w goes = (w, goes)
+  goes_row (Ends answer) w goes =
+      let start = h.registry.start in
+      let own = is_own (local_of x) (resumed_at start cursor) (resumed_with start cursor next) in
+      either_row answer (answers_of disk store meta h t b x side (asked_of p h x ts) (resumed_at start cursor)
+      (resumed_with start cursor next) own answer h' t' w.row) w
+
+module _ {D S M : Type 0} (disk : DiskGhosts D) (store : StoreGhosts S) (meta : MetaGhosts M) (p : PartitionId) (h : Held D)
+    (t : Tier S M) (b : ℕ) (x : Node D) (g : Begun) (ts : ℤ) (cursor : ℕ) (next : Next) (h' : Held D) (t' : Tier S M) where
+  -- the row of a turn that searches, of the broker that is read
+  abbrev pub RowAt : Asked → ℕ → Next → TimeTurn → Type 0
+  RowAt asked at with_next turn = AtNode h b (λ y. AtSide t b (λ side.
+      SearchRow disk store meta h t b y side asked at with_next (is_own asked.local at with_next) turn h' t'))
+
+  searched : (turn : TimeTurn) → KeepsLead x g → resumed_at h.registry.start cursor < x.known → resumed_at h.registry.start cursor < 2 ^ 64
+      → GoesOn (resumed_at h.registry.start cursor) turn
+      → AtSide t b (λ side. SearchRow disk store meta h t b x side (asked_of p h x ts) (resumed_at h.registry.start cursor)
+      (resumed_with h.registry.start cursor next)
+      (is_own (local_of x) (resumed_at h.registry.start cursor) (resumed_with h.registry.start cursor next)) turn h' t')
+      → AtSide t b (λ side. DateOnRow disk store meta p h t b x side g ts cursor next (date_outcome turn) h' t')
+  searched turn keeps below fits goes row =
+      some_more _ (λ side. DateOnRow disk store meta p h t b x side g ts cursor next (date_outcome turn) h' t') (slice_get t.sides b)
+      (λ side w.
+      goes_row disk store meta p h t b x side g ts cursor next h' t' turn (record { keeps = keeps; below = below; fits = fits; row = w }) goes) row
+
+  -- of one that searches
+  pub date_row : (asked : Asked) (at : ℕ) (with_next : Next) (turn : TimeTurn) → slice_get h.nodes b ≡ Some x → KeepsLead x g
+      → at ≡ resumed_at h.registry.start cursor → with_next ≡ resumed_with h.registry.start cursor next → asked ≡ asked_of p h x ts
+      → at < x.known → at < 2 ^ 64 → GoesOn at turn → RowAt asked at with_next turn
+      → AtNode h b (λ y. AtSide t b (λ side. DateOnRow disk store meta p h t b y side g ts cursor next (date_outcome turn) h' t'))
+  date_row asked at with_next turn is keeps at_is with_is asked_is below fits goes row =
+      subst (λ (o : Option (Node D)). IsSomeAnd o (λ y. AtSide t b (λ side.
+      DateOnRow disk store meta p h t b y side g ts cursor next (date_outcome turn) h' t'))) (sym is)
+      (searched turn keeps (subst (λ (n : ℕ). n < x.known) at_is below) (subst (λ (n : ℕ). n < 2 ^ 64) at_is fits) (subst (λ (n : ℕ). GoesOn n turn) at_is goes)
+      (subst (λ (o : Option (Node D)). IsSomeAnd o (λ y. AtSide t b (λ side. SearchRow disk store meta h t b y side (asked_of p h x ts)
+      (resumed_at h.registry.start cursor) (resumed_with h.registry.start cursor next)
+      (is_own (local_of x) (resumed_at h.registry.start cursor) (resumed_with h.registry.start cursor next)) turn h' t'))) is
+      (subst (λ (n : Next). RowAt (asked_of p h x ts) (resumed_at h.registry.start cursor) n turn) with_is
+      (subst (λ (n : ℕ). RowAt (asked_of p h x ts) n with_next turn) at_is
+      (subst (λ (a : Asked). RowAt a at with_next turn) asked_is row)))))

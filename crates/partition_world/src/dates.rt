@@ -1,0 +1,209 @@
+//! The turns of a search by timestamp, behind its first one.
+//!
+//! Each makes its tests anew, since a stop, an election or a raise of the log start may have come between: the broker hasn't
+//! stopped and leads the epoch that it led, the cursor isn't below the log start, and it is below the known mark.
+
+ghost use Rattle.std.specs.Prelude.{◌≡◌, ◌<◌, ◌≤◌, ◌^◌, length, true, false, None, IfOk, IfSome, OnErr};
+ghost use Rattle.broker_log.specs.Seen.{line_in};
+ghost use Rattle.time_find.specs.Turns.{IsSet, IsBelow, GoesOn};
+ghost use Rattle.partition_turns.specs.Held.{AtNode, StaysHeld, is_up, line_of, local_of};
+ghost use Rattle.partition_world.specs.Tier.{AtSide};
+ghost use Rattle.partition_world.specs.Turns.{StaysTier};
+ghost use Rattle.partition_world.specs.TurnsOfCopy.{KeepsLead};
+ghost use Rattle.partition_world.specs.TurnsOfDate.{resumed_at, resumed_with, is_own, asked_of, AnswersAtOnce, SearchesOwn, SearchesRemote, WantsForDate, SearchRow, DateOnRow};
+
+use crate::seat::{Outcome, date_outcome};
+use crate::tier::Tier;
+use disk_model::Disk;
+use epoch_line::Line;
+use meta_log::MetaLog;
+use object_store::Store;
+use partition_seen::Begun;
+use partition_turns::{Held, Node};
+use plain_log::Answer;
+use std::alloc::{AllocError, Global};
+use tier_base::{BrokerId, PartitionId};
+use time_find::{Asked, Next, TimeTurn, own_turn, time_turn};
+
+/// What a search is answered before it reads, where its broker has stopped or no longer leads as it did, or all that is
+/// committed has been searched.
+fn answer_of<D: Disk>(node: &Node<D>, noted: &Begun, at: u64) -> Option<Answer>
+    ensures some { IfSome result (AnswersAtOnce node.now noted.now at) }
+    ensures keeps { result ≡ None → KeepsLead node.now noted.now }
+    ensures below { result ≡ None → at < node.now.known }
+{
+    if noted.stops != node.stops || !node.is_up() {
+        return Some(Answer::Stopped);
+    }
+    if noted.role != node.role {
+        return Some(Answer::NotLeader);
+    }
+    if at >= node.known {
+        return Some(Answer::NoOffset);
+    }
+    None
+}
+
+/// Where a search goes on.
+fn resumed_at(start: u64, cursor: u64) -> u64
+    ensures is { result ≡ resumed_at start cursor }
+    ensures fits { result < 2 ^ 64 }
+{
+    start.max(cursor)
+}
+
+/// What a search goes on with.
+#[tactic(auto, using(crate::proofs::DateRows::set_at))]
+fn resumed_with(start: u64, cursor: u64, next: Next) -> Next
+    requires { IsSet cursor next }
+    ensures is { result ≡ resumed_with start cursor next }
+    ensures holds { IsSet (resumed_at start cursor) result }
+{
+    if cursor < start { Next::Seek } else { next }
+}
+
+/// What a search asks for at this turn.
+fn asked_of<D: Disk>(partition: PartitionId, held: &Held<D>, node: &Node<D>, ts: i64) -> Asked
+    requires { is_up node.now ≡ true }
+    ensures { result ≡ asked_of partition held.now node.now ts }
+{
+    let Some(local) = node.log.local_start() else {
+        unreachable!()
+    };
+    Asked {
+        partition,
+        ts,
+        start: held.registry.start,
+        local,
+        log_end: node.end(),
+        mark: node.known,
+    }
+}
+
+/// Whether the turn is one in the local log.
+fn is_own(asked: &Asked, cursor: u64, next: &Next) -> bool
+    ensures is { result ≡ is_own asked.now.local cursor next.now }
+    ensures own { result ≡ true → asked.now.local ≤ cursor }
+    ensures remote { result ≡ false → IsBelow asked.now cursor next.now }
+{
+    match next {
+        Next::Seek => asked.local <= cursor,
+        _ => false,
+    }
+}
+
+/// Takes a turn of a search in a broker's local log.
+fn search_own<D: Disk>(
+    held: &mut Held<D>,
+    b: usize,
+    asked: &Asked,
+    cursor: u64,
+) -> Result<TimeTurn, AllocError>
+    requires up { AtNode held.old b (λ x. is_up x ≡ true) }
+    requires local { AtNode held.old b (λ x. local_of x ≤ cursor) }
+    requires mark { cursor < asked.now.mark }
+    ensures row { IfOk result (λ turn. AtNode held.old b (λ x. SearchesOwn D.Disk held.old b x asked.now cursor turn held.new)) }
+    ensures goes { IfOk result (GoesOn cursor) }
+    ensures err { OnErr result (StaysHeld D.content D.control held.old held.new) }
+{
+    own_turn(&mut held.nodes.at_mut(b).log, asked, cursor)
+}
+
+impl<S: Store, M: MetaLog> Tier<S, M> {
+    /// Takes a turn of a search among the remote segments.
+    fn search_remote(
+        &mut self,
+        alloc: Global,
+        b: usize,
+        line: &Line,
+        asked: &Asked,
+        cursor: u64,
+        next: Next,
+    ) -> Result<TimeTurn, AllocError>
+        requires side { b < length self.old.sides }
+        requires mark { cursor < asked.now.mark }
+        requires remote { IsBelow asked.now cursor next }
+        requires holds { IsSet cursor next }
+        ensures row { IfOk result (λ turn. AtSide self.old b (λ side.
+            SearchesRemote S.Store M.MetaLog self.old b side line.now asked.now cursor next turn self.new)) }
+        ensures goes { IfOk result (GoesOn cursor) }
+        ensures err { OnErr result (AtSide self.old b (λ side.
+            WantsForDate S.Store M.MetaLog self.old b side line.now asked.now cursor next self.new)) }
+    {
+        let side = self.sides.at_mut(b);
+        time_turn(
+            alloc,
+            asked,
+            cursor,
+            next,
+            line,
+            &mut side.view,
+            &mut side.cache,
+            &mut self.store,
+            &mut self.meta,
+        )
+    }
+
+    /// Takes a turn of a search from a cursor on.
+    #[tactic(auto, using(crate::proofs::DateRows::own_row, crate::proofs::DateRows::remote_row, crate::proofs::DateRows::remote_stays))]
+    fn search<D: Disk>(
+        &mut self,
+        alloc: Global,
+        b: usize,
+        asked: &Asked,
+        cursor: u64,
+        next: &Next,
+        held: &mut Held<D>,
+    ) -> Result<TimeTurn, AllocError>
+        requires node { AtNode held.old b (λ x. is_up x ≡ true) }
+        requires local { AtNode held.old b (λ x. local_of x ≡ asked.now.local) }
+        requires side { b < length self.old.sides }
+        requires mark { cursor < asked.now.mark }
+        requires holds { IsSet cursor next.now }
+        ensures row { IfOk result (λ turn. AtNode held.old b (λ x. AtSide self.old b (λ side.
+            SearchRow D.Disk S.Store M.MetaLog held.old self.old b x side asked.now cursor next.now
+            (is_own asked.now.local cursor next.now) turn held.new self.new))) }
+        ensures goes { IfOk result (GoesOn cursor) }
+        ensures err { OnErr result (StaysTier D.Disk S.Store M.MetaLog held.old self.old b held.new self.new) }
+    {
+        if is_own(asked, cursor, next) {
+            return search_own(held, b, asked, cursor);
+        }
+        let Some(line) = held.nodes.get(b).log.line() else {
+            unreachable!()
+        };
+        self.search_remote(alloc, b, line, asked, cursor, *next)
+    }
+
+    /// Takes a later turn of a search by timestamp, which has come to a cursor.
+    pub(crate) fn date_on<D: Disk>(
+        &mut self,
+        alloc: Global,
+        partition: PartitionId,
+        broker: BrokerId,
+        noted: &Begun,
+        ts: i64,
+        cursor: u64,
+        next: Next,
+        held: &mut Held<D>,
+    ) -> Result<Outcome, AllocError>
+        requires node { broker.0 < length held.old.nodes }
+        requires side { broker.0 < length self.old.sides }
+        requires holds { IsSet cursor next }
+        ensures row { IfOk result (λ outcome. AtNode held.old broker.0 (λ x. AtSide self.old broker.0 (λ side.
+            DateOnRow D.Disk S.Store M.MetaLog partition held.old self.old broker.0 x side noted.now ts cursor next outcome held.new self.new))) }
+        ensures err { OnErr result (StaysTier D.Disk S.Store M.MetaLog held.old self.old broker.0 held.new self.new) }
+    {
+        let b = broker.0 as usize;
+        let node = held.nodes.get(b);
+        let start = held.registry.start;
+        let at = resumed_at(start, cursor);
+        if let Some(answer) = answer_of(node, noted, at) {
+            return Ok(Outcome::Answers(answer));
+        }
+        let asked = asked_of(partition, held, node, ts);
+        let later = resumed_with(start, cursor, next);
+        let turn = self.search(alloc, b, &asked, at, &later, held)?;
+        Ok(date_outcome(turn))
+    }
+}
