@@ -14,11 +14,12 @@ use Rattle.rebuild_task.specs.declared.turn.Next.{Next as Rebuild}
 use Rattle.rebuild_task.specs.declared.turn.Next.TheVariants.{Epochs, Restart}
 use Rattle.tier_fetch.specs.declared.turn.Next.{Next as Search}
 use Rattle.tier_fetch.specs.declared.turn.Next.TheVariants.{Refresh, Index, Log}
+use Rattle.time_find.specs.declared.turn.Next.{Next as Dating}
 use Rattle.plain_log.specs.declared.answer.Answer.{Answer}
 use Rattle.plain_log.specs.declared.command.ActorList.{ActorList}
 use Rattle.plain_log.specs.declared.command.Command.{Command}
 use Rattle.plain_log.specs.declared.command.Command.TheVariants.{Copy, Expire, Fetch, Join, Trim, Follow, Offset}
-use Rattle.plain_log.specs.declared.command.Which.TheVariants.{LatestTiered}
+use Rattle.plain_log.specs.declared.command.Which.TheVariants.{LatestTiered, At}
 use Rattle.plain_log.specs.declared.command.Order.{Order}
 use Rattle.plain_log.specs.declared.journal.Event.TheVariants as event
 use Rattle.plain_log.specs.declared.journal.JournalEntry.{JournalEntry}
@@ -31,12 +32,12 @@ use Rattle.partition_world.specs.declared.seat.Outcome.{Outcome}
 use Rattle.partition_world.specs.declared.seat.Outcome.TheVariants.{Answers}
 use Rattle.partition_world.specs.declared.seat.Seat.{Seat}
 use Rattle.partition_world.specs.declared.seat.Work.{Work}
-use Rattle.partition_world.specs.declared.seat.Work.TheVariants.{Idle, Noted, Copies, Seeks, Expires, Rebuilds}
+use Rattle.partition_world.specs.declared.seat.Work.TheVariants.{Idle, Noted, Copies, Seeks, Dates, Expires, Rebuilds}
 use Rattle.partition_world.specs.Reaches.{Goes as GoesOnce}
 use Rattle.partition_world.specs.Seats.{seat_after, told_of, IsUnanswered}
 use Rattle.partition_world.specs.Turn.{IsNext, IsTurn}
 use Rattle.partition_world.specs.Whole.{Whole}
-use Rattle.command_answers.specs.Turns.{copying_left, deleting_left, seeking_left, rebuilding_left, turns_of, second_left, turns_left}
+use Rattle.command_answers.specs.Turns.{copying_left, deleting_left, seeking_left, dating_left, rebuilding_left, turns_of, second_left, turns_left}
 use Rattle.command_answers.specs.Chains.{times, IsAnswered, Runs}
 use Rattle.command_answers.proofs.Progress.{go_on, others_stay}
 
@@ -58,6 +59,9 @@ some_seeking Refresh = omega arith
 some_seeking (Index piece) = omega arith
 some_seeking (Log piece span) = omega arith
 
+some_dating : (cursor : ℕ) (next : Dating) → 1 ≤ dating_left cursor next
+some_dating cursor next = omega arith
+
 some_rebuilding : (next : Rebuild) → 1 ≤ rebuilding_left next
 some_rebuilding Epochs = omega arith
 some_rebuilding (Restart line) = omega arith
@@ -70,6 +74,7 @@ some_first Join = omega arith
 some_first Trim = omega arith
 some_first (Follow limit) = omega arith
 some_first (Offset LatestTiered) = omega arith
+some_first (Offset (At ts)) = omega arith
 some_first other = omega arith
 
 some_second : (command : Command) → 1 ≤ second_left command
@@ -77,6 +82,7 @@ some_second Copy = omega arith
 some_second Expire = omega arith
 some_second (Fetch offset limit) = omega arith
 some_second Join = omega arith
+some_second (Offset (At ts)) = omega arith
 some_second other = omega arith
 
 some_left : (command : Command) (work : Work) → 1 ≤ turns_left command work
@@ -84,6 +90,7 @@ some_left command Idle = some_first command
 some_left command (Noted g) = some_second command
 some_left command (Copies g copy next) = some_copying next
 some_left command (Seeks g next) = some_seeking next
+some_left command (Dates g cursor next) = some_dating cursor next
 some_left command (Expires g doomed next) = some_deleting next
 some_left command (Rebuilds g next) = some_rebuilding next
 

@@ -22,13 +22,13 @@ use Rattle.partition_turns.specs.Calm.{HasNoFault, AreFaultless}
 use Rattle.tier_safe.proofs.Basics.{one_some}
 use Rattle.partition_world.specs.declared.tier.Side.{Side}
 use Rattle.partition_world.specs.declared.seat.Outcome.{Outcome}
-use Rattle.partition_world.specs.declared.seat.Outcome.TheVariants.{Answers, Begins, Chose, Goes, Seeks as Sought, Dooms, Deletes, Rebuilds as Rebuilding}
+use Rattle.partition_world.specs.declared.seat.Outcome.TheVariants.{Answers, Begins, Chose, Goes, Seeks as Sought, Dates as Dated, Dooms, Deletes, Rebuilds as Rebuilding}
 use Rattle.partition_world.specs.declared.seat.Seat.{Seat}
 use Rattle.partition_world.specs.declared.seat.Work.{Work}
-use Rattle.partition_world.specs.declared.seat.Work.TheVariants.{Idle, Noted, Copies, Seeks, Expires, Rebuilds}
+use Rattle.partition_world.specs.declared.seat.Work.TheVariants.{Idle, Noted, Copies, Seeks, Dates, Expires, Rebuilds}
 use Rattle.partition_world.specs.Calm.{IsUnfailing}
 use Rattle.partition_world.specs.Central.{IsCentral}
-use Rattle.partition_world.specs.Seats.{chosen, moved, sought, doomed, deleting, rebuilding, seat_after, IsUnanswered}
+use Rattle.partition_world.specs.Seats.{chosen, moved, sought, dated, doomed, deleting, rebuilding, seat_after, IsUnanswered}
 use Rattle.partition_world.specs.Tier.{AtSide}
 use Rattle.partition_world.specs.Turn.{IsNext, IsTurn}
 use Rattle.partition_world.specs.Whole.{Whole}
@@ -60,6 +60,7 @@ module _ {D S M : Type 0} (disk : DiskGhosts D) (store : StoreGhosts S) (meta : 
   copied_so (Noted g) answer is = is
   copied_so (Copies g copy next) answer is = (copy.id, copy.segment.base, copy.segment.last, is)
   copied_so (Seeks g next) answer is = is
+  copied_so (Dates g cursor next) answer is = is
   copied_so (Expires g segment next) answer is = is
   copied_so (Rebuilds g next) answer is = is
 
@@ -99,6 +100,7 @@ module _ {D S M : Type 0} (disk : DiskGhosts D) (store : StoreGhosts S) (meta : 
   any_copied w b x side (Noted g) answer w' cause may clear = second_copied w b x side g answer w' cause may clear
   any_copied w b x side (Copies g copy next) answer w' cause may clear = later_copied w b x side g copy next answer w' cause may clear
   any_copied w b x side (Seeks g next) answer w' cause may clear = absurd cause
+  any_copied w b x side (Dates g cursor next) answer w' cause may clear = absurd cause
   any_copied w b x side (Expires g segment next) answer w' cause may clear = absurd cause
   any_copied w b x side (Rebuilds g next) answer w' cause may clear = absurd cause
 
@@ -169,6 +171,7 @@ module _ {D S M : Type 0} (disk : DiskGhosts D) (store : StoreGhosts S) (meta : 
   still_of g copy v b (Chose k) u t un of = (of.0, ap (λ (work : Work). chosen work k) of.1)
   still_of g copy v b (Goes next) u t un of = (next, ap (λ (work : Work). moved work next) of.1)
   still_of g copy v b (Sought next) u t un of = (of.0, ap (λ (work : Work). sought work next) of.1)
+  still_of g copy v b (Dated cursor next) u t un of = (of.0, ap (λ (work : Work). dated work cursor next) of.1)
   still_of g copy v b (Dooms segment) u t un of = (of.0, ap (λ (work : Work). doomed work segment) of.1)
   still_of g copy v b (Deletes next) u t un of = (of.0, ap (λ (work : Work). deleting work next) of.1)
   still_of g copy v b (Rebuilding next) u t un of = (of.0, ap (λ (work : Work). rebuilding work next) of.1)

@@ -37,7 +37,7 @@ use Rattle.tier_safe.specs.Turns.{Shows}
 use Rattle.tier_safe.proofs.Turning.{refreshes}
 use Rattle.partition_world.specs.declared.seat.Outcome.TheVariants.{Answers, Begins}
 use Rattle.partition_world.specs.declared.seat.Work.{Work}
-use Rattle.partition_world.specs.declared.seat.Work.TheVariants.{Idle, Noted, Copies, Seeks, Expires, Rebuilds}
+use Rattle.partition_world.specs.declared.seat.Work.TheVariants.{Idle, Noted, Copies, Seeks, Dates, Expires, Rebuilds}
 use Rattle.partition_world.specs.declared.tier.Side.{Side}
 use Rattle.partition_world.specs.Seats.{copy_outcome}
 use Rattle.partition_world.specs.Tier.{AtSide}
@@ -183,6 +183,7 @@ module _ {D S M : Type 0} (disk : DiskGhosts D) (store : StoreGhosts S) (meta : 
     by_work (Noted g) is row = second g row
     by_work (Copies g copy next) is row = later g copy next is row.0
     by_work (Seeks g next) is row = elim row [ ]
+    by_work (Dates g cursor next) is row = elim row [ ]
     by_work (Expires g doomed next) is row = elim row [ ]
     by_work (Rebuilds g next) is row = elim row [ ]
 

@@ -39,7 +39,7 @@ use Rattle.partition_world.specs.Seats.{told_of}
 use Rattle.partition_world.specs.Turn.{IsTurn}
 use Rattle.partition_world.specs.Whole.{Whole}
 use Rattle.partition_world.specs.declared.seat.Outcome.{Outcome}
-use Rattle.partition_world.specs.declared.seat.Outcome.TheVariants.{Answers, Begins, Chose, Goes, Seeks, Dooms, Deletes, Rebuilds}
+use Rattle.partition_world.specs.declared.seat.Outcome.TheVariants.{Answers, Begins, Chose, Goes, Seeks, Dates, Dooms, Deletes, Rebuilds}
 use Rattle.partition_world.proofs.Begins.{IsRow, row_of}
 use Rattle.partition_world.proofs.TurnSound.{turn_sound}
 use Rattle.command_answers.specs.Faults.{DiskFailed}
@@ -215,6 +215,7 @@ module _ {D S M : Type 0} (disk : DiskGhosts D) (store : StoreGhosts S) (meta : 
       told (Chose copy) q = all_same (EntryTells w u) v.journal.items was
       told (Goes next) q = all_same (EntryTells w u) v.journal.items was
       told (Seeks next) q = all_same (EntryTells w u) v.journal.items was
+      told (Dates cursor next) q = all_same (EntryTells w u) v.journal.items was
       told (Dooms segment) q = all_same (EntryTells w u) v.journal.items was
       told (Deletes next) q = all_same (EntryTells w u) v.journal.items was
       told (Rebuilds next) q = all_same (EntryTells w u) v.journal.items was

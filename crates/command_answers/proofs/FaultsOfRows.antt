@@ -13,7 +13,7 @@ use Rattle.plain_log.specs.declared.answer.Place.TheVariants.{File}
 use Rattle.plain_log.specs.declared.command.Command.{Command}
 use Rattle.plain_log.specs.declared.command.Command.TheVariants.{Append, Raw, Flush, Roll, Elect, Unclean, Learn, Join, Follow, Trim, Ack, Shrink, Expand, Raise, Clock, Stop as StopCommand, Up as UpCommand, Fetch, Copying, Offset}
 use Rattle.plain_log.specs.declared.command.Which.{Which}
-use Rattle.plain_log.specs.declared.command.Which.TheVariants.{LatestTiered}
+use Rattle.plain_log.specs.declared.command.Which.TheVariants.{LatestTiered, At}
 use Rattle.plain_log.specs.State.{acking}
 use Rattle.broker_log.specs.Seen.{Kept, Up, Down as Closed, Away, OnDisk, Lasting, Faulted}
 use Rattle.broker_log.specs.Seen as log
@@ -285,6 +285,7 @@ module _ {D : Type 0} (content : D → Content) (control : D → Control call_co
   first_counts h b x Trim turned h' at w = trim_counts h b x turned h' w
   first_counts h b x (Fetch offset limit) turned h' at w = fetch_turn_counts h b x offset limit turned h' at w
   first_counts h b x (Offset LatestTiered) turned h' at w = elim w [ ]
+  first_counts h b x (Offset (At ts)) turned h' at w = elim w [ ]
   first_counts h b x command (Answers answer) h' at w = answer_counts h b x command answer h' at w
   first_counts h b x command (Begins g) h' at w = elim w [ ]
 

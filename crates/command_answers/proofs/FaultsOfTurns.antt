@@ -1,5 +1,6 @@
 -- The turns of commands of any kind: no device's count of faults falls, and one rises where a fault is told.
-use Rattle.std.proofs.Common.{◌≡◌, inl, inr, sym, ap, subst, refl, ℕ, slice_get, Some, None, true}
+use Rattle.std.proofs.Common.{◌≡◌, inl, inr, sym, ap, subst, refl, ℕ, slice_get, Some, None, Bool, true, false}
+use Rattle.std.specs.Prelude.{ℤ}
 use Rattle.tier_base.specs.declared.names.PartitionId.{PartitionId}
 use Rattle.tier_base.specs.declared.plain.Keep.{Keep}
 use Rattle.disk_model.specs.declared.disk.Disk.{Ghosts as DiskGhosts}
@@ -11,6 +12,13 @@ use Rattle.tier_fetch.specs.declared.turn.FetchTurn.{FetchTurn}
 use Rattle.tier_fetch.specs.declared.turn.FetchTurn.TheVariants as fetch
 use Rattle.tier_fetch.specs.declared.turn.Next.{Next as Search}
 use Rattle.tier_fetch.specs.declared.turn.Next.TheVariants.{Refresh}
+use Rattle.time_find.specs.declared.turn.Asked.{Asked}
+use Rattle.time_find.specs.declared.turn.Next.{Next as Dating}
+use Rattle.time_find.specs.declared.turn.Next.TheVariants.{Seek}
+use Rattle.time_find.specs.declared.turn.TimeTurn.{TimeTurn}
+use Rattle.time_find.specs.declared.turn.TimeTurn.TheVariants as dating
+use Rattle.time_find.specs.Passing.{passed_over}
+use Rattle.time_find.specs.Turns.{OwnRow, ReadRow as RunRow}
 use Rattle.expiry_task.specs.declared.turn.Doomed.{Doomed}
 use Rattle.expiry_task.specs.declared.turn.Next.{Next as Deletion}
 use Rattle.rebuild_task.specs.declared.turn.Next.{Next as Rebuild}
@@ -20,36 +28,38 @@ use Rattle.plain_log.specs.declared.answer.Answer.TheVariants.{Down, NotLeader, 
 use Rattle.plain_log.specs.declared.answer.Place.TheVariants.{File}
 use Rattle.plain_log.specs.declared.command.Command.{Command}
 use Rattle.plain_log.specs.declared.command.Command.TheVariants.{Join, Copy, Trim, Expire, Fetch, Raise, Offset}
-use Rattle.plain_log.specs.declared.command.Which.TheVariants.{LatestTiered}
+use Rattle.plain_log.specs.declared.command.Which.TheVariants.{LatestTiered, At}
 use Rattle.plain_log.specs.declared.command.Config.{Config}
-use Rattle.broker_log.specs.Seen.{Lasting, Faulted}
+use Rattle.broker_log.specs.Seen.{Lasting, Faulted, closed_in}
 use Rattle.partition_seen.specs.declared.begun.Begun.{Begun}
 use Rattle.partition_seen.specs.declared.begun.Turned.{Turned}
 use Rattle.partition_seen.specs.declared.begun.Turned.TheVariants as turned
 use Rattle.partition_turns.specs.declared.held.Node.{Node}
 use Rattle.partition_turns.specs.declared.held.Held.{Held}
-use Rattle.partition_turns.specs.Held.{is_up, line_of, put_node}
+use Rattle.partition_turns.specs.Held.{is_up, line_of, local_of, put_node}
 use Rattle.partition_world.specs.declared.tier.Side.{Side}
 use Rattle.partition_world.specs.declared.tier.Tier.{Tier}
 use Rattle.partition_world.specs.declared.seat.Outcome.{Outcome}
-use Rattle.partition_world.specs.declared.seat.Outcome.TheVariants.{Answers, Begins, Chose, Seeks as Sought, Dooms, Rebuilds as Rebuilding}
+use Rattle.partition_world.specs.declared.seat.Outcome.TheVariants.{Answers, Begins, Chose, Seeks as Sought, Dates as Dated, Dooms, Rebuilds as Rebuilding}
 use Rattle.partition_world.specs.declared.seat.Work.{Work}
-use Rattle.partition_world.specs.declared.seat.Work.TheVariants.{Idle, Noted, Copies, Seeks, Expires, Rebuilds}
-use Rattle.partition_world.specs.Seats.{outcome_of, fetch_outcome}
+use Rattle.partition_world.specs.declared.seat.Work.TheVariants.{Idle, Noted, Copies, Seeks, Dates, Expires, Rebuilds}
+use Rattle.partition_world.specs.Seats.{outcome_of, fetch_outcome, date_outcome}
 use Rattle.partition_world.specs.Tier.{Refreshes, FailsToRead, put_side}
 use Rattle.partition_world.specs.TurnsOfCopy.{ReadsLog, ReadRow, LeadersFirstRow, CopyFirstRow, ChooseRow, tiers_of, teller_of}
 use Rattle.partition_world.specs.TurnsOfFetch.{FetchOnRow, GoesOnFetch, fetch_tiers, wanted_of}
+use Rattle.partition_world.specs.TurnsOfDate.{SearchesOwn, SearchRow, Searches, DateOnRow, asked_of, is_own, resumed_at, resumed_with}
 use Rattle.partition_world.specs.TurnsOfExpiry.{RaiseRow, ExpireOnRow, ExpiresBy, expiry_tiers}
 use Rattle.partition_world.specs.TurnsOfRebuild.{AnswersAtOnce, RefreshedRow, with_line, wanted_of as rebuilt_to}
 use Rattle.partition_world.specs.TurnsOfOffset.{OffsetOnRow}
 use Rattle.partition_world.specs.TurnsOfTrim.{TrimFirstRow, TrimOnRow}
-use Rattle.partition_world.specs.Turns.{OwnOnRow, BeginRow, NotedRow, CopyingRow, SeekingRow, DeletingRow, JoinSecondRow, RebuildingRow, Row}
-use Rattle.command_answers.proofs.FaultCounts.{told_map, Keeps, Rises, RisesFor, keeps_same, keeps_put, rises_put}
+use Rattle.partition_world.specs.Turns.{OwnOnRow, BeginRow, NotedRow, CopyingRow, SeekingRow, DatingRow, DeletingRow, JoinSecondRow, RebuildingRow, Row}
+use Rattle.command_answers.proofs.FaultCounts.{told_map, Keeps, Rises, RisesFor, keeps_same, keeps_put, keeps_log, rises_put}
 use Rattle.command_answers.proofs.FaultsOfRows.{CountsFor, row_counts}
 use Rattle.command_answers.proofs.FaultsTold.{TurnTold, StoreKeeps, StoreRose, MetaKeeps, MetaRose, store_same, meta_same}
 use Rattle.command_answers.proofs.FaultsOfCopies.{copy_counts}
 use Rattle.command_answers.proofs.FaultsOfDeletions.{expiry_counts}
 use Rattle.command_answers.proofs.FaultsOfSearches.{fetch_counts, rebuild_counts}
+use Rattle.command_answers.proofs.FaultsOfDates.{searched_told, time_counts}
 
 module _ {D S M : Type 0} (disk : DiskGhosts D) (store : StoreGhosts S) (meta : MetaGhosts M) where
   -- no count falls
@@ -133,6 +143,8 @@ module _ {D S M : Type 0} (disk : DiskGhosts D) (store : StoreGhosts S) (meta : 
   begin_counts h t b x side Trim outcome h' t' at w = trim_counts (Rises disk.control h b h') h t b x side outcome h' t' w.1 w.0
   begin_counts h t b x side Expire outcome h' t' at w = leaders_counts (Rises disk.control h b h') h t b x side outcome h' t' w.1 w.0
   begin_counts h t b x side (Offset LatestTiered) outcome h' t' at w = leaders_counts (Rises disk.control h b h') h t b x side outcome h' t' w.1 w.0
+  begin_counts h t b x side (Offset (At ts)) outcome h' t' at w = leaders_counts (Rises disk.control h b h') h t b x side outcome h' t' w.1
+      w.0
   begin_counts h t b x side other outcome h' t' at w =
       told_as (RisesFor disk.control other h b h') h b t h' t' outcome (outcome_of w.0.0) w.0.1
       (own_counts other h b t w.0.0 h' t' (row_counts disk.content disk.control h b x None other w.0.0 h' at w.0.2) w.1)
@@ -248,6 +260,71 @@ module _ {D S M : Type 0} (disk : DiskGhosts D) (store : StoreGhosts S) (meta : 
   offset_counts A h t b x side g (Answers answer) h' t' held tier w = elim w.1 [ ]
   offset_counts A h t b x side g other h' t' held tier w = elim w [ ]
 
+  -- and of a search by timestamp, which reads the broker's log, or is among the remote segments
+
+  own_search_counts : (h : Held D) (t : Tier S M) (b : ℕ) (x : Node D) (asked : Asked) (cursor : ℕ) (turn : TimeTurn) (h' : Held D)
+      (t' : Tier S M) → slice_get h.nodes b ≡ Some x → t' ≡ t
+      → SearchesOwn disk h b x asked cursor turn h' → Counts (Rises disk.control h b h') h b t (date_outcome turn) h' t'
+  own_search_counts h t b x asked cursor turn h' t' at tier w = by w.row
+    where
+      y : Node D
+      y = record x { log = w.kept }
+
+      lasting : Lasting disk.control x.log w.kept → AllKeep h t h' t'
+      lasting lasts = same_tier h t h' t' (keeps_put disk.control h b x y h' at lasts w.after) tier
+
+      reads : (to : TimeTurn) → RunRow disk.content disk.control x.log asked (passed_over asked.ts cursor (closed_in x.log)) to w.kept
+          → Counts (Rises disk.control h b h') h b t (date_outcome to) h' t'
+      reads (dating.Ends DiskFault) row = (lasting row.1, (rises_put disk.control h b x y h' at row.1 row.2 w.after).1)
+      reads (dating.Ends (Damaged (File name) place)) row = (lasting row.1, tt)
+      reads to row = (
+        lasting row.lasts,
+        searched_told (Rises disk.control h b h') (Rises disk.control h b h') (StoreRose store t.store t'.store)
+            (MetaRose meta t.meta t'.meta) asked
+            (passed_over asked.ts cursor (closed_in x.log)) row.out.bytes to row.searched,
+      )
+
+      by : OwnRow disk.content disk.control x.log asked cursor turn w.kept
+          → Counts (Rises disk.control h b h') h b t (date_outcome turn) h' t'
+      by (inl (past, is, same)) = (
+        same_tier h t h' t' (keeps_log disk.control h b x y h' at same w.after) tier,
+        subst (λ (u : TimeTurn). TurnTold (Rises disk.control h b h') (Rises disk.control h b h') (StoreRose store t.store t'.store)
+            (MetaRose meta t.meta t'.meta) (date_outcome u)) (sym is) tt,
+      )
+      by (inr (below, row)) = reads turn row
+
+  search_counts : (h : Held D) (t : Tier S M) (b : ℕ) (x : Node D) (side : Side) (asked : Asked) (cursor : ℕ) (next : Dating) (own : Bool)
+      (turn : TimeTurn) (h' : Held D) (t' : Tier S M)
+      → slice_get h.nodes b ≡ Some x → SearchRow disk store meta h t b x side asked cursor next own turn h' t'
+      → Counts (Rises disk.control h b h') h b t (date_outcome turn) h' t'
+  search_counts h t b x side asked cursor next true turn h' t' at w = own_search_counts h t b x asked cursor turn h' t' at w.1 w.0
+  search_counts h t b x side asked cursor next false turn h' t' at w =
+      let k = time_counts (Rises disk.control h b h') (Rises disk.control h b h') store meta asked (line_of x) cursor next turn
+      (fetch_tiers side.view side.cache t) (fetch_tiers w.0.view w.0.cache t') w.0.row in
+      (record { held = keeps_same disk.control h h' w.1; stores = k.0; metas = k.1 }, k.2)
+
+  searches_counts : (p : PartitionId) (h : Held D) (t : Tier S M) (b : ℕ) (x : Node D) (side : Side) (g : Begun) (ts : ℤ) (cursor : ℕ)
+      (next : Dating) (turn : TimeTurn) (h' : Held D) (t' : Tier S M)
+      → slice_get h.nodes b ≡ Some x → Searches disk store meta p h t b x side g ts cursor next turn h' t'
+      → Counts (Rises disk.control h b h') h b t (date_outcome turn) h' t'
+  searches_counts p h t b x side g ts cursor next turn h' t' at w =
+      let on = resumed_at h.registry.start cursor in
+      let with = resumed_with h.registry.start cursor next in
+      search_counts h t b x side (asked_of p h x ts) on with (is_own (local_of x) on with) turn h' t' at w.row
+
+  date_counts : (p : PartitionId) (h : Held D) (t : Tier S M) (b : ℕ) (x : Node D) (side : Side) (g : Begun) (ts : ℤ) (cursor : ℕ)
+      (next : Dating) (outcome : Outcome) (h' : Held D) (t' : Tier S M)
+      → slice_get h.nodes b ≡ Some x → DateOnRow disk store meta p h t b x side g ts cursor next outcome h' t'
+      → Counts (Rises disk.control h b h') h b t outcome h' t'
+  date_counts p h t b x side g ts cursor next (Answers Stopped) h' t' at w = (all_same h t h' t' w.1 w.2, tt)
+  date_counts p h t b x side g ts cursor next (Answers NotLeader) h' t' at w = (all_same h t h' t' w.3 w.4, tt)
+  date_counts p h t b x side g ts cursor next (Answers NoOffset) h' t' at w = (all_same h t h' t' w.2 w.3, tt)
+  date_counts p h t b x side g ts cursor next (Answers answer) h' t' at w = searches_counts p h t b x side g ts cursor next
+      (dating.Ends answer) h' t' at w
+  date_counts p h t b x side g ts cursor next (Dated to later) h' t' at w = searches_counts p h t b x side g ts cursor next
+      (dating.Goes to later) h' t' at w.0
+  date_counts p h t b x side g ts cursor next other h' t' at w = elim w [ ]
+
   noted_counts : (p : PartitionId) (config : Config) (h : Held D) (t : Tier S M) (b : ℕ) (x : Node D) (side : Side) (g : Begun) (command : Command) (outcome : Outcome) (h' : Held D) (t' : Tier S M)
       → slice_get h.nodes b ≡ Some x → NotedRow disk store meta p config h t b x side g command outcome h' t' → Counts (RisesFor disk.control command h b h') h b t outcome h' t'
   noted_counts p config h t b x side g Copy outcome h' t' at w = choose_counts p h t b x side g outcome h' t' at w
@@ -256,6 +333,7 @@ module _ {D S M : Type 0} (disk : DiskGhosts D) (store : StoreGhosts S) (meta : 
   noted_counts p config h t b x side g Expire outcome h' t' at w = expire_counts (Rises disk.control h b h') p h t b x side g config.keep outcome h' t' at w.1 w.0
   noted_counts p config h t b x side g (Fetch offset limit) outcome h' t' at w = seek_counts (Rises disk.control h b h') p h t b x side g offset limit Refresh outcome h' t' w.1 w.0
   noted_counts p config h t b x side g (Offset LatestTiered) outcome h' t' at w = offset_counts (Rises disk.control h b h') h t b x side g outcome h' t' w.1 w.2 w.0
+  noted_counts p config h t b x side g (Offset (At ts)) outcome h' t' at w = date_counts p h t b x side g ts 0 Seek outcome h' t' at w
   noted_counts p config h t b x side g other outcome h' t' at w = joined_counts h t b x g other outcome h' t' at w
 
   copying_counts : (A : Type 0) (h : Held D) (t : Tier S M) (b : ℕ) (x : Node D) (side : Side) (g : Begun) (copy : Copied) (next : Next) (command : Command) (outcome : Outcome) (h' : Held D) (t' : Tier S M)
@@ -270,6 +348,14 @@ module _ {D S M : Type 0} (disk : DiskGhosts D) (store : StoreGhosts S) (meta : 
       → SeekingRow store meta p h t b x side g next command outcome h' t' → Counts A h b t outcome h' t'
   seeking_counts A p h t b x side g next (Fetch offset limit) outcome h' t' w = seek_counts A p h t b x side g offset limit next outcome h' t' w.1 w.0
   seeking_counts A p h t b x side g next other outcome h' t' w = elim w [ ]
+
+  dating_counts : (p : PartitionId) (h : Held D) (t : Tier S M) (b : ℕ) (x : Node D) (side : Side) (g : Begun) (cursor : ℕ) (next : Dating)
+      (command : Command) (outcome : Outcome) (h' : Held D) (t' : Tier S M)
+      → slice_get h.nodes b ≡ Some x → DatingRow disk store meta p h t b x side g cursor next command outcome h' t'
+      → Counts (RisesFor disk.control command h b h') h b t outcome h' t'
+  dating_counts p h t b x side g cursor next (Offset (At ts)) outcome h' t' at w = date_counts p h t b x side g ts cursor next outcome h'
+      t' at w
+  dating_counts p h t b x side g cursor next other outcome h' t' at w = elim w [ ]
 
   deleting_counts : (A : Type 0) (h : Held D) (t : Tier S M) (b : ℕ) (x : Node D) (g : Begun) (segment : Doomed) (next : Deletion) (command : Command) (outcome : Outcome) (h' : Held D) (t' : Tier S M)
       → DeletingRow store meta h t b x g segment next command outcome h' t' → Counts A h b t outcome h' t'
@@ -296,5 +382,7 @@ module _ {D S M : Type 0} (disk : DiskGhosts D) (store : StoreGhosts S) (meta : 
   turn_counts p config h t b x side (Noted g) command outcome h' t' at w = noted_counts p config h t b x side g command outcome h' t' at w
   turn_counts p config h t b x side (Copies g copy next) command outcome h' t' at w = copying_counts (RisesFor disk.control command h b h') h t b x side g copy next command outcome h' t' w
   turn_counts p config h t b x side (Seeks g next) command outcome h' t' at w = seeking_counts (RisesFor disk.control command h b h') p h t b x side g next command outcome h' t' w
+  turn_counts p config h t b x side (Dates g cursor next) command outcome h' t' at w = dating_counts p h t b x side g cursor next command
+      outcome h' t' at w
   turn_counts p config h t b x side (Expires g segment next) command outcome h' t' at w = deleting_counts (RisesFor disk.control command h b h') h t b x g segment next command outcome h' t' w
   turn_counts p config h t b x side (Rebuilds g next) command outcome h' t' at w = rebuilding_counts p h t b x side g next command outcome h' t' at w

@@ -31,10 +31,10 @@ use Rattle.partition_world.specs.Whole.{Whole}
 use Rattle.command_answers.specs.Found.{PieceEnds, SpanIsOf, IsFound}
 
 -- what was found stands over paths that grow and with more notes
-ends_grow : (ps qs : List Path) (epoch : ℕ) (piece : Piece) → PathsGrow ps qs → PieceEnds ps epoch piece → PieceEnds qs epoch piece
+pub ends_grow : (ps qs : List Path) (epoch : ℕ) (piece : Piece) → PathsGrow ps qs → PieceEnds ps epoch piece → PieceEnds qs epoch piece
 ends_grow ps qs epoch piece w e = record { front = e.front; begins = has_wider ps qs epoch e.front w e.begins; ends = e.ends }
 
-span_grows : (ps qs : List Path) (notes more : List Note) (offset limit : ℕ) (piece : Piece) (span : Span) → PathsGrow ps qs → IsPrefix notes more → SpanIsOf ps notes offset limit piece span
+pub span_grows : (ps qs : List Path) (notes more : List Note) (offset limit : ℕ) (piece : Piece) (span : Span) → PathsGrow ps qs → IsPrefix notes more → SpanIsOf ps notes offset limit piece span
     → SpanIsOf qs more offset limit piece span
 span_grows ps qs notes more offset limit piece span w pre s = record {
   before = s.before;

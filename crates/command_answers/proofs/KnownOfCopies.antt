@@ -26,6 +26,7 @@ use Rattle.expiry_task.specs.declared.turn.Doomed.{Doomed}
 use Rattle.expiry_task.specs.declared.turn.Next.{Next as Deletion}
 use Rattle.rebuild_task.specs.declared.turn.Next.{Next as Rebuild}
 use Rattle.tier_fetch.specs.declared.turn.Next.{Next as Search}
+use Rattle.time_find.specs.declared.turn.Next.{Next as Dating}
 use Rattle.plain_log.specs.declared.command.ActorList.{ActorList}
 use Rattle.plain_log.specs.declared.command.Command.{Command}
 use Rattle.plain_log.specs.declared.command.Command.TheVariants.{Copy}
@@ -46,13 +47,13 @@ use Rattle.tier_safe.proofs.Basics.{nat_cases, one_some}
 use Rattle.partition_world.specs.declared.tier.Side.{Side}
 use Rattle.partition_world.specs.declared.tier.Tier.{Tier}
 use Rattle.partition_world.specs.declared.seat.Outcome.{Outcome}
-use Rattle.partition_world.specs.declared.seat.Outcome.TheVariants.{Answers, Begins, Chose, Goes, Seeks as Sought, Dooms, Deletes, Rebuilds as Rebuilding}
+use Rattle.partition_world.specs.declared.seat.Outcome.TheVariants.{Answers, Begins, Chose, Goes, Seeks as Sought, Dates as Dated, Dooms, Deletes, Rebuilds as Rebuilding}
 use Rattle.partition_world.specs.declared.seat.Seat.{Seat}
 use Rattle.partition_world.specs.declared.seat.Work.{Work}
-use Rattle.partition_world.specs.declared.seat.Work.TheVariants.{Idle, Noted, Copies, Seeks, Expires, Rebuilds}
+use Rattle.partition_world.specs.declared.seat.Work.TheVariants.{Idle, Noted, Copies, Seeks, Dates, Expires, Rebuilds}
 use Rattle.partition_world.specs.Central.{IsCentral, work_of}
 use Rattle.partition_world.specs.Fresh.{IsFresh, IsSeenEmpty, fresh_seat}
-use Rattle.partition_world.specs.Seats.{chosen, moved, sought, doomed, deleting, rebuilding, copy_outcome, seat_after, told_of}
+use Rattle.partition_world.specs.Seats.{chosen, moved, sought, dated, doomed, deleting, rebuilding, copy_outcome, seat_after, told_of}
 use Rattle.partition_world.specs.Turn.{IsNext, IsTurn}
 use Rattle.partition_world.specs.TurnsOfCopy.{GoesOnCopy, tiers_of, teller_of}
 use Rattle.partition_world.specs.Turns.{CopyingRow, Row}
@@ -94,6 +95,7 @@ work_after work (Begins g) = Noted g
 work_after work (Chose copy) = chosen work copy
 work_after work (Goes next) = moved work next
 work_after work (Sought next) = sought work next
+work_after work (Dated cursor next) = dated work cursor next
 work_after work (Dooms segment) = doomed work segment
 work_after work (Deletes next) = deleting work next
 work_after work (Rebuilding next) = rebuilding work next
@@ -113,6 +115,11 @@ noted_never f other g copy n is = absurd (cc (is))
 seeks_never : {A : Type 0} (f : Begun) (next : Search) (o : Outcome) (g : Begun) (copy : Copied) (n : ℕ) → work_after (Seeks f next) o ≡ Copies g copy (Delete n) → A
 seeks_never f next (Answers answer) g copy n is = absurd (cc (is))
 seeks_never f next other g copy n is = absurd (cc (is))
+
+dates_never : {A : Type 0} (f : Begun) (cursor : ℕ) (next : Dating) (o : Outcome) (g : Begun) (copy : Copied) (n : ℕ)
+    → work_after (Dates f cursor next) o ≡ Copies g copy (Delete n) → A
+dates_never f cursor next (Answers answer) g copy n is = absurd (cc (is))
+dates_never f cursor next other g copy n is = absurd (cc (is))
 
 expires_never : {A : Type 0} (f : Begun) (segment : Doomed) (next : Deletion) (o : Outcome) (g : Begun) (copy : Copied) (n : ℕ) → work_after (Expires f segment next) o ≡ Copies g copy (Delete n) → A
 expires_never f segment next (Answers answer) g copy n is = absurd (cc (is))
@@ -200,6 +207,7 @@ module _ {D S M : Type 0} (disk : DiskGhosts D) (store : StoreGhosts S) (meta : 
     dooms (Noted g) works = tt
     dooms (Copies g copy next) works = tt
     dooms (Seeks g next) works = tt
+    dooms (Dates g cursor next) works = tt
     dooms (Rebuilds g next) works = tt
     dooms (Expires g segment next) works =
         let z = place_of disk store meta opening w c t.place t.list t.seat t.order t.at.list t.at.seat_is t.next x at_node side side_at in
@@ -253,10 +261,12 @@ module _ {D S M : Type 0} (disk : DiskGhosts D) (store : StoreGhosts S) (meta : 
         let deletes : next ≡ Delete n = cc (is) in
         subst (λ (j : Copied). ShowsDeleted new.view.entries j.id) same (copying_shown f k before works t.order.command next n deletes r new at)
     own_shown (Copies f k before) works (Sought next) r g copy n is new at = before_shown g copy n (works ∙ is) new at
+    own_shown (Copies f k before) works (Dated cursor next) r g copy n is new at = before_shown g copy n (works ∙ is) new at
     own_shown (Copies f k before) works (Dooms segment) r g copy n is new at = before_shown g copy n (works ∙ is) new at
     own_shown (Copies f k before) works (Deletes next) r g copy n is new at = before_shown g copy n (works ∙ is) new at
     own_shown (Copies f k before) works (Rebuilding next) r g copy n is new at = before_shown g copy n (works ∙ is) new at
     own_shown (Seeks f before) works o r g copy n is new at = seeks_never f before o g copy n is
+    own_shown (Dates f cursor before) works o r g copy n is new at = dates_never f cursor before o g copy n is
     own_shown (Expires f segment before) works o r g copy n is new at = expires_never f segment before o g copy n is
     own_shown (Rebuilds f before) works o r g copy n is new at = rebuilds_never f before o g copy n is
 

@@ -46,7 +46,7 @@ use Rattle.command_answers.proofs.NotesOfFetches.{row_notes}
 use Rattle.command_answers.proofs.PlacesOfFetches.{turn_at}
 use Rattle.command_answers.proofs.ReadingOfFetches.{refresh_found, index_found}
 
-rep_get : {A : Type 0} (n i : ℕ) (x y : A) → slice_get (replicate n x) i ≡ Some y → y ≡ x
+pub rep_get : {A : Type 0} (n i : ℕ) (x y : A) → slice_get (replicate n x) i ≡ Some y → y ≡ x
 rep_get zero i x y at = absurd cc
 rep_get (suc n) zero x y at = cc
 rep_get (suc n) (suc i) x y at = rep_get n i x y at

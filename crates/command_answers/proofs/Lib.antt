@@ -20,6 +20,11 @@ pub mod SchedulesOfFetches
 pub mod JoinsHaveCauses
 pub mod Joined
 pub mod OffsetsHaveCauses
+pub mod PlacesOfSearches
+pub mod ReadingOfSearches
+pub mod SearchesTell
+pub mod KnownOfSearches
+pub mod SchedulesOfSearches
 pub mod RowsWithoutDamage
 pub mod RunsWithoutDamage
 pub mod FaultCounts
@@ -28,5 +33,6 @@ pub mod FaultsTold
 pub mod FaultsOfCopies
 pub mod FaultsOfDeletions
 pub mod FaultsOfSearches
+pub mod FaultsOfDates
 pub mod FaultsOfTurns
 pub mod FaultsOfJournals

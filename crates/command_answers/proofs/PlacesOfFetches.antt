@@ -42,7 +42,7 @@ module _ {D S M : Type 0} (disk : DiskGhosts D) (store : StoreGhosts S) (meta : 
     abbrev pub y : seen.Node
     y = node_of z.x z.s
 
-    broker : slice_get c.central.plain.brokers order.broker.0 ≡ Some (broker_of y)
+    pub broker : slice_get c.central.plain.brokers order.broker.0 ≡ Some (broker_of y)
     broker = broker_at c.partition c.central.plain order.broker.0 y c.central.stands.held z.sees.there
 
     pub sound : NodeSound y

@@ -1,5 +1,7 @@
 -- A turn of a command that isn't answered leaves fewer to come, and a turn leaves the other seats as they were.
-use Rattle.std.proofs.Common.{◌≡◌, ◌≢◌, ◌∙◌, inl, inr, sym, ap, subst, refl, ℕ, zero, suc, ◌+◌, ◌<◌, List, [], ◌∷◌, Some, None, Option, Ok, slice_get, slice_set, arith}
+use Rattle.std.proofs.Common.{◌≡◌, ◌≢◌, ◌∙◌, inl, inr, sym, ap, subst, refl, ℕ, zero, suc, ◌+◌, ◌<◌, ◌≤◌, List, [], ◌∷◌, Some, None, Option, Ok, slice_get, slice_set, Bool, true, false, arith}
+use Rattle.std.specs.Prelude.{◌-◌, ◌*◌, ◌^◌, ℤ, max, nat_lt, if◌then◌else◌}
+use Rattle.std.proofs.lemmas.Bool.Decides.{nat_tests}
 use Rattle.tier_base.specs.declared.names.PartitionId.{PartitionId}
 use Rattle.tier_base.specs.declared.plain.State.{State as CopyState}
 use Rattle.tier_base.specs.declared.plain.State.TheVariants.{CopyStarted, CopyFinished, DeleteStarted, DeleteFinished}
@@ -27,28 +29,34 @@ use Rattle.rebuild_task.specs.declared.turn.RebuildTurn.TheVariants as rebuild
 use Rattle.tier_fetch.specs.declared.turn.FetchTurn.TheVariants as fetch
 use Rattle.tier_fetch.specs.declared.turn.Next.{Next as Search}
 use Rattle.tier_fetch.specs.declared.turn.Next.TheVariants.{Refresh, Index, Log}
+use Rattle.time_find.specs.declared.turn.Asked.{Asked}
+use Rattle.time_find.specs.declared.turn.Next.{Next as Dating}
+use Rattle.time_find.specs.declared.turn.Next.TheVariants as dating
+use Rattle.time_find.specs.declared.turn.TimeTurn.TheVariants as time
+use Rattle.time_find.specs.Turns.{GoesOn as GoesOnFrom}
 use Rattle.plain_log.specs.declared.answer.Answer.TheVariants.{MetaFault}
 use Rattle.plain_log.specs.declared.command.Command.{Command}
 use Rattle.plain_log.specs.declared.command.Command.TheVariants.{Copy, Trim, Expire, Fetch, Join, Follow, Offset}
-use Rattle.plain_log.specs.declared.command.Which.TheVariants.{LatestTiered}
+use Rattle.plain_log.specs.declared.command.Which.TheVariants.{LatestTiered, At}
 use Rattle.plain_log.specs.declared.command.Config.{Config}
 use Rattle.partition_seen.specs.declared.begun.Begun.{Begun}
 use Rattle.partition_seen.specs.declared.begun.Turned.{Turned}
 use Rattle.partition_seen.specs.declared.begun.Turned.TheVariants as turned
 use Rattle.partition_turns.specs.declared.held.Node.{Node}
 use Rattle.partition_turns.specs.declared.held.Held.{Held}
-use Rattle.partition_turns.specs.Held.{line_of}
+use Rattle.partition_turns.specs.Held.{line_of, local_of}
 use Rattle.partition_turns.specs.Turns.{FirstRow}
 use Rattle.partition_world.specs.declared.tier.Side.{Side}
 use Rattle.partition_world.specs.declared.tier.Tier.{Tier}
 use Rattle.partition_world.specs.declared.seat.Outcome.{Outcome}
-use Rattle.partition_world.specs.declared.seat.Outcome.TheVariants.{Answers, Begins, Chose, Goes, Seeks as Sought, Dooms, Deletes, Rebuilds as Rebuilding}
+use Rattle.partition_world.specs.declared.seat.Outcome.TheVariants.{Answers, Begins, Chose, Goes, Seeks as Sought, Dates as Dated, Dooms, Deletes, Rebuilds as Rebuilding}
 use Rattle.partition_world.specs.declared.seat.Seat.{Seat}
 use Rattle.partition_world.specs.declared.seat.Work.{Work}
-use Rattle.partition_world.specs.declared.seat.Work.TheVariants.{Idle, Noted, Copies, Seeks, Expires, Rebuilds}
-use Rattle.partition_world.specs.Seats.{chosen, moved, sought, doomed, deleting, rebuilding, outcome_of, copy_outcome, expiry_outcome, seat_after, IsUnanswered}
+use Rattle.partition_world.specs.declared.seat.Work.TheVariants.{Idle, Noted, Copies, Seeks, Dates, Expires, Rebuilds}
+use Rattle.partition_world.specs.Seats.{chosen, moved, sought, dated, doomed, deleting, rebuilding, outcome_of, copy_outcome, expiry_outcome, seat_after, IsUnanswered}
 use Rattle.partition_world.specs.Turn.{IsTurn}
 use Rattle.partition_world.specs.TurnsOfCopy.{LeadersFirstRow, CopyFirstRow, ReadRow, ChooseRow, CopyOnRow, GoesOnCopy, copied_to, tiers_of, teller_of}
+use Rattle.partition_world.specs.TurnsOfDate.{SearchRow, DateOnRow, asked_of, is_own, resumed_at, resumed_with}
 use Rattle.partition_world.specs.TurnsOfExpiry.{ExpiresBy, ExpireOnRow, DeleteOnRow, GoesOnDeletion, expiry_tiers}
 use Rattle.partition_world.specs.TurnsOfFetch.{FetchOnRow, GoesOnFetch, fetch_tiers, wanted_of}
 use Rattle.partition_world.specs.TurnsOfRebuild.{with_line, RefreshedRow, EpochsOnRow, wanted_of as rebuilt_to}
@@ -57,9 +65,10 @@ use Rattle.partition_world.specs.TurnsOfTrim.{TrimFirstRow, TrimOnRow}
 use Rattle.partition_world.specs.Turns.{OwnRow, OwnOnRow, JoinSecondRow, Row}
 use Rattle.partition_world.specs.Whole.{Whole}
 use Rattle.partition_world.proofs.Begins.{row_of}
+use Rattle.partition_world.proofs.DateAdvances.{Rises, dated_before, own_rises, time_rises}
 use Rattle.partition_world.proofs.FetchAdvances.{sought_before, fetch_advances}
 use Rattle.partition_world.proofs.RebuildEnds.{MayTurn, rebuild_may_turn}
-use Rattle.command_answers.specs.Turns.{copying_left, deleting_left, seeking_left, rebuilding_left, turns_left}
+use Rattle.command_answers.specs.Turns.{copying_left, deleting_left, seeking_left, dated_here, dating_left, rebuilding_left, turns_left}
 
 -- another item than the one that is set
 get_other : {A : Type 0} (xs : List A) (i j : ℕ) (y : A) → j ≢ i → slice_get (slice_set xs i y) j ≡ slice_get xs j
@@ -76,6 +85,7 @@ Less command work (Begins g) = turns_left command (Noted g) < turns_left command
 Less command work (Chose copy) = turns_left command (chosen work copy) < turns_left command work
 Less command work (Goes next) = turns_left command (moved work next) < turns_left command work
 Less command work (Sought next) = turns_left command (sought work next) < turns_left command work
+Less command work (Dated cursor next) = turns_left command (dated work cursor next) < turns_left command work
 Less command work (Dooms segment) = turns_left command (doomed work segment) < turns_left command work
 Less command work (Deletes next) = turns_left command (deleting work next) < turns_left command work
 Less command work (Rebuilding next) = turns_left command (rebuilding work next) < turns_left command work
@@ -160,6 +170,55 @@ all_turns Refresh = omega arith
 all_turns (Index piece) = omega arith
 all_turns (Log piece span) = omega arith
 
+-- a search by timestamp takes four turns at a cursor at most, and has come to a later one or takes a further one there
+few_here : (next : Dating) → dated_here next ≤ 3
+few_here dating.Seek = omega arith
+few_here (dating.Times piece) = omega arith
+few_here (dating.Index piece from) = omega arith
+few_here (dating.Log piece from span) = omega arith
+
+same_here : (next : Dating) → dated_before next ≡ dated_here next
+same_here dating.Seek = refl
+same_here (dating.Times piece) = refl
+same_here (dating.Index piece from) = refl
+same_here (dating.Log piece from span) = refl
+
+-- it has come further
+past_less : (cursor at n m : ℕ) → cursor < 2 ^ 64 → cursor < at → n ≤ 3 → 1 + (4 * (2 ^ 64 - at) - m) < 1 + (4 * (2 ^ 64 - cursor) - n)
+past_less cursor at n m fits far few = omega (arith, fits, far, few)
+
+-- or takes a further turn
+here_less : (cursor at n m : ℕ) → cursor < 2 ^ 64 → cursor ≤ at → n < m → m ≤ 3 → 1 + (4 * (2 ^ 64 - at) - m) < 1 + (4 * (2 ^ 64 - cursor) - n)
+here_less cursor at n m fits far up few = omega (arith, fits, far, up, few)
+
+-- one that is resumed, and goes on with a piece
+piece_less : (start cursor at : ℕ) (before : Dating) (m : ℕ) → max start cursor < 2 ^ 64 → max start cursor ≤ at → dated_before (if nat_lt cursor start then dating.Seek else before) < m → m ≤ 3
+    → 1 + (4 * (2 ^ 64 - at) - m) < dating_left cursor before
+piece_less start cursor at before m fits far up few = by (nat_lt cursor start) refl up
+  where
+    low : cursor < 2 ^ 64
+    low = omega (arith, fits)
+
+    by : (t : Bool) → nat_lt cursor start ≡ t → dated_before (if t then dating.Seek else before) < m → 1 + (4 * (2 ^ 64 - at) - m) < dating_left cursor before
+    by true is up =
+        let past : cursor < start = grind (arith, nat_tests, is) in
+        past_less cursor at (dated_here before) m low (omega (arith, past, far)) (few_here before)
+    by false is up = here_less cursor at (dated_here before) m low (omega (arith, far)) (subst (λ (n : ℕ). n < m) (same_here before) up) few
+
+resumed_less : (start cursor at : ℕ) (before later : Dating) → max start cursor < 2 ^ 64 → GoesOnFrom (max start cursor) (time.Goes at later)
+    → Rises (if nat_lt cursor start then dating.Seek else before) later → dating_left at later < dating_left cursor before
+resumed_less start cursor at before dating.Seek fits goes up =
+    let far : cursor < at = omega (arith, goes) in
+    let low : cursor < 2 ^ 64 = omega (arith, fits) in
+    past_less cursor at (dated_here before) 0 low far (few_here before)
+resumed_less start cursor at before (dating.Times piece) fits goes up = piece_less start cursor at before 1 fits goes.0 up (omega arith)
+resumed_less start cursor at before (dating.Index piece from) fits goes up = piece_less start cursor at before 2 fits goes.0 up (omega arith)
+resumed_less start cursor at before (dating.Log piece from span) fits goes up = piece_less start cursor at before 3 fits goes.0 up (omega arith)
+
+-- it is at the first cursor where it has begun
+first_left : (at : ℕ) (later : Dating) → dating_left at later < dating_left 0 dating.Seek → dating_left at later < 1 + 4 * 2 ^ 64
+first_left at later less = omega (arith, less)
+
 -- behind the line that was read the log is begun anew
 read_less : (next : Rebuild) → MayTurn (rebuild.Goes next) → rebuilding_left next < rebuilding_left Epochs
 read_less (Restart line) may = omega arith
@@ -182,6 +241,12 @@ module _ {D S M : Type 0} (disk : DiskGhosts D) (store : StoreGhosts S) (meta : 
   offset_first h t b x side (Begins g) t' row = omega arith
   offset_first h t b x side other t' row = elim row [ ]
 
+  search_first : (h : Held D) (t : Tier S M) (b : ℕ) (x : Node D) (side : Side) (ts : ℤ) (outcome : Outcome) (t' : Tier S M) → LeadersFirstRow meta h t b x side outcome t'
+      → Less (Offset (At ts)) Idle outcome
+  search_first h t b x side ts (Answers answer) t' row = tt
+  search_first h t b x side ts (Begins g) t' row = omega arith
+  search_first h t b x side ts other t' row = elim row [ ]
+
   trim_first : (h : Held D) (t : Tier S M) (b : ℕ) (x : Node D) (side : Side) (outcome : Outcome) (t' : Tier S M) → TrimFirstRow meta h t b x side outcome t' → Less Trim Idle outcome
   trim_first h t b x side (Answers answer) t' row = tt
   trim_first h t b x side (Begins g) t' row = omega arith
@@ -194,6 +259,7 @@ module _ {D S M : Type 0} (disk : DiskGhosts D) (store : StoreGhosts S) (meta : 
   begins_less h b x Trim (turned.Begins g) h' row = omega arith
   begins_less h b x (Fetch offset limit) (turned.Begins g) h' row = omega arith
   begins_less h b x (Offset LatestTiered) (turned.Begins g) h' row = elim row [ ]
+  begins_less h b x (Offset (At ts)) (turned.Begins g) h' row = elim row [ ]
   begins_less h b x other (turned.Begins g) h' row = elim row [ ]
 
   own_less : (h : Held D) (t : Tier S M) (b : ℕ) (x : Node D) (command : Command) (outcome : Outcome) (h' : Held D) (t' : Tier S M) → OwnRow disk h t b x command outcome h' t' → Less command Idle outcome
@@ -267,6 +333,33 @@ module _ {D S M : Type 0} (disk : DiskGhosts D) (store : StoreGhosts S) (meta : 
   seek_less p h t b x side g offset limit next (Sought later) t' row = goes_less p t b x side offset limit next later t' row.1
   seek_less p h t b x side g offset limit next other t' row = elim row [ ]
 
+  -- a search's by timestamp
+  rises_on : (h : Held D) (t : Tier S M) (b : ℕ) (x : Node D) (side : Side) (asked : Asked) (cursor : ℕ) (before : Dating) (own : Bool) (at : ℕ) (later : Dating) (h' : Held D) (t' : Tier S M)
+      → SearchRow disk store meta h t b x side asked cursor before own (time.Goes at later) h' t' → Rises before later
+  rises_on h t b x side asked cursor before true at later h' t' w = own_rises disk x.log asked cursor before later at w.0.kept w.0.row
+  rises_on h t b x side asked cursor before false at later h' t' w =
+      time_rises store meta asked (line_of x) cursor before later at (fetch_tiers side.view side.cache t) (fetch_tiers w.0.view w.0.cache t') w.0.row
+
+  date_goes : (p : PartitionId) (h : Held D) (t : Tier S M) (b : ℕ) (x : Node D) (side : Side) (g : Begun) (ts : ℤ) (cursor : ℕ) (before : Dating) (at : ℕ) (later : Dating) (h' : Held D) (t' : Tier S M)
+      → DateOnRow disk store meta p h t b x side g ts cursor before (Dated at later) h' t' → dating_left at later < dating_left cursor before
+  date_goes p h t b x side g ts cursor before at later h' t' w =
+      let on = resumed_at h.registry.start cursor in
+      let with = resumed_with h.registry.start cursor before in
+      resumed_less h.registry.start cursor at before later w.0.fits w.1
+      (rises_on h t b x side (asked_of p h x ts) on with (is_own (local_of x) on with) at later h' t' w.0.row)
+
+  date_less : (p : PartitionId) (h : Held D) (t : Tier S M) (b : ℕ) (x : Node D) (side : Side) (g : Begun) (ts : ℤ) (outcome : Outcome) (h' : Held D) (t' : Tier S M)
+      → DateOnRow disk store meta p h t b x side g ts 0 dating.Seek outcome h' t' → Less (Offset (At ts)) (Noted g) outcome
+  date_less p h t b x side g ts (Answers answer) h' t' w = tt
+  date_less p h t b x side g ts (Dated at later) h' t' w = first_left at later (date_goes p h t b x side g ts 0 dating.Seek at later h' t' w)
+  date_less p h t b x side g ts other h' t' w = elim w [ ]
+
+  dates_less : (p : PartitionId) (h : Held D) (t : Tier S M) (b : ℕ) (x : Node D) (side : Side) (g : Begun) (ts : ℤ) (cursor : ℕ) (before : Dating) (outcome : Outcome) (h' : Held D) (t' : Tier S M)
+      → DateOnRow disk store meta p h t b x side g ts cursor before outcome h' t' → Less (Offset (At ts)) (Dates g cursor before) outcome
+  dates_less p h t b x side g ts cursor before (Answers answer) h' t' w = tt
+  dates_less p h t b x side g ts cursor before (Dated at later) h' t' w = date_goes p h t b x side g ts cursor before at later h' t' w
+  dates_less p h t b x side g ts cursor before other h' t' w = elim w [ ]
+
   -- a join's
   refreshed_less : (t : Tier S M) (b : ℕ) (side : Side) (g : Begun) (outcome : Outcome) (t' : Tier S M) → RefreshedRow meta t b side outcome t' → Less Join (Noted g) outcome
   refreshed_less t b side g (Answers MetaFault) t' row = tt
@@ -302,6 +395,7 @@ module _ {D S M : Type 0} (disk : DiskGhosts D) (store : StoreGhosts S) (meta : 
   row_less p config h t b x side Idle Expire outcome h' t' row = expire_first h t b x side outcome t' row.0
   row_less p config h t b x side Idle Trim outcome h' t' row = trim_first h t b x side outcome t' row.0
   row_less p config h t b x side Idle (Offset LatestTiered) outcome h' t' row = offset_first h t b x side outcome t' row.0
+  row_less p config h t b x side Idle (Offset (At ts)) outcome h' t' row = search_first h t b x side ts outcome t' row.0
   row_less p config h t b x side Idle other outcome h' t' row = own_less h t b x other outcome h' t' row
   row_less p config h t b x side (Noted g) Copy outcome h' t' row = choose_less p h t b x side g outcome h' t' row
   row_less p config h t b x side (Noted g) Trim outcome h' t' row = trim_less h b x side g config outcome h' row.0
@@ -309,9 +403,11 @@ module _ {D S M : Type 0} (disk : DiskGhosts D) (store : StoreGhosts S) (meta : 
   row_less p config h t b x side (Noted g) (Fetch offset limit) outcome h' t' row = fetch_less p h t b x side g offset limit outcome t' row.0
   row_less p config h t b x side (Noted g) Join outcome h' t' row = join_less h t b x side g outcome h' t' row
   row_less p config h t b x side (Noted g) (Offset LatestTiered) outcome h' t' row = offset_less h x side g outcome row.0
+  row_less p config h t b x side (Noted g) (Offset (At ts)) outcome h' t' row = date_less p h t b x side g ts outcome h' t' row
   row_less p config h t b x side (Noted g) other outcome h' t' row = last_less h t b x g (Noted g) other other outcome h' t' row
   row_less p config h t b x side (Copies g copy next) Copy outcome h' t' row = later_less h t b x side g copy next outcome t' row.0
   row_less p config h t b x side (Seeks g next) (Fetch offset limit) outcome h' t' row = seek_less p h t b x side g offset limit next outcome t' row.0
+  row_less p config h t b x side (Dates g cursor next) (Offset (At ts)) outcome h' t' row = dates_less p h t b x side g ts cursor next outcome h' t' row
   row_less p config h t b x side (Expires g segment next) Expire outcome h' t' row = deletion_less h t b x g segment next outcome t' row.0
   row_less p config h t b x side (Rebuilds g Epochs) Join outcome h' t' row = reads_less p h t b x side g outcome t' row.0
   row_less p config h t b x side (Rebuilds g (Restart line)) Join outcome h' t' row = last_less h t b x (with_line g line) (Rebuilds g (Restart line)) Join Join outcome h' t' row

@@ -18,7 +18,7 @@ use Rattle.plain_log.specs.declared.answer.Place.{Place as Spoiled}
 use Rattle.plain_log.specs.declared.answer.Place.TheVariants.{File}
 use Rattle.plain_log.specs.declared.command.Command.{Command}
 use Rattle.plain_log.specs.declared.command.Command.TheVariants.{Join, Follow, Copy, Trim, Expire, Fetch, Up, Append, Raw, Flush, Roll, Elect, Unclean, Learn, Ack, Shrink, Expand, Raise, Clock, Stop, Offset}
-use Rattle.plain_log.specs.declared.command.Which.TheVariants.{LatestTiered}
+use Rattle.plain_log.specs.declared.command.Which.TheVariants.{LatestTiered, At}
 use Rattle.plain_log.specs.declared.state.State.{State}
 use Rattle.plain_log.specs.State.{leads_in}
 use Rattle.plain_log.proofs.Options.{when_some, both}
@@ -57,7 +57,9 @@ use Rattle.command_answers.specs.DeletionsKnown.{DeletionsKnown}
 use Rattle.command_answers.specs.CausesOfCopies.{HasCause}
 use Rattle.command_answers.proofs.CopiesHaveCauses.{have_causes}
 use Rattle.command_answers.specs.Found.{SpansKnown}
+use Rattle.command_answers.specs.FoundByTime.{SearchesKnown}
 use Rattle.command_answers.proofs.DamageOfFetches.{none_damaged as no_fetch}
+use Rattle.command_answers.proofs.SearchesTell.{none_damaged as no_search}
 
 -- an expiry that has taken up a segment isn't answered so
 deletion_never : (place : Spoiled) (at : ℕ) (answer : Answer) → Damaged place at ≡ answer → MayEnd answer → ⊥
@@ -128,6 +130,7 @@ module _ {D S M : Type 0} (disk : DiskGhosts D) (store : StoreGhosts S) (meta : 
     first_never Trim row own = row
     first_never (Fetch offset limit) row own = own
     first_never (Offset LatestTiered) row own = row
+    first_never (Offset (At ts)) row own = row
     first_never other row own = answer_never other place row
 
     own_never : (command : Command) → IsOwn command → OwnRow disk w.held w.tier b z.x command (Answers (Damaged place at)) w'.held w'.tier → ⊥
@@ -176,7 +179,7 @@ module _ {D S M : Type 0} (disk : DiskGhosts D) (store : StoreGhosts S) (meta : 
         (subst (λ (j : Answer). RebuildRow store.content store.control (wanted_of w.partition g) g.line z.side.view (Ok (rebuild.Ends j)) w.tier.store w'.tier.store) (sym e) goes.row)
         (to_read disk store meta opening w a (Answers (Damaged place at)) w' t c z joins g works may)
 
-    module _ (known : DeletionsKnown meta w) (spans : SpansKnown meta opening w) where
+    module _ (known : DeletionsKnown meta w) (spans : SpansKnown meta opening w) (searches : SearchesKnown meta opening w) where
       copy_never : t.order.command ≡ Copy → ⊥
       copy_never copies =
           let x = some_of (λ x. AtSide w.tier b (λ side. HasCause disk store meta w b x side t.seat.work (Damaged place at) w')) (slice_get w.held.nodes b)
@@ -188,6 +191,7 @@ module _ {D S M : Type 0} (disk : DiskGhosts D) (store : StoreGhosts S) (meta : 
           → Row disk store meta w.partition w.config w.held w.tier b z.x z.side work command (Answers (Damaged place at)) w'.held w'.tier → ⊥
       row_never work Copy works is row = copy_never is
       row_never work (Fetch offset limit) works is row = no_fetch disk store meta opening w a place at w' offset limit c spans t is
+      row_never work (Offset (At ts)) works is row = no_search disk store meta opening w a place at w' ts c searches t is
       row_never Idle Trim works is row = row.0
       row_never Idle Expire works is row = row.0
       row_never Idle (Offset LatestTiered) works is row = row.0
@@ -203,9 +207,9 @@ module _ {D S M : Type 0} (disk : DiskGhosts D) (store : StoreGhosts S) (meta : 
       row_never work command works is row = elim row [ ]
 
   pub none_damaged : (opening : State) (w : Whole D S M) (a : ℕ) (place : Spoiled) (at : ℕ) (w' : Whole D S M) → IsCentral disk store meta opening w → DeletionsKnown meta w → SpansKnown meta opening w
-      → IsTurn disk store meta w a (Answers (Damaged place at)) w' → ⊥
-  none_damaged opening w a place at w' c known spans t =
+      → SearchesKnown meta opening w → IsTurn disk store meta w a (Answers (Damaged place at)) w' → ⊥
+  none_damaged opening w a place at w' c known spans searches t =
       let b = t.order.broker.0 in
       let r = row_of disk store meta w.partition w.config w.held w.tier b t.seat.work t.order.command (Answers (Damaged place at)) w'.held w'.tier t.row in
       let z = place_of disk store meta opening w c t.place t.list t.seat t.order t.at.list t.at.seat_is t.next r.x r.at r.side r.side_at in
-      row_never opening w a place at w' t c z known spans t.seat.work t.order.command refl refl r.row
+      row_never opening w a place at w' t c z known spans searches t.seat.work t.order.command refl refl r.row

@@ -35,6 +35,8 @@ use Rattle.command_answers.specs.DeletionsKnown.{DeletionsKnown}
 use Rattle.command_answers.proofs.KnownOfCopies.{keep_known, fresh_known}
 use Rattle.command_answers.specs.Found.{SpansKnown}
 use Rattle.command_answers.proofs.KnownOfFetches.{keep_spans, fresh_spans}
+use Rattle.command_answers.specs.FoundByTime.{SearchesKnown}
+use Rattle.command_answers.proofs.KnownOfSearches.{keep_searches, fresh_searches}
 use Rattle.command_answers.specs.Damage.{TellsNoDamage, MeetsNoDamage}
 use Rattle.command_answers.proofs.RowsWithoutDamage.{none_damaged}
 
@@ -54,11 +56,12 @@ module _ {D S M : Type 0} (disk : DiskGhosts D) (store : StoreGhosts S) (meta : 
       central : IsCentral disk store meta opening w
       known : DeletionsKnown meta w
       spans : SpansKnown meta opening w
+      searches : SearchesKnown meta opening w
       meets : MeetsNoDamage w.journal.items
 
     answers_well : (w : Whole D S M) (a : ℕ) (answer : Answer) (w' : Whole D S M) → Well w → (t : IsTurn disk store meta w a (Answers answer) w')
         → TellsNoDamage (record { actor = t.list.actor; number = t.seat.number; event = event.Answers answer })
-    answers_well w a (Damaged here from) w' h t place at is = none_damaged disk store meta opening w a here from w' h.central h.known h.spans t
+    answers_well w a (Damaged here from) w' h t place at is = none_damaged disk store meta opening w a here from w' h.central h.known h.spans h.searches t
     answers_well w a other w' h t place at is = cc (is)
 
     turn_tells : (w : Whole D S M) (a : ℕ) (outcome : Outcome) (w' : Whole D S M) → Well w → (t : IsTurn disk store meta w a outcome w')
@@ -72,6 +75,7 @@ module _ {D S M : Type 0} (disk : DiskGhosts D) (store : StoreGhosts S) (meta : 
       central = turn_central disk store meta opening w a outcome w' t h.central;
       known = keep_known disk store meta opening w a outcome w' h.central h.known t;
       spans = keep_spans disk store meta opening w a outcome w' h.central h.spans t;
+      searches = keep_searches disk store meta opening w a outcome w' h.central h.searches t;
       meets = subst MeetsNoDamage (sym t.entered)
           (both TellsNoDamage w.journal.items (told_of t.list.actor t.seat.number t.order.command outcome) h.meets (turn_tells w a outcome w' h t));
     }
@@ -105,5 +109,6 @@ module _ {D S M : Type 0} (disk : DiskGhosts D) (store : StoreGhosts S) (meta : 
         central = fresh_is_central disk store meta partition config lists disks s m w right fit f seen;
         known = fresh_known disk store meta partition config lists disks s m w f seen;
         spans = fresh_spans disk store meta (fresh config) partition config lists disks s m w f;
+        searches = fresh_searches disk store meta (fresh config) partition config lists disks s m w f;
         meets = subst MeetsNoDamage (sym f.journal) tt;
       })).meets

@@ -1,7 +1,9 @@
 -- What a turn does to notes and views: it appends a note that deletes nothing but what ends below the log start, or none, and a
 -- view takes in more of them.
-use Rattle.std.proofs.Common.{◌≡◌, ◌∙◌, ◌⊎◌, inl, inr, sym, ap, refl, ℕ, Bool, true, false, List, [], ◌∷◌, ◌++◌, Some, Ok, slice_get, slice_set}
-use Rattle.std.specs.Prelude.{IsTrue}
+use Rattle.std.proofs.Common.{◌≡◌, ◌∙◌, ◌⊎◌, inl, inr, sym, ap, refl, ℕ, Bool, true, false, List, [], ◌∷◌, ◌++◌, Some, Ok, Err, slice_get, slice_set}
+use Rattle.std.specs.Prelude.{IsTrue, ℤ}
+use Rattle.std.specs.declared.result.Result.{Result}
+use Rattle.std.specs.declared.alloc.AllocError.{AllocError}
 use Rattle.tier_base.specs.declared.names.PartitionId.{PartitionId}
 use Rattle.tier_base.specs.declared.plain.State.TheVariants.{DeleteStarted, DeleteFinished}
 use Rattle.disk_model.specs.declared.disk.Disk.{Ghosts as DiskGhosts}
@@ -35,31 +37,41 @@ use Rattle.tier_fetch.specs.declared.turn.Wanted.{Wanted}
 use Rattle.rebuild_task.specs.declared.turn.Next.{Next as Rebuild}
 use Rattle.rebuild_task.specs.declared.turn.Next.TheVariants.{Epochs, Restart}
 use Rattle.tier_fetch.specs.Turns.{Tiers as FetchTiers, RefreshRow, FetchRow}
-use Rattle.plain_log.specs.declared.answer.Answer.TheVariants.{Down, NotLeader, CopyOff, MetaFault, DiskFault, Damaged, Stopped, OutOfRange, Empty}
+use Rattle.tier_fetch.specs.declared.turn.Next.TheVariants as fetching
+use Rattle.tier_fetch.specs.declared.turn.Span.{Span}
+use Rattle.remote_find.specs.declared.piece.Piece.{Piece}
+use Rattle.time_find.specs.declared.turn.Asked.{Asked}
+use Rattle.time_find.specs.declared.turn.Next.{Next as Dating}
+use Rattle.time_find.specs.declared.turn.Next.TheVariants as dating
+use Rattle.time_find.specs.declared.turn.TimeTurn.{TimeTurn}
+use Rattle.time_find.specs.declared.turn.TimeTurn.TheVariants as time
+use Rattle.time_find.specs.Turns.{Indexes, Searches as SearchesLog, SeekRow, TimeRow, wanted_at}
+use Rattle.plain_log.specs.declared.answer.Answer.TheVariants.{Down, NotLeader, CopyOff, MetaFault, DiskFault, Damaged, Stopped, OutOfRange, Empty, NoOffset}
 use Rattle.plain_log.specs.declared.answer.Place.TheVariants.{File}
 use Rattle.plain_log.specs.declared.command.Command.{Command}
 use Rattle.plain_log.specs.declared.command.Command.TheVariants.{Copy, Trim, Expire, Fetch, Join, Offset}
-use Rattle.plain_log.specs.declared.command.Which.TheVariants.{LatestTiered}
+use Rattle.plain_log.specs.declared.command.Which.TheVariants.{LatestTiered, At}
 use Rattle.plain_log.specs.declared.command.Config.{Config}
 use Rattle.partition_seen.specs.declared.begun.Begun.{Begun}
 use Rattle.partition_seen.proofs.BoolTests.{some_of}
 use Rattle.broker_log.specs.Seen.{incarnation_in}
 use Rattle.partition_turns.specs.declared.held.Node.{Node}
 use Rattle.partition_turns.specs.declared.held.Held.{Held}
-use Rattle.partition_turns.specs.Held.{line_of}
+use Rattle.partition_turns.specs.Held.{line_of, local_of}
 use Rattle.partition_world.specs.declared.tier.Side.{Side}
 use Rattle.partition_world.specs.declared.tier.Tier.{Tier}
 use Rattle.partition_world.specs.declared.seat.Outcome.{Outcome}
-use Rattle.partition_world.specs.declared.seat.Outcome.TheVariants.{Answers, Begins, Chose, Seeks as Sought, Rebuilds as Rebuilding}
+use Rattle.partition_world.specs.declared.seat.Outcome.TheVariants.{Answers, Begins, Chose, Seeks as Sought, Dates as Dated, Rebuilds as Rebuilding}
 use Rattle.partition_world.specs.declared.seat.Work.{Work}
-use Rattle.partition_world.specs.declared.seat.Work.TheVariants.{Idle, Noted, Copies, Seeks, Expires, Rebuilds}
+use Rattle.partition_world.specs.declared.seat.Work.TheVariants.{Idle, Noted, Copies, Seeks, Dates, Expires, Rebuilds}
 use Rattle.partition_world.specs.Tier.{counted}
 use Rattle.partition_world.specs.TurnsOfCopy.{LeadersFirstRow, CopyFirstRow, ReadRow, ChooseRow, CopyOnRow, copied_to, tiers_of, teller_of}
+use Rattle.partition_world.specs.TurnsOfDate.{SearchRow, Searches, DateOnRow, asked_of, is_own, resumed_at, resumed_with}
 use Rattle.partition_world.specs.TurnsOfExpiry.{DeleteOnRow, expiry_tiers}
 use Rattle.partition_world.specs.TurnsOfFetch.{FetchOnRow, GoesOnFetch, fetch_tiers, wanted_of}
 use Rattle.partition_world.specs.TurnsOfTrim.{TrimFirstRow}
 use Rattle.partition_world.specs.TurnsOfRebuild.{RefreshedRow}
-use Rattle.partition_world.specs.Turns.{BeginRow, NotedRow, CopyingRow, SeekingRow, DeletingRow, RebuildingRow, Row}
+use Rattle.partition_world.specs.Turns.{BeginRow, NotedRow, CopyingRow, SeekingRow, DatingRow, DeletingRow, RebuildingRow, Row}
 use Rattle.partition_world.proofs.Sides.{set_same}
 use Rattle.command_answers.proofs.NotesOfCopies.{EndsBelow, LeavesBe}
 
@@ -199,9 +211,77 @@ module _ {S M : Type 0} (meta : MetaGhosts M) (start : ℕ) where
       → FetchRow store.content store.control meta.content meta.control wanted line next (Ok turn) (fetch_tiers side.view side.cache t) (fetch_tiers view cache t') → ViewGoes t side view t'
   fetch_goes store wanted line Refresh turn t side view cache t' row = refresh_goes wanted line turn t side view t' row.1
   fetch_goes store wanted line (Index piece) turn t side view cache t' row =
-      record { notes = inl (ap (λ (k : FetchTiers S M). (meta.content k.meta).notes) row.0); fed = []; view_is = ap (λ (k : FetchTiers S M). k.view) row.0 }
+      record {
+        notes = inl (ap (λ (k : FetchTiers S M). (meta.content k.meta).notes) row.0);
+        fed = [];
+        view_is = ap
+            (λ (k : FetchTiers S M). k.view) row.0;
+      }
   fetch_goes store wanted line (Log piece span) turn t side view cache t' row =
-      record { notes = inl (ap (λ (k : FetchTiers S M). (meta.content k.meta).notes) row.0); fed = []; view_is = ap (λ (k : FetchTiers S M). k.view) row.0 }
+      record {
+        notes = inl (ap (λ (k : FetchTiers S M). (meta.content k.meta).notes) row.0);
+        fed = [];
+        view_is = ap
+            (λ (k : FetchTiers S M). k.view) row.0;
+      }
+
+  -- a search by timestamp refreshes it too, where it looks for a piece; its other turns leave both
+  seek_goes : (asked : Asked) (line : List (ℕ × ℕ)) (cursor : ℕ) (turn : TimeTurn) (t : Tier S M) (side : Side) (view : View)
+      (t' : Tier S M)
+      → SeekRow meta.content meta.control asked line cursor (Ok turn) side.view view t.meta t'.meta → ViewGoes t side view t'
+  seek_goes asked line cursor (time.Ends MetaFault) t side view t' row = record
+      { notes = inl row.content.notes; fed = []; view_is = row.view }
+  seek_goes asked line cursor turn t side view t' row = record
+      { notes = inl row.1.content.notes; fed = row.1.view.notes; view_is = row.1.view.view }
+
+  still_goes : (t : Tier S M) (side : Side) (view : View) (cache : Cache) (t' : Tier S M)
+      → fetch_tiers view cache t' ≡ fetch_tiers side.view side.cache t → ViewGoes t side view t'
+  still_goes t side view cache t' is =
+      record {
+        notes = inl (ap (λ (k : FetchTiers S M). (meta.content k.meta).notes) is);
+        fed = [];
+        view_is = ap
+            (λ (k : FetchTiers S M). k.view) is;
+      }
+
+  indexes_goes : (store : StoreGhosts S) (asked : Asked) (line : List (ℕ × ℕ)) (cursor from : ℕ) (piece : Piece)
+      (found : Result FetchTurn AllocError) (turn : TimeTurn) (t : Tier S M) (side : Side)
+      (view : View) (cache : Cache) (t' : Tier S M)
+      → FetchRow store.content store.control meta.content meta.control (wanted_at asked from) line (fetching.Index piece) found
+      (fetch_tiers side.view side.cache t) (fetch_tiers view cache t')
+      → Indexes cursor piece from found (Ok turn) → ViewGoes t side view t'
+  indexes_goes store asked line cursor from piece (Ok found) turn t side view cache t' row k = fetch_goes store (wanted_at asked from) line
+      (fetching.Index piece) found t side view cache t' row
+  indexes_goes store asked line cursor from piece (Err e) turn t side view cache t' row k = absurd (let no : false ≡ true = k in cc)
+
+  searches_goes : (store : StoreGhosts S) (asked : Asked) (line : List (ℕ × ℕ)) (from : ℕ) (piece : Piece) (span : Span)
+      (found : Result FetchTurn AllocError) (turn : TimeTurn) (t : Tier S M) (side : Side)
+      (view : View) (cache : Cache) (t' : Tier S M)
+      → FetchRow store.content store.control meta.content meta.control (wanted_at asked from) line (fetching.Log piece span) found
+      (fetch_tiers side.view side.cache t) (fetch_tiers view cache t')
+      → SearchesLog asked from found (Ok turn) → ViewGoes t side view t'
+  searches_goes store asked line from piece span (Ok found) turn t side view cache t' row k = fetch_goes store (wanted_at asked from) line
+      (fetching.Log piece span) found t side view cache t' row
+  searches_goes store asked line from piece span (Err e) turn t side view cache t' row k = absurd (let no : false ≡ true = k in cc)
+
+  time_goes : (store : StoreGhosts S) (asked : Asked) (line : List (ℕ × ℕ)) (cursor : ℕ) (next : Dating) (turn : TimeTurn) (t : Tier S M)
+      (side : Side) (view : View) (cache : Cache) (t' : Tier S M)
+      → TimeRow store.content store.control meta.content meta.control asked line cursor next (Ok turn) (fetch_tiers side.view side.cache t)
+      (fetch_tiers view cache t') → ViewGoes t side view t'
+  time_goes store asked line cursor dating.Seek turn t side view cache t' row = seek_goes asked line cursor turn t side view t' row.1
+  time_goes store asked line cursor (dating.Times piece) turn t side view cache t' row =
+      record {
+        notes = inl (ap (λ (k : FetchTiers S M). (meta.content k.meta).notes) row.0);
+        fed = [];
+        view_is = ap
+            (λ (k : FetchTiers S M). k.view) row.0;
+      }
+  time_goes store asked line cursor (dating.Index piece from) turn t side view cache t' (inl row) = still_goes t side view cache t' row.2
+  time_goes store asked line cursor (dating.Index piece from) turn t side view cache t' (inr row) =
+      indexes_goes store asked line cursor from piece row.1.0 turn t side view cache t' row.1.1 row.1.2
+  time_goes store asked line cursor (dating.Log piece from span) turn t side view cache t' (inl row) = still_goes t side view cache t' row.2
+  time_goes store asked line cursor (dating.Log piece from span) turn t side view cache t' (inr row) =
+      searches_goes store asked line from piece span row.1.0 turn t side view cache t' row.1.1 row.1.2
 
   -- an expiry's later turns leave the views
   deletion_goes : (store : StoreGhosts S) (doomed : Doomed) (teller : Teller) (next : Deletion) (turn : ExpiryTurn) (t t' : Tier S M) → IsTrue (meta.content t.meta).tells
@@ -246,6 +326,7 @@ module _ {D S M : Type 0} (disk : DiskGhosts D) (store : StoreGhosts S) (meta : 
   begin_goes h t b x side Trim outcome h' t' at row = trim_goes meta start h t b x side outcome t' at row.0
   begin_goes h t b x side Expire outcome h' t' at row = leaders_goes meta start h t b x side outcome t' at row.0
   begin_goes h t b x side (Offset LatestTiered) outcome h' t' at row = leaders_goes meta start h t b x side outcome t' at row.0
+  begin_goes h t b x side (Offset (At ts)) outcome h' t' at row = leaders_goes meta start h t b x side outcome t' at row.0
   begin_goes h t b x side other outcome h' t' at row = same_tier meta start b side t t' at row.1
 
   seeks_goes : (p : PartitionId) (t : Tier S M) (b : ℕ) (x : Node D) (side : Side) (offset limit : ℕ) (next : Search) (turn : FetchTurn) (t' : Tier S M)
@@ -263,6 +344,42 @@ module _ {D S M : Type 0} (disk : DiskGhosts D) (store : StoreGhosts S) (meta : 
   fetch_on_goes p h t b x side g offset limit next (Answers answer) t' at row = seeks_goes p t b x side offset limit next _ t' row.1
   fetch_on_goes p h t b x side g offset limit next (Sought later) t' at row = seeks_goes p t b x side offset limit next _ t' row.1
   fetch_on_goes p h t b x side g offset limit next other t' at row = elim row [ ]
+
+  search_goes : (h : Held D) (t : Tier S M) (b : ℕ) (x : Node D) (side : Side) (asked : Asked) (cursor : ℕ) (next : Dating) (own : Bool)
+      (turn : TimeTurn) (h' : Held D) (t' : Tier S M)
+      → slice_get t.sides b ≡ Some side → SearchRow disk store meta h t b x side asked cursor next own turn h' t'
+      → TierGoes meta start b side t t'
+  search_goes h t b x side asked cursor next true turn h' t' at row = same_tier meta start b side t t' at row.1
+  search_goes h t b x side asked cursor next false turn h' t' at row =
+      let r = row.0 in
+      let k = time_goes meta start store asked (line_of x) cursor next turn t side r.view r.cache t' r.row in
+      record {
+        notes = k.notes;
+        after = record side { view = r.view; cache = r.cache };
+        sides = ap (λ (u : Tier S M). u.sides) r.after;
+        fed = k.fed;
+        view = k.view_is;
+      }
+
+  dates_goes : (p : PartitionId) (h : Held D) (t : Tier S M) (b : ℕ) (x : Node D) (side : Side) (g : Begun) (ts : ℤ) (cursor : ℕ)
+      (next : Dating) (turn : TimeTurn) (h' : Held D) (t' : Tier S M)
+      → slice_get t.sides b ≡ Some side → Searches disk store meta p h t b x side g ts cursor next turn h' t'
+      → TierGoes meta start b side t t'
+  dates_goes p h t b x side g ts cursor next turn h' t' at row =
+      let on = resumed_at h.registry.start cursor in
+      let with = resumed_with h.registry.start cursor next in
+      search_goes h t b x side (asked_of p h x ts) on with (is_own (local_of x) on with) turn h' t' at row.row
+
+  date_on_goes : (p : PartitionId) (h : Held D) (t : Tier S M) (b : ℕ) (x : Node D) (side : Side) (g : Begun) (ts : ℤ) (cursor : ℕ)
+      (next : Dating) (outcome : Outcome) (h' : Held D) (t' : Tier S M)
+      → slice_get t.sides b ≡ Some side → DateOnRow disk store meta p h t b x side g ts cursor next outcome h' t'
+      → TierGoes meta start b side t t'
+  date_on_goes p h t b x side g ts cursor next (Answers Stopped) h' t' at row = same_tier meta start b side t t' at row.2
+  date_on_goes p h t b x side g ts cursor next (Answers NotLeader) h' t' at row = same_tier meta start b side t t' at row.4
+  date_on_goes p h t b x side g ts cursor next (Answers NoOffset) h' t' at row = same_tier meta start b side t t' at row.3
+  date_on_goes p h t b x side g ts cursor next (Answers answer) h' t' at row = dates_goes p h t b x side g ts cursor next _ h' t' at row
+  date_on_goes p h t b x side g ts cursor next (Dated to later) h' t' at row = dates_goes p h t b x side g ts cursor next _ h' t' at row.0
+  date_on_goes p h t b x side g ts cursor next other h' t' at row = elim row [ ]
 
   -- a join's view is refreshed
   refreshed_goes : (t : Tier S M) (b : ℕ) (side : Side) (outcome : Outcome) (t' : Tier S M) → slice_get t.sides b ≡ Some side → RefreshedRow meta t b side outcome t' → TierGoes meta start b side t t'
@@ -291,6 +408,8 @@ module _ {D S M : Type 0} (disk : DiskGhosts D) (store : StoreGhosts S) (meta : 
   noted_goes p config h t b x side g Join outcome h' t' at (inr (high, inl (answer, is, once, tier), same)) = same_tier meta start b side t t' at tier
   noted_goes p config h t b x side g Join outcome h' t' at (inr (high, inr (may, row), same)) = refreshed_goes t b side outcome t' at row
   noted_goes p config h t b x side g (Offset LatestTiered) outcome h' t' at row = same_tier meta start b side t t' at row.2
+  noted_goes p config h t b x side g (Offset (At ts)) outcome h' t' at row = date_on_goes p h t b x side g ts 0 dating.Seek outcome h' t'
+      at row
   noted_goes p config h t b x side g other outcome h' t' at row = same_tier meta start b side t t' at row.1
 
   copying_goes : (h : Held D) (t : Tier S M) (b : ℕ) (x : Node D) (side : Side) (g : Begun) (copy : Copied) (next : Next) (command : Command) (outcome : Outcome) (h' : Held D) (t' : Tier S M)
@@ -302,6 +421,14 @@ module _ {D S M : Type 0} (disk : DiskGhosts D) (store : StoreGhosts S) (meta : 
       → slice_get t.sides b ≡ Some side → SeekingRow store meta p h t b x side g next command outcome h' t' → TierGoes meta start b side t t'
   seeking_goes p h t b x side g next (Fetch offset limit) outcome h' t' at row = fetch_on_goes p h t b x side g offset limit next outcome t' at row.0
   seeking_goes p h t b x side g next other outcome h' t' at row = elim row [ ]
+
+  dating_goes : (p : PartitionId) (h : Held D) (t : Tier S M) (b : ℕ) (x : Node D) (side : Side) (g : Begun) (cursor : ℕ) (next : Dating)
+      (command : Command) (outcome : Outcome) (h' : Held D) (t' : Tier S M)
+      → slice_get t.sides b ≡ Some side → DatingRow disk store meta p h t b x side g cursor next command outcome h' t'
+      → TierGoes meta start b side t t'
+  dating_goes p h t b x side g cursor next (Offset (At ts)) outcome h' t' at row = date_on_goes p h t b x side g ts cursor next outcome h'
+      t' at row
+  dating_goes p h t b x side g cursor next other outcome h' t' at row = elim row [ ]
 
   delete_on_goes : (h : Held D) (t : Tier S M) (b : ℕ) (x : Node D) (side : Side) (g : Begun) (doomed : Doomed) (next : Deletion) (outcome : Outcome) (t' : Tier S M) → slice_get t.sides b ≡ Some side
       → IsTrue (meta.content t.meta).tells → EndsBelow (fold (meta.content t.meta).notes) start doomed.id → DeleteOnRow store meta h t b x g doomed next outcome t' → TierGoes meta start b side t t'
@@ -339,5 +466,7 @@ module _ {D S M : Type 0} (disk : DiskGhosts D) (store : StoreGhosts S) (meta : 
   row_goes p config h t b x side (Noted g) command outcome h' t' at tells low row = noted_goes p config h t b x side g command outcome h' t' at row
   row_goes p config h t b x side (Copies g copy next) command outcome h' t' at tells low row = copying_goes h t b x side g copy next command outcome h' t' at tells row
   row_goes p config h t b x side (Seeks g next) command outcome h' t' at tells low row = seeking_goes p h t b x side g next command outcome h' t' at row
+  row_goes p config h t b x side (Dates g cursor next) command outcome h' t' at tells low row = dating_goes p h t b x side g cursor next
+      command outcome h' t' at row
   row_goes p config h t b x side (Expires g doomed next) command outcome h' t' at tells low row = deleting_goes h t b x side g doomed next command outcome h' t' at tells low row
   row_goes p config h t b x side (Rebuilds g next) command outcome h' t' at tells low row = rebuilding_goes p h t b x side g next command outcome h' t' at row

@@ -32,7 +32,7 @@ use Rattle.partition_seen.specs.declared.begun.Begun.{Begun}
 use Rattle.partition_turns.specs.declared.held.Node.{Node}
 use Rattle.partition_turns.specs.Held.{is_up}
 use Rattle.partition_world.specs.declared.seat.Work.{Work}
-use Rattle.partition_world.specs.declared.seat.Work.TheVariants.{Idle, Noted, Copies, Seeks, Expires, Rebuilds}
+use Rattle.partition_world.specs.declared.seat.Work.TheVariants.{Idle, Noted, Copies, Seeks, Dates, Expires, Rebuilds}
 use Rattle.partition_world.specs.declared.tier.Side.{Side}
 use Rattle.partition_world.specs.TurnsOfCopy.{KeepsLead, next_segment}
 use Rattle.partition_world.specs.Whole.{Whole}
@@ -77,6 +77,7 @@ module _ {D S M : Type 0} (disk : DiskGhosts D) (store : StoreGhosts S) (meta : 
   HasCause w b x side (Noted g) answer w' = ChoiceCause w b x side g answer w'
   HasCause w b x side (Copies g copy next) answer w' = LaterCause w x g copy answer w'
   HasCause w b x side (Seeks g next) answer w' = ⊥
+  HasCause w b x side (Dates g cursor next) answer w' = ⊥
   HasCause w b x side (Expires g doomed next) answer w' = ⊥
   HasCause w b x side (Rebuilds g next) answer w' = ⊥
 
@@ -88,5 +89,6 @@ module _ {D S M : Type 0} where
   MayCopy w x side (Noted g) = KeepsLead x g × (next_segment w.held x side ≢ None)
   MayCopy w x side (Copies g copy next) = KeepsLead x g × (w.held.registry.start ≤ copy.segment.last)
   MayCopy w x side (Seeks g next) = ⊥
+  MayCopy w x side (Dates g cursor next) = ⊥
   MayCopy w x side (Expires g doomed next) = ⊥
   MayCopy w x side (Rebuilds g next) = ⊥

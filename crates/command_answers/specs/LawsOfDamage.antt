@@ -19,13 +19,14 @@ use Rattle.partition_world.specs.Turn.{IsTurn}
 use Rattle.partition_world.specs.Whole.{Whole}
 use Rattle.command_answers.specs.DeletionsKnown.{DeletionsKnown}
 use Rattle.command_answers.specs.Found.{SpansKnown}
+use Rattle.command_answers.specs.FoundByTime.{SearchesKnown}
 use Rattle.command_answers.specs.Damage.{MeetsNoDamage}
 
 module _ {D S M : Type 0} (disk : DiskGhosts D) (store : StoreGhosts S) (meta : MetaGhosts M) where
-  -- no command is answered `Damaged`, where it is known of deletions and of what fetches have found what turns keep of them
+  -- no command is answered `Damaged`, where it is known of deletions and of what fetches and searches have found what turns keep of them
   abbrev pub NoAnswerIsDamaged : Type 0
   NoAnswerIsDamaged = (opening : State) (w : Whole D S M) (a : ℕ) (place : Place) (at : ℕ) (w' : Whole D S M)
-      → IsCentral disk store meta opening w → DeletionsKnown meta w → SpansKnown meta opening w
+      → IsCentral disk store meta opening w → DeletionsKnown meta w → SpansKnown meta opening w → SearchesKnown meta opening w
       → IsTurn disk store meta w a (Answers (Damaged place at)) w' → ⊥
 
   -- nor is any in a world that a schedule reaches from a fresh one which is seen empty

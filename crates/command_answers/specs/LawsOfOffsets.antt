@@ -19,4 +19,4 @@ module _ {D S M : Type 0} (disk : DiskGhosts D) (store : StoreGhosts S) (meta : 
   OffsetsHaveCauses = (w : Whole D S M) (a : ℕ) (answer : Answer) (w' : Whole D S M) (which : Which)
       → (t : IsTurn disk store meta w a (Answers answer) w') → t.order.command ≡ Offset which
       → AtNode w.held t.order.broker.0 (λ x. AtSide w.tier t.order.broker.0 (λ side.
-      HasCause meta w x side t.seat.work which answer w'))
+      HasCause disk store meta w t.order.broker.0 x side t.seat.work which answer w'))

@@ -8,6 +8,7 @@ pub mod UnhinderedCopies
 pub mod LawsOfCopies
 pub mod CausesOfFetches
 pub mod Found
+pub mod FoundByTime
 pub mod UnhinderedFetches
 pub mod LawsOfFetches
 pub mod CausesOfJoins
@@ -15,6 +16,7 @@ pub mod UnhinderedJoins
 pub mod LawsOfJoins
 pub mod CausesOfOffsets
 pub mod LawsOfOffsets
+pub mod LawsOfSearches
 pub mod Damage
 pub mod LawsOfDamage
 pub mod Counted

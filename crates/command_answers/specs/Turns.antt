@@ -19,9 +19,18 @@
 --                   Restart   once the line is read                            1
 --   trim     2      second    once the view is refreshed                       1
 --   offset   2      second    once the view is refreshed, for the remote tier  1
+--   search          second    once the view is refreshed                       1 + 4 * 2^64
+--                   Seek      once its cursor has come to an offset            1 + 4 * (2^64 - offset)
+--                   Times     once a piece is found there                      one less
+--                   Index     once the time index is read                      two less
+--                   Log       once the offset index is there                   three less
 --   follow   2      second    once a run of the leader's log is read           1
 --   others   1
-use Rattle.std.specs.Prelude.{ℕ, ◌+◌, ◌-◌}
+--
+-- A search is a question for the offset of a timestamp. Its cursor rises by an offset at least where it has no piece: behind each
+-- piece, behind each run of the local log that it reads, and where it only passes over segments. So it takes 4 turns for each piece at
+-- most and 1 for each such run; how many of them there are is the log's, which may grow while it goes on.
+use Rattle.std.specs.Prelude.{ℕ, ◌+◌, ◌-◌, ◌*◌, ◌^◌}
 use Rattle.copy_task.specs.declared.turn.Next.{Next as Copying}
 use Rattle.copy_task.specs.declared.turn.Next.TheVariants as copying
 use Rattle.expiry_task.specs.declared.turn.Next.{Next as Deletion}
@@ -30,11 +39,13 @@ use Rattle.rebuild_task.specs.declared.turn.Next.{Next as Rebuild}
 use Rattle.rebuild_task.specs.declared.turn.Next.TheVariants.{Epochs, Restart}
 use Rattle.tier_fetch.specs.declared.turn.Next.{Next as Search}
 use Rattle.tier_fetch.specs.declared.turn.Next.TheVariants.{Refresh, Index, Log}
+use Rattle.time_find.specs.declared.turn.Next.{Next as Dating}
+use Rattle.time_find.specs.declared.turn.Next.TheVariants as dating
 use Rattle.plain_log.specs.declared.command.Command.{Command}
 use Rattle.plain_log.specs.declared.command.Command.TheVariants.{Copy, Expire, Fetch, Join, Trim, Follow, Offset}
-use Rattle.plain_log.specs.declared.command.Which.TheVariants.{LatestTiered}
+use Rattle.plain_log.specs.declared.command.Which.TheVariants.{LatestTiered, At}
 use Rattle.partition_world.specs.declared.seat.Work.{Work}
-use Rattle.partition_world.specs.declared.seat.Work.TheVariants.{Idle, Noted, Copies, Seeks, Expires, Rebuilds}
+use Rattle.partition_world.specs.declared.seat.Work.TheVariants.{Idle, Noted, Copies, Seeks, Dates, Expires, Rebuilds}
 
 -- of a command
 abbrev pub turns_of : Command → ℕ
@@ -45,6 +56,7 @@ turns_of Join = 4
 turns_of Trim = 2
 turns_of (Follow limit) = 2
 turns_of (Offset LatestTiered) = 2
+turns_of (Offset (At ts)) = 2 + 4 * 2 ^ 64
 turns_of other = 1
 
 -- left of one behind its first turn
@@ -53,6 +65,7 @@ second_left Copy = 12
 second_left Expire = 7
 second_left (Fetch offset limit) = 3
 second_left Join = 3
+second_left (Offset (At ts)) = 1 + 4 * 2 ^ 64
 second_left other = 1
 
 -- of a copy that does this next
@@ -75,6 +88,17 @@ seeking_left Refresh = 3
 seeking_left (Index piece) = 2
 seeking_left (Log piece span) = 1
 
+-- how many turns a search has taken at its cursor
+abbrev pub dated_here : Dating → ℕ
+dated_here dating.Seek = 0
+dated_here (dating.Times piece) = 1
+dated_here (dating.Index piece from) = 2
+dated_here (dating.Log piece from span) = 3
+
+-- of a search
+abbrev pub dating_left : ℕ → Dating → ℕ
+dating_left cursor next = 1 + (4 * (2 ^ 64 - cursor) - dated_here next)
+
 -- of a join
 abbrev pub rebuilding_left : Rebuild → ℕ
 rebuilding_left Epochs = 2
@@ -86,5 +110,6 @@ turns_left command Idle = turns_of command
 turns_left command (Noted g) = second_left command
 turns_left command (Copies g copy next) = copying_left next
 turns_left command (Seeks g next) = seeking_left next
+turns_left command (Dates g cursor next) = dating_left cursor next
 turns_left command (Expires g doomed next) = deleting_left next
 turns_left command (Rebuilds g next) = rebuilding_left next

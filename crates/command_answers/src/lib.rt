@@ -18,6 +18,7 @@ mod fault_laws;
 mod fetch_laws;
 mod join_laws;
 mod offset_laws;
+mod search_laws;
 mod turn_laws;
 
 pub use copy_laws::{
@@ -32,4 +33,8 @@ pub use fetch_laws::{
 };
 pub use join_laws::{joins_have_causes, unhindered_are_joined};
 pub use offset_laws::offsets_have_causes;
+pub use search_laws::{
+    fresh_has_searches, no_search_is_damaged, reaches_searches, searches_tell_dates,
+    turns_keep_searches,
+};
 pub use turn_laws::{commands_are_answered, others_stay, schedules_answer_commands, turns_go_on};

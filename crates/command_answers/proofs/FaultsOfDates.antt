@@ -1,0 +1,149 @@
+-- A turn of a search by timestamp: no count of faults falls, and one rises where a fault is told.
+use Rattle.std.proofs.Common.{◌≡◌, inl, inr, sym, ap, subst, refl, ℕ, List, Some, None, Option, Ok, Err, true, false}
+use Rattle.std.specs.declared.result.Result.{Result}
+use Rattle.std.specs.declared.alloc.AllocError.{AllocError}
+use Rattle.tier_base.specs.Device.{Ran, fate_of}
+use Rattle.tier_base.specs.declared.fault.Trouble.{Trouble}
+use Rattle.tier_base.specs.declared.fault.Trouble.TheVariants.{Failed, NoMemory}
+use Rattle.tier_base.specs.declared.plain.Part.TheVariants as part
+use Rattle.object_store.specs.declared.store.Store.{Ghosts as StoreGhosts}
+use Rattle.object_store.specs.declared.call.StoreCall.TheVariants.{Get}
+use Rattle.object_store.specs.declared.placing.Spot.{Spot}
+use Rattle.meta_log.specs.declared.log.MetaLog.{Ghosts as MetaGhosts}
+use Rattle.remote_view.specs.Fold.{Seen as View, entry_of}
+use Rattle.remote_find.specs.declared.piece.Piece.{Piece}
+use Rattle.tier_fetch.specs.declared.turn.FetchTurn.{FetchTurn}
+use Rattle.tier_fetch.specs.declared.turn.FetchTurn.TheVariants as fetch
+use Rattle.tier_fetch.specs.declared.turn.Next.TheVariants as fetching
+use Rattle.tier_fetch.specs.declared.turn.Span.{Span}
+use Rattle.tier_fetch.specs.Turns.{Tiers, FetchRow, spot_in}
+use Rattle.time_find.specs.declared.turn.Asked.{Asked}
+use Rattle.time_find.specs.declared.turn.Next.{Next}
+use Rattle.time_find.specs.declared.turn.Next.TheVariants.{Seek, Times as ReadsTimes, Index, Log}
+use Rattle.time_find.specs.declared.turn.TimeTurn.{TimeTurn}
+use Rattle.time_find.specs.declared.turn.TimeTurn.TheVariants.{Goes, Ends}
+use Rattle.time_find.specs.Passing.{Seeks}
+use Rattle.time_find.specs.Turns.{IsSearched, Times, Indexes, Searches, SeekRow, TimesRow, TimeRow, wanted_at}
+use Rattle.plain_log.specs.declared.answer.Answer.{Answer}
+use Rattle.plain_log.specs.declared.answer.Answer.TheVariants.{MetaFault, Damaged, Run, Offset}
+use Rattle.plain_log.specs.declared.answer.Place.TheVariants.{Meta}
+use Rattle.partition_world.specs.Seats.{date_outcome, fetch_outcome}
+use Rattle.command_answers.proofs.FaultCounts.{Told}
+use Rattle.command_answers.proofs.FaultsTold.{TurnTold, StoreKeeps, StoreRose, MetaKeeps, MetaRose, store_same, meta_same}
+use Rattle.command_answers.proofs.FaultsOfSearches.{fetch_counts}
+
+module _ (A B : Type 0) where
+  as_told : (C E : Type 0) (turn after : TimeTurn) → ◌≡◌ {A = Result TimeTurn AllocError} (Ok turn) (Ok after)
+      → TurnTold A B C E (date_outcome after) → TurnTold A B C E (date_outcome turn)
+  as_told C E turn after is told = let same : turn ≡ after = cc (is) in subst (λ (t : TimeTurn). TurnTold A B C E (date_outcome t))
+      (sym same) told
+
+  seeks_told : (C E : Type 0) (asked : Asked) (line : List (ℕ × ℕ)) (view : View) (cursor : ℕ) (turn : TimeTurn)
+      → Seeks asked line view cursor turn → TurnTold A B C E (date_outcome turn)
+  seeks_told C E asked line view cursor (Goes at next) w = tt
+  seeks_told C E asked line view cursor (Ends (Damaged Meta n)) w = tt
+  seeks_told C E asked line view cursor (Ends answer) w = elim w [ ]
+
+  -- a run that was searched
+  pub searched_told : (C E : Type 0) (asked : Asked) (offset : ℕ) (run : List ℕ) (turn : TimeTurn) → IsSearched asked offset run turn
+      → TurnTold A B C E (date_outcome turn)
+  searched_told C E asked offset run (Goes at next) w = tt
+  searched_told C E asked offset run (Ends (Offset n)) w = tt
+  searched_told C E asked offset run (Ends answer) w = elim w [ ]
+
+  -- what a fetch's turn came to
+  indexes_told : (C E : Type 0) (cursor from : ℕ) (piece : Piece) (found : FetchTurn) (turn : TimeTurn)
+      → Indexes cursor piece from (Ok found) (Ok turn)
+      → TurnTold A B C E (fetch_outcome found) → TurnTold A B C E (date_outcome turn)
+  indexes_told C E cursor from piece (fetch.Goes (fetching.Log same span)) turn w told = as_told C E turn _ w.1 tt
+  indexes_told C E cursor from piece (fetch.Goes next) turn w told = elim w [ ]
+  indexes_told C E cursor from piece (fetch.Ends answer) turn w told = as_told C E turn (Ends answer) w told
+
+  searches_told : (C E : Type 0) (asked : Asked) (from : ℕ) (found : FetchTurn) (turn : TimeTurn) → Searches asked from (Ok found) (Ok turn)
+      → TurnTold A B C E (fetch_outcome found) → TurnTold A B C E (date_outcome turn)
+  searches_told C E asked from (fetch.Ends (Run tier size stop bytes)) turn w told = searched_told C E asked from bytes turn w
+  searches_told C E asked from (fetch.Ends answer) turn w told = as_told C E turn (Ends answer) w told
+  searches_told C E asked from (fetch.Goes next) turn w told = elim w [ ]
+
+  seek_counts : (C : Type 0) {M : Type 0} (meta : MetaGhosts M) (asked : Asked) (line : List (ℕ × ℕ)) (cursor : ℕ) (turn : TimeTurn)
+      (before after : View) (old new : M)
+      → SeekRow meta.content meta.control asked line cursor (Ok turn) before after old new → MetaKeeps meta old new
+      × TurnTold A B C (MetaRose meta old new) (date_outcome turn)
+  seek_counts C meta asked line cursor (Ends MetaFault) before after old new w = (w.control.ran.never_falls, w.control.ran.cause refl)
+  seek_counts C meta asked line cursor turn before after old new w =
+      (w.1.control.ran.never_falls, seeks_told C (MetaRose meta old new) asked line after cursor turn w.0)
+
+  module _ (E : Type 0) {S : Type 0} (store : StoreGhosts S) where
+    times_told : (asked : Asked) (cursor : ℕ) (piece : Piece) (base : ℕ) (spot : Spot) (answer : Result (Option (List ℕ)) Trouble)
+        (turn : TimeTurn) (old new : S)
+        → Ran Get (fate_of answer) (store.control old) (store.control new) → Times asked cursor piece base spot answer (Ok turn)
+        → TurnTold A B (StoreRose store old new) E (date_outcome turn)
+    times_told asked cursor piece base spot (Err Failed) turn old new r w = as_told (StoreRose store old new) E turn _ w (r.cause refl)
+    times_told asked cursor piece base spot (Err NoMemory) turn old new r w = absurd (let no : false ≡ true = w in cc)
+    times_told asked cursor piece base spot (Ok None) turn old new r w = as_told (StoreRose store old new) E turn _ w tt
+    times_told asked cursor piece base spot (Ok (Some bytes)) (Goes at next) old new r w = tt
+    times_told asked cursor piece base spot (Ok (Some bytes)) (Ends answer) old new r w = subst
+        (λ (a : Answer). Told A B (StoreRose store old new) E a) (sym w.0) tt
+
+    times_counts : (asked : Asked) (cursor : ℕ) (piece : Piece) (view : View) (place : Option (ℕ × Spot)) (turn : TimeTurn) (old new : S)
+        → TimesRow store.content store.control asked cursor piece view place (Ok turn) old new → StoreKeeps store old new
+        × TurnTold A B (StoreRose store old new) E (date_outcome turn)
+    times_counts asked cursor piece view None turn old new w = (
+      store_same store old new w.1,
+      as_told (StoreRose store old new) E turn _
+          w.0 tt,
+    )
+    times_counts asked cursor piece view (Some place) turn old new w =
+        (w.gets.control.never_falls, times_told asked cursor piece place.0 place.1 w.answer turn old new w.gets.control w.times)
+
+  module _ {S M : Type 0} (store : StoreGhosts S) (meta : MetaGhosts M) where
+    abbrev Counted : Tiers S M → Tiers S M → TimeTurn → Type 0
+    Counted old new turn =
+        StoreKeeps store old.store new.store × MetaKeeps meta old.meta new.meta
+        × TurnTold A B (StoreRose store old.store new.store) (MetaRose meta old.meta new.meta) (date_outcome turn)
+
+    -- no call was made
+    goes_counted : (old new : Tiers S M) (turn : TimeTurn) (at : ℕ) (next : Next)
+        → ◌≡◌ {A = Result TimeTurn AllocError} (Ok turn) (Ok (Goes at next)) → new ≡ old → Counted old new turn
+    goes_counted old new turn at next is same = (
+      store_same store old.store new.store (ap (λ (t : Tiers S M). t.store) same),
+      meta_same meta old.meta new.meta (ap (λ (t : Tiers S M). t.meta) same),
+      as_told (StoreRose store old.store new.store) (MetaRose meta old.meta new.meta) turn (Goes at next) is tt,
+    )
+
+    index_counts : (asked : Asked) (line : List (ℕ × ℕ)) (cursor from : ℕ) (piece : Piece) (found : Result FetchTurn AllocError)
+        (turn : TimeTurn) (old new : Tiers S M)
+        → FetchRow store.content store.control meta.content meta.control (wanted_at asked from) line (fetching.Index piece) found old new
+        → Indexes cursor piece from found (Ok turn) → Counted old new turn
+    index_counts asked line cursor from piece (Ok found) turn old new row w =
+        let k = fetch_counts A B store meta (wanted_at asked from) line (fetching.Index piece) found old new row in
+        (k.0, k.1, indexes_told (StoreRose store old.store new.store) (MetaRose meta old.meta new.meta) cursor from piece found turn w k.2)
+    index_counts asked line cursor from piece (Err e) turn old new row w = absurd (let no : false ≡ true = w in cc)
+
+    log_counts : (asked : Asked) (line : List (ℕ × ℕ)) (from : ℕ) (piece : Piece) (span : Span) (found : Result FetchTurn AllocError)
+        (turn : TimeTurn) (old new : Tiers S M)
+        → FetchRow store.content store.control meta.content meta.control (wanted_at asked from) line (fetching.Log piece span) found old new
+        → Searches asked from found (Ok turn) → Counted old new turn
+    log_counts asked line from piece span (Ok found) turn old new row w =
+        let k = fetch_counts A B store meta (wanted_at asked from) line (fetching.Log piece span) found old new row in
+        (k.0, k.1, searches_told (StoreRose store old.store new.store) (MetaRose meta old.meta new.meta) asked from found turn w k.2)
+    log_counts asked line from piece span (Err e) turn old new row w = absurd (let no : false ≡ true = w in cc)
+
+    -- among the remote segments
+    pub time_counts : (asked : Asked) (line : List (ℕ × ℕ)) (cursor : ℕ) (next : Next) (turn : TimeTurn) (old new : Tiers S M)
+        → TimeRow store.content store.control meta.content meta.control asked line cursor next (Ok turn) old new
+        → StoreKeeps store old.store new.store × MetaKeeps meta old.meta new.meta
+        × TurnTold A B (StoreRose store old.store new.store) (MetaRose meta old.meta new.meta) (date_outcome turn)
+    time_counts asked line cursor Seek turn old new w =
+        let k = seek_counts (StoreRose store old.store new.store) meta asked line cursor turn old.view new.view old.meta new.meta w.1 in
+        (store_same store old.store new.store (ap (λ (t : Tiers S M). t.store) w.0), k.0, k.1)
+    time_counts asked line cursor (ReadsTimes piece) turn old new w =
+        let place = spot_in asked.partition piece.id part.TimeIndex (entry_of piece.id old.view.entries) in
+        let k = times_counts (MetaRose meta old.meta new.meta) store asked cursor piece old.view place turn old.store new.store w.1 in
+        (k.0, meta_same meta old.meta new.meta (ap (λ (t : Tiers S M). t.meta) w.0), k.1)
+    time_counts asked line cursor (Index piece from) turn old new (inl w) = goes_counted old new turn _ Seek w.1 w.2
+    time_counts asked line cursor (Index piece from) turn old new (inr w) = index_counts asked line cursor from piece w.1.0 turn old new
+        w.1.1 w.1.2
+    time_counts asked line cursor (Log piece from span) turn old new (inl w) = goes_counted old new turn _ Seek w.1 w.2
+    time_counts asked line cursor (Log piece from span) turn old new (inr w) = log_counts asked line from piece span w.1.0 turn old new
+        w.1.1 w.1.2

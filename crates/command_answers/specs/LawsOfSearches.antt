@@ -1,0 +1,74 @@
+-- The laws of what a question for the offset of a timestamp is answered, over devices that tell.
+use Rattle.std.specs.Prelude.{◌≡◌, ℕ, ℤ, List, Option, Some, None}
+use Rattle.tier_base.specs.declared.names.PartitionId.{PartitionId}
+use Rattle.disk_model.specs.declared.disk.Disk.{Ghosts as DiskGhosts}
+use Rattle.object_store.specs.declared.store.Store.{Ghosts as StoreGhosts}
+use Rattle.meta_log.specs.declared.log.MetaLog.{Ghosts as MetaGhosts}
+use Rattle.plain_log.specs.declared.answer.Answer.{Answer}
+use Rattle.plain_log.specs.declared.answer.Answer.TheVariants.{Damaged, Offset as OffsetAnswer, NoOffset}
+use Rattle.plain_log.specs.declared.answer.Place.{Place}
+use Rattle.plain_log.specs.declared.command.ActorList.{ActorList}
+use Rattle.plain_log.specs.declared.command.Command.TheVariants.{Offset}
+use Rattle.plain_log.specs.declared.command.Config.{Config}
+use Rattle.plain_log.specs.declared.command.Pace.{Pace}
+use Rattle.plain_log.specs.declared.command.Which.TheVariants.{At}
+use Rattle.plain_log.specs.declared.state.State.{State}
+use Rattle.broker_log.specs.Seen.{Shows}
+use Rattle.broker_log.specs.Seen as log
+use Rattle.partition_seen.specs.RowsOfOffsets.{dated_offset}
+use Rattle.partition_seen.specs.Seen as seen
+use Rattle.partition_turns.specs.declared.held.Node.{Node}
+use Rattle.partition_turns.specs.Held.{AtNode, node_of, ShowsHeld}
+use Rattle.partition_world.specs.declared.seat.Outcome.{Outcome}
+use Rattle.partition_world.specs.declared.seat.Outcome.TheVariants.{Answers}
+use Rattle.partition_world.specs.Central.{IsCentral}
+use Rattle.partition_world.specs.Fresh.{IsFresh}
+use Rattle.partition_world.specs.Reaches.{Reaches}
+use Rattle.partition_world.specs.Turn.{IsTurn}
+use Rattle.partition_world.specs.Whole.{Whole}
+use Rattle.command_answers.specs.FoundByTime.{SearchesKnown}
+
+module _ {D S M : Type 0} (disk : DiskGhosts D) where
+  -- the offset of the timestamp in the log that the broker's disk shows, or that there is none
+  pub record IsDatedIn (w : Whole D S M) (x : Node D) (ts : ℤ) (found : Option ℕ) : Type 0 where
+    pub held : seen.Held
+    pub shown : ShowsHeld disk.content w.held held
+    pub seen : log.Seen
+    pub shows : Shows disk.content x.log seen
+    pub is : dated_offset held (node_of x seen) ts ≡ found
+
+  -- what an answer says of the log
+  abbrev pub TellsDate : Whole D S M → Node D → ℤ → Answer → Type 0
+  TellsDate w x ts (OffsetAnswer n) = IsDatedIn w x ts (Some n)
+  TellsDate w x ts NoOffset = IsDatedIn w x ts None
+  TellsDate w x ts other = Unit {0}
+
+module _ {D S M : Type 0} (disk : DiskGhosts D) (store : StoreGhosts S) (meta : MetaGhosts M) where
+  -- an offset that is answered is that of the timestamp, and where none is answered there is none
+  abbrev pub SearchesTellDates : Type 0
+  SearchesTellDates = (opening : State) (w : Whole D S M) (a : ℕ) (answer : Answer) (w' : Whole D S M) (ts : ℤ)
+      → IsCentral disk store meta opening w → (t : IsTurn disk store meta w a (Answers answer) w') → t.order.command ≡ Offset (At ts)
+      → AtNode w.held t.order.broker.0 (λ x. TellsDate disk w x ts answer)
+
+  -- a search is never damage
+  abbrev pub NoSearchIsDamaged : Type 0
+  NoSearchIsDamaged = (opening : State) (w : Whole D S M) (a : ℕ) (place : Place) (at : ℕ) (w' : Whole D S M) (ts : ℤ)
+      → IsCentral disk store meta opening w → SearchesKnown meta opening w
+      → (t : IsTurn disk store meta w a (Answers (Damaged place at)) w') → t.order.command ≡ Offset (At ts) → ⊥
+
+  -- what a schedule reaches keeps what is known of what searches have found
+  abbrev pub ReachesSearches : Type 0
+  ReachesSearches = (opening : State) (w : Whole D S M) (schedule : List Pace) (w' : Whole D S M)
+      → IsCentral disk store meta opening w → SearchesKnown meta opening w → Reaches disk store meta w schedule w'
+      → IsCentral disk store meta opening w' × SearchesKnown meta opening w'
+
+  -- a turn keeps it
+  abbrev pub TurnsKeepSearches : Type 0
+  TurnsKeepSearches = (opening : State) (w : Whole D S M) (a : ℕ) (outcome : Outcome) (w' : Whole D S M)
+      → IsCentral disk store meta opening w → SearchesKnown meta opening w → IsTurn disk store meta w a outcome w'
+      → SearchesKnown meta opening w'
+
+  -- it is known where nothing has happened yet
+  abbrev pub FreshHasSearches : Type 0
+  FreshHasSearches = (opening : State) (partition : PartitionId) (config : Config) (lists : List ActorList) (disks : List D) (s : S)
+      (m : M) (w : Whole D S M) → IsFresh disk store meta partition config lists disks s m w → SearchesKnown meta opening w

@@ -1,0 +1,35 @@
+//! Laws of what a question for the offset of a timestamp is answered. Each is the contract of a
+//! function that does nothing: calling it cites the law.
+
+ghost use Rattle.command_answers.specs.LawsOfSearches.{SearchesTellDates, NoSearchIsDamaged};
+ghost use Rattle.command_answers.specs.LawsOfSearches.{ReachesSearches, TurnsKeepSearches, FreshHasSearches};
+
+use disk_model::Disk;
+use meta_log::MetaLog;
+use object_store::Store;
+
+/// Over devices that tell, an offset that is answered is that of the timestamp in the leader's log, up
+/// to the high watermark that it knows, and where none is answered there is none.
+pub fn searches_tell_dates<D: Disk, S: Store, M: MetaLog>()
+    ensures { SearchesTellDates D.Disk S.Store M.MetaLog }
+{}
+
+/// No search is answered `Damaged` there.
+pub fn no_search_is_damaged<D: Disk, S: Store, M: MetaLog>()
+    ensures { NoSearchIsDamaged D.Disk S.Store M.MetaLog }
+{}
+
+/// What a schedule reaches keeps what is known of what searches have found, beside the central fact.
+pub fn reaches_searches<D: Disk, S: Store, M: MetaLog>()
+    ensures { ReachesSearches D.Disk S.Store M.MetaLog }
+{}
+
+/// Each turn keeps what is known of what searches have found.
+pub fn turns_keep_searches<D: Disk, S: Store, M: MetaLog>()
+    ensures { TurnsKeepSearches D.Disk S.Store M.MetaLog }
+{}
+
+/// It is known of a fresh world.
+pub fn fresh_has_searches<D: Disk, S: Store, M: MetaLog>()
+    ensures { FreshHasSearches D.Disk S.Store M.MetaLog }
+{}
