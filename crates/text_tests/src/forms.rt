@@ -62,7 +62,7 @@ static FORMS: [(&str, &str); 35] = [
     ("0 0 0 offset latest_tiered", "Offset(LatestTiered)"),
     (
         "0 0 0 offset at 9223372036854775807",
-        "Bad { line: 1, why: Unbuilt }",
+        "Offset(At(9223372036854775807))",
     ),
     (
         "0 0 - clock 9223372036854775807",

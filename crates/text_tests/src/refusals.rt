@@ -4,7 +4,7 @@
 use crate::scripts::is_told;
 
 /// Scripts with a reading.
-static GOOD: [(&str, &str); 28] = [
+static GOOD: [(&str, &str); 29] = [
     ("", "no line"),
     ("\n", "an empty line"),
     (
@@ -90,10 +90,14 @@ static GOOD: [(&str, &str); 28] = [
         "local_retention_bytes -2\nlocal_retention_ms 9223372036854775807\nretention_bytes -1\nretention_ms 0\n0 0 0 trim\n",
         "retention in any order, and a trim",
     ),
+    (
+        "0 0 0 offset at 0\n0 0 0 offset at 9223372036854775807\n",
+        "offsets of the first time and of the last",
+    ),
 ];
 
 /// Scripts without one, and what is told of them.
-static BAD: [(&str, &str); 148] = [
+static BAD: [(&str, &str); 147] = [
     // bytes that no line has
     ("# \x7f\n", "line 1: NotText"),
     ("#\u{e9}\n", "line 1: NotText"),
@@ -267,10 +271,9 @@ static BAD: [(&str, &str); 148] = [
         "line 2: FetchSum",
     ),
     // forms that are not built
-    ("0 0 0 offset at 0\n", "line 1: Unbuilt"),
     ("0 0 - pack 0\n", "line 1: Unbuilt"),
     (
-        "brokers 8\n0 0 7 expire\n0 0 7 offset at 1\n",
+        "brokers 8\n0 0 7 expire\n0 0 - pack 01\n0 0 7 offset at 1\n",
         "line 3: Unbuilt",
     ),
     (

@@ -523,134 +523,87 @@ turn 2 1
 0 2 0 = Stopped
 0 0 19 = Down
 `# docs/SCRIPT.md, script 37
+brokers 2
+segment_bytes 200
+local_retention_bytes 0
+fault 0 meta read 4 before
+fault 0 meta read 6 before
+fault 0 store get 1 before
+fault 0 store get 3 before
+fault 0 disk 0 read 2 before
+1 0 1 shrink
+0 0 0 append 1000,-,:a
+0 0 0 append 3000,-,:b
+0 0 0 append 2000,-,:c 4000,-,:d
+0 0 0 flush
+0 0 0 ack
+0 0 0 copy
+0 0 0 trim
+# each call may fail: here both of the metadata log, those for the two indexes, and that of the disk
+0 0 0 offset at 1001
+0 0 0 offset at 1001
+0 0 0 offset at 1001
+0 0 0 offset at 1001
+0 0 0 offset at 1001
+0 0 0 offset at 3001
+# the record of 4000 has offset 3, and its batch begins at 2
+0 0 0 offset at 3001
+0 0 0 offset at 4001
+1 0 1 offset at 0
+later 2 0 0 offset at 1001
+later 2 0 0 offset at 0
+later 2 0 0 offset at 0
+turn 2 2
+# the log start passes what the search has come to
+0 0 0 raise 2
+turn 2 2
+0 0 0 elect
+0 0 0 learn
+turn 2 1
+turn 2 1
+0 0 0 stop
+turn 2 1
+0 0 0 offset at 0
+`0 1 0 = Ok
+0 0 0 = Ok 0 0 0
+0 0 1 = Ok 1 1 0
+0 0 2 = Ok 2 3 0
+0 0 3 = Ok 4
+0 0 4 = Ok 4
+0 0 5 begin
+0 0 5 = Copied 00000000-0000-0001-0000-000000000000 0 1
+0 0 6 begin
+0 0 6 = Dropped 0 1
+0 0 7 = MetaFault
+0 0 8 begin
+0 0 8 = MetaFault
+0 0 9 begin
+0 0 9 = StoreFault
+0 0 10 begin
+0 0 10 = StoreFault
+0 0 11 begin
+0 0 11 = Offset 1
+0 0 12 begin
+0 0 12 = DiskFault
+0 0 13 begin
+0 0 13 = Offset 2
+0 0 14 begin
+0 0 14 = NoOffset
+0 1 1 = NotLeader
+0 2 0 begin
+0 0 15 = Ok 2
+0 2 0 = Offset 2
+0 2 1 begin
+0 0 16 = Ok 1
+0 0 17 = Leads 1
+0 2 1 = NotLeader
+0 2 2 begin
+0 0 18 = Ok
+0 2 2 = Stopped
+0 0 19 = Down
+`# docs/SCRIPT.md, script 38
 0 0 0 stop
 0 0 0 stop
 `0 0 0 = Ok
 0 0 1 = Down
-`# docs/SCRIPT.md, script 38
-fault 0 disk 0 list 1 before
-0 0 0 append 1000,-,:a
-0 0 0 flush
-0 0 0 append 1000,-,:b
-0 0 0 up
-0 0 0 stop
-0 0 0 up
-0 0 0 up
-`0 0 0 = Ok 0 0 0
-0 0 1 = Ok 1
-0 0 2 = Ok 1 1 0
-0 0 3 = IsUp
-0 0 4 = Ok
-0 0 5 = DiskFault
-0 0 6 = Up 1
-`# examples/before-ack.script
-# What isn't acknowledged can't be fetched, and what isn't flushed can't be acknowledged.
-0 0 0 append 1000,-,:a
-0 0 0 fetch 0 1000
-
-# An ack before the flush acknowledges a stable end of 0, and a flush alone raises no high
-# watermark.
-0 0 0 ack
-0 0 0 flush
-0 0 0 fetch 0 1000
-
-# After both the first batch can be fetched.
-0 0 0 ack
-0 0 0 append 1000,-,:b
-0 0 0 fetch 0 1000
-
-# The second one stands in the log and isn't committed, so offset 1 is empty, and so is the log end,
-# offset 2. Past the end nothing is in range.
-0 0 0 fetch 1 1000
-0 0 0 fetch 2 1000
-0 0 0 fetch 3 1000
-`0 0 0 = Ok 0 0 0
-0 0 1 = Empty
-0 0 2 = Ok 0
-0 0 3 = Ok 1
-0 0 4 = Empty
-0 0 5 = Ok 1
-0 0 6 = Ok 1 1 0
-0 0 7 = Run local 0 69 Mark 0000000000000000000000390000000002ebf1884b00000000000000000000000003e800000000000003e8ffffffffffffffffffffffffffff000000010e00000001026100
-0 0 8 = Empty
-0 0 9 = Empty
-0 0 10 = OutOfRange 0 2
-`# examples/copy.script
-# A leader copies its closed log segments to the remote tier, the oldest first.
-segment_bytes 200
-
-# A segment holds two of these batches. The seventh batch stands in the open segment.
-0 0 0 append 1000,-,:a
-0 0 0 append 1000,-,:b
-0 0 0 append 1000,-,:c
-0 0 0 append 1000,-,:d
-0 0 0 append 1000,-,:e
-0 0 0 append 1000,-,:f
-0 0 0 append 1000,-,:g
-
-# What isn't committed isn't copied.
-0 0 0 copy
-0 0 0 flush
-0 0 0 ack
-
-# Each copy takes the first closed segment that isn't copied yet, and tells its id, its first and
-# its last offset. The open segment isn't copied.
-0 0 0 copy
-0 0 0 copy
-0 0 0 copy
-0 0 0 copy
-
-# A roll closes it.
-0 0 0 roll
-0 0 0 copy
-
-# An id names the broker, how often its log was opened, and the copies that it began since then.
-0 0 0 append 1000,-,:h
-0 0 0 roll
-0 0 0 flush
-0 0 0 ack
-0 0 0 stop
-0 0 0 up
-0 0 0 learn
-0 0 0 elect
-0 0 0 learn
-0 0 0 ack
-0 0 0 copy
-0 0 0 copy
-`0 0 0 = Ok 0 0 0
-0 0 1 = Ok 1 1 0
-0 0 2 = Ok 2 2 0
-0 0 3 = Ok 3 3 0
-0 0 4 = Ok 4 4 0
-0 0 5 = Ok 5 5 0
-0 0 6 = Ok 6 6 0
-0 0 7 begin
-0 0 7 = Level
-0 0 8 = Ok 7
-0 0 9 = Ok 7
-0 0 10 begin
-0 0 10 = Copied 00000000-0000-0001-0000-000000000000 0 1
-0 0 11 begin
-0 0 11 = Copied 00000000-0000-0001-0000-000000000001 2 3
-0 0 12 begin
-0 0 12 = Copied 00000000-0000-0001-0000-000000000002 4 5
-0 0 13 begin
-0 0 13 = Level
-0 0 14 = Ok 7
-0 0 15 begin
-0 0 15 = Copied 00000000-0000-0001-0000-000000000003 6 6
-0 0 16 = Ok 7 7 0
-0 0 17 = Ok 8
-0 0 18 = Ok 8
-0 0 19 = Ok 8
-0 0 20 = Ok
-0 0 21 = Up 8
-0 0 22 = NeedsElection 0
-0 0 23 = Ok 1
-0 0 24 = Leads 1
-0 0 25 = Ok 8
-0 0 26 begin
-0 0 26 = Copied 00000000-0000-0002-0000-000000000000 7 7
-0 0 27 begin
-0 0 27 = Level
 `";

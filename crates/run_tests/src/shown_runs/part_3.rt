@@ -1,7 +1,221 @@
 //! What the documents and the examples show as run, part 3. Made by docs/snippets.py, which tells where it is another.
 
 /// Scripts and their traces.
-pub(crate) static RUNS: &str = "# examples/copying-off.script
+pub(crate) static RUNS: &str = "# docs/SCRIPT.md, script 39
+fault 0 disk 0 list 1 before
+0 0 0 append 1000,-,:a
+0 0 0 flush
+0 0 0 append 1000,-,:b
+0 0 0 up
+0 0 0 stop
+0 0 0 up
+0 0 0 up
+`0 0 0 = Ok 0 0 0
+0 0 1 = Ok 1
+0 0 2 = Ok 1 1 0
+0 0 3 = IsUp
+0 0 4 = Ok
+0 0 5 = DiskFault
+0 0 6 = Up 1
+`# examples/before-ack.script
+# What isn't acknowledged can't be fetched, and what isn't flushed can't be acknowledged.
+0 0 0 append 1000,-,:a
+0 0 0 fetch 0 1000
+
+# An ack before the flush acknowledges a stable end of 0, and a flush alone raises no high
+# watermark.
+0 0 0 ack
+0 0 0 flush
+0 0 0 fetch 0 1000
+
+# After both the first batch can be fetched.
+0 0 0 ack
+0 0 0 append 1000,-,:b
+0 0 0 fetch 0 1000
+
+# The second one stands in the log and isn't committed, so offset 1 is empty, and so is the log end,
+# offset 2. Past the end nothing is in range.
+0 0 0 fetch 1 1000
+0 0 0 fetch 2 1000
+0 0 0 fetch 3 1000
+`0 0 0 = Ok 0 0 0
+0 0 1 = Empty
+0 0 2 = Ok 0
+0 0 3 = Ok 1
+0 0 4 = Empty
+0 0 5 = Ok 1
+0 0 6 = Ok 1 1 0
+0 0 7 = Run local 0 69 Mark 0000000000000000000000390000000002ebf1884b00000000000000000000000003e800000000000003e8ffffffffffffffffffffffffffff000000010e00000001026100
+0 0 8 = Empty
+0 0 9 = Empty
+0 0 10 = OutOfRange 0 2
+`# examples/by-time.script
+# Offsets are looked up by timestamps, through remote segments and then through the local log.
+segment_bytes 200
+local_retention_bytes 0
+
+# Two closed segments of two batches each, and an open one, committed. A later offset may have an
+# earlier timestamp.
+0 0 0 append 1000,-,:a
+0 0 0 append 3000,-,:b
+0 0 0 append 2000,-,:c
+0 0 0 append 4000,-,:d
+0 0 0 append 2500,-,:e
+0 0 0 flush
+0 0 0 ack
+
+# Both closed segments are copied, and the first one is trimmed: the local log begins at 2.
+0 0 0 copy
+0 0 0 copy
+0 0 0 trim
+
+# The answer is the first batch that isn't earlier. These two are no longer in the local log.
+0 0 0 offset at 1000
+0 0 0 offset at 1001
+
+# Nothing in the first segment is as late as 3001, so it is passed over and none of its objects is
+# read. Nothing at all is as late as 4001.
+0 0 0 offset at 3001
+0 0 0 offset at 4001
+
+# What isn't committed is no answer. A batch is looked at as a whole: the record of 6000 has offset 6,
+# and the answer is where its batch begins.
+0 0 0 append 5000,-,:f 6000,-,:g
+0 0 0 offset at 6000
+0 0 0 flush
+0 0 0 ack
+0 0 0 offset at 6000
+
+# No answer is below the log start.
+0 0 0 raise 1
+0 0 0 offset at 0
+
+# A search has chosen the first segment, where offset 1 is late enough. Then the log start rises to 2,
+# and the search goes on there.
+later 1 0 0 offset at 1001
+turn 1 3
+0 0 0 raise 2
+turn 1 9
+
+# The log start may lie inside the batch that is late enough, and is the answer then.
+0 0 0 raise 6
+0 0 0 offset at 5000
+`0 0 0 = Ok 0 0 0
+0 0 1 = Ok 1 1 0
+0 0 2 = Ok 2 2 0
+0 0 3 = Ok 3 3 0
+0 0 4 = Ok 4 4 0
+0 0 5 = Ok 5
+0 0 6 = Ok 5
+0 0 7 begin
+0 0 7 = Copied 00000000-0000-0001-0000-000000000000 0 1
+0 0 8 begin
+0 0 8 = Copied 00000000-0000-0001-0000-000000000001 2 3
+0 0 9 begin
+0 0 9 = Dropped 0 1
+0 0 10 begin
+0 0 10 = Offset 0
+0 0 11 begin
+0 0 11 = Offset 1
+0 0 12 begin
+0 0 12 = Offset 3
+0 0 13 begin
+0 0 13 = NoOffset
+0 0 14 = Ok 5 6 0
+0 0 15 begin
+0 0 15 = NoOffset
+0 0 16 = Ok 7
+0 0 17 = Ok 7
+0 0 18 begin
+0 0 18 = Offset 5
+0 0 19 = Ok 1
+0 0 20 begin
+0 0 20 = Offset 1
+0 1 0 begin
+0 0 21 = Ok 2
+0 1 0 = Offset 2
+0 0 22 = Ok 6
+0 0 23 begin
+0 0 23 = Offset 6
+`# examples/copy.script
+# A leader copies its closed log segments to the remote tier, the oldest first.
+segment_bytes 200
+
+# A segment holds two of these batches. The seventh batch stands in the open segment.
+0 0 0 append 1000,-,:a
+0 0 0 append 1000,-,:b
+0 0 0 append 1000,-,:c
+0 0 0 append 1000,-,:d
+0 0 0 append 1000,-,:e
+0 0 0 append 1000,-,:f
+0 0 0 append 1000,-,:g
+
+# What isn't committed isn't copied.
+0 0 0 copy
+0 0 0 flush
+0 0 0 ack
+
+# Each copy takes the first closed segment that isn't copied yet, and tells its id, its first and
+# its last offset. The open segment isn't copied.
+0 0 0 copy
+0 0 0 copy
+0 0 0 copy
+0 0 0 copy
+
+# A roll closes it.
+0 0 0 roll
+0 0 0 copy
+
+# An id names the broker, how often its log was opened, and the copies that it began since then.
+0 0 0 append 1000,-,:h
+0 0 0 roll
+0 0 0 flush
+0 0 0 ack
+0 0 0 stop
+0 0 0 up
+0 0 0 learn
+0 0 0 elect
+0 0 0 learn
+0 0 0 ack
+0 0 0 copy
+0 0 0 copy
+`0 0 0 = Ok 0 0 0
+0 0 1 = Ok 1 1 0
+0 0 2 = Ok 2 2 0
+0 0 3 = Ok 3 3 0
+0 0 4 = Ok 4 4 0
+0 0 5 = Ok 5 5 0
+0 0 6 = Ok 6 6 0
+0 0 7 begin
+0 0 7 = Level
+0 0 8 = Ok 7
+0 0 9 = Ok 7
+0 0 10 begin
+0 0 10 = Copied 00000000-0000-0001-0000-000000000000 0 1
+0 0 11 begin
+0 0 11 = Copied 00000000-0000-0001-0000-000000000001 2 3
+0 0 12 begin
+0 0 12 = Copied 00000000-0000-0001-0000-000000000002 4 5
+0 0 13 begin
+0 0 13 = Level
+0 0 14 = Ok 7
+0 0 15 begin
+0 0 15 = Copied 00000000-0000-0001-0000-000000000003 6 6
+0 0 16 = Ok 7 7 0
+0 0 17 = Ok 8
+0 0 18 = Ok 8
+0 0 19 = Ok 8
+0 0 20 = Ok
+0 0 21 = Up 8
+0 0 22 = NeedsElection 0
+0 0 23 = Ok 1
+0 0 24 = Leads 1
+0 0 25 = Ok 8
+0 0 26 begin
+0 0 26 = Copied 00000000-0000-0002-0000-000000000000 7 7
+0 0 27 begin
+0 0 27 = Level
+`# examples/copying-off.script
 # Copying is turned off and on: no copy begins any more, and what isn't copied goes by retention too.
 segment_bytes 200
 retention_ms 5000
@@ -393,238 +607,4 @@ fault 0 disk 1 append 2 before
 0 0 8 = Ok 2
 0 0 9 = Ok 2
 0 0 10 = Run local 0 138 Mark 0000000000000000000000390000000002ebf1884b00000000000000000000000003e800000000000003e8ffffffffffffffffffffffffffff000000010e000000010261000000000000000001000000390000000002df1620d200000000000000000000000003e800000000000003e8ffffffffffffffffffffffffffff000000010e00000001026200
-`# examples/first.script
-# Three records go to the log, each as a batch of its own, and are read back.
-# An append is answered with base offset, last offset and leader epoch.
-0 0 0 append 1000,-,:a
-0 0 0 append 1000,-,:b
-0 0 0 append 1000,-,:c
-
-# The log becomes stable up to its end, and the high watermark is raised to it.
-0 0 0 flush
-0 0 0 ack
-
-# All three batches are given, 69 bytes each, up to the high watermark.
-0 0 0 fetch 0 1000
-`0 0 0 = Ok 0 0 0
-0 0 1 = Ok 1 1 0
-0 0 2 = Ok 2 2 0
-0 0 3 = Ok 3
-0 0 4 = Ok 3
-0 0 5 = Run local 0 207 Mark 0000000000000000000000390000000002ebf1884b00000000000000000000000003e800000000000003e8ffffffffffffffffffffffffffff000000010e000000010261000000000000000001000000390000000002df1620d200000000000000000000000003e800000000000003e8ffffffffffffffffffffffffffff000000010e000000010262000000000000000002000000390000000002ccb4b8a500000000000000000000000003e800000000000003e8ffffffffffffffffffffffffffff000000010e00000001026300
-`# examples/from-outside.script
-# A batch from outside, with base offset 99, leader epoch 5 and producer 7. Its checksum covers neither of the first two:
-# the broker places the batch at its log's end, in its own epoch, and leaves all else as it was given.
-0 0 0 raw 000000000000006300000039000000050228835a5e00000000000000000000000003e800000000000003e80000000000000007ffffffffffff000000010e00000001026100
-
-# One bit of the value is wrong: refused, with the checksum that the batch has and the one that its bytes give.
-0 0 0 raw 0000000000000000000000390000000002ebf1884b00000000000000000000000003e800000000000003e8ffffffffffffffffffffffffffff000000010e00000001026000
-
-# The bytes end inside the head.
-0 0 0 raw 0000
-
-# Two records in one batch, the second with a key, no value, and a header of no value.
-0 0 0 append 5,-,:a 6,:k,-,:h=-
-
-0 0 0 flush
-0 0 0 ack
-0 0 0 fetch 0 1000
-`0 0 0 = Ok 0 0 0
-0 0 1 = Refused BadCrc 3958474827 4166193212
-0 0 2 = Refused Short
-0 0 3 = Ok 1 2 0
-0 0 4 = Ok 3
-0 0 5 = Ok 3
-0 0 6 = Run local 0 149 Mark 000000000000000000000039000000000228835a5e00000000000000000000000003e800000000000003e80000000000000007ffffffffffff000000010e00000001026100000000000000000100000044000000000267651f9b00000000000100000000000000050000000000000006ffffffffffffffffffffffffffff000000020e0000000102610014000202026b0102026801
-`# examples/limits.script
-# How many batches a fetch is given, and why it ends. The three batches have 73, 74 and 74 bytes.
-0 0 0 append 1700000000000,-,:apple
-0 0 0 append 1700000000001,-,:banana
-0 0 0 append 1700000000002,-,:cherry
-0 0 0 flush
-0 0 0 ack
-
-# One batch is always given, also where it alone passes the limit.
-0 0 0 fetch 0 1
-
-# 147 bytes are just two batches, and with a byte less the second doesn't fit.
-0 0 0 fetch 0 147
-0 0 0 fetch 0 146
-
-# A run that reaches the high watermark ends with Mark, also where its one batch passes the limit.
-0 0 0 fetch 1 1000
-0 0 0 fetch 2 0
-`0 0 0 = Ok 0 0 0
-0 0 1 = Ok 1 1 0
-0 0 2 = Ok 2 2 0
-0 0 3 = Ok 3
-0 0 4 = Ok 3
-0 0 5 = Run local 0 73 Limit 00000000000000000000003d0000000002e05277fc0000000000000000018bcfe568000000018bcfe56800ffffffffffffffffffffffffffff0000000116000000010a6170706c6500
-0 0 6 = Run local 0 147 Limit 00000000000000000000003d0000000002e05277fc0000000000000000018bcfe568000000018bcfe56800ffffffffffffffffffffffffffff0000000116000000010a6170706c650000000000000000010000003e0000000002c25ba6780000000000000000018bcfe568010000018bcfe56801ffffffffffffffffffffffffffff0000000118000000010c62616e616e6100
-0 0 7 = Run local 0 73 Limit 00000000000000000000003d0000000002e05277fc0000000000000000018bcfe568000000018bcfe56800ffffffffffffffffffffffffffff0000000116000000010a6170706c6500
-0 0 8 = Run local 0 148 Mark 00000000000000010000003e0000000002c25ba6780000000000000000018bcfe568010000018bcfe56801ffffffffffffffffffffffffffff0000000118000000010c62616e616e610000000000000000020000003e000000000272c7976a0000000000000000018bcfe568020000018bcfe56802ffffffffffffffffffffffffffff0000000118000000010c63686572727900
-0 0 9 = Run local 0 74 Mark 00000000000000020000003e000000000272c7976a0000000000000000018bcfe568020000018bcfe56802ffffffffffffffffffffffffffff0000000118000000010c63686572727900
-`# examples/remote-faults.script
-# A store and a metadata log that fail: a copy ends where its call fails, and the next one begins
-# anew, under another id.
-segment_bytes 200
-
-# A copy appends a note that it starts, puts four objects, appends a note that it is whole, and reads
-# the notes at its first and its last turn. A call that fails before isn't done, and one that fails
-# after is done, but its broker isn't told so.
-fault 0 meta append 1 before
-fault 0 store put 2 before
-fault 0 store put 6 after
-fault 0 meta append 5 before
-fault 0 meta append 7 after
-fault 0 meta read 6 before
-fault 0 meta read 8 before
-
-# Two closed segments, of two batches each, and an open one.
-0 0 0 append 1000,-,:a
-0 0 0 append 1000,-,:b
-0 0 0 append 1000,-,:c
-0 0 0 append 1000,-,:d
-0 0 0 append 1000,-,:e
-0 0 0 flush
-0 0 0 ack
-
-# The note that it starts isn't taken.
-0 0 0 copy
-
-# The second object isn't put. The first one stands, under an id that is never finished.
-0 0 0 copy
-
-# The fourth object is put, which the broker doesn't know.
-0 0 0 copy
-
-# All four objects stand, but the note that the copy is whole isn't taken.
-0 0 0 copy
-
-# That note is taken, so the segment is copied, which the broker doesn't know.
-0 0 0 copy
-
-# The next copy can't read the notes, and doesn't begin. The one after it finds the first segment
-# copied, under the fifth id, and copies the second segment. Its last look at the notes fails.
-0 0 0 copy
-0 0 0 copy
-
-# Both segments are copied. Six copies have begun so far, so the next one has the seventh id.
-0 0 0 copy
-0 0 0 roll
-0 0 0 copy
-`0 0 0 = Ok 0 0 0
-0 0 1 = Ok 1 1 0
-0 0 2 = Ok 2 2 0
-0 0 3 = Ok 3 3 0
-0 0 4 = Ok 4 4 0
-0 0 5 = Ok 5
-0 0 6 = Ok 5
-0 0 7 begin
-0 0 7 = MetaFault
-0 0 8 begin
-0 0 8 = StoreFault
-0 0 9 begin
-0 0 9 = StoreFault
-0 0 10 begin
-0 0 10 = MetaFault
-0 0 11 begin
-0 0 11 = MetaFault
-0 0 12 = MetaFault
-0 0 13 begin
-0 0 13 = MetaFault
-0 0 14 begin
-0 0 14 = Level
-0 0 15 = Ok 5
-0 0 16 begin
-0 0 16 = Copied 00000000-0000-0001-0000-000000000006 4 4
-`# examples/replaced-leader.script
-# A leader is replaced in the middle of a copy, and the new leader copies the segment again.
-brokers 2
-segment_bytes 200
-
-# Broker 0 leads, and broker 1 follows. All is stable on both, and committed.
-0 0 0 append 1000,-,:a
-0 0 0 append 1000,-,:b
-0 0 0 append 1000,-,:c
-1 0 1 follow 1000
-1 0 1 follow 1000
-1 0 1 flush
-1 0 1 ack
-0 0 0 flush
-0 0 0 ack
-
-# Broker 0 begins a copy, and has put three of the four objects when it stops.
-later 2 0 0 copy
-turn 2 6
-0 0 0 stop
-
-# Broker 1 is elected, learns that it leads, and copies the segment under an id of its own.
-1 0 1 elect
-1 0 1 learn
-1 0 1 copy
-
-# Broker 0's copy ends at its next turn. Three objects stay, under an id that is never finished.
-turn 2 1
-
-# A leader that was replaced and doesn't know it goes on. Broker 1 begins to copy its next segment;
-# broker 0 has taken the batches by then, is elected, and copies the segment too.
-1 0 1 append 1000,-,:d
-1 0 1 append 1000,-,:e
-0 0 0 up
-0 0 0 learn
-0 0 0 join
-0 0 0 follow 1000
-0 0 0 follow 1000
-0 0 0 flush
-0 0 0 ack
-1 0 1 flush
-1 0 1 ack
-0 0 0 expand
-later 3 0 1 copy
-turn 3 5
-0 0 0 elect
-0 0 0 learn
-0 0 0 copy
-
-# Both copies become whole. They hold the same batches.
-turn 3 4
-`0 0 0 = Ok 0 0 0
-0 0 1 = Ok 1 1 0
-0 0 2 = Ok 2 2 0
-0 1 0 begin
-0 1 0 = Copied 2
-0 1 1 begin
-0 1 1 = Copied 3
-0 1 2 = Ok 3
-0 1 3 = Ok 0
-0 0 3 = Ok 3
-0 0 4 = Ok 3
-0 2 0 begin
-0 0 5 = Ok
-0 1 4 = Ok 1
-0 1 5 = Leads 1
-0 1 6 begin
-0 1 6 = Copied 00000001-0000-0001-0000-000000000000 0 1
-0 2 0 = LostLead
-0 1 7 = Ok 3 3 1
-0 1 8 = Ok 4 4 1
-0 0 6 = Up 3
-0 0 7 = Follows 1
-0 0 8 = Cut 3
-0 0 9 begin
-0 0 9 = Copied 4
-0 0 10 begin
-0 0 10 = Copied 5
-0 0 11 = Ok 5
-0 0 12 = Ok 3
-0 1 9 = Ok 5
-0 1 10 = Ok 5
-0 0 13 = Ok
-0 3 0 begin
-0 0 14 = Ok 2
-0 0 15 = Leads 2
-0 0 16 begin
-0 0 16 = Copied 00000000-0000-0002-0000-000000000000 2 3
-0 3 0 = Copied 00000001-0000-0001-0000-000000000001 2 3
 `";

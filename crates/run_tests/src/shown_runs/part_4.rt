@@ -1,7 +1,241 @@
 //! What the documents and the examples show as run, part 4. Made by docs/snippets.py, which tells where it is another.
 
 /// Scripts and their traces.
-pub(crate) static RUNS: &str = "# examples/retention.script
+pub(crate) static RUNS: &str = "# examples/first.script
+# Three records go to the log, each as a batch of its own, and are read back.
+# An append is answered with base offset, last offset and leader epoch.
+0 0 0 append 1000,-,:a
+0 0 0 append 1000,-,:b
+0 0 0 append 1000,-,:c
+
+# The log becomes stable up to its end, and the high watermark is raised to it.
+0 0 0 flush
+0 0 0 ack
+
+# All three batches are given, 69 bytes each, up to the high watermark.
+0 0 0 fetch 0 1000
+`0 0 0 = Ok 0 0 0
+0 0 1 = Ok 1 1 0
+0 0 2 = Ok 2 2 0
+0 0 3 = Ok 3
+0 0 4 = Ok 3
+0 0 5 = Run local 0 207 Mark 0000000000000000000000390000000002ebf1884b00000000000000000000000003e800000000000003e8ffffffffffffffffffffffffffff000000010e000000010261000000000000000001000000390000000002df1620d200000000000000000000000003e800000000000003e8ffffffffffffffffffffffffffff000000010e000000010262000000000000000002000000390000000002ccb4b8a500000000000000000000000003e800000000000003e8ffffffffffffffffffffffffffff000000010e00000001026300
+`# examples/from-outside.script
+# A batch from outside, with base offset 99, leader epoch 5 and producer 7. Its checksum covers neither of the first two:
+# the broker places the batch at its log's end, in its own epoch, and leaves all else as it was given.
+0 0 0 raw 000000000000006300000039000000050228835a5e00000000000000000000000003e800000000000003e80000000000000007ffffffffffff000000010e00000001026100
+
+# One bit of the value is wrong: refused, with the checksum that the batch has and the one that its bytes give.
+0 0 0 raw 0000000000000000000000390000000002ebf1884b00000000000000000000000003e800000000000003e8ffffffffffffffffffffffffffff000000010e00000001026000
+
+# The bytes end inside the head.
+0 0 0 raw 0000
+
+# Two records in one batch, the second with a key, no value, and a header of no value.
+0 0 0 append 5,-,:a 6,:k,-,:h=-
+
+0 0 0 flush
+0 0 0 ack
+0 0 0 fetch 0 1000
+`0 0 0 = Ok 0 0 0
+0 0 1 = Refused BadCrc 3958474827 4166193212
+0 0 2 = Refused Short
+0 0 3 = Ok 1 2 0
+0 0 4 = Ok 3
+0 0 5 = Ok 3
+0 0 6 = Run local 0 149 Mark 000000000000000000000039000000000228835a5e00000000000000000000000003e800000000000003e80000000000000007ffffffffffff000000010e00000001026100000000000000000100000044000000000267651f9b00000000000100000000000000050000000000000006ffffffffffffffffffffffffffff000000020e0000000102610014000202026b0102026801
+`# examples/limits.script
+# How many batches a fetch is given, and why it ends. The three batches have 73, 74 and 74 bytes.
+0 0 0 append 1700000000000,-,:apple
+0 0 0 append 1700000000001,-,:banana
+0 0 0 append 1700000000002,-,:cherry
+0 0 0 flush
+0 0 0 ack
+
+# One batch is always given, also where it alone passes the limit.
+0 0 0 fetch 0 1
+
+# 147 bytes are just two batches, and with a byte less the second doesn't fit.
+0 0 0 fetch 0 147
+0 0 0 fetch 0 146
+
+# A run that reaches the high watermark ends with Mark, also where its one batch passes the limit.
+0 0 0 fetch 1 1000
+0 0 0 fetch 2 0
+`0 0 0 = Ok 0 0 0
+0 0 1 = Ok 1 1 0
+0 0 2 = Ok 2 2 0
+0 0 3 = Ok 3
+0 0 4 = Ok 3
+0 0 5 = Run local 0 73 Limit 00000000000000000000003d0000000002e05277fc0000000000000000018bcfe568000000018bcfe56800ffffffffffffffffffffffffffff0000000116000000010a6170706c6500
+0 0 6 = Run local 0 147 Limit 00000000000000000000003d0000000002e05277fc0000000000000000018bcfe568000000018bcfe56800ffffffffffffffffffffffffffff0000000116000000010a6170706c650000000000000000010000003e0000000002c25ba6780000000000000000018bcfe568010000018bcfe56801ffffffffffffffffffffffffffff0000000118000000010c62616e616e6100
+0 0 7 = Run local 0 73 Limit 00000000000000000000003d0000000002e05277fc0000000000000000018bcfe568000000018bcfe56800ffffffffffffffffffffffffffff0000000116000000010a6170706c6500
+0 0 8 = Run local 0 148 Mark 00000000000000010000003e0000000002c25ba6780000000000000000018bcfe568010000018bcfe56801ffffffffffffffffffffffffffff0000000118000000010c62616e616e610000000000000000020000003e000000000272c7976a0000000000000000018bcfe568020000018bcfe56802ffffffffffffffffffffffffffff0000000118000000010c63686572727900
+0 0 9 = Run local 0 74 Mark 00000000000000020000003e000000000272c7976a0000000000000000018bcfe568020000018bcfe56802ffffffffffffffffffffffffffff0000000118000000010c63686572727900
+`# examples/remote-faults.script
+# A store and a metadata log that fail: a copy ends where its call fails, and the next one begins
+# anew, under another id.
+segment_bytes 200
+
+# A copy appends a note that it starts, puts four objects, appends a note that it is whole, and reads
+# the notes at its first and its last turn. A call that fails before isn't done, and one that fails
+# after is done, but its broker isn't told so.
+fault 0 meta append 1 before
+fault 0 store put 2 before
+fault 0 store put 6 after
+fault 0 meta append 5 before
+fault 0 meta append 7 after
+fault 0 meta read 6 before
+fault 0 meta read 8 before
+
+# Two closed segments, of two batches each, and an open one.
+0 0 0 append 1000,-,:a
+0 0 0 append 1000,-,:b
+0 0 0 append 1000,-,:c
+0 0 0 append 1000,-,:d
+0 0 0 append 1000,-,:e
+0 0 0 flush
+0 0 0 ack
+
+# The note that it starts isn't taken.
+0 0 0 copy
+
+# The second object isn't put. The first one stands, under an id that is never finished.
+0 0 0 copy
+
+# The fourth object is put, which the broker doesn't know.
+0 0 0 copy
+
+# All four objects stand, but the note that the copy is whole isn't taken.
+0 0 0 copy
+
+# That note is taken, so the segment is copied, which the broker doesn't know.
+0 0 0 copy
+
+# The next copy can't read the notes, and doesn't begin. The one after it finds the first segment
+# copied, under the fifth id, and copies the second segment. Its last look at the notes fails.
+0 0 0 copy
+0 0 0 copy
+
+# Both segments are copied. Six copies have begun so far, so the next one has the seventh id.
+0 0 0 copy
+0 0 0 roll
+0 0 0 copy
+`0 0 0 = Ok 0 0 0
+0 0 1 = Ok 1 1 0
+0 0 2 = Ok 2 2 0
+0 0 3 = Ok 3 3 0
+0 0 4 = Ok 4 4 0
+0 0 5 = Ok 5
+0 0 6 = Ok 5
+0 0 7 begin
+0 0 7 = MetaFault
+0 0 8 begin
+0 0 8 = StoreFault
+0 0 9 begin
+0 0 9 = StoreFault
+0 0 10 begin
+0 0 10 = MetaFault
+0 0 11 begin
+0 0 11 = MetaFault
+0 0 12 = MetaFault
+0 0 13 begin
+0 0 13 = MetaFault
+0 0 14 begin
+0 0 14 = Level
+0 0 15 = Ok 5
+0 0 16 begin
+0 0 16 = Copied 00000000-0000-0001-0000-000000000006 4 4
+`# examples/replaced-leader.script
+# A leader is replaced in the middle of a copy, and the new leader copies the segment again.
+brokers 2
+segment_bytes 200
+
+# Broker 0 leads, and broker 1 follows. All is stable on both, and committed.
+0 0 0 append 1000,-,:a
+0 0 0 append 1000,-,:b
+0 0 0 append 1000,-,:c
+1 0 1 follow 1000
+1 0 1 follow 1000
+1 0 1 flush
+1 0 1 ack
+0 0 0 flush
+0 0 0 ack
+
+# Broker 0 begins a copy, and has put three of the four objects when it stops.
+later 2 0 0 copy
+turn 2 6
+0 0 0 stop
+
+# Broker 1 is elected, learns that it leads, and copies the segment under an id of its own.
+1 0 1 elect
+1 0 1 learn
+1 0 1 copy
+
+# Broker 0's copy ends at its next turn. Three objects stay, under an id that is never finished.
+turn 2 1
+
+# A leader that was replaced and doesn't know it goes on. Broker 1 begins to copy its next segment;
+# broker 0 has taken the batches by then, is elected, and copies the segment too.
+1 0 1 append 1000,-,:d
+1 0 1 append 1000,-,:e
+0 0 0 up
+0 0 0 learn
+0 0 0 join
+0 0 0 follow 1000
+0 0 0 follow 1000
+0 0 0 flush
+0 0 0 ack
+1 0 1 flush
+1 0 1 ack
+0 0 0 expand
+later 3 0 1 copy
+turn 3 5
+0 0 0 elect
+0 0 0 learn
+0 0 0 copy
+
+# Both copies become whole. They hold the same batches.
+turn 3 4
+`0 0 0 = Ok 0 0 0
+0 0 1 = Ok 1 1 0
+0 0 2 = Ok 2 2 0
+0 1 0 begin
+0 1 0 = Copied 2
+0 1 1 begin
+0 1 1 = Copied 3
+0 1 2 = Ok 3
+0 1 3 = Ok 0
+0 0 3 = Ok 3
+0 0 4 = Ok 3
+0 2 0 begin
+0 0 5 = Ok
+0 1 4 = Ok 1
+0 1 5 = Leads 1
+0 1 6 begin
+0 1 6 = Copied 00000001-0000-0001-0000-000000000000 0 1
+0 2 0 = LostLead
+0 1 7 = Ok 3 3 1
+0 1 8 = Ok 4 4 1
+0 0 6 = Up 3
+0 0 7 = Follows 1
+0 0 8 = Cut 3
+0 0 9 begin
+0 0 9 = Copied 4
+0 0 10 begin
+0 0 10 = Copied 5
+0 0 11 = Ok 5
+0 0 12 = Ok 3
+0 1 9 = Ok 5
+0 1 10 = Ok 5
+0 0 13 = Ok
+0 3 0 begin
+0 0 14 = Ok 2
+0 0 15 = Leads 2
+0 0 16 begin
+0 0 16 = Copied 00000000-0000-0002-0000-000000000000 2 3
+0 3 0 = Copied 00000001-0000-0001-0000-000000000001 2 3
+`# examples/retention.script
 # What retention no longer keeps: the log start rises, and then the remote segments below it are
 # deleted, the oldest first.
 brokers 3
