@@ -4,7 +4,8 @@
 //! over the device. A test never holds one.
 
 use crate::yard_calls::{
-    disk_grows, is_named, log_grows, log_reads, name_fails, store_fails, store_fills,
+    are_used, disk_grows, is_named, log_grows, log_reads, name_fails, partitions_fail, store_fails,
+    store_fills,
 };
 use bytes::Bytes;
 use device_yard::Yard;
@@ -156,14 +157,17 @@ enum Ask<'a> {
     Calls,
     /// Whether this is its first name.
     Name(Option<&'a str>),
-    /// Whether the first name and a store fail.
+    /// Whether these are its partitions of which something stands.
+    Used(&'a [PartitionId]),
+    /// Whether the first name, the partitions and a store fail.
     Fails,
 }
 
-/// Whether a call of each of two kinds fails.
+/// Whether a call of each of three kinds fails.
 fn fails<Y: Yard>(yard: &mut Y) -> bool {
     let named = name_fails(yard);
-    named & store_fails(yard)
+    let used = partitions_fail(yard);
+    named & used & store_fails(yard)
 }
 
 /// Whether a yard is as it is asked.
@@ -171,6 +175,7 @@ fn answers<Y: Yard>(alloc: Global, yard: &mut Y, ask: Ask) -> bool {
     match ask {
         Ask::Calls => yard_calls(alloc, yard) == [true; 8],
         Ask::Name(wanted) => is_named(yard, wanted),
+        Ask::Used(wanted) => are_used(yard, wanted),
         Ask::Fails => fails(yard),
     }
 }
@@ -272,10 +277,44 @@ fn a_partition_without_files_is_no_name(rt: HostRuntime) {
     let _ = fs::remove_dir_all(&rt, "yard_names");
 }
 
+/// Folders and files of partitions and of strangers. Something stands of partitions 0, 2 and 10.
+static HELD: [&str; 9] = [
+    "/p10",
+    "/p10/store",
+    "/p2",
+    "/p2/b3",
+    "/p0",
+    "/p0/meta",
+    "/p1",
+    "/p1/store",
+    "/p07",
+];
+
+static HELD_FILES: [&str; 5] = [
+    "/p10/store/letter",
+    "/p2/b3/gate",
+    "/p0/meta/notes",
+    "/p07/notes",
+    "/p3",
+];
+
+#[test]
+fn partitions_with_files_are_named_in_rising_order(rt: HostRuntime) {
+    let _ = fs::remove_dir_all(&rt, "yard_used");
+    let absent = yard_in(rt, "yard_used", Ask::Used(&[]));
+    let made = make(rt, "yard_used", &HELD, &HELD_FILES);
+    let wanted = [PartitionId(0), PartitionId(2), PartitionId(10)];
+    let used = yard_in(rt, "yard_used", Ask::Used(&wanted));
+    let _ = fs::remove_dir_all(&rt, "yard_used");
+    assert!(rt; made);
+    assert_eq!(rt; absent, Ok((true, 0, 0)));
+    assert_eq!(rt; used, Ok((true, 0, 0)));
+}
+
 #[test]
 fn a_yard_over_a_file_fails(rt: HostRuntime) {
     let written = fs::write(&rt, "yard_file", b"no folder".as_slice());
     assert!(rt; written.is_ok());
-    assert_eq!(rt; yard_in(rt, "yard_file", Ask::Fails), Ok((true, 0, 2)));
+    assert_eq!(rt; yard_in(rt, "yard_file", Ask::Fails), Ok((true, 0, 3)));
     let _ = fs::remove_file(&rt, "yard_file");
 }

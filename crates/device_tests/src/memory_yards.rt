@@ -3,8 +3,8 @@
 //! A story is a list of steps, each a call of the yard and what it should come to. No test holds a device.
 
 use crate::yard_calls::{
-    disk_fails, disk_goes, disk_grows, is_named, log_fails, log_reads, name_fails, store_fails,
-    store_fills,
+    are_used, disk_fails, disk_goes, disk_grows, is_named, log_fails, log_reads, name_fails,
+    partitions_fail, store_fails, store_fills,
 };
 use memory_yard::MemoryYard;
 use object_store::{ObjectKey, Part};
@@ -16,6 +16,8 @@ use tier_base::{Blob, BrokerId, PartitionId, segment_id};
 enum Step<'a> {
     /// The first name.
     Name(Option<&'a str>),
+    /// The partitions of which something stands.
+    Used(&'a [PartitionId]),
     /// A disk of a partition and a broker has so many bytes in its manifest, and then one more.
     Disk(u16, u16, usize),
     /// A disk that comes back empty.
@@ -54,16 +56,18 @@ fn log(yard: &mut MemoryYard, partition: PartitionId, many: usize) -> bool {
 /// Whether a call of each kind fails.
 fn fails(yard: &mut MemoryYard) -> bool {
     let named = name_fails(yard);
+    let used = partitions_fail(yard);
     let disk = disk_fails(yard);
     let store = store_fails(yard);
     let log = log_fails(yard);
-    named & disk & store & log
+    named & used & disk & store & log
 }
 
 /// Makes a call, and answers whether it came to what it should.
 fn call(yard: &mut MemoryYard, step: Step) -> bool {
     match step {
         Step::Name(wanted) => is_named(yard, wanted),
+        Step::Used(wanted) => are_used(yard, wanted),
         Step::Disk(partition, broker, many) => {
             disk(yard, PartitionId(partition), BrokerId(broker), many)
         }
@@ -138,6 +142,15 @@ static STRAYS: [Step<'static>; 4] = [
     Step::Name(Some("p0")),
 ];
 
+static USED: [Step<'static>; 6] = [
+    Step::Used(&[]),
+    Step::Store(2),
+    Step::Empty(1, 0),
+    Step::Log(1, 0),
+    Step::Disk(0, 3, 0),
+    Step::Used(&[PartitionId(0), PartitionId(2)]),
+];
+
 static PLANNED: [Step<'static>; 3] = [Step::Empty(0, 0), Step::Fails, Step::Log(0, 0)];
 
 #[test]
@@ -152,7 +165,13 @@ fn strays_are_names_too(rt: HostRuntime) {
 }
 
 #[test]
+fn used_partitions_are_named_in_rising_order(rt: HostRuntime) {
+    let came = came_of(rt.alloc(), &["p1"], &[], &USED);
+    assert_eq!(rt; came, Ok((6, 0, 4)));
+}
+
+#[test]
 fn planned_calls_fail_and_no_others(rt: HostRuntime) {
-    let came = came_of(rt.alloc(), &[], &[5, 4, 3, 2], &PLANNED);
-    assert_eq!(rt; came, Ok((3, 4, 2)));
+    let came = came_of(rt.alloc(), &[], &[6, 5, 4, 3, 2], &PLANNED);
+    assert_eq!(rt; came, Ok((3, 5, 2)));
 }

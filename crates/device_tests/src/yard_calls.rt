@@ -26,6 +26,14 @@ pub(crate) fn is_named<Y: Yard>(yard: &mut Y, wanted: Option<&str>) -> bool {
     }
 }
 
+/// Whether the yard's partitions of which something stands are these.
+pub(crate) fn are_used<Y: Yard>(yard: &mut Y, wanted: &[PartitionId]) -> bool {
+    match yard.partitions() {
+        Ok(found) => found.as_slice() == wanted,
+        Err(_) => false,
+    }
+}
+
 /// How many bytes a disk has in its manifest.
 fn size_of<D: Disk>(disk: &mut D) -> Option<usize> {
     match disk.read(FileName::Manifest, 0) {
@@ -119,6 +127,10 @@ pub(crate) fn log_grows<Y: Yard>(
 
 pub(crate) fn name_fails<Y: Yard>(yard: &mut Y) -> bool {
     matches!(yard.first_name(), Err(Trouble::Failed))
+}
+
+pub(crate) fn partitions_fail<Y: Yard>(yard: &mut Y) -> bool {
+    matches!(yard.partitions(), Err(Trouble::Failed))
 }
 
 pub(crate) fn disk_fails<Y: Yard>(yard: &mut Y) -> bool {

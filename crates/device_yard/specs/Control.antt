@@ -2,7 +2,8 @@
 --
 --   form                 says
 --   Names r old new      `first_name` answered r
---   Hands r old new      a device was handed out, or wasn't, by a call that answered r
+--   Asks f old new       a call ended so that hands nothing out
+--   Hands f old new      a device was handed out, or wasn't, by a call that ended so
 --   TakesBack c old new  a device came back with these counts
 --
 -- Before it is armed a device is opened, and the world that is made over it reads and writes. Of an armed device the faults
@@ -44,6 +45,13 @@ named_after (Err e) before = before
 pub record Names (result : Result (Option (List ℕ)) Trouble) (old new : Control) : Type 0 where
   pub faults : Faults (fate_of result) old.faults new.faults
   pub named : new.named ≡ named_after result old.named
+  pub returned : new.returned ≡ old.returned
+  pub out : new.out ≡ old.out
+
+-- a call that answers something and hands nothing out
+pub record Asks (fate : Fate) (old new : Control) : Type 0 where
+  pub faults : Faults fate old.faults new.faults
+  pub named : new.named ≡ old.named
   pub returned : new.returned ≡ old.returned
   pub out : new.out ≡ old.out
 

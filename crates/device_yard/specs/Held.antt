@@ -2,6 +2,8 @@
 --
 --   form                     says
 --   IsUsed held p            a file, an object or a note of the partition stands
+--   AreUsed held list        the list has those partitions and no others
+--   Rise list                its numbers rise strictly
 --   IsFirst Named name       the first of the names, or none
 --   HandsDisk files held c   a disk with this content is handed out where that is held
 --   DiskIs p b now old new   that disk is held now, or none, and the rest stays
@@ -9,7 +11,7 @@
 --
 -- Its names are `p` with the number of each partition that has a file, an object or a note, and the strangers' ones. The
 -- first of them is the least in the order of their bytes.
-use Rattle.std.specs.Prelude.{◌≡◌, ◌≢◌, ◌⊎◌, ℕ, ◌<◌, ◌≤◌, Bool, List, [], ◌∷◌, ◌++◌, codes, decimal, Option, Some, None, IsTrue, IsSome}
+use Rattle.std.specs.Prelude.{◌≡◌, ◌≢◌, ◌⊎◌, ◌↔◌, ℕ, ◌<◌, ◌≤◌, Bool, List, [], ◌∷◌, ◌++◌, codes, decimal, Option, Some, None, IsTrue, IsSome}
 use Rattle.tier_base.specs.declared.names.PartitionId.{PartitionId}
 use Rattle.tier_base.specs.declared.names.BrokerId.{BrokerId}
 use Rattle.tier_base.specs.declared.plain.FileName.{FileName}
@@ -51,6 +53,11 @@ abbrev pub IsFirst : (List ℕ → Type 0) → Option (List ℕ) → Type 0
 IsFirst Named None = (text : List ℕ) → Named text → ⊥
 IsFirst Named (Some name) = Named name × ((text : List ℕ) → Named text → IsUpTo name text)
 
+-- the numbers rise strictly: each is below all behind it
+abbrev pub Rise : List PartitionId → Type 0
+Rise [] = Unit {0}
+Rise (p ∷ more) = ((q : PartitionId) → In q more → p.0 < q.0) × Rise more
+
 -- a metadata log without notes
 pub record IsEmptyLog (c : log.Content) : Type 0 where
   pub tells : IsTrue c.tells
@@ -86,6 +93,10 @@ module _ {D S M : Type 0} (files : D → disk.Content) (objects : S → store.Co
       ((b : BrokerId) × Has (λ d. (n : FileName) × IsSome ((files d).files n)) (held.disks p b))
       ⊎ (Has (λ s. (k : ObjectKey) × IsSome ((objects s).objects k)) (held.stores p)
       ⊎ Has (λ m. (notes m).notes ≢ []) (held.logs p))
+
+  -- the list has the partitions of which something stands
+  abbrev pub AreUsed : Held D S M → List PartitionId → Type 0
+  AreUsed held list = (p : PartitionId) → IsUsed held p ↔ In p list
 
   -- nothing of it stands
   abbrev pub IsUnused : Held D S M → PartitionId → Type 0

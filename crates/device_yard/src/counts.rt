@@ -3,7 +3,7 @@
 ghost use Rattle.std.specs.Prelude.{◌≡◌, ◌↔◌, ◌+◌, ◌<◌, ◌≤◌, ◌^◌, if◌then◌else◌, Ok, None, IfOk, OnOk};
 ghost use Rattle.tier_base.specs.Counts.{counted};
 ghost use Rattle.tier_base.specs.Device.{Fault, fate_of};
-ghost use Rattle.device_yard.specs.Control.{IsFresh, Names, Hands, TakesBack};
+ghost use Rattle.device_yard.specs.Control.{IsFresh, Names, Asks, Hands, TakesBack};
 
 use crate::came::Came;
 use std::alloc::{AllocError, Global};
@@ -90,6 +90,16 @@ impl YardCounts {
                 Err(trouble)
             }
         }
+    }
+
+    /// Counts a call that hands nothing out, and answers what it found.
+    pub fn ask<T: Drop>(&mut self, found: Result<T, Trouble>) -> Result<T, Trouble>
+        ensures asks { Asks (fate_of found) self.old self.new }
+        ensures found { result ≡ found }
+    {
+        let failed = matches!(&found, Err(Trouble::Failed));
+        raise_if(&mut self.faults, failed);
+        found
     }
 
     /// Counts a device that is handed out, if it was made.

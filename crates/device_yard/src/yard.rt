@@ -6,14 +6,14 @@
 ghost use Rattle.std.specs.Prelude.{◌≡◌, ◌≤◌, Option, Some, None, IfOk, OnOk, OnErr, IsTrue};
 ghost use Rattle.tier_base.specs.Device.{fate_of, IsFresh};
 ghost use Rattle.device_yard.specs.declared.came.Came.{Came};
-ghost use Rattle.device_yard.specs.Control.{Control, Names, Hands, TakesBack};
+ghost use Rattle.device_yard.specs.Control.{Control, Names, Asks, Hands, TakesBack};
 ghost use Rattle.device_yard.specs.Plan.{Plan, Counts};
-ghost use Rattle.device_yard.specs.Held.{Held, Same, DiskIs, StoreIs, LogIs, IsName, IsFirst, HandsDisk, HandsStore, HandsLog};
+ghost use Rattle.device_yard.specs.Held.{Held, Same, DiskIs, StoreIs, LogIs, IsName, IsFirst, AreUsed, Rise, HandsDisk, HandsStore, HandsLog};
 
 use disk_model::Disk;
 use meta_log::MetaLog;
 use object_store::Store;
-use tier_base::{Blob, BrokerId, PartitionId, Trouble};
+use tier_base::{Blob, BrokerId, PartitionId, Row, Trouble};
 
 /// A yard of devices.
 pub trait Yard {
@@ -40,6 +40,16 @@ pub trait Yard {
             (held self.old) (held self.new) }
         ensures first { IsTrue (held self.old).tells → IfOk result
             (IsFirst (IsName Self.D.content Self.S.content Self.M.content (held self.old))) };
+
+    /// Names the partitions of which something stands, in rising order.
+    fn partitions(&mut self) -> Result<Row<PartitionId>, Trouble>
+        ensures control { Asks (fate_of result) (control self.old) (control self.new) }
+        ensures plan { Counts (fate_of result) (plan self.old) (plan self.new) }
+        ensures held { Same Self.D.content Self.S.content Self.M.content
+            (held self.old) (held self.new) }
+        ensures rise { IfOk result Rise }
+        ensures used { IsTrue (held self.old).tells → IfOk result
+            (AreUsed Self.D.content Self.S.content Self.M.content (held self.old)) };
 
     /// Hands out a broker's disk.
     fn disk(&mut self, partition: PartitionId, broker: BrokerId) -> Result<Self::D, Trouble>

@@ -19,6 +19,8 @@ mod name;
 mod object_name;
 mod objects;
 mod open_file;
+mod partition_folder;
+mod partitions;
 mod path_text;
 mod yard;
 

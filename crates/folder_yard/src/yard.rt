@@ -11,11 +11,12 @@ ghost use Rattle.folder_yard.specs.Yard.{nothing_held};
 use crate::first_name::first_name;
 use crate::folder_disk::{FolderDisk, told};
 use crate::folder_store::FolderStore;
+use crate::partitions::partitions;
 use device_yard::{Came, Yard, YardCounts};
 use meta_file::{DiskLog, NotesRefusal};
 use std::alloc::{AllocError, Global};
 use std::rt::Files;
-use tier_base::{Blob, BrokerId, PartitionId, Trouble};
+use tier_base::{Blob, BrokerId, PartitionId, Row, Trouble};
 
 /// A yard whose devices stand in a folder. It tells nothing of what it holds, and lets go a device that comes back: what it
 /// held stands in the folder.
@@ -155,6 +156,11 @@ impl<R: Files + AllocGlobal + Clone + Drop> Yard for FolderYard<R> {
     fn first_name(&mut self) -> Result<Option<Blob>, Trouble> {
         let found = told(first_name(&self.rt, self.dir.as_str()));
         self.counts.name(found)
+    }
+
+    fn partitions(&mut self) -> Result<Row<PartitionId>, Trouble> {
+        let found = told(partitions(&self.rt, self.dir.as_str()));
+        self.counts.ask(found)
     }
 
     fn disk(&mut self, partition: PartitionId, broker: BrokerId) -> Result<FolderDisk<R>, Trouble> {

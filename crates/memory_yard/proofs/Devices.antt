@@ -2,7 +2,7 @@
 use Rattle.std.specs.Prelude.{◌≡◌, ◌↔◌, Bool, true, false, not, List, [], ◌∷◌, ℕ, Option, IsSome, IsTrue, refl}
 use Rattle.std.proofs.Common.{◌∙◌, sym, subst, inl, inr, ⊎_elim, arith}
 use Rattle.std.proofs.lemmas.Bool.{false≢true}
-use Rattle.tier_base.specs.Told.{In, Names}
+use Rattle.tier_base.specs.Told.{Names}
 use Rattle.disk_model.specs.Content.{Content, Lawful, Keeps}
 
 -- one call after another that change nothing

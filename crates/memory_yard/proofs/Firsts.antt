@@ -1,16 +1,18 @@
 -- The first of some names: the order of their bytes, and one name after another.
 use Rattle.std.specs.Prelude.{◌≡◌, ◌⊎◌, ◌↔◌, ℕ, zero, suc, ◌+◌, ◌<◌, ◌≤◌, length, Bool, true, false, cond, List, [], ◌∷◌, slice_get, Option, Some, None, IsTrue, IsSomeAnd, refl}
-use Rattle.std.proofs.Common.{◌∙◌, sym, ap, subst, inl, inr, ⊎_elim, eqb, ltb, arith}
+use Rattle.std.proofs.Common.{◌∙◌, sym, ap, subst, inl, inr, ⊎_elim, eqb, ltb, map, arith}
 use Rattle.std.proofs.lemmas.Bool.{false≢true}
 use Rattle.std.proofs.lemmas.Bool.Decides.{eqb_tells, Decides-ltb, nat_tests}
 use Rattle.std.proofs.lemmas.Option.{slice_get_within}
 use Rattle.std.proofs.lemmas.Cmp.{same_from_slice_cmp}
+use Rattle.std.proofs.lemmas.List.{length-map}
 use Rattle.std.specs.Cmp.Lexicographic.{slice_cmp}
 use Rattle.std.specs.Ordering.{nat_cmp, is_le}
 use Rattle.std.specs.declared.cmp.Ordering.{Ordering}
+use Rattle.tier_base.specs.declared.names.PartitionId.{PartitionId}
 use Rattle.tier_base.specs.Told.{In}
 use Rattle.device_yard.specs.Held.{IsUpTo, IsFirst}
-use Rattle.memory_yard.specs.First.{IsFirstWith}
+use Rattle.memory_yard.specs.First.{name_of, IsNameIn, IsFirstWith}
 
 -- the order as a test
 abbrev upto : List ℕ → List ℕ → Bool
@@ -131,14 +133,6 @@ at_in t [] k e = absurd cc
 at_in t (x ∷ xs) zero e = inl (sym (some_is x t e))
 at_in t (x ∷ xs) (suc k) e = inr (at_in t xs k e)
 
--- one offer of the only name that there is
-pub offered : (P : List ℕ → Type 0) (name : List ℕ) (o n : Option (List ℕ)) → P name → ((t : List ℕ) → P t → t ≡ name) → IsFirstWith (λ t. t ≡ name) o n → IsFirstWith P o n
-offered P name o n p only h =
-    first_same _ _ n
-    (λ t. ⊎_elim (λ e. inl e) (λ e. inr (subst P (sym e) p)))
-    (λ t. ⊎_elim (λ e. inl e) (λ q. inr (only t q)))
-    h
-
 -- one name of a list after another
 least_split : (names : List (List ℕ)) (i : ℕ) (name text : List ℕ) → slice_get names i ≡ Some name
     → ((k : ℕ) × (k < i + 1) × (slice_get names k ≡ Some text)) → ((k : ℕ) × (k < i) × (slice_get names k ≡ Some text)) ⊎ (text ≡ name)
@@ -166,4 +160,47 @@ least_all names i a le h =
     first_same _ _ a
     (λ t r. at_in t names r.0 r.2)
     (λ t r. let p = in_at t names r in let w : p.0 < length names = slice_get_within names p.0 t p.1 in (p.0, omega arith, p.1))
+    h
+
+-- the same behind a first one
+pub names_more : (names : List (List ℕ)) (i : ℕ) (name : List ℕ) (o a b : Option (List ℕ)) → slice_get names i ≡ Some name
+    → IsFirstWith (λ text. (k : ℕ) × (k < i) × (slice_get names k ≡ Some text)) o a → IsFirstWith (λ text. text ≡ name) a b
+    → IsFirstWith (λ text. (k : ℕ) × (k < i + 1) × (slice_get names k ≡ Some text)) o b
+names_more names i name o a b e h k =
+    first_same _ _ b
+    (λ t. ⊎_elim (λ was. inl was) (λ n. inr (least_join names i name t e n)))
+    (λ t. ⊎_elim (λ was. inl was) (λ n. inr (least_split names i name t e n)))
+    (first_with_then (λ text. (k : ℕ) × (k < i) × (slice_get names k ≡ Some text)) (λ text. text ≡ name) o a b h k)
+
+pub names_none : (names : List (List ℕ)) (o : Option (List ℕ)) → IsFirstWith (λ text. (k : ℕ) × (k < 0) × (slice_get names k ≡ Some text)) o o
+names_none names o =
+    first_with_none (λ text. (k : ℕ) × (k < 0) × (slice_get names k ≡ Some text)) o (λ t h. let le : h.0 < 0 = h.1 in absurd (omega arith))
+
+-- the names of partitions
+pub name_at : (list : List PartitionId) (i : ℕ) (p : PartitionId) → slice_get list i ≡ Some p → slice_get (map name_of list) i ≡ Some (name_of p)
+name_at [] i p e = absurd cc
+name_at (q ∷ list) zero p e = let is : q ≡ p = cc in ap (λ x. Some (name_of x)) is
+name_at (q ∷ list) (suc i) p e = name_at list i p e
+
+name_in : (list : List PartitionId) (text : List ℕ) → IsNameIn list text → In text (map name_of list)
+name_in [] text h = absurd h.1
+name_in (q ∷ list) text h = ⊎_elim (λ e. inl (h.2 ∙ ap name_of e)) (λ more. inr (name_in list text (h.0, more, h.2))) h.1
+
+named_by : (list : List PartitionId) (text : List ℕ) → In text (map name_of list) → IsNameIn list text
+named_by [] text h = absurd h
+named_by (q ∷ list) text (inl e) = (q, inl refl, e)
+named_by (q ∷ list) text (inr more) = let r = named_by list text more in (r.0, inr r.1, r.2)
+
+pub names_all : (list : List PartitionId) (i : ℕ) (o a : Option (List ℕ)) → length list ≤ i
+    → IsFirstWith (λ text. (k : ℕ) × (k < i) × (slice_get (map name_of list) k ≡ Some text)) o a → IsFirstWith (IsNameIn list) o a
+names_all list i o a le h =
+    first_same _ _ a
+    (λ t. ⊎_elim (λ was. inl was) (λ r. inr (named_by list t (at_in t (map name_of list) r.0 r.2))))
+    (λ t. ⊎_elim
+    (λ was. inl was)
+    (λ r.
+    let p = in_at t (map name_of list) (name_in list t r) in
+    let w : p.0 < length (map name_of list) = slice_get_within (map name_of list) p.0 t p.1 in
+    let many : length (map name_of list) ≡ length list = length-map list name_of in
+    inr (p.0, omega arith, p.1)))
     h

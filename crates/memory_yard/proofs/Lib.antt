@@ -1,4 +1,5 @@
 pub mod Devices
+pub mod Finds
 pub mod Firsts
 pub mod Loops
 pub mod Named

@@ -1,14 +1,14 @@
--- A loop over slots that offers the names of those it has passed.
+-- A loop over slots that finds the partitions of those it has passed.
 use Rattle.std.specs.Prelude.{◌≡◌, ◌⊎◌, ℕ, zero, suc, ◌+◌, ◌<◌, ◌≤◌, length, List, [], ◌∷◌, ◌++◌, take, drop, slice_get, slice_set, Option, Some, None, IsSomeAnd, refl}
 use Rattle.std.proofs.Common.{◌∙◌, sym, ap, subst, inl, inr, ⊎_elim, arith}
 use Rattle.std.proofs.lemmas.Bool.Decides.{eqb_tells}
 use Rattle.std.proofs.Math.Seq.{take-append_seam}
 use Rattle.tier_base.specs.declared.names.PartitionId.{PartitionId}
-use Rattle.device_yard.specs.Held.{Has, Both}
+use Rattle.device_yard.specs.Held.{Both}
 use Rattle.memory_yard.specs.declared.slot.Slot.{Slot}
-use Rattle.memory_yard.specs.First.{IsFirstWith}
-use Rattle.memory_yard.specs.Shelf.{SlotKeeps, AreStill, IsNameOf, IsNameBelow}
-use Rattle.memory_yard.proofs.Firsts.{first_same, first_with_then, first_with_none}
+use Rattle.memory_yard.specs.Found.{Adds}
+use Rattle.memory_yard.specs.Shelf.{SlotKeeps, AreStill, IsPartitionOf, IsPartitionBelow}
+use Rattle.memory_yard.proofs.Finds.{adds_same, adds_then, adds_none}
 
 -- what is read after a write
 set_same : {A : Type 0} → (xs : List A) (i : ℕ) (x y : A) → slice_get xs i ≡ Some x → slice_get (slice_set xs i y) i ≡ Some y
@@ -59,34 +59,32 @@ module _ {K T : Type 0} (keeps : T → T → Type 0) where
   rest_set old now i n rest k le = set_other now i k n (λ e. absurd (omega arith)) ∙ rest k (omega arith)
 
 module _ {K T : Type 0} (partition_of : K → PartitionId) (used : T → Type 0) where
-  below_split : (slots : List (Slot K T)) (i : ℕ) (s : Slot K T) (text : List ℕ) → slice_get slots i ≡ Some s
-      → IsNameBelow partition_of used (i + 1) slots text → IsNameBelow partition_of used i slots text ⊎ IsNameOf partition_of used s text
-  below_split slots i s text e h =
+  below_split : (slots : List (Slot K T)) (i : ℕ) (s : Slot K T) (p : PartitionId) → slice_get slots i ≡ Some s
+      → IsPartitionBelow partition_of used (i + 1) slots p → IsPartitionBelow partition_of used i slots p ⊎ IsPartitionOf partition_of used s p
+  below_split slots i s p e h =
       ⊎_elim
-      (λ yes. inr (subst (λ o. IsSomeAnd o (λ x. IsNameOf partition_of used x text)) (ap (slice_get slots) yes.1 ∙ e) h.2))
+      (λ yes. inr (subst (λ o. IsSomeAnd o (λ x. IsPartitionOf partition_of used x p)) (ap (slice_get slots) yes.1 ∙ e) h.2))
       (λ no. let d : h.0 ≡ i → ⊥ = no.1 in let le : h.0 < i + 1 = h.1 in inl (h.0, omega arith, h.2))
       (eqb_tells h.0 i)
 
-  below_join : (slots : List (Slot K T)) (i : ℕ) (s : Slot K T) (text : List ℕ) → slice_get slots i ≡ Some s
-      → IsNameBelow partition_of used i slots text ⊎ IsNameOf partition_of used s text → IsNameBelow partition_of used (i + 1) slots text
-  below_join slots i s text e (inl h) = let le : h.0 < i = h.1 in (h.0, omega arith, h.2)
-  below_join slots i s text e (inr h) = (i, omega arith, subst (λ o. IsSomeAnd o (λ x. IsNameOf partition_of used x text)) (sym e) h)
+  below_join : (slots : List (Slot K T)) (i : ℕ) (s : Slot K T) (p : PartitionId) → slice_get slots i ≡ Some s
+      → IsPartitionBelow partition_of used i slots p ⊎ IsPartitionOf partition_of used s p → IsPartitionBelow partition_of used (i + 1) slots p
+  below_join slots i s p e (inl h) = let le : h.0 < i = h.1 in (h.0, omega arith, h.2)
+  below_join slots i s p e (inr h) = (i, omega arith, subst (λ o. IsSomeAnd o (λ x. IsPartitionOf partition_of used x p)) (sym e) h)
 
-  pub names_more : (slots : List (Slot K T)) (i : ℕ) (s : Slot K T) (o a b : Option (List ℕ)) → slice_get slots i ≡ Some s
-      → IsFirstWith (IsNameBelow partition_of used i slots) o a → IsFirstWith (IsNameOf partition_of used s) a b
-      → IsFirstWith (IsNameBelow partition_of used (i + 1) slots) o b
-  names_more slots i s o a b e h k =
-      first_same _ _ b
-      (λ t. ⊎_elim (λ w. inl w) (λ p. inr (below_join slots i s t e p)))
-      (λ t. ⊎_elim (λ w. inl w) (λ p. inr (below_split slots i s t e p)))
-      (first_with_then (IsNameBelow partition_of used i slots) (IsNameOf partition_of used s) o a b h k)
+  pub found_more : (slots : List (Slot K T)) (i : ℕ) (s : Slot K T) (o a b : List PartitionId) → slice_get slots i ≡ Some s
+      → Adds (IsPartitionBelow partition_of used i slots) o a → Adds (IsPartitionOf partition_of used s) a b
+      → Adds (IsPartitionBelow partition_of used (i + 1) slots) o b
+  found_more slots i s o a b e h k =
+      adds_same _ _ o b (λ p. below_join slots i s p e) (λ p. below_split slots i s p e)
+      (adds_then (IsPartitionBelow partition_of used i slots) (IsPartitionOf partition_of used s) o a b h k)
 
-  pub names_none : (slots : List (Slot K T)) (o : Option (List ℕ)) → IsFirstWith (IsNameBelow partition_of used 0 slots) o o
-  names_none slots o = first_with_none (IsNameBelow partition_of used 0 slots) o (λ t h. let le : h.0 < 0 = h.1 in absurd (omega arith))
+  pub found_none : (slots : List (Slot K T)) (o : List PartitionId) → Adds (IsPartitionBelow partition_of used 0 slots) o o
+  found_none slots o = adds_none (IsPartitionBelow partition_of used 0 slots) o (λ p h. let le : h.0 < 0 = h.1 in absurd (omega arith))
 
-  pub names_all : (slots : List (Slot K T)) (i : ℕ) (o a : Option (List ℕ)) → length slots ≤ i → i ≤ length slots
-      → IsFirstWith (IsNameBelow partition_of used i slots) o a → IsFirstWith (IsNameBelow partition_of used (length slots) slots) o a
-  names_all slots i o a le ge h = let e : i ≡ length slots = omega arith in subst (λ n. IsFirstWith (IsNameBelow partition_of used n slots) o a) e h
+  pub found_all : (slots : List (Slot K T)) (i : ℕ) (o a : List PartitionId) → length slots ≤ i → i ≤ length slots
+      → Adds (IsPartitionBelow partition_of used i slots) o a → Adds (IsPartitionBelow partition_of used (length slots) slots) o a
+  found_all slots i o a le ge h = let e : i ≡ length slots = omega arith in subst (λ n. Adds (IsPartitionBelow partition_of used n slots) o a) e h
 
 -- a slice of a whole vector that was written
 pub whole : {A : Type 0} → (items new : List A) (len : ℕ) → len ≡ length items → length new ≡ length items → take len (new ++ drop (length new) items) ≡ new

@@ -1,15 +1,15 @@
 -- Slots of distinct places: what stands at a place after one of them has changed, or one was added.
-use Rattle.std.specs.Prelude.{◌≡◌, ◌≢◌, ◌⊎◌, ℕ, zero, suc, ◌+◌, ◌<◌, ◌≤◌, length, Bool, true, false, if◌then◌else◌, List, [], ◌∷◌, ◌++◌, slice_get, slice_set, Option, Some, None, Ok, Err, OnOk, IsSomeAnd, IsTrue, refl}
+use Rattle.std.specs.Prelude.{◌≡◌, ◌⊎◌, ℕ, zero, suc, ◌<◌, length, Bool, true, false, List, [], ◌∷◌, ◌++◌, slice_get, slice_set, Option, Some, None, Ok, Err, OnOk, IsSomeAnd, refl}
 use Rattle.std.proofs.Common.{◌∙◌, sym, ap, subst, inl, inr, ⊎_elim, arith, Decides, get_or}
 use Rattle.std.proofs.lemmas.Bool.{false≢true}
 use Rattle.std.specs.declared.result.Result.{Result}
-use Rattle.memory_yard.proofs.Firsts.{first_same}
 use Rattle.std.proofs.lemmas.Option.{slice_get_within, slice_get_read}
 use Rattle.tier_base.specs.declared.names.PartitionId.{PartitionId}
 use Rattle.device_yard.specs.Held.{Has, Both}
 use Rattle.memory_yard.specs.declared.slot.Slot.{Slot}
-use Rattle.memory_yard.specs.First.{name_of, IsFirstWith}
-use Rattle.memory_yard.specs.Shelf.{at, AreDistinct, IsAbsentBelow, IsSlotOf, Leaves, SlotKeeps, AreStill, IsNameOf, IsNameBelow, IsNameOn}
+use Rattle.memory_yard.specs.Found.{Adds}
+use Rattle.memory_yard.specs.Shelf.{at, AreDistinct, IsAbsentBelow, IsSlotOf, Leaves, SlotKeeps, AreStill, IsPartitionOf, IsPartitionBelow, IsPartitionOn}
+use Rattle.memory_yard.proofs.Finds.{adds_same}
 
 some_is : {A : Type 0} → (x y : A) → Some x ≡ Some y → x ≡ y
 some_is x y e = cc
@@ -189,22 +189,24 @@ module _ {K T : Type 0} (same : K → K → Bool) (decides : (a b : K) → Decid
         (suc r.0, r.1, r.2, r.3, r.4))
         (bool_cases (same x.place q))
 
-    -- a name on the shelf is the name of one of its slots
-    pub name_in_slots : (slots : List (Slot K T)) (text : List ℕ) → IsNameOn partition_of used same slots text → IsNameBelow partition_of used (length slots) slots text
-    name_in_slots slots text h =
+    -- a partition on the shelf is that of one of its slots
+    pub partition_in_slots : (slots : List (Slot K T)) (p : PartitionId) → IsPartitionOn partition_of used same slots p
+        → IsPartitionBelow partition_of used (length slots) slots p
+    partition_in_slots slots p h =
         let r = find_slot slots h.0 h.1 in (
           r.0,
           slice_get_within slots r.0 r.1 r.2,
-          subst (λ o. IsSomeAnd o (λ s. IsNameOf partition_of used s text)) (sym r.2) (r.4, h.2 ∙ ap (λ p. name_of (partition_of p)) (sym r.3)),
+          subst (λ o. IsSomeAnd o (λ s. IsPartitionOf partition_of used s p)) (sym r.2) (r.4, h.2 ∙ ap partition_of (sym r.3)),
         )
 
-    on_shelf : (slots : List (Slot K T)) (text : List ℕ) (i : ℕ) (o : Option (Slot K T)) → AreDistinct same slots → slice_get slots i ≡ o
-        → IsSomeAnd o (λ s. IsNameOf partition_of used s text) → IsNameOn partition_of used same slots text
-    on_shelf slots text i None distinct e h = absurd h
-    on_shelf slots text i (Some s) distinct e h = (s.place, subst (λ d. Has used d) (sym (at_slot slots i s s.place distinct e refl)) h.0, h.1)
+    on_shelf : (slots : List (Slot K T)) (p : PartitionId) (i : ℕ) (o : Option (Slot K T)) → AreDistinct same slots → slice_get slots i ≡ o
+        → IsSomeAnd o (λ s. IsPartitionOf partition_of used s p) → IsPartitionOn partition_of used same slots p
+    on_shelf slots p i None distinct e h = absurd h
+    on_shelf slots p i (Some s) distinct e h = (s.place, subst (λ d. Has used d) (sym (at_slot slots i s s.place distinct e refl)) h.0, h.1)
 
-    pub name_on_shelf : (slots : List (Slot K T)) (n : ℕ) (text : List ℕ) → AreDistinct same slots → IsNameBelow partition_of used n slots text → IsNameOn partition_of used same slots text
-    name_on_shelf slots n text distinct h = on_shelf slots text h.0 (slice_get slots h.0) distinct refl h.2
+    pub partition_on_shelf : (slots : List (Slot K T)) (n : ℕ) (p : PartitionId) → AreDistinct same slots → IsPartitionBelow partition_of used n slots p
+        → IsPartitionOn partition_of used same slots p
+    partition_on_shelf slots n p distinct h = on_shelf slots p h.0 (slice_get slots h.0) distinct refl h.2
 
 -- what a search for a place's slot tells
 module _ {K T : Type 0} (same : K → K → Bool) (decides : (a b : K) → Decides (same a b) (a ≡ b)) (told seen items : List (Slot K T)) (view : told ≡ items) (sees : seen ≡ items)
@@ -247,18 +249,18 @@ module _ {K T : Type 0} (same : K → K → Bool) (decides : (a b : K) → Decid
       subst (λ xs. AreDistinct same xs) (sym e)
       (push_distinct same decides items (record { place = place; device = Some d }) (absent_items absent) distinct)
 
--- the names of the slots are those of the shelf
-pub names_on : {K T R E : Type 0} → (same : K → K → Bool) (decides : (a b : K) → Decides (same a b) (a ≡ b)) (partition_of : K → PartitionId) (used : T → Type 0)
-    (told seen items : List (Slot K T)) → told ≡ items → seen ≡ items → AreDistinct same items → (o a : Option (List ℕ)) (result : Result R E)
-    → OnOk result (IsFirstWith (IsNameBelow partition_of used (length seen) seen) o a)
-    → OnOk result (IsFirstWith (IsNameOn partition_of used same told) o a)
-names_on same decides partition_of used told seen items view sees distinct o a (Err e) h = h
-names_on same decides partition_of used told seen items view sees distinct o a (Ok x) h =
+-- the partitions of the slots are those of the shelf
+pub found_on : {K T R E : Type 0} → (same : K → K → Bool) (decides : (a b : K) → Decides (same a b) (a ≡ b)) (partition_of : K → PartitionId) (used : T → Type 0)
+    (told seen items : List (Slot K T)) → told ≡ items → seen ≡ items → AreDistinct same items → (o a : List PartitionId) (result : Result R E)
+    → OnOk result (Adds (IsPartitionBelow partition_of used (length seen) seen) o a)
+    → OnOk result (Adds (IsPartitionOn partition_of used same told) o a)
+found_on same decides partition_of used told seen items view sees distinct o a (Err e) h = h
+found_on same decides partition_of used told seen items view sees distinct o a (Ok x) h =
     let both : seen ≡ told = sees ∙ sym view in
     let d : AreDistinct same told = subst (λ xs. AreDistinct same xs) (sym view) distinct in
-    let k : IsFirstWith (IsNameBelow partition_of used (length told) told) o a =
-    subst (λ xs. IsFirstWith (IsNameBelow partition_of used (length xs) xs) o a) both h in
-    first_same _ _ a
-    (λ t. ⊎_elim (λ e. inl e) (λ n. inr (name_on_shelf same decides partition_of used told (length told) t d n)))
-    (λ t. ⊎_elim (λ e. inl e) (λ n. inr (name_in_slots same decides partition_of used told t n)))
+    let k : Adds (IsPartitionBelow partition_of used (length told) told) o a =
+    subst (λ xs. Adds (IsPartitionBelow partition_of used (length xs) xs) o a) both h in
+    adds_same _ _ o a
+    (λ p. partition_on_shelf same decides partition_of used told (length told) p d)
+    (λ p. partition_in_slots same decides partition_of used told p)
     k

@@ -1,11 +1,16 @@
 -- The first of some names, with more of them looked at.
 use Rattle.std.specs.Prelude.{◌≡◌, ◌⊎◌, List, ℕ, ◌++◌, codes, decimal, Option, Some}
 use Rattle.tier_base.specs.declared.names.PartitionId.{PartitionId}
+use Rattle.tier_base.specs.Told.{In}
 use Rattle.device_yard.specs.Held.{IsFirst}
 
 -- the name of a partition
 abbrev pub name_of : PartitionId → List ℕ
 name_of p = codes "p" ++ decimal p.0
+
+-- the name of one of these partitions
+abbrev pub IsNameIn : List PartitionId → List ℕ → Type 0
+IsNameIn partitions text = (p : PartitionId) × In p partitions × (text ≡ name_of p)
 
 -- the first of these names and of the one that was first before
 abbrev pub IsFirstWith : (List ℕ → Type 0) → Option (List ℕ) → Option (List ℕ) → Type 0

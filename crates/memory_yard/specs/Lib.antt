@@ -1,4 +1,5 @@
 pub mod First
+pub mod Found
 pub mod Keeping
 pub mod Names
 pub mod Place

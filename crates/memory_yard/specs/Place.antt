@@ -1,7 +1,5 @@
 -- When places are one.
-use Rattle.std.specs.Prelude.{◌≡◌, ℕ, Bool, ◌&&◌, ◌==◌}
-use Rattle.std.proofs.Common.{Decides, ap}
-use Rattle.std.proofs.lemmas.Bool.Decides.{Decides-eqb}
+use Rattle.std.specs.Prelude.{Bool, ◌&&◌, ◌==◌}
 use Rattle.tier_base.specs.declared.names.PartitionId.{PartitionId}
 use Rattle.memory_yard.specs.declared.place.DiskPlace.{DiskPlace}
 

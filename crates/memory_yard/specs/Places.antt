@@ -1,9 +1,8 @@
 -- Places that are one are equal.
-use Rattle.std.specs.Prelude.{◌≡◌, ℕ, Bool, true, false, ◌&&◌, ◌==◌, refl}
+use Rattle.std.specs.Prelude.{◌≡◌, ℕ, ◌==◌}
 use Rattle.std.proofs.Common.{Decides, ap, ◌∙◌}
 use Rattle.std.proofs.lemmas.Bool.Decides.{Decides-eqb, Decides-and}
 use Rattle.tier_base.specs.declared.names.PartitionId.{PartitionId}
-use Rattle.tier_base.specs.declared.names.BrokerId.{BrokerId}
 use Rattle.memory_yard.specs.declared.place.DiskPlace.{DiskPlace}
 use Rattle.memory_yard.specs.Place.{same_partition, same_disk}
 

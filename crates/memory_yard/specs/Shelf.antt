@@ -3,7 +3,6 @@ use Rattle.std.specs.Prelude.{◌≡◌, ◌≢◌, ℕ, ◌<◌, length, Bool, 
 use Rattle.tier_base.specs.declared.names.PartitionId.{PartitionId}
 use Rattle.device_yard.specs.Held.{Has, Both}
 use Rattle.memory_yard.specs.declared.slot.Slot.{Slot}
-use Rattle.memory_yard.specs.First.{name_of}
 
 -- the slots, and for how many further devices there is room
 pub record Shelved (K T : Type 0) : Type 0 where
@@ -45,14 +44,14 @@ module _ {K T : Type 0} (keeps : T → T → Type 0) where
   AreStill old new = (i : ℕ) → Both (SlotKeeps keeps) (slice_get old i) (slice_get new i)
 
 module _ {K T : Type 0} (partition_of : K → PartitionId) (used : T → Type 0) where
-  -- the name of a slot's partition, where its device has something
-  abbrev pub IsNameOf : Slot K T → List ℕ → Type 0
-  IsNameOf s text = Has used s.device × (text ≡ name_of (partition_of s.place))
+  -- the partition of a slot, where its device has something
+  abbrev pub IsPartitionOf : Slot K T → PartitionId → Type 0
+  IsPartitionOf s p = Has used s.device × (p ≡ partition_of s.place)
 
-  -- a name of one of the first n slots
-  abbrev pub IsNameBelow : ℕ → List (Slot K T) → List ℕ → Type 0
-  IsNameBelow n slots text = (i : ℕ) × (i < n) × IsSomeAnd (slice_get slots i) (λ s. IsNameOf s text)
+  -- that of one of the first n slots
+  abbrev pub IsPartitionBelow : ℕ → List (Slot K T) → PartitionId → Type 0
+  IsPartitionBelow n slots p = (i : ℕ) × (i < n) × IsSomeAnd (slice_get slots i) (λ s. IsPartitionOf s p)
 
-  -- the name of a partition that has something on the shelf
-  abbrev pub IsNameOn : (K → K → Bool) → List (Slot K T) → List ℕ → Type 0
-  IsNameOn same slots text = (place : K) × Has used (at same place slots) × (text ≡ name_of (partition_of place))
+  -- a partition that has something on the shelf
+  abbrev pub IsPartitionOn : (K → K → Bool) → List (Slot K T) → PartitionId → Type 0
+  IsPartitionOn same slots p = (place : K) × Has used (at same place slots) × (p ≡ partition_of place)

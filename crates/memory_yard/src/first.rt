@@ -3,13 +3,13 @@
 ghost use Rattle.std.specs.Prelude.{◌≡◌, ◌↔◌, IfOk, OnOk, IsTrue, IsSomeAnd, string_bytes};
 ghost use Rattle.tier_base.specs.Told.{In};
 ghost use Rattle.device_yard.specs.Held.{IsUpTo, IsFirst};
-ghost use Rattle.memory_yard.specs.First.{name_of, IsFirstWith};
+ghost use Rattle.memory_yard.specs.First.{name_of, IsNameIn, IsFirstWith};
 
 use std::alloc::{AllocError, Global};
 use tier_base::{Blob, PartitionId};
 
 /// The name of a partition.
-pub fn name_of(alloc: Global, partition: PartitionId) -> Result<String, AllocError>
+fn name_of(alloc: Global, partition: PartitionId) -> Result<String, AllocError>
     ensures { IfOk result (λ name. string_bytes name ≡ name_of partition) }
 {
     let number = partition.0;
@@ -29,8 +29,23 @@ pub fn least_of(alloc: Global, names: &[Blob]) -> Result<Option<Blob>, AllocErro
     Ok(first)
 }
 
+/// Makes the first of the names of partitions the first, where no earlier one is.
+pub fn offer_partitions(
+    alloc: Global,
+    first: &mut Option<Blob>,
+    partitions: &[PartitionId],
+) -> Result<(), AllocError>
+    ensures { OnOk result (IsFirstWith (IsNameIn partitions.now) first.old first.new) }
+{
+    for partition in partitions {
+        let name = name_of(alloc, *partition)?;
+        offer(alloc, first, name.as_bytes())?;
+    }
+    Ok(())
+}
+
 /// Makes a name the first, where no earlier one is.
-pub fn offer(alloc: Global, first: &mut Option<Blob>, name: &[u8]) -> Result<(), AllocError>
+fn offer(alloc: Global, first: &mut Option<Blob>, name: &[u8]) -> Result<(), AllocError>
     ensures { OnOk result (IsFirstWith (λ text. text ≡ name.now) first.old first.new) }
 {
     if !is_behind(name, first) {

@@ -6,22 +6,22 @@ ghost use Rattle.tier_base.specs.Device.{Fault, fate_of, IsFresh};
 ghost use Rattle.tier_base.specs.Told.{In};
 ghost use Rattle.device_yard.specs.Control as control;
 ghost use Rattle.device_yard.specs.Plan.{Plan, Counts, next_of};
-ghost use Rattle.device_yard.specs.Held.{IsFirst, IsName, Same, HandsDisk, HandsStore, HandsLog};
+ghost use Rattle.device_yard.specs.Held.{IsFirst, IsName, AreUsed, Rise, Same, HandsDisk, HandsStore, HandsLog};
 ghost use Rattle.memory_yard.specs.First.{IsFirstWith};
 ghost use Rattle.memory_yard.specs.Yard.{held_by, IsEmptyYard, HasRoom};
-ghost use Rattle.memory_yard.specs.Names.{SameHeld, IsFirstOf};
+ghost use Rattle.memory_yard.specs.Names.{SameHeld, IsFirstOf, AreUsedOf};
 
 use crate::call_plan::CallPlan;
-use crate::first::least_of;
+use crate::first::{least_of, offer_partitions};
 use crate::handing::{hand_disk, hand_log, hand_store};
 use crate::place::DiskPlace;
 use crate::shelf::Shelf;
-use device_yard::{Came, Yard, YardCounts};
+use device_yard::{Came, PartitionSet, Yard, YardCounts};
 use disk_model::MemoryDisk;
 use meta_log::MemoryLog;
 use object_store::MemoryStore;
 use std::alloc::{AllocError, Global};
-use tier_base::{Blob, BrokerId, PartitionId, Trouble};
+use tier_base::{Blob, BrokerId, PartitionId, Row, Trouble};
 
 /// A yard whose devices are in memory. A device that came back is handed out with what it held, and an empty one where none
 /// did; the devices' own calls can't fail. Beside the names of its partitions it has those of strangers.
@@ -40,8 +40,8 @@ pub struct MemoryYard {
 }
 
 impl MemoryYard {
-    /// Makes a yard without devices, in which the strays' names stand, and takes no memory. Of the calls `first_name`, `disk`,
-    /// `store` and `meta`, counted together from 1, those fail whose number the plan names.
+    /// Makes a yard without devices, in which the strays' names stand, and takes no memory. Of the calls `first_name`,
+    /// `partitions`, `disk`, `store` and `meta`, counted together from 1, those fail whose number the plan names.
     pub fn new(alloc: Global, strays: Vec<Blob>, plan: Vec<u32>) -> MemoryYard
         ensures fresh { control.IsFresh (⟦<MemoryYard as Yard>⟧.control result) }
         ensures named { (⟦<MemoryYard as Yard>⟧.control result).named ≡ None }
@@ -155,6 +155,20 @@ impl MemoryYard {
         Ok(first)
     }
 
+    /// Counts a call that finds the partitions of which something stands.
+    fn find_partitions(&mut self) -> Result<Row<PartitionId>, Trouble>
+        ensures fails { (fate_of result ≡ Fault) ↔ Contains self.old.plan.failing (next_of self.old.plan) }
+        ensures plan { self.new.plan ≡ record self.old.plan { calls = next_of self.old.plan } }
+        ensures counts { self.new.counts ≡ self.old.counts }
+        ensures held { SameHeld (⟦<MemoryYard as Yard>⟧.held self.old) (⟦<MemoryYard as Yard>⟧.held self.new) }
+        ensures rise { IfOk result Rise }
+        ensures used { IfOk result (AreUsedOf (⟦<MemoryYard as Yard>⟧.held self.old)) }
+    {
+        self.plan.count()?;
+        let used = self.used()?;
+        Ok(used)
+    }
+
     /// The first of the names.
     fn least(&mut self) -> Result<Option<Blob>, AllocError>
         ensures plan { self.new.plan ≡ self.old.plan }
@@ -163,10 +177,24 @@ impl MemoryYard {
         ensures first { IfOk result (IsFirstOf (⟦<MemoryYard as Yard>⟧.held self.old)) }
     {
         let mut first = least_of(self.alloc, self.strays.as_slice())?;
-        self.disks.offer(self.alloc, &mut first)?;
-        self.stores.offer(self.alloc, &mut first)?;
-        self.logs.offer(self.alloc, &mut first)?;
+        let used = self.used()?;
+        offer_partitions(self.alloc, &mut first, used.as_slice())?;
         Ok(first)
+    }
+
+    /// The partitions of which something stands.
+    fn used(&mut self) -> Result<Row<PartitionId>, AllocError>
+        ensures plan { self.new.plan ≡ self.old.plan }
+        ensures counts { self.new.counts ≡ self.old.counts }
+        ensures held { SameHeld (⟦<MemoryYard as Yard>⟧.held self.old) (⟦<MemoryYard as Yard>⟧.held self.new) }
+        ensures rise { IfOk result Rise }
+        ensures used { IfOk result (AreUsedOf (⟦<MemoryYard as Yard>⟧.held self.old)) }
+    {
+        let mut found = PartitionSet::new(self.alloc);
+        self.disks.find(self.alloc, &mut found)?;
+        self.stores.find(self.alloc, &mut found)?;
+        self.logs.find(self.alloc, &mut found)?;
+        found.to_row()
     }
 }
 
@@ -186,6 +214,11 @@ impl Yard for MemoryYard {
     fn first_name(&mut self) -> Result<Option<Blob>, Trouble> {
         let found = self.find_first();
         self.counts.name(found)
+    }
+
+    fn partitions(&mut self) -> Result<Row<PartitionId>, Trouble> {
+        let found = self.find_partitions();
+        self.counts.ask(found)
     }
 
     fn disk(&mut self, partition: PartitionId, broker: BrokerId) -> Result<MemoryDisk, Trouble> {

@@ -5,16 +5,16 @@
 ghost use Rattle.std.specs.Prelude.{◌≡◌, ◌+◌, ◌≤◌, [], Option, Some, None, OnOk, length};
 ghost use Rattle.std.specs.Option.{option_copied};
 ghost use Rattle.device_yard.specs.Held.{Both};
-ghost use Rattle.memory_yard.specs.First.{IsFirstWith};
-ghost use Rattle.memory_yard.specs.Shelf.{at, Leaves, AreStill, IsSlotOf, IsNameBelow, IsNameOn};
+ghost use Rattle.memory_yard.specs.Found.{Adds};
+ghost use Rattle.memory_yard.specs.Shelf.{at, Leaves, AreStill, IsSlotOf, IsPartitionBelow, IsPartitionOn};
 
 use crate::device::Device;
 use crate::place::Place;
 use crate::slot::Slot;
+use device_yard::PartitionSet;
 use std::alloc::{AllocError, Global};
 use std::marker::Model;
 use std::mem;
-use tier_base::Blob;
 
 /// Devices by their places.
 #[derive(Drop)]
@@ -90,29 +90,29 @@ impl<K: Place, T: Device> Shelf<K, T> {
         }
     }
 
-    /// Makes the first of the names of partitions that have something the first, where no earlier name is.
-    pub fn offer(&mut self, alloc: Global, first: &mut Option<Blob>) -> Result<(), AllocError>
+    /// Adds the partitions that have something to those that were found.
+    pub fn find(&mut self, alloc: Global, found: &mut PartitionSet) -> Result<(), AllocError>
         ensures keeps { (q : _) → Both T.keeps (at K.same q self.old.slots) (at K.same q self.new.slots) }
         ensures room { self.new.room ≡ self.old.room }
-        ensures first { OnOk result
-            (IsFirstWith (IsNameOn K.partition_of T.used K.same self.old.slots) first.old first.new) }
+        ensures found { OnOk result
+            (Adds (IsPartitionOn K.partition_of T.used K.same self.old.slots) found.old found.new) }
     {
-        offer_all(self.slots.as_mut_slice(), alloc, first)
+        find_all(self.slots.as_mut_slice(), alloc, found)
     }
 }
 
-/// Makes the first of the names of slots the first, where no earlier name is.
-fn offer_all<K: Place, T: Device>(
+/// Adds the partitions of slots that have something to those that were found.
+fn find_all<K: Place, T: Device>(
     slots: &mut [Slot<K, T>],
     alloc: Global,
-    first: &mut Option<Blob>,
+    found: &mut PartitionSet,
 ) -> Result<(), AllocError>
     ensures still { AreStill T.keeps slots.old slots.new }
-    ensures first { OnOk result
-        (IsFirstWith (IsNameBelow K.partition_of T.used (length slots.old) slots.old) first.old first.new) }
+    ensures found { OnOk result
+        (Adds (IsPartitionBelow K.partition_of T.used (length slots.old) slots.old) found.old found.new) }
 {
     for slot in slots.iter_mut() {
-        slot.offer(alloc, first)?;
+        slot.find(alloc, found)?;
     }
     Ok(())
 }

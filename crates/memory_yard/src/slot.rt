@@ -2,14 +2,13 @@
 
 ghost use Rattle.std.specs.Prelude.{◌≡◌, ◌↔◌, IfOk, OnOk, IsTrue};
 ghost use Rattle.device_yard.specs.Held.{Has, Both};
-ghost use Rattle.memory_yard.specs.First.{IsFirstWith};
-ghost use Rattle.memory_yard.specs.Shelf.{SlotKeeps, IsNameOf};
+ghost use Rattle.memory_yard.specs.Found.{Adds};
+ghost use Rattle.memory_yard.specs.Shelf.{SlotKeeps, IsPartitionOf};
 
 use crate::device::Device;
-use crate::first::{name_of, offer};
 use crate::place::Place;
+use device_yard::PartitionSet;
 use std::alloc::{AllocError, Global};
-use tier_base::Blob;
 
 /// A place, and its device, if that is here.
 #[derive(Drop)]
@@ -30,15 +29,14 @@ impl<K: Place, T: Device> Slot<K, T> {
         }
     }
 
-    /// Makes its partition's name the first, where something stands on its device and no earlier name is.
-    pub fn offer(&mut self, alloc: Global, first: &mut Option<Blob>) -> Result<(), AllocError>
+    /// Adds its partition to those that were found, where something stands on its device.
+    pub fn find(&mut self, alloc: Global, found: &mut PartitionSet) -> Result<(), AllocError>
         ensures keeps { SlotKeeps T.keeps self.old self.new }
-        ensures first { OnOk result
-            (IsFirstWith (IsNameOf K.partition_of T.used self.old) first.old first.new) }
+        ensures found { OnOk result
+            (Adds (IsPartitionOf K.partition_of T.used self.old) found.old found.new) }
     {
         if self.is_used(alloc)? {
-            let name = name_of(alloc, self.place.partition())?;
-            offer(alloc, first, name.as_bytes())?;
+            found.insert(self.place.partition())?;
         }
         Ok(())
     }

@@ -1,7 +1,6 @@
 use Rattle.std.proofs.Common.{◌≡◌, ◌∙◌, ◌<◌, ap, sym, Some, arith, length, refl}
 use Rattle.std.specs.Prelude.{slice_get}
 use Rattle.std.proofs.lemmas.Option.{slice_get_read}
-use Rattle.memory_yard.specs.First.{IsFirstWith}
 use Rattle.memory_yard.proofs.Firsts.{least_more, least_all}
 use Rattle.memory_yard.proofs.first.least_of.Goals as goal
 

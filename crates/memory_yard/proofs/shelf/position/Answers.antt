@@ -1,4 +1,3 @@
-use Rattle.memory_yard.specs.Shelf.{IsAbsentBelow}
 use Rattle.std.proofs.Common.{arith}
 use Rattle.std.proofs.lemmas.Option.{slice_get_within}
 use Rattle.memory_yard.proofs.shelf.position.Goals as goal

@@ -1,5 +1,4 @@
-use Rattle.std.proofs.Common.{◌≡◌, ◌∙◌, None, ap, subst, sym}
-use Rattle.memory_yard.specs.Shelf.{Leaves}
+use Rattle.std.proofs.Common.{◌≡◌, ◌∙◌, None, ap, sym}
 use Rattle.memory_yard.proofs.Slots.{found_at, found_set, none_at, none_stays}
 use Rattle.memory_yard.proofs.shelf.Shelf.take.Goals as goal
 
