@@ -1,0 +1,7 @@
+pub mod Told
+pub mod Taken
+pub mod Viewed
+pub mod Rested
+pub mod Midway
+pub mod Sweeps
+pub mod Went

@@ -1,0 +1,52 @@
+use Rattle.std.proofs.Common.{◌≡◌, ◌∙◌, ◌<◌, ◌++◌, true, false, length, refl, sym, ap, is_ok, append-nil, arith}
+use Rattle.tier_base.specs.declared.plain.State.TheVariants.{DeleteFinished}
+use Rattle.tier_base.proofs.Lasting.{lasts_same, lasts_then}
+use Rattle.tier_sweep.specs.Rest.{is_under_way}
+use Rattle.tier_sweep.specs.Parts.{NoCall}
+use Rattle.tier_sweep.proofs.Told.{tells_next, passed_over, tells_some, tells_err}
+use Rattle.tier_sweep.proofs.Went.{went_then}
+use Rattle.tier_sweep.proofs.telling.tell_ends.Goals as goal
+use Rattle.tier_sweep.proofs.telling.tell_ends.Goals.{then-is_under_way+in_ok-tell, else-is_under_way}
+
+pub returns-in_err-tell-clause-notes : goal.returns-in_err-tell-clause-notes
+returns-in_err-tell-clause-notes g c =
+    let i = c.loop-entry.entry-index in
+    let low : i < length c.args.entries.now = omega arith in
+    λ told. tells_err _ _ _ c.from_residual.result c.from_residual.ensures.0
+    (tells_some is_under_way DeleteFinished c.args.entries.now i c.entry-item.result _ _ _ low c.entry-item.is (sym c.is_under_way.ensures ∙ c.if-is_under_way.true)
+    (c.loop-entry.invariant.notes told) (c.in_err-tell.ensures.notes (c.loop-entry.invariant.tells ∙ told)))
+
+pub loop-entry-init : goal.loop-entry-init
+loop-entry-init g c = record {
+  tells = refl;
+  notes = λ told. sym (append-nil (g.M.MetaLog.content c.args.meta.now).notes);
+  calls = lasts_same (g.M.MetaLog.control c.args.meta.now);
+  went = NoCall;
+}
+
+pub loop-entry-preserved : goal.loop-entry-preserved
+loop-entry-preserved g c =
+    let entries = c.args.entries.now in
+    let i = c.loop-entry.entry-index in
+    let entry = c.entry-item.result in
+    let so_far = c.loop-entry.invariant in
+    let low : i < length entries = omega arith in
+    elim c.if-is_under_way.branch [
+      | then-is_under_way+in_ok-tell w ↦
+          (let passes : is_under_way entry.state ≡ true = cc in
+          let went : is_ok w.tell.result ≡ true = ap is_ok w.in_ok-tell.was in
+          rw w.meta-is (record {
+            tells = w.tell.ensures.tells ∙ so_far.tells;
+            notes = λ told. tells_next is_under_way DeleteFinished entries i entry _ _ _ low c.entry-item.is passes (so_far.notes told) (w.in_ok-tell.ensures.notes (so_far.tells ∙ told));
+            calls = lasts_then _ _ _ so_far.calls w.tell.ensures.calls.lasts;
+            went = went_then _ _ _ so_far.went (w.tell.ensures.calls.went went);
+          }))
+      | else-is_under_way w ↦
+          (let fails : is_under_way entry.state ≡ false = cc in
+          rw w.meta-is (record {
+            tells = so_far.tells;
+            notes = λ told. so_far.notes told ∙ ap (λ ns. (g.M.MetaLog.content c.args.meta.now).notes ++ ns) (passed_over is_under_way DeleteFinished entries i entry low c.entry-item.is fails);
+            calls = so_far.calls;
+            went = so_far.went;
+          }))
+    ]

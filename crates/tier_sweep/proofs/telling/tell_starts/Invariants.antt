@@ -1,0 +1,17 @@
+use Rattle.std.proofs.Common.{◌≡◌, ◌++◌, take, IsTrue}
+use Rattle.tier_base.specs.Device.{Lasts}
+use Rattle.tier_sweep.specs.Sweeping.{starts_of}
+use Rattle.tier_sweep.specs.Parts.{AllWent}
+use Rattle.tier_sweep.proofs.telling.tell_starts.Given as goal
+
+-- those of the entries so far are told
+abbrev pub invariant-loop-entry : goal.invariant-loop-entry
+invariant-loop-entry g l =
+    let content = g.M.MetaLog.content in
+    record {
+      tells : (content l.meta).tells ≡ (content l.fn.meta).tells;
+      notes : IsTrue (content l.fn.meta).tells
+          → (content l.meta).notes ≡ (content l.fn.meta).notes ++ starts_of (take l.entry-index l.entries);
+      calls : Lasts (g.M.MetaLog.control l.fn.meta) (g.M.MetaLog.control l.meta);
+      went : AllWent (g.M.MetaLog.control l.fn.meta) (g.M.MetaLog.control l.meta);
+    }

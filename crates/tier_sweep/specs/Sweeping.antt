@@ -1,0 +1,116 @@
+-- What a sweep of a tier at rest tells, takes away and counts.
+--
+-- In this order: for each copy that is under way the note that its deletion starts; then each object goes whose id's copy isn't
+-- finished; then for each copy and deletion that was under way the note that its deletion is finished. A note has its entry's broker
+-- and time, since no broker sweeps.
+--
+--   form                    says
+--   IsSwept old new n       what a sweep leaves that took n objects away
+--   IsUnderSweep old new    what it may have come to before it was refused
+--
+-- Source: KIP-405, where a segment's metadata is updated as delete-started, its objects are deleted, and the metadata is updated as
+-- delete-finished.
+use Rattle.std.specs.Prelude.{◌≡◌, ◌⊎◌, ℕ, Bool, true, false, not, if◌then◌else◌, List, ◌++◌, map, filter, length, None, Err}
+use Rattle.std.specs.declared.result.Result.{Result}
+use Rattle.tier_base.specs.declared.plain.State.{State}
+use Rattle.tier_base.specs.declared.plain.State.TheVariants.{CopyStarted, DeleteStarted, DeleteFinished}
+use Rattle.tier_base.specs.declared.object_key.ObjectKey.{ObjectKey}
+use Rattle.tier_base.specs.Counts.{Rose}
+use Rattle.tier_base.specs.Told.{Names}
+use Rattle.segment_meta.specs.declared.note.Entry.{Entry}
+use Rattle.segment_meta.specs.declared.note.Note.{Note}
+use Rattle.segment_meta.specs.declared.note.Note.TheVariants.{Update}
+use Rattle.object_store.specs.Content as store
+use Rattle.meta_log.specs.Content as meta
+use Rattle.remote_view.specs.Fold.{fold}
+use Rattle.tier_sweep.specs.declared.refusal.SweepRefusal.{SweepRefusal}
+use Rattle.tier_sweep.specs.declared.refusal.SweepRefusal.TheVariants.{StoreFault, MetaFault}
+use Rattle.tier_sweep.specs.Rest.{is_under_way, stays}
+
+-- a copy is under way
+abbrev pub is_copying : State → Bool
+is_copying CopyStarted = true
+is_copying state = false
+
+-- the note that an entry's segment has another state
+abbrev pub note_of : State → Entry → Note
+note_of state entry = Update entry.id entry.broker entry.event_ts state None
+
+-- the notes of another state, for the entries whose own state passes, in order
+abbrev pub notes_of : (State → Bool) → State → List Entry → List Note
+notes_of passes state entries = map (note_of state) (filter (λ entry. passes entry.state) entries)
+
+-- the notes that deletions start, of the copies under way
+abbrev pub starts_of : List Entry → List Note
+starts_of entries = notes_of is_copying DeleteStarted entries
+
+-- the notes that deletions are finished, of the copies and deletions under way
+abbrev pub ends_of : List Entry → List Note
+ends_of entries = notes_of is_under_way DeleteFinished entries
+
+-- the objects that stay
+abbrev pub kept_of : List Entry → store.Objects → store.Objects
+kept_of entries objects key = if stays entries key.id then objects key else None
+
+-- an entry as a sweep leaves it
+abbrev pub rested : Entry → Entry
+rested entry = if is_under_way entry.state then record entry { state = DeleteFinished } else entry
+
+-- how many of these keys go
+abbrev pub count_swept : List Entry → List ObjectKey → ℕ
+count_swept entries keys = length (filter (λ key. not (stays entries key.id)) keys)
+
+-- some objects that don't stay are gone, and no other
+abbrev pub MayTake : List Entry → store.Objects → store.Objects → Type 0
+MayTake entries old new = (key : ObjectKey) → (new key ≡ old key) ⊎ ((stays entries key.id ≡ false) × (new key ≡ None))
+
+-- some of these notes are told, from the first on
+pub record IsTelling (notes old new : List Note) : Type 0 where
+  pub told : List Note
+  pub rest : List Note
+  pub are : told ++ rest ≡ notes
+  pub now : new ≡ old ++ told
+
+-- a tier: the objects of its store, and the notes of its metadata log
+pub record Tier : Type 0 where
+  pub objects : store.Objects
+  pub notes : List Note
+
+-- the tier that a store and a metadata log tell
+abbrev pub tier_of : store.Content → meta.Content → Tier
+tier_of store log = record { objects = store.objects; notes = log.notes }
+
+-- a sweep's end
+pub record IsSwept (old new : Tier) (swept : ℕ) : Type 0 where
+  pub objects : (key : ObjectKey) → new.objects key ≡ kept_of (fold old.notes) old.objects key
+  pub notes : new.notes ≡ old.notes ++ starts_of (fold old.notes) ++ ends_of (fold old.notes)
+  pub keys : List ObjectKey
+  pub named : Names old.objects keys
+  pub count : swept ≡ count_swept (fold old.notes) keys
+
+-- some of the starts are told, and no object has gone
+pub record IsStarting (old new : Tier) : Type 0 where
+  pub notes : IsTelling (starts_of (fold old.notes)) old.notes new.notes
+  pub objects : (key : ObjectKey) → new.objects key ≡ old.objects key
+
+-- all of them are, and some objects have gone
+pub record IsTaking (old new : Tier) : Type 0 where
+  pub notes : new.notes ≡ old.notes ++ starts_of (fold old.notes)
+  pub objects : MayTake (fold old.notes) old.objects new.objects
+
+-- all objects have gone, and some of the ends are told
+pub record IsEnding (old new : Tier) : Type 0 where
+  pub notes : IsTelling (ends_of (fold old.notes)) (old.notes ++ starts_of (fold old.notes)) new.notes
+  pub objects : (key : ObjectKey) → new.objects key ≡ kept_of (fold old.notes) old.objects key
+
+-- what a sweep may have come to before it was refused
+pub data IsUnderSweep (old new : Tier) : Type 0 where
+  Starting : IsStarting old new → IsUnderSweep old new
+  Taking : IsTaking old new → IsUnderSweep old new
+  Ending : IsEnding old new → IsUnderSweep old new
+
+-- a refusal for a fault has its cause: that device's count of faults has risen
+abbrev pub HasCause : {T : Type 0} → Result T SweepRefusal → ℕ → ℕ → ℕ → ℕ → Type 0
+HasCause (Err StoreFault) store store_now log log_now = Rose store store_now
+HasCause (Err MetaFault) store store_now log log_now = Rose log log_now
+HasCause result store store_now log log_now = Unit {0}

@@ -1,0 +1,82 @@
+//! A sweep of a tier at rest.
+//!
+//! The metadata log is told of all deletions before the first object goes, so nobody reads a segment whose objects are going; and
+//! told that they are finished once none of their objects stands. A sweep that was refused leaves what a further one ends.
+
+ghost use Rattle.std.specs.Prelude.{◌≡◌, IfOk, OnOk, OnErr, IsTrue};
+ghost use Rattle.tier_base.specs.Told.{Names};
+ghost use Rattle.tier_base.specs.Device.{Lasts};
+ghost use Rattle.object_store.specs.Content as objects;
+ghost use Rattle.meta_log.specs.Content as notes;
+ghost use Rattle.remote_view.specs.Fold.{fold};
+ghost use Rattle.tier_sweep.specs.Sweeping.{IsSwept, IsUnderSweep, HasCause, tier_of};
+ghost use Rattle.tier_sweep.specs.Parts.{MetaRuns, StoreRuns, AllWent};
+
+use crate::refusal::SweepRefusal;
+use crate::taking::take_all;
+use crate::telling::{tell_ends, tell_starts};
+use meta_log::MetaLog;
+use object_store::{ObjectKey, Store};
+use remote_view::View;
+use std::alloc::Global;
+use tier_base::{Row, Trouble};
+use view_refresh::refresh;
+
+/// Takes away what copies and deletions left that were never finished, and counts the objects that it took. No command may be under
+/// way, and nobody else may write.
+pub fn sweep<S: Store, M: MetaLog>(
+    alloc: Global,
+    store: &mut S,
+    meta: &mut M,
+) -> Result<u64, SweepRefusal>
+    ensures ok { IsTrue (S.content store.old).tells → IsTrue (M.content meta.old).tells → IfOk result (IsSwept
+        (tier_of (S.content store.old) (M.content meta.old)) (tier_of (S.content store.new) (M.content meta.new))) }
+    ensures err { IsTrue (S.content store.old).tells → IsTrue (M.content meta.old).tells → OnErr result (IsUnderSweep
+        (tier_of (S.content store.old) (M.content meta.old)) (tier_of (S.content store.new) (M.content meta.new))) }
+    ensures cause { HasCause result (S.control store.old).faults (S.control store.new).faults
+        (M.control meta.old).faults (M.control meta.new).faults }
+
+    // Of each device whether it tells, and its calls: no fault is hidden.
+    ensures store_tells { (S.content store.new).tells ≡ (S.content store.old).tells }
+    ensures meta_tells { (M.content meta.new).tells ≡ (M.content meta.old).tells }
+    ensures store_calls { Lasts (S.control store.old) (S.control store.new) }
+    ensures meta_calls { Lasts (M.control meta.old) (M.control meta.new) }
+    ensures store_went { OnOk result (AllWent (S.control store.old) (S.control store.new)) }
+    ensures meta_went { OnOk result (AllWent (M.control meta.old) (M.control meta.new)) }
+{
+    let view = read_view(alloc, meta)?;
+    let keys = list(store)?;
+    tell_starts(meta, view.entries())?;
+    let swept = take_all(store, &view, keys.as_slice())?;
+    tell_ends(meta, view.entries())?;
+    Ok(swept)
+}
+
+/// Reads what the metadata log tells.
+fn read_view<M: MetaLog>(alloc: Global, meta: &mut M) -> Result<View, SweepRefusal>
+    ensures entries { IsTrue (M.content meta.old).tells
+        → IfOk result (λ view. view.entries ≡ fold (M.content meta.old).notes) }
+    ensures content { notes.Keeps (M.content meta.old) (M.content meta.new) }
+    ensures calls { MetaRuns result (M.control meta.old) (M.control meta.new) }
+{
+    let mut view = View::new(alloc);
+    match refresh(&mut view, meta) {
+        Ok(()) => Ok(view),
+        Err(Trouble::Failed) => Err(SweepRefusal::MetaFault),
+        Err(Trouble::NoMemory) => Err(SweepRefusal::NoMemory),
+    }
+}
+
+/// Lists the objects.
+fn list<S: Store>(store: &mut S) -> Result<Row<ObjectKey>, SweepRefusal>
+    ensures keys { IsTrue (S.content store.old).tells
+        → IfOk result (λ keys. Names (S.content store.old).objects keys) }
+    ensures content { objects.Keeps (S.content store.old) (S.content store.new) }
+    ensures calls { StoreRuns result (S.control store.old) (S.control store.new) }
+{
+    match store.keys() {
+        Ok(keys) => Ok(keys),
+        Err(Trouble::Failed) => Err(SweepRefusal::StoreFault),
+        Err(Trouble::NoMemory) => Err(SweepRefusal::NoMemory),
+    }
+}

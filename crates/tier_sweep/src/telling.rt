@@ -1,0 +1,86 @@
+//! Telling the metadata log that deletions start and that they are finished.
+//!
+//! A note has its entry's broker and time: no broker sweeps, and a step changes nothing but the state then.
+
+ghost use Rattle.std.specs.Prelude.{◌≡◌, ◌≢◌, ◌∷◌, [], IsTrue};
+ghost use Rattle.tier_base.specs.declared.plain.State.TheVariants.{CopyStarted};
+ghost use Rattle.tier_sweep.specs.Rest.{is_under_way};
+ghost use Rattle.tier_sweep.specs.Sweeping.{is_copying, note_of, starts_of, ends_of};
+ghost use Rattle.tier_sweep.specs.Parts.{MetaRuns, Tells};
+
+use crate::refusal::SweepRefusal;
+use meta_log::MetaLog;
+use segment_meta::{Entry, Note};
+use tier_base::{State, Trouble};
+
+/// Tells that deletions start, of the copies under way.
+pub(crate) fn tell_starts<M: MetaLog>(meta: &mut M, entries: &[Entry]) -> Result<(), SweepRefusal>
+    ensures tells { (M.content meta.new).tells ≡ (M.content meta.old).tells }
+    ensures notes { IsTrue (M.content meta.old).tells
+        → Tells (starts_of entries.now) result (M.content meta.old).notes (M.content meta.new).notes }
+    ensures calls { MetaRuns result (M.control meta.old) (M.control meta.new) }
+{
+    for entry in entries {
+        if is_copying(entry.state) {
+            tell(meta, State::DeleteStarted, entry)?;
+        }
+    }
+    Ok(())
+}
+
+/// Tells that deletions are finished, of the copies and deletions under way.
+pub(crate) fn tell_ends<M: MetaLog>(meta: &mut M, entries: &[Entry]) -> Result<(), SweepRefusal>
+    ensures tells { (M.content meta.new).tells ≡ (M.content meta.old).tells }
+    ensures notes { IsTrue (M.content meta.old).tells
+        → Tells (ends_of entries.now) result (M.content meta.old).notes (M.content meta.new).notes }
+    ensures calls { MetaRuns result (M.control meta.old) (M.control meta.new) }
+{
+    for entry in entries {
+        if is_under_way(entry.state) {
+            tell(meta, State::DeleteFinished, entry)?;
+        }
+    }
+    Ok(())
+}
+
+/// Tells that an entry's segment has another state.
+fn tell<M: MetaLog>(meta: &mut M, state: State, entry: &Entry) -> Result<(), SweepRefusal>
+    requires { state ≢ CopyStarted }
+    ensures tells { (M.content meta.new).tells ≡ (M.content meta.old).tells }
+    ensures notes { IsTrue (M.content meta.old).tells
+        → Tells (note_of state entry.now ∷ []) result (M.content meta.old).notes (M.content meta.new).notes }
+    ensures calls { MetaRuns result (M.control meta.old) (M.control meta.new) }
+{
+    match meta.append(&note_of(state, entry)) {
+        Ok(_) => Ok(()),
+        Err(Trouble::Failed) => Err(SweepRefusal::MetaFault),
+        Err(Trouble::NoMemory) => Err(SweepRefusal::NoMemory),
+    }
+}
+
+/// That an entry's segment has another state.
+fn note_of(state: State, entry: &Entry) -> Note
+    ensures { result ≡ note_of state entry.now }
+{
+    Note::Update {
+        id: entry.id,
+        broker: entry.broker,
+        event_ts: entry.event_ts,
+        state,
+        custom: None,
+    }
+}
+
+/// Whether a copy is under way.
+fn is_copying(state: State) -> bool
+    ensures { result ≡ is_copying state }
+{
+    matches!(state, State::CopyStarted)
+}
+
+/// Whether a copy or a deletion is under way.
+fn is_under_way(state: State) -> bool
+    ensures { result ≡ is_under_way state }
+{
+    matches!(state, State::CopyStarted | State::DeleteStarted)
+}
