@@ -4,6 +4,8 @@
 #![tactic(auto)]
 
 #[cfg(test)]
+mod audits;
+#[cfg(test)]
 mod copies;
 #[cfg(test)]
 mod expiries;
@@ -19,5 +21,7 @@ mod laws;
 mod rebuilds;
 #[cfg(test)]
 mod refreshes;
+#[cfg(test)]
+mod sweeps;
 #[cfg(test)]
 mod views;

@@ -1,0 +1,10 @@
+pub mod Lines
+pub mod Fronts
+pub mod Among
+pub mod Marks
+pub mod Texts
+pub mod Copying
+pub mod Straying
+pub mod Deciding
+pub mod Saying
+pub mod Putting

@@ -1,0 +1,68 @@
+use Rattle.std.proofs.Common.{◌≡◌, ◌≤◌, ◌∙◌, ap, sym, refl, rules, subst, length, drop, take, arith, true, ℕ, List, w32}
+use Rattle.std.specs.Int.{cast_unsigned}
+use mathlib.Core.List.{IsPrefix}
+use Rattle.log_terms.specs.Batch.{epoch_of}
+use Rattle.record_batch.specs.Head.{head_of}
+use Rattle.segment_file.specs.Walk.{found_at}
+use Rattle.segment_file.specs.Gathering.{Tells, with_epoch}
+use Rattle.segment_file.specs.declared.walking.Found.TheVariants as found
+use Rattle.segment_file.proofs.Finding.{batch_found}
+use Rattle.segment_file.proofs.Standing.{AreBytes, same_head, bytes_drop, front_bytes}
+use Rattle.segment_file.proofs.Telling.{tells}
+use Rattle.tier_audit.proofs.Fronts.{near_by, comes_next}
+use Rattle.tier_audit.proofs.log_part.next_batch.Goals as goal
+
+pub returns-in_default : goal.returns-in_default
+returns-in_default c = record {
+  some = tt;
+  none = λ same batch more parts is may.
+      let there : found_at c.args.front.now.at (drop c.args.front.now.at c.args.bytes.now) ≡ found.Batch (head_of batch) = rw parts (batch_found c.args.front.now.at batch more is) in
+      c.in_default.not-Batch (head_of batch) (c.walk.ensures ∙ there);
+}
+
+pub returns-then-not-is_near-clause-none : goal.returns-then-not-is_near-clause-none
+returns-then-not-is_near-clause-none c =
+    λ none batch more parts is may.
+    let bytes = c.args.bytes.now in
+    let at = c.args.front.now.at in
+    let there : found_at at (drop at bytes) ≡ found.Batch (head_of batch) = rw parts (batch_found at batch more is) in
+    let same : head_of batch ≡ c.in-Batch.head = same_head (head_of batch) c.in-Batch.head (sym there ∙ (sym c.walk.ensures ∙ c.in-Batch.is)) in
+    let clean : AreBytes bytes = λ i. let b = c.type_inv.bytes i in omega (arith, b) in
+    let clean' : AreBytes batch = front_bytes batch more (subst AreBytes parts (bytes_drop at bytes clean)) in
+    let near = near_by c.args.entry.now c.args.front.now batch c.in-Batch.head (subst (Tells batch) same (tells batch clean' is)) may in
+    let sure : c.is_near.result ≡ true = c.is_near.ensures.1 near in
+    cc (sure, c.if-not-is_near.true)
+
+pub returns-in-Some-clause-some : goal.returns-in-Some-clause-some
+returns-in-Some-clause-some c =
+    let bytes = c.args.bytes.now in
+    let clean : AreBytes bytes = λ i. let b = c.type_inv.bytes i in omega (arith, b) in
+    let head = c.in-Batch.head in
+    let map = c.args.entry.now.map in
+    let yes : c.is_near.result ≡ true = search rules in
+    let epoch : c.cast_unsigned-epoch.result ≡ cast_unsigned w32 head.leader_epoch = search rules in
+    let few : c.in-Some.begun ≤ length c.entries.result.now = c.in-Some.ensures.some.0 in
+    let begun = c.in-Some.ensures.some.1 in
+    comes_next c.args.entry.now bytes c.args.front.now head c.place.result c.in-Some.begun clean c.requires.front.inside (sym c.walk.ensures ∙ c.in-Batch.is)
+    (c.is_near.ensures.0 yes) c.place.ensures (subst (λ (xs : List (ℕ × ℕ)). c.in-Some.begun ≤ length xs) c.entries.ensures.entries few)
+    (ap (λ n. with_epoch (take c.args.front.now.begun map) n c.args.front.now.end) (sym epoch)
+    ∙ subst (λ (xs : List (ℕ × ℕ)). with_epoch (take c.args.front.now.begun xs) c.cast_unsigned-epoch.result c.args.front.now.end ≡ take c.in-Some.begun xs) c.entries.ensures.entries begun)
+
+pub returns-in-None-clause-none : goal.returns-in-None-clause-none
+returns-in-None-clause-none c =
+    λ none batch more parts is may.
+    let bytes = c.args.bytes.now in
+    let at = c.args.front.now.at in
+    let map = c.args.entry.now.map in
+    let head = c.in-Batch.head in
+    let there : found_at at (drop at bytes) ≡ found.Batch (head_of batch) = rw parts (batch_found at batch more is) in
+    let same : head_of batch ≡ head = same_head (head_of batch) head (sym there ∙ (sym c.walk.ensures ∙ c.in-Batch.is)) in
+    let clean : AreBytes bytes = λ i. let b = c.type_inv.bytes i in omega (arith, b) in
+    let clean' : AreBytes batch = front_bytes batch more (subst AreBytes parts (bytes_drop at bytes clean)) in
+    let t : Tells batch head = subst (Tells batch) same (tells batch clean' is) in
+    let epoch : c.cast_unsigned-epoch.result ≡ cast_unsigned w32 head.leader_epoch = search rules in
+    let told : epoch_of batch ≡ c.cast_unsigned-epoch.result = sym t.epoch ∙ sym epoch in
+    let prefix : IsPrefix (with_epoch (take c.args.front.now.begun map) c.cast_unsigned-epoch.result c.args.front.now.end) map =
+    subst (λ n. IsPrefix (with_epoch (take c.args.front.now.begun map) n c.args.front.now.end) map) told
+    (subst (λ n. IsPrefix (with_epoch (take c.args.front.now.begun map) (epoch_of batch) n) map) may.begins may.epochs) in
+    c.in-None.ensures.none refl (subst (λ (xs : List (ℕ × ℕ)). IsPrefix (with_epoch (take c.args.front.now.begun xs) c.cast_unsigned-epoch.result c.args.front.now.end) xs) (sym c.entries.ensures.entries) prefix)

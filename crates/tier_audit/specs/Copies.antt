@@ -1,0 +1,92 @@
+-- Finished copies, part by part, as their objects are asked for.
+use Rattle.std.specs.Prelude.{◌≡◌, ℕ, List, ◌∷◌, ◌++◌, Option, Some, None}
+use Rattle.std.specs.List.{concat}
+use Rattle.tier_base.specs.declared.plain.Part.{Part}
+use Rattle.tier_base.specs.declared.plain.Part.TheVariants.{Log, Index, TimeIndex, Epochs}
+use Rattle.tier_base.specs.declared.plain.State.TheVariants.{CopyFinished}
+use Rattle.log_terms.specs.Log.{joined}
+use Rattle.sparse_index.specs.Bytes.{bytes_of}
+use Rattle.sparse_index.specs.Offsets.{entry_bytes}
+use Rattle.sparse_index.specs.Times.{moment_bytes}
+use Rattle.epoch_line.specs.Text.{CanBegin}
+use Rattle.segment_file.specs.declared.placed.Placed.{Placed}
+use Rattle.segment_file.specs.Index.{placed_from}
+use Rattle.segment_meta.specs.declared.note.Entry.{Entry}
+use Rattle.object_store.specs.Content.{Objects}
+use Rattle.object_store.specs.Place.{key_of}
+use Rattle.tier_audit.specs.declared.verdict.Flaw.{Flaw}
+use Rattle.tier_audit.specs.declared.verdict.Flaw.TheVariants.{Missing, Wrong}
+use Rattle.tier_audit.specs.declared.copies.LogFound.{LogFound}
+use Rattle.tier_audit.specs.declared.copies.LogFound.TheVariants as log_found
+use Rattle.tier_audit.specs.Whole.{AreMarks, AreHeights, IsRight, Stands, Hold, all_parts, IsReadable, AreReadable}
+use Rattle.tier_audit.specs.Entries.{ArePlaced}
+use Rattle.tier_audit.specs.Flaws.{IsFirstBad, MayBegin, IsEntryPlace, HasLog, IsCopyFlaw}
+
+-- the batches of a copy's log, as they stand in it
+pub record HasPlaced (objects : Objects) (entry : Entry) (found : List Placed) : Type 0 where
+  pub batches : List (List ℕ)
+  pub log : HasLog objects entry batches
+  pub found_are : found ≡ placed_from 0 batches
+
+-- the place that is told of a part beside these batches
+abbrev pub IsPlaceBeside : Entry → List (List ℕ) → Part → List ℕ → ℕ → Type 0
+IsPlaceBeside entry batches Log bytes at = IsFirstBad joined (MayBegin entry) bytes at
+IsPlaceBeside entry batches Index bytes at = IsEntryPlace 8 (bytes_of entry_bytes) (AreMarks entry.start batches) bytes at
+IsPlaceBeside entry batches TimeIndex bytes at = IsEntryPlace 12 (bytes_of moment_bytes) (AreHeights entry.start batches) bytes at
+IsPlaceBeside entry batches Epochs bytes at = IsFirstBad concat CanBegin bytes at
+
+-- what is found of a part's bytes beside these batches: that they are right, or the place that is told
+abbrev pub ReadsPart : Entry → List (List ℕ) → Part → List ℕ → Option ℕ → Type 0
+ReadsPart entry batches part bytes None = IsRight entry batches part bytes
+ReadsPart entry batches part bytes (Some at) = (IsRight entry batches part bytes → ⊥) × IsPlaceBeside entry batches part bytes at
+
+-- a part that stands and isn't right beside these batches
+pub record IsWrongBeside (objects : Objects) (entry : Entry) (batches : List (List ℕ)) (part : Part) (at : ℕ) : Type 0 where
+  pub bytes : List ℕ
+  pub there : objects (key_of entry.partition entry.id part) ≡ Some bytes
+  pub wrong : IsRight entry batches part bytes → ⊥
+  pub place : IsPlaceBeside entry batches part bytes at
+
+-- what is found of a part beside these batches
+abbrev pub FindsPart : Objects → Entry → List (List ℕ) → Part → Option Flaw → Type 0
+FindsPart objects entry batches part None = Stands objects entry batches part
+FindsPart objects entry batches part (Some (Missing key)) =
+    (key ≡ key_of entry.partition entry.id part) × (objects key ≡ None)
+FindsPart objects entry batches part (Some (Wrong key at)) =
+    (key ≡ key_of entry.partition entry.id part) × IsWrongBeside objects entry batches part at
+FindsPart objects entry batches part (Some flaw) = ⊥
+
+-- what is found of a copy's log
+abbrev pub FindsLog : Objects → Entry → LogFound → Type 0
+FindsLog objects entry (log_found.Right found) = HasPlaced objects entry found.items
+FindsLog objects entry (log_found.Flawed flaw) = IsCopyFlaw objects entry flaw
+
+-- its batches are those of a segment, whether the store tells or not
+abbrev pub PlacesLog : Entry → LogFound → Type 0
+PlacesLog entry (log_found.Right found) = ArePlaced entry.start found.items
+PlacesLog entry (log_found.Flawed flaw) = Unit {0}
+
+-- what is found of all parts of a copy
+abbrev pub FindsParts : Objects → Entry → Option Flaw → Type 0
+FindsParts objects entry None = Hold objects entry all_parts
+FindsParts objects entry (Some flaw) = IsCopyFlaw objects entry flaw
+
+-- what is found of an entry's copy
+abbrev pub FindsCopy : Objects → Entry → Option Flaw → Type 0
+FindsCopy objects entry None = IsReadable objects entry
+FindsCopy objects entry (Some flaw) = (entry.state ≡ CopyFinished) × IsCopyFlaw objects entry flaw
+
+-- the first of the copies that isn't readable
+pub record IsFirstUnreadable (objects : Objects) (entries : List Entry) (flaw : Flaw) : Type 0 where
+  pub before : List Entry
+  pub entry : Entry
+  pub more : List Entry
+  pub parts : entries ≡ before ++ entry ∷ more
+  pub readable : AreReadable objects before
+  pub finished : entry.state ≡ CopyFinished
+  pub flaw_is : IsCopyFlaw objects entry flaw
+
+-- what is found of copies
+abbrev pub FindsCopies : Objects → List Entry → Option Flaw → Type 0
+FindsCopies objects entries None = AreReadable objects entries
+FindsCopies objects entries (Some flaw) = IsFirstUnreadable objects entries flaw

@@ -1,0 +1,146 @@
+-- The first flaw of a remote tier at rest, and what an audit says.
+--
+-- Flaws have an order: first those of keys, by the keys' texts; then those of finished copies, in the order of their entries, and of
+-- one copy's parts in theirs. In an object that isn't right the place is told of the first batch, index entry or text line that can't
+-- stand: the front before it can, and with it no longer. Where no single one breaks it, or something lacks, that is the object's end;
+-- so it is where an index isn't cut into whole entries.
+--
+--   form                                 says
+--   IsFirstBad spelled MayBegin b at     the first place in bytes at which an item can't stand
+--   IsWrong objects entry part at        a part stands and isn't right, and this place is told of it
+--   IsFirstFlaw objects entries flaw     the first flaw
+--   IsVerdict objects entries verdict    what an audit says
+use Rattle.std.specs.Prelude.{◌≡◌, ◌≢◌, ◌⊎◌, ℕ, ◌+◌, ◌≤◌, ◌%◌, Bool, true, false, ◌≤ℤ◌, List, [], ◌∷◌, ◌++◌, length, Option, Some, None, IsSome}
+use Rattle.std.specs.List.{AllByRecursion, concat}
+use Rattle.std.specs.Ordering.{nat_cmp, is_gt}
+use Rattle.std.specs.Cmp.Lexicographic.{slice_cmp}
+use mathlib.Core.List.{IsPrefix}
+use Rattle.tier_base.specs.declared.plain.Part.{Part}
+use Rattle.tier_base.specs.declared.plain.Part.TheVariants.{Log, Index, TimeIndex, Epochs}
+use Rattle.tier_base.specs.declared.plain.State.{State}
+use Rattle.tier_base.specs.declared.plain.State.TheVariants.{CopyFinished, DeleteFinished}
+use Rattle.tier_base.specs.declared.object_key.ObjectKey.{ObjectKey}
+use Rattle.tier_base.specs.Key.{key_text}
+use Rattle.tier_base.specs.Told.{Names}
+use Rattle.log_terms.specs.Batch.{max_ts_of}
+use Rattle.log_terms.specs.Line.{line_of}
+use Rattle.log_terms.specs.Log.{joined, end_from}
+use Rattle.sparse_index.specs.Bytes.{bytes_of}
+use Rattle.sparse_index.specs.Offsets.{entry_bytes}
+use Rattle.sparse_index.specs.Times.{moment_bytes}
+use Rattle.epoch_line.specs.Text.{CanBegin}
+use Rattle.segment_file.specs.Segment.{IsSegment}
+use Rattle.segment_meta.specs.declared.note.Entry.{Entry}
+use Rattle.object_store.specs.Content.{Objects}
+use Rattle.object_store.specs.Place.{key_of}
+use Rattle.remote_view.specs.Fold.{entry_of, state_of}
+use Rattle.tier_sweep.specs.Rest.{AreNamed, NoneIsLeft}
+use Rattle.tier_audit.specs.declared.verdict.Flaw.{Flaw}
+use Rattle.tier_audit.specs.declared.verdict.Flaw.TheVariants.{NoEntry, Left, Missing, Wrong}
+use Rattle.tier_audit.specs.declared.verdict.Verdict.{Verdict}
+use Rattle.tier_audit.specs.declared.verdict.Verdict.TheVariants.{Sound, Unsound}
+use Rattle.tier_audit.specs.Whole.{Describes, AreMarks, AreHeights, Hold, AreReadable, IsWhole}
+
+-- the items before a place may begin bytes, and with one more that stands there they may not
+pub record IsFirstBad {X : Type 0} (spelled : List X → List ℕ) (MayBegin : List X → Type 0) (bytes : List ℕ) (at : ℕ) : Type 0 where
+  pub before : List X
+  pub rest : List ℕ
+  pub parts : bytes ≡ spelled before ++ rest
+  pub place : at ≡ length (spelled before)
+  pub begins : MayBegin before
+  pub stops : (item : X) (more : List ℕ) → bytes ≡ spelled (before ++ item ∷ []) ++ more → MayBegin (before ++ item ∷ []) → ⊥
+
+-- batches may begin the log of a copy: they end within it, and none is past its epochs and its greatest timestamp
+pub record MayBegin (entry : Entry) (batches : List (List ℕ)) : Type 0 where
+  pub is : IsSegment entry.start batches
+  pub within : end_from entry.start batches ≤ entry.end + 1
+  pub epochs : IsPrefix (line_of batches) entry.map
+  pub times : AllByRecursion (λ batch. max_ts_of batch ≤ℤ entry.max_ts) batches
+
+-- the place that is told of entries of one width
+abbrev pub IsEntryPlace : {X : Type 0} → ℕ → (List X → List ℕ) → (List X → Type 0) → List ℕ → ℕ → Type 0
+IsEntryPlace width spelled MayBegin bytes at =
+    ((length bytes % width ≢ 0) × (at ≡ length bytes)) ⊎ ((length bytes % width ≡ 0) × IsFirstBad spelled MayBegin bytes at)
+
+-- the batches of a copy's log, where that is right
+pub record HasLog (objects : Objects) (entry : Entry) (batches : List (List ℕ)) : Type 0 where
+  pub describes : Describes entry batches
+  pub there : objects (key_of entry.partition entry.id Log) ≡ Some (joined batches)
+
+-- the place that is told of a part
+abbrev pub IsPlace : Objects → Entry → Part → List ℕ → ℕ → Type 0
+IsPlace objects entry Log bytes at = IsFirstBad joined (MayBegin entry) bytes at
+IsPlace objects entry Index bytes at =
+    (batches : List (List ℕ)) → HasLog objects entry batches
+    → IsEntryPlace 8 (bytes_of entry_bytes) (AreMarks entry.start batches) bytes at
+IsPlace objects entry TimeIndex bytes at =
+    (batches : List (List ℕ)) → HasLog objects entry batches
+    → IsEntryPlace 12 (bytes_of moment_bytes) (AreHeights entry.start batches) bytes at
+IsPlace objects entry Epochs bytes at = IsFirstBad concat CanBegin bytes at
+
+-- the parts before one
+abbrev pub parts_before : Part → List Part
+parts_before Log = []
+parts_before Index = Log ∷ []
+parts_before TimeIndex = Log ∷ Index ∷ []
+parts_before Epochs = Log ∷ Index ∷ TimeIndex ∷ []
+
+-- a part stands and isn't right, and this place is told of it
+pub record IsWrong (objects : Objects) (entry : Entry) (part : Part) (at : ℕ) : Type 0 where
+  pub bytes : List ℕ
+  pub there : objects (key_of entry.partition entry.id part) ≡ Some bytes
+  pub wrong : Hold objects entry (parts_before part ++ part ∷ []) → ⊥
+  pub place : IsPlace objects entry part bytes at
+
+-- the key is that of a part of the copy, and the parts before it are right
+pub record IsAtPart (objects : Objects) (entry : Entry) (key : ObjectKey) : Type 0 where
+  pub key_is : key ≡ key_of entry.partition entry.id key.part
+  pub before : Hold objects entry (parts_before key.part)
+
+-- the first flaw of a finished copy
+abbrev pub IsCopyFlaw : Objects → Entry → Flaw → Type 0
+IsCopyFlaw objects entry (NoEntry key) = ⊥
+IsCopyFlaw objects entry (Left key) = ⊥
+IsCopyFlaw objects entry (Missing key) = IsAtPart objects entry key × (objects key ≡ None)
+IsCopyFlaw objects entry (Wrong key at) = IsAtPart objects entry key × IsWrong objects entry key.part at
+
+-- an object of an id in this state, or without an entry, is to go
+abbrev pub is_stray : Option State → Bool
+is_stray None = true
+is_stray (Some DeleteFinished) = true
+is_stray state = false
+
+-- a text doesn't come behind another
+abbrev pub IsUpTo : List ℕ → List ℕ → Type 0
+IsUpTo text other = is_gt (slice_cmp nat_cmp text other) ≡ false
+
+-- an object stands under this key, and under none before it one that is to go
+pub record IsFirstStray (objects : Objects) (entries : List Entry) (key : ObjectKey) : Type 0 where
+  pub there : IsSome (objects key)
+  pub least : (other : ObjectKey) → IsSome (objects other) → is_stray (state_of other.id entries) ≡ true
+      → IsUpTo (key_text key) (key_text other)
+
+-- no object is to go, and this is the first flaw of the first finished copy that isn't readable
+pub record IsFirstOfCopies (objects : Objects) (entries : List Entry) (flaw : Flaw) : Type 0 where
+  pub named : AreNamed objects entries
+  pub none_left : NoneIsLeft objects entries
+  pub before : List Entry
+  pub entry : Entry
+  pub more : List Entry
+  pub parts : entries ≡ before ++ entry ∷ more
+  pub readable : AreReadable objects before
+  pub finished : entry.state ≡ CopyFinished
+  pub flaw_is : IsCopyFlaw objects entry flaw
+
+-- the first flaw
+abbrev pub IsFirstFlaw : Objects → List Entry → Flaw → Type 0
+IsFirstFlaw objects entries (NoEntry key) = IsFirstStray objects entries key × (entry_of key.id entries ≡ None)
+IsFirstFlaw objects entries (Left key) = IsFirstStray objects entries key × (state_of key.id entries ≡ Some DeleteFinished)
+IsFirstFlaw objects entries flaw = IsFirstOfCopies objects entries flaw
+
+-- what an audit says
+abbrev pub IsVerdict : Objects → List Entry → Verdict → Type 0
+IsVerdict objects entries (Sound count number) =
+    IsWhole objects entries × (count ≡ length entries)
+    × ((keys : List ObjectKey) × Names objects keys × (number ≡ length keys))
+IsVerdict objects entries (Unsound flaw) = IsFirstFlaw objects entries flaw

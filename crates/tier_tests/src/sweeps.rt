@@ -1,0 +1,88 @@
+//! A sweep of a tier at rest. Values worked by hand.
+
+use crate::given::{
+    END, ONE_EPOCH, PARTITION, STATE, UPDATE, failing_log, failing_store, id, puts, tells_with,
+};
+use meta_log::MemoryLog;
+use object_store::{MemoryStore, ObjectKey};
+use std::alloc::{AllocError, Global};
+use tier_base::Part;
+use tier_sweep::sweep;
+
+/// What brokers left that stopped for good.
+#[derive(Clone, Copy)]
+enum Left {
+    /// The copy of this attempt started.
+    Started(u8),
+    /// It came to a state.
+    Came(u8, u8),
+    /// An object of it stands.
+    Stands(u64, Part),
+}
+
+/// Whether so much is left.
+fn is_left(alloc: Global, store: &mut MemoryStore, meta: &mut MemoryLog, left: Left) -> bool {
+    match left {
+        Left::Started(attempt) => tells_with(alloc, meta, &ONE_EPOCH, attempt, END, 14),
+        Left::Came(attempt, state) => tells_with(alloc, meta, &UPDATE, attempt, STATE, state),
+        Left::Stands(attempt, part) => {
+            let key = ObjectKey {
+                partition: PARTITION,
+                id: id(attempt),
+                part,
+            };
+            puts(alloc, store, &key, b"bytes")
+        }
+    }
+}
+
+/// Whether all of it is.
+fn are_left(alloc: Global, store: &mut MemoryStore, meta: &mut MemoryLog, all: &[Left]) -> bool {
+    for left in all {
+        if !is_left(alloc, store, meta, *left) {
+            return false;
+        }
+    }
+    true
+}
+
+/// How many objects a sweep takes away.
+fn swept(alloc: Global, store: &mut MemoryStore, meta: &mut MemoryLog) -> Option<u64> {
+    sweep(alloc, store, meta).ok()
+}
+
+/// How many objects a sweep takes away, and how many a further one, where all of it is left.
+fn swept_twice(
+    alloc: Global,
+    all: &[Left],
+) -> Result<(bool, Option<u64>, Option<u64>), AllocError> {
+    let mut store = failing_store(alloc, None, false)?;
+    let mut meta = failing_log(alloc, None, false)?;
+    let left = are_left(alloc, &mut store, &mut meta, all);
+    let first = swept(alloc, &mut store, &mut meta);
+    let second = swept(alloc, &mut store, &mut meta);
+    Ok((left, first, second))
+}
+
+/// A finished copy, a copy under way with two objects, a deletion under way with one, and an object without an entry.
+static LEFT: [Left; 14] = [
+    Left::Started(0),
+    Left::Came(0, 1),
+    Left::Stands(0, Part::Log),
+    Left::Stands(0, Part::Index),
+    Left::Stands(0, Part::TimeIndex),
+    Left::Stands(0, Part::Epochs),
+    Left::Started(1),
+    Left::Stands(1, Part::Log),
+    Left::Stands(1, Part::Index),
+    Left::Started(2),
+    Left::Came(2, 1),
+    Left::Came(2, 2),
+    Left::Stands(2, Part::Epochs),
+    Left::Stands(3, Part::TimeIndex),
+];
+
+#[test]
+fn a_sweep_takes_away_what_was_never_finished(rt: HostRuntime) {
+    assert!(rt; swept_twice(rt.alloc(), &LEFT) == Ok((true, Some(4), Some(0))));
+}
