@@ -85,7 +85,7 @@ some_second Join = omega arith
 some_second (Offset (At ts)) = omega arith
 some_second other = omega arith
 
-some_left : (command : Command) (work : Work) → 1 ≤ turns_left command work
+pub some_left : (command : Command) (work : Work) → 1 ≤ turns_left command work
 some_left command Idle = some_first command
 some_left command (Noted g) = some_second command
 some_left command (Copies g copy next) = some_copying next
@@ -131,7 +131,22 @@ module _ {D S M : Type 0} (disk : DiskGhosts D) (store : StoreGhosts S) (meta : 
   goes_more v b u (inl (outcome, t)) = (told_of t.list.actor t.seat.number t.order.command outcome, t.entered)
   goes_more v b u (inr (end, same)) = ([], ap (λ (k : Whole D S M). k.journal.items) same ∙ sym (append-nil v.journal.items))
 
-  module _ (I : Whole D S M → Type 0) (P : Whole D S M → ℕ → Whole D S M → Type 0) (W : Work → Type 0) (Q : Answer → Type 0) (kind : Command) (a place number : ℕ) (l : ActorList)
+  -- the turn is the command's own
+  pub own_turn : (place : ℕ) (v : Whole D S M) (b : ℕ) (outcome : Outcome) (u : Whole D S M) (t : IsTurn disk store meta v b outcome u) → t.place ≡ place → IsNext v b place t.list t.seat t.order
+  own_turn place v b outcome u t same = record {
+    at = record {
+      list = ap (λ (n : ℕ). slice_get v.lists n) (sym same) ∙ t.at.list;
+      actor = t.at.actor;
+      seat_is = ap (λ (n : ℕ). slice_get v.desk n) (sym same) ∙ t.at.seat_is;
+    };
+    next = t.next;
+  }
+
+  -- by what falls from each of its turns to the next
+  module _ (I : Whole D S M → Type 0) (P : Whole D S M → ℕ → Whole D S M → Type 0) (W : Work → Type 0) (Q : Answer → Type 0) (kind : Command) (a place number : ℕ) (l : ActorList) (left : Work → ℕ)
+      (some : (work : Work) → 1 ≤ left work)
+      (falls : (v : Whole D S M) (b : ℕ) (outcome : Outcome) (u : Whole D S M) (t : IsTurn disk store meta v b outcome u) → IsUnanswered outcome → P v b u → t.place ≡ place → t.seat.number ≡ number
+      → t.order.command ≡ kind → left (seat_after t.seat outcome).work < left t.seat.work)
       (keeps : (v : Whole D S M) (b : ℕ) (outcome : Outcome) (u : Whole D S M) → IsTurn disk store meta v b outcome u → I v → I u)
       (ends : (v : Whole D S M) (b : ℕ) (outcome : Outcome) (answer : Answer) (u : Whole D S M) (t : IsTurn disk store meta v b outcome u) → outcome ≡ Answers answer → I v → P v b u → t.place ≡ place
       → t.seat.number ≡ number → t.order.command ≡ kind → W t.seat.work → Q answer)
@@ -192,8 +207,8 @@ module _ {D S M : Type 0} (disk : DiskGhosts D) (store : StoreGhosts S) (meta : 
         },
       )
 
-      goes_on : IsUnanswered outcome → (r : Waits u) × (turns_left kind r.seat.work < turns_left kind s.seat.work)
-      goes_on un =
+      goes_on : IsUnanswered outcome → P v b u → (r : Waits u) × (left r.seat.work < left s.seat.work)
+      goes_on un p =
           let after = seat_after t.seat outcome in
           let there : slice_get u.desk place ≡ Some after =
           ap (λ (d : List Seat). slice_get d place) t.desk ∙ (ap (λ (n : ℕ). slice_get (slice_set v.desk t.place after) n) (sym same) ∙ get_put v.desk t.place t.seat after t.at.seat_is) in
@@ -210,8 +225,7 @@ module _ {D S M : Type 0} (disk : DiskGhosts D) (store : StoreGhosts S) (meta : 
               kind_is = s.kind_is;
               works = further v b outcome u t un keeps_work;
             },
-            subst (λ (q : Seat). turns_left kind after.work < turns_left kind q.work) seat_is
-                (subst (λ (c : Command). turns_left c after.work < turns_left c t.seat.work) is_kind (go_on disk store meta v b outcome u t un)),
+            subst (λ (q : Seat). left after.work < left q.work) seat_is (falls v b outcome u t un p same told_number is_kind),
           )
 
     -- a turn of another command
@@ -240,30 +254,51 @@ module _ {D S M : Type 0} (disk : DiskGhosts D) (store : StoreGhosts S) (meta : 
       not_own : b ≢ a
       not_own e = other (one_list v.lists t.place place t.list l s.rising t.at.list s.next.at.list (t.at.actor ∙ (e ∙ sym s.next.at.actor)))
 
-    pub run : (actors : List ℕ) (v u : Whole D S M) (s : Waits v) → I v → Runs disk store meta P v actors u → turns_left kind s.seat.work ≤ times a actors → Result u
-    run [] v u s i r le = absurd (let some = some_left kind s.seat.work in omega (arith, some, le))
-    run (b ∷ actors) v u s i (x, inl (outcome, t), p, rest) le = elim (nat_cases t.place place) [
+    pub run_by : (actors : List ℕ) (v u : Whole D S M) (s : Waits v) → I v → Runs disk store meta P v actors u → left s.seat.work ≤ times a actors → Result u
+    run_by [] v u s i r le = absurd (let one = some s.seat.work in omega (arith, one, le))
+    run_by (b ∷ actors) v u s i (x, inl (outcome, t), p, rest) le = elim (nat_cases t.place place) [
       | inr other ↦
           let k = beside v b outcome x t s other in
           let count = times_other a b actors (not_own v b outcome x t s other) in
-          let same = ap (λ (q : Seat). turns_left kind q.work) k.1 in
-          run actors x u k.0 (keeps v b outcome x t i) rest (omega (arith, le, count, same))
+          let same = ap (λ (q : Seat). left q.work) k.1 in
+          run_by actors x u k.0 (keeps v b outcome x t i) rest (omega (arith, le, count, same))
       | inl same ↦ elim (answered_or outcome) [
         | inl done ↦ stays actors x u rest (answered v b outcome x t s same done.0 done.1 i p)
         | inr un ↦
-            let k = goes_on v b outcome x t s same un in
+            let k = goes_on v b outcome x t s same un p in
             let count = times_own a b actors (actor_is v b outcome x t s same) in
             let less = k.1 in
-            run actors x u k.0 (keeps v b outcome x t i) rest (omega (arith, le, count, less))
+            run_by actors x u k.0 (keeps v b outcome x t i) rest (omega (arith, le, count, less))
       ]
     ]
-    run (b ∷ actors) v u s i (x, inr (end, same), p, rest) le =
+    run_by (b ∷ actors) v u s i (x, inr (end, same), p, rest) le =
         let ne : b ≢ a = λ e.
         (let low = end place l s.seat (record { list = s.next.at.list; actor = s.next.at.actor ∙ sym e; seat_is = s.next.at.seat_is }) in
         let high = within l.orders s.seat.number s.order s.next.next in
         omega (arith, low, high)) in
         let count = times_other a b actors ne in
-        run actors v u s i (subst (λ (k : Whole D S M). Runs disk store meta P k actors u) same rest) (omega (arith, le, count))
+        run_by actors v u s i (subst (λ (k : Whole D S M). Runs disk store meta P k actors u) same rest) (omega (arith, le, count))
+
+  -- by the turns that are left
+  pub falls_left : (kind : Command) (v : Whole D S M) (b : ℕ) (outcome : Outcome) (u : Whole D S M) (t : IsTurn disk store meta v b outcome u) → IsUnanswered outcome → t.order.command ≡ kind
+      → turns_left kind (seat_after t.seat outcome).work < turns_left kind t.seat.work
+  falls_left kind v b outcome u t un is = subst (λ (c : Command). turns_left c (seat_after t.seat outcome).work < turns_left c t.seat.work) is (go_on disk store meta v b outcome u t un)
+
+  module _ (I : Whole D S M → Type 0) (P : Whole D S M → ℕ → Whole D S M → Type 0) (W : Work → Type 0) (Q : Answer → Type 0) (kind : Command) (a place number : ℕ) (l : ActorList)
+      (keeps : (v : Whole D S M) (b : ℕ) (outcome : Outcome) (u : Whole D S M) → IsTurn disk store meta v b outcome u → I v → I u)
+      (ends : (v : Whole D S M) (b : ℕ) (outcome : Outcome) (answer : Answer) (u : Whole D S M) (t : IsTurn disk store meta v b outcome u) → outcome ≡ Answers answer → I v → P v b u → t.place ≡ place
+      → t.seat.number ≡ number → t.order.command ≡ kind → W t.seat.work → Q answer)
+      (further : (v : Whole D S M) (b : ℕ) (outcome : Outcome) (u : Whole D S M) (t : IsTurn disk store meta v b outcome u) → IsUnanswered outcome → W t.seat.work → W (seat_after t.seat outcome).work) where
+    abbrev pub Left : Work → ℕ
+    Left work = turns_left kind work
+
+    abbrev pub Falls : (v : Whole D S M) (b : ℕ) (outcome : Outcome) (u : Whole D S M) (t : IsTurn disk store meta v b outcome u) → IsUnanswered outcome → P v b u → t.place ≡ place → t.seat.number ≡ number
+        → t.order.command ≡ kind → Left (seat_after t.seat outcome).work < Left t.seat.work
+    Falls v b outcome u t un p same number_is is = falls_left kind v b outcome u t un is
+
+    pub run : (actors : List ℕ) (v u : Whole D S M) (s : Waits I P W Q kind a place number l Left (some_left kind) Falls keeps ends further v) → I v → Runs disk store meta P v actors u
+        → turns_left kind s.seat.work ≤ times a actors → (answer : Answer) × Q answer × IsAnswered u l.actor number answer
+    run actors v u s i r le = run_by I P W Q kind a place number l Left (some_left kind) Falls keeps ends further actors v u s i r le
 
   pub are_answered : (w : Whole D S M) (a place : ℕ) (l : ActorList) (seat : Seat) (order : Order) (actors : List ℕ) (w' : Whole D S M) → AreRising w.lists → IsNext w a place l seat order
       → Runs disk store meta (λ v b u. Unit {0}) w actors w' → turns_left order.command seat.work ≤ times a actors → (answer : Answer) × IsAnswered w' l.actor seat.number answer

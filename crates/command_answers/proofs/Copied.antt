@@ -1,5 +1,5 @@
 -- A copy with which nothing interferes is answered `Copied`.
-use Rattle.std.proofs.Common.{◌≡◌, ◌∙◌, inl, sym, ap, subst, refl, ℕ, zero, suc, ◌≤◌, List, [], ◌∷◌, ◌++◌, slice_get, arith}
+use Rattle.std.proofs.Common.{◌≡◌, inl, ap, subst, refl, ℕ, zero, suc, ◌≤◌, List, [], ◌∷◌, ◌++◌, slice_get, arith}
 use Rattle.tier_base.specs.declared.names.SegmentId.{SegmentId}
 use Rattle.disk_model.specs.declared.disk.Disk.{Ghosts as DiskGhosts}
 use Rattle.object_store.specs.declared.store.Store.{Ghosts as StoreGhosts}
@@ -40,7 +40,7 @@ use Rattle.command_answers.specs.CausesOfCopies.{HasCause, MayCopy}
 use Rattle.command_answers.specs.DeletionsKnown.{DeletionsKnown}
 use Rattle.command_answers.specs.Turns.{turns_left}
 use Rattle.command_answers.specs.Chains.{times, IsAnswered, Runs}
-use Rattle.command_answers.proofs.ChainsOfTurns.{entry, run}
+use Rattle.command_answers.proofs.ChainsOfTurns.{entry, run, own_turn}
 use Rattle.command_answers.specs.UnhinderedCopies.{IsFree, IsUnhindered}
 use Rattle.command_answers.proofs.CopiesHaveCauses.{have_causes}
 use Rattle.command_answers.proofs.KnownOfCopies.{keep_known}
@@ -111,22 +111,11 @@ module _ {D S M : Type 0} (disk : DiskGhosts D) (store : StoreGhosts S) (meta : 
   turn_known : (opening : State) (v : Whole D S M) (b : ℕ) (outcome : Outcome) (u : Whole D S M) → IsTurn disk store meta v b outcome u → AllKnown opening v → AllKnown opening u
   turn_known opening v b outcome u t i = (turn_central disk store meta opening v b outcome u t i.0, keep_known disk store meta opening v b outcome u i.0 i.1 t)
 
-  -- the turn is the copy's own
-  own_turn : (place : ℕ) (v : Whole D S M) (b : ℕ) (outcome : Outcome) (u : Whole D S M) (t : IsTurn disk store meta v b outcome u) → t.place ≡ place → IsNext v b place t.list t.seat t.order
-  own_turn place v b outcome u t same = record {
-    at = record {
-      list = ap (λ (n : ℕ). slice_get v.lists n) (sym same) ∙ t.at.list;
-      actor = t.at.actor;
-      seat_is = ap (λ (n : ℕ). slice_get v.desk n) (sym same) ∙ t.at.seat_is;
-    };
-    next = t.next;
-  }
-
   ends_copied : (opening : State) (place number : ℕ) (v : Whole D S M) (b : ℕ) (answer : Answer) (u : Whole D S M) (t : IsTurn disk store meta v b (Answers answer) u) → AllKnown opening v
       → IsFree disk store meta place number v b u → t.place ≡ place → t.seat.number ≡ number → t.order.command ≡ Copy → Clear t.order.broker.0 answer v u → CopiedFor t.seat.work answer
   ends_copied opening place number v b answer u t known free same number_is copies clear =
       let c = t.order.broker.0 in
-      let h = free t.list t.seat t.order (own_turn place v b (Answers answer) u t same) number_is in
+      let h = free t.list t.seat t.order (own_turn disk store meta place v b (Answers answer) u t same) number_is in
       let x = some_of (λ x. AtSide v.tier c (λ side. HasCause disk store meta v c x side t.seat.work answer u)) (slice_get v.held.nodes c) (have_causes disk store meta opening v b answer u known.0 known.1 t copies) in
       let side = some_of (λ side. HasCause disk store meta v c x.0 side t.seat.work answer u) (slice_get v.tier.sides c) x.2 in
       let y = some_of (λ x. AtSide v.tier c (λ side. MayCopy v x side t.seat.work)) (slice_get v.held.nodes c) h in
@@ -140,7 +129,7 @@ module _ {D S M : Type 0} (disk : DiskGhosts D) (store : StoreGhosts S) (meta : 
       → AllKnown opening v → IsUnhindered disk store meta place number v b u → t.place ≡ place → t.seat.number ≡ number → t.order.command ≡ Copy → CopiedFor t.seat.work answer
   free_copied opening place number v b (Answers k) answer u t is known free same number_is copies =
       let one : k ≡ answer = cc (is) in
-      let well = free.1 t.list t.seat t.order (own_turn place v b (Answers k) u t same) number_is in
+      let well = free.1 t.list t.seat t.order (own_turn disk store meta place v b (Answers k) u t same) number_is in
       let clear : Clear t.order.broker.0 k v u = record { disk_clear = λ e. well.disk_well; store_clear = λ e. well.store_well; meta_clear = λ e. well.meta_well } in
       subst (CopiedFor t.seat.work) one (ends_copied opening place number v b k u t known free.0 same number_is copies clear)
   free_copied opening place number v b other answer u t is known free same number_is copies = absurd (cc (is))

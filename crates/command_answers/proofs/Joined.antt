@@ -1,5 +1,5 @@
 -- A join that nothing hinders is answered by a cut or a restart.
-use Rattle.std.proofs.Common.{◌≡◌, ◌∙◌, inl, inr, sym, ap, subst, refl, ℕ, ◌≤◌, List, Some, None, Option, slice_get, arith}
+use Rattle.std.proofs.Common.{◌≡◌, inl, inr, subst, refl, ℕ, ◌≤◌, List, Some, None, Option, slice_get, arith}
 use Rattle.disk_model.specs.declared.disk.Disk.{Ghosts as DiskGhosts}
 use Rattle.object_store.specs.declared.store.Store.{Ghosts as StoreGhosts}
 use Rattle.meta_log.specs.declared.log.MetaLog.{Ghosts as MetaGhosts}
@@ -31,7 +31,7 @@ use Rattle.partition_world.proofs.CentralLaw.{turn_central}
 use Rattle.command_answers.specs.Faults.{MeetsNoFault}
 use Rattle.command_answers.specs.Turns.{turns_left}
 use Rattle.command_answers.specs.Chains.{times, IsAnswered, Runs}
-use Rattle.command_answers.proofs.ChainsOfTurns.{run}
+use Rattle.command_answers.proofs.ChainsOfTurns.{run, own_turn}
 use Rattle.command_answers.specs.CausesOfJoins.{FirstCause, RestartCause, RefreshCause, EpochsCause, HasCause, MayJoin, IsJoined}
 use Rattle.command_answers.specs.UnhinderedJoins.{IsUnhindered}
 use Rattle.command_answers.proofs.JoinsHaveCauses.{have_causes}
@@ -94,23 +94,12 @@ module _ {D S M : Type 0} (disk : DiskGhosts D) (store : StoreGhosts S) (meta : 
   any_joined w b x (Rebuilds g (Restart line)) answer w' cause may well = restart_joined w b x g answer w' cause may well
   any_joined w b x other answer w' cause may well = absurd cause
 
-  -- the turn is the join's own
-  own_turn : (place : ℕ) (v : Whole D S M) (b : ℕ) (outcome : Outcome) (u : Whole D S M) (t : IsTurn disk store meta v b outcome u) → t.place ≡ place → IsNext v b place t.list t.seat t.order
-  own_turn place v b outcome u t same = record {
-    at = record {
-      list = ap (λ (n : ℕ). slice_get v.lists n) (sym same) ∙ t.at.list;
-      actor = t.at.actor;
-      seat_is = ap (λ (n : ℕ). slice_get v.desk n) (sym same) ∙ t.at.seat_is;
-    };
-    next = t.next;
-  }
-
   ends_joined : (opening : State) (place number : ℕ) (v : Whole D S M) (b : ℕ) (outcome : Outcome) (answer : Answer) (u : Whole D S M) (t : IsTurn disk store meta v b outcome u) → outcome ≡ Answers answer
       → IsCentral disk store meta opening v → IsUnhindered disk store meta place number v b u → t.place ≡ place → t.seat.number ≡ number → t.order.command ≡ Join → IsJoined answer
   ends_joined opening place number v b (Answers k) answer u t is central free same number_is joins =
       let one : k ≡ answer = cc (is) in
       let c = t.order.broker.0 in
-      let h = free t.list t.seat t.order (own_turn place v b (Answers k) u t same) number_is in
+      let h = free t.list t.seat t.order (own_turn disk store meta place v b (Answers k) u t same) number_is in
       let x = some_of (λ x. HasCause disk store meta v c x t.seat.work k u) (slice_get v.held.nodes c) (have_causes disk store meta opening v b k u central t joins) in
       let y = some_of (λ x. MayJoin v x t.seat.work) (slice_get v.held.nodes c) h.0 in
       let may : MayJoin v x.0 t.seat.work = subst (λ (n : Node D). MayJoin v n t.seat.work) (one_some (slice_get v.held.nodes c) y.0 x.0 y.1 x.1) y.2 in

@@ -1,5 +1,6 @@
 pub mod Progress
 pub mod ChainsOfTurns
+pub mod Marked
 pub mod SchedulesOfTurns
 pub mod NotesOfCopies
 pub mod SeenOfCopies
@@ -25,6 +26,7 @@ pub mod ReadingOfSearches
 pub mod SearchesTell
 pub mod KnownOfSearches
 pub mod SchedulesOfSearches
+pub mod Found
 pub mod RowsWithoutDamage
 pub mod RunsWithoutDamage
 pub mod FaultCounts

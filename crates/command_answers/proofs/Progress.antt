@@ -68,7 +68,7 @@ use Rattle.partition_world.proofs.Begins.{row_of}
 use Rattle.partition_world.proofs.DateAdvances.{Rises, dated_before, own_rises, time_rises}
 use Rattle.partition_world.proofs.FetchAdvances.{sought_before, fetch_advances}
 use Rattle.partition_world.proofs.RebuildEnds.{MayTurn, rebuild_may_turn}
-use Rattle.command_answers.specs.Turns.{copying_left, deleting_left, seeking_left, dated_here, dating_left, rebuilding_left, turns_left}
+use Rattle.command_answers.specs.Turns.{copying_left, deleting_left, seeking_left, dated_here, rebuilding_left, turns_left, dating_left_to}
 
 -- another item than the one that is set
 get_other : {A : Type 0} (xs : List A) (i j : ℕ) (y : A) → j ≢ i → slice_get (slice_set xs i y) j ≡ slice_get xs j
@@ -184,40 +184,40 @@ same_here (dating.Index piece from) = refl
 same_here (dating.Log piece from span) = refl
 
 -- it has come further
-past_less : (cursor at n m : ℕ) → cursor < 2 ^ 64 → cursor < at → n ≤ 3 → 1 + (4 * (2 ^ 64 - at) - m) < 1 + (4 * (2 ^ 64 - cursor) - n)
-past_less cursor at n m fits far few = omega (arith, fits, far, few)
+past_less : (limit cursor at n m : ℕ) → cursor < limit → cursor < at → n ≤ 3 → 1 + (4 * (limit - at) - m) < 1 + (4 * (limit - cursor) - n)
+past_less limit cursor at n m fits far few = omega (arith, fits, far, few)
 
 -- or takes a further turn
-here_less : (cursor at n m : ℕ) → cursor < 2 ^ 64 → cursor ≤ at → n < m → m ≤ 3 → 1 + (4 * (2 ^ 64 - at) - m) < 1 + (4 * (2 ^ 64 - cursor) - n)
-here_less cursor at n m fits far up few = omega (arith, fits, far, up, few)
+here_less : (limit cursor at n m : ℕ) → cursor < limit → cursor ≤ at → n < m → m ≤ 3 → 1 + (4 * (limit - at) - m) < 1 + (4 * (limit - cursor) - n)
+here_less limit cursor at n m fits far up few = omega (arith, fits, far, up, few)
 
 -- one that is resumed, and goes on with a piece
-piece_less : (start cursor at : ℕ) (before : Dating) (m : ℕ) → max start cursor < 2 ^ 64 → max start cursor ≤ at → dated_before (if nat_lt cursor start then dating.Seek else before) < m → m ≤ 3
-    → 1 + (4 * (2 ^ 64 - at) - m) < dating_left cursor before
-piece_less start cursor at before m fits far up few = by (nat_lt cursor start) refl up
+piece_less : (limit start cursor at : ℕ) (before : Dating) (m : ℕ) → max start cursor < limit → max start cursor ≤ at → dated_before (if nat_lt cursor start then dating.Seek else before) < m → m ≤ 3
+    → 1 + (4 * (limit - at) - m) < dating_left_to limit cursor before
+piece_less limit start cursor at before m fits far up few = by (nat_lt cursor start) refl up
   where
-    low : cursor < 2 ^ 64
+    low : cursor < limit
     low = omega (arith, fits)
 
-    by : (t : Bool) → nat_lt cursor start ≡ t → dated_before (if t then dating.Seek else before) < m → 1 + (4 * (2 ^ 64 - at) - m) < dating_left cursor before
+    by : (t : Bool) → nat_lt cursor start ≡ t → dated_before (if t then dating.Seek else before) < m → 1 + (4 * (limit - at) - m) < dating_left_to limit cursor before
     by true is up =
         let past : cursor < start = grind (arith, nat_tests, is) in
-        past_less cursor at (dated_here before) m low (omega (arith, past, far)) (few_here before)
-    by false is up = here_less cursor at (dated_here before) m low (omega (arith, far)) (subst (λ (n : ℕ). n < m) (same_here before) up) few
+        past_less limit cursor at (dated_here before) m low (omega (arith, past, far)) (few_here before)
+    by false is up = here_less limit cursor at (dated_here before) m low (omega (arith, far)) (subst (λ (n : ℕ). n < m) (same_here before) up) few
 
-resumed_less : (start cursor at : ℕ) (before later : Dating) → max start cursor < 2 ^ 64 → GoesOnFrom (max start cursor) (time.Goes at later)
-    → Rises (if nat_lt cursor start then dating.Seek else before) later → dating_left at later < dating_left cursor before
-resumed_less start cursor at before dating.Seek fits goes up =
+resumed_less : (limit start cursor at : ℕ) (before later : Dating) → max start cursor < limit → GoesOnFrom (max start cursor) (time.Goes at later)
+    → Rises (if nat_lt cursor start then dating.Seek else before) later → dating_left_to limit at later < dating_left_to limit cursor before
+resumed_less limit start cursor at before dating.Seek fits goes up =
     let far : cursor < at = omega (arith, goes) in
-    let low : cursor < 2 ^ 64 = omega (arith, fits) in
-    past_less cursor at (dated_here before) 0 low far (few_here before)
-resumed_less start cursor at before (dating.Times piece) fits goes up = piece_less start cursor at before 1 fits goes.0 up (omega arith)
-resumed_less start cursor at before (dating.Index piece from) fits goes up = piece_less start cursor at before 2 fits goes.0 up (omega arith)
-resumed_less start cursor at before (dating.Log piece from span) fits goes up = piece_less start cursor at before 3 fits goes.0 up (omega arith)
+    let low : cursor < limit = omega (arith, fits) in
+    past_less limit cursor at (dated_here before) 0 low far (few_here before)
+resumed_less limit start cursor at before (dating.Times piece) fits goes up = piece_less limit start cursor at before 1 fits goes.0 up (omega arith)
+resumed_less limit start cursor at before (dating.Index piece from) fits goes up = piece_less limit start cursor at before 2 fits goes.0 up (omega arith)
+resumed_less limit start cursor at before (dating.Log piece from span) fits goes up = piece_less limit start cursor at before 3 fits goes.0 up (omega arith)
 
 -- it is at the first cursor where it has begun
-first_left : (at : ℕ) (later : Dating) → dating_left at later < dating_left 0 dating.Seek → dating_left at later < 1 + 4 * 2 ^ 64
-first_left at later less = omega (arith, less)
+pub first_left : (limit at : ℕ) (later : Dating) → dating_left_to limit at later < dating_left_to limit 0 dating.Seek → dating_left_to limit at later < 1 + 4 * limit
+first_left limit at later less = omega (arith, less)
 
 -- behind the line that was read the log is begun anew
 read_less : (next : Rebuild) → MayTurn (rebuild.Goes next) → rebuilding_left next < rebuilding_left Epochs
@@ -340,24 +340,25 @@ module _ {D S M : Type 0} (disk : DiskGhosts D) (store : StoreGhosts S) (meta : 
   rises_on h t b x side asked cursor before false at later h' t' w =
       time_rises store meta asked (line_of x) cursor before later at (fetch_tiers side.view side.cache t) (fetch_tiers w.0.view w.0.cache t') w.0.row
 
-  date_goes : (p : PartitionId) (h : Held D) (t : Tier S M) (b : ℕ) (x : Node D) (side : Side) (g : Begun) (ts : ℤ) (cursor : ℕ) (before : Dating) (at : ℕ) (later : Dating) (h' : Held D) (t' : Tier S M)
-      → DateOnRow disk store meta p h t b x side g ts cursor before (Dated at later) h' t' → dating_left at later < dating_left cursor before
-  date_goes p h t b x side g ts cursor before at later h' t' w =
+  pub date_goes : (limit : ℕ) (p : PartitionId) (h : Held D) (t : Tier S M) (b : ℕ) (x : Node D) (side : Side) (g : Begun) (ts : ℤ) (cursor : ℕ) (before : Dating) (at : ℕ) (later : Dating) (h' : Held D) (t' : Tier S M)
+      → DateOnRow disk store meta p h t b x side g ts cursor before (Dated at later) h' t' → resumed_at h.registry.start cursor < limit
+      → dating_left_to limit at later < dating_left_to limit cursor before
+  date_goes limit p h t b x side g ts cursor before at later h' t' w fits =
       let on = resumed_at h.registry.start cursor in
       let with = resumed_with h.registry.start cursor before in
-      resumed_less h.registry.start cursor at before later w.0.fits w.1
+      resumed_less limit h.registry.start cursor at before later fits w.1
       (rises_on h t b x side (asked_of p h x ts) on with (is_own (local_of x) on with) at later h' t' w.0.row)
 
   date_less : (p : PartitionId) (h : Held D) (t : Tier S M) (b : ℕ) (x : Node D) (side : Side) (g : Begun) (ts : ℤ) (outcome : Outcome) (h' : Held D) (t' : Tier S M)
       → DateOnRow disk store meta p h t b x side g ts 0 dating.Seek outcome h' t' → Less (Offset (At ts)) (Noted g) outcome
   date_less p h t b x side g ts (Answers answer) h' t' w = tt
-  date_less p h t b x side g ts (Dated at later) h' t' w = first_left at later (date_goes p h t b x side g ts 0 dating.Seek at later h' t' w)
+  date_less p h t b x side g ts (Dated at later) h' t' w = first_left (2 ^ 64) at later (date_goes (2 ^ 64) p h t b x side g ts 0 dating.Seek at later h' t' w w.0.fits)
   date_less p h t b x side g ts other h' t' w = elim w [ ]
 
   dates_less : (p : PartitionId) (h : Held D) (t : Tier S M) (b : ℕ) (x : Node D) (side : Side) (g : Begun) (ts : ℤ) (cursor : ℕ) (before : Dating) (outcome : Outcome) (h' : Held D) (t' : Tier S M)
       → DateOnRow disk store meta p h t b x side g ts cursor before outcome h' t' → Less (Offset (At ts)) (Dates g cursor before) outcome
   dates_less p h t b x side g ts cursor before (Answers answer) h' t' w = tt
-  dates_less p h t b x side g ts cursor before (Dated at later) h' t' w = date_goes p h t b x side g ts cursor before at later h' t' w
+  dates_less p h t b x side g ts cursor before (Dated at later) h' t' w = date_goes (2 ^ 64) p h t b x side g ts cursor before at later h' t' w w.0.fits
   dates_less p h t b x side g ts cursor before other h' t' w = elim w [ ]
 
   -- a join's

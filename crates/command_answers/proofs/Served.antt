@@ -1,5 +1,5 @@
 -- A fetch with which nothing interferes is answered by a run.
-use Rattle.std.proofs.Common.{◌≡◌, ◌⊎◌, ◌∙◌, inl, inr, sym, ap, subst, refl, ℕ, zero, suc, ◌+◌, ◌<◌, ◌≤◌, nat_lt, Bool, true, false, cond, List, [], ◌∷◌, ◌++◌, Some, slice_get, arith}
+use Rattle.std.proofs.Common.{◌≡◌, ◌⊎◌, inl, inr, ap, subst, refl, ℕ, zero, suc, ◌+◌, ◌<◌, ◌≤◌, nat_lt, Bool, true, false, cond, List, [], ◌∷◌, ◌++◌, Some, slice_get, arith}
 use Rattle.std.proofs.lemmas.Bool.{ltb-true}
 use Rattle.tier_base.specs.declared.plain.Stop.{Stop}
 use Rattle.disk_model.specs.declared.disk.Disk.{Ghosts as DiskGhosts}
@@ -44,12 +44,12 @@ use Rattle.partition_world.specs.TurnsOfFetch.{AnswersAtOnce, HasStopped}
 use Rattle.partition_world.specs.Whole.{Whole}
 use Rattle.partition_world.proofs.CalmLaw.{reaches_unfailing}
 use Rattle.partition_world.proofs.CentralLaw.{turn_central}
-use Rattle.command_answers.specs.Faults.{DiskFailed, StoreFailed, MetaFailed}
+use Rattle.command_answers.specs.Faults.{DiskFailed, StoreFailed, MetaFailed, MeetsNoFault}
 use Rattle.command_answers.specs.CausesOfFetches.{IsLogsRun, HasCause, LaterCause, IsCommitted, MayServe}
 use Rattle.command_answers.specs.Found.{SpansKnown}
 use Rattle.command_answers.specs.Turns.{turns_left}
 use Rattle.command_answers.specs.Chains.{times, IsAnswered, Runs}
-use Rattle.command_answers.proofs.ChainsOfTurns.{entry, run}
+use Rattle.command_answers.proofs.ChainsOfTurns.{entry, run, own_turn}
 use Rattle.command_answers.specs.UnhinderedFetches.{IsServed, IsFree, IsUnhindered}
 use Rattle.command_answers.proofs.FetchesHaveCauses.{have_causes}
 use Rattle.command_answers.proofs.KnownOfFetches.{keep_spans}
@@ -95,10 +95,13 @@ module _ {D S M : Type 0} (disk : DiskGhosts D) (store : StoreGhosts S) (meta : 
       }
 
   -- where the turn tells of a fault none was met
-  record Clear (b : ℕ) (answer : Answer) (w w' : Whole D S M) : Type 0 where
-    disk_clear : answer ≡ DiskFault → DiskFailed disk b w w' → ⊥
-    store_clear : answer ≡ StoreFault → StoreFailed store w w' → ⊥
-    meta_clear : answer ≡ MetaFault → MetaFailed meta w w' → ⊥
+  pub record Clear (b : ℕ) (answer : Answer) (w w' : Whole D S M) : Type 0 where
+    pub disk_clear : answer ≡ DiskFault → DiskFailed disk b w w' → ⊥
+    pub store_clear : answer ≡ StoreFault → StoreFailed store w w' → ⊥
+    pub meta_clear : answer ≡ MetaFault → MetaFailed meta w w' → ⊥
+
+  pub well_clear : (b : ℕ) (answer : Answer) (w w' : Whole D S M) → MeetsNoFault disk store meta b w w' → Clear b answer w w'
+  well_clear b answer w w' well = record { disk_clear = λ e. well.disk_well; store_clear = λ e. well.store_well; meta_clear = λ e. well.meta_well }
 
   -- a committed offset is in the log
   never_outside : (w : Whole D S M) (x : Node D) (offset start end : ℕ) → x.known ≤ end_of x → IsCommitted w x offset → (offset < start) ⊎ (end < offset) → start ≡ w.held.registry.start → end ≡ end_of x → ⊥
@@ -115,7 +118,7 @@ module _ {D S M : Type 0} (disk : DiskGhosts D) (store : StoreGhosts S) (meta : 
   first_served w b x offset limit (Run tier size stop bytes) w' high cause may clear = served x offset limit tier size stop bytes may.0 cause.1
   first_served w b x offset limit other w' high cause may clear = elim cause [ ]
 
-  stopped_never : (x : Node D) (g : Begun) → HasStopped x g → KeepsLead x g → ⊥
+  pub stopped_never : (x : Node D) (g : Begun) → HasStopped x g → KeepsLead x g → ⊥
   stopped_never x g (inl differs) keeps = differs keeps.stops
   stopped_never x g (inr down) keeps = let up = keeps.up in cc (down, up)
 
@@ -174,22 +177,11 @@ module _ {D S M : Type 0} (disk : DiskGhosts D) (store : StoreGhosts S) (meta : 
   turn_known : (opening : State) (v : Whole D S M) (b : ℕ) (outcome : Outcome) (u : Whole D S M) → IsTurn disk store meta v b outcome u → AllKnown opening v → AllKnown opening u
   turn_known opening v b outcome u t i = (turn_central disk store meta opening v b outcome u t i.0, keep_spans disk store meta opening v b outcome u i.0 i.1 t)
 
-  -- the turn is the fetch's own
-  own_turn : (place : ℕ) (v : Whole D S M) (b : ℕ) (outcome : Outcome) (u : Whole D S M) (t : IsTurn disk store meta v b outcome u) → t.place ≡ place → IsNext v b place t.list t.seat t.order
-  own_turn place v b outcome u t same = record {
-    at = record {
-      list = ap (λ (n : ℕ). slice_get v.lists n) (sym same) ∙ t.at.list;
-      actor = t.at.actor;
-      seat_is = ap (λ (n : ℕ). slice_get v.desk n) (sym same) ∙ t.at.seat_is;
-    };
-    next = t.next;
-  }
-
   ends_served : (opening : State) (place number offset limit : ℕ) (v : Whole D S M) (b : ℕ) (answer : Answer) (u : Whole D S M) (t : IsTurn disk store meta v b (Answers answer) u) → AllKnown opening v
       → IsFree disk store meta place number offset v b u → t.place ≡ place → t.seat.number ≡ number → t.order.command ≡ Fetch offset limit → Clear t.order.broker.0 answer v u → IsServed offset limit answer
   ends_served opening place number offset limit v b answer u t known free same number_is fetches clear =
       let c = t.order.broker.0 in
-      let h = free t.list t.seat t.order (own_turn place v b (Answers answer) u t same) number_is in
+      let h = free t.list t.seat t.order (own_turn disk store meta place v b (Answers answer) u t same) number_is in
       let x = some_of (λ x. HasCause disk store meta v c x t.seat.work offset limit answer u) (slice_get v.held.nodes c) (have_causes disk store meta opening v b answer u offset limit known.0 known.1 t fetches) in
       let y = some_of (λ x. MayServe v x offset t.seat.work) (slice_get v.held.nodes c) h in
       let may : MayServe v x.0 offset t.seat.work = subst (λ (k : Node D). MayServe v k offset t.seat.work) (one_some (slice_get v.held.nodes c) y.0 x.0 y.1 x.1) y.2 in
@@ -199,9 +191,8 @@ module _ {D S M : Type 0} (disk : DiskGhosts D) (store : StoreGhosts S) (meta : 
       → outcome ≡ Answers answer → AllKnown opening v → IsUnhindered disk store meta place number offset v b u → t.place ≡ place → t.seat.number ≡ number → t.order.command ≡ Fetch offset limit → IsServed offset limit answer
   free_served opening place number offset limit v b (Answers k) answer u t is known free same number_is fetches =
       let one : k ≡ answer = cc (is) in
-      let well = free.1 t.list t.seat t.order (own_turn place v b (Answers k) u t same) number_is in
-      let clear : Clear t.order.broker.0 k v u = record { disk_clear = λ e. well.disk_well; store_clear = λ e. well.store_well; meta_clear = λ e. well.meta_well } in
-      subst (IsServed offset limit) one (ends_served opening place number offset limit v b k u t known free.0 same number_is fetches clear)
+      let well = free.1 t.list t.seat t.order (own_turn disk store meta place v b (Answers k) u t same) number_is in
+      subst (IsServed offset limit) one (ends_served opening place number offset limit v b k u t known free.0 same number_is fetches (well_clear t.order.broker.0 k v u well))
   free_served opening place number offset limit v b other answer u t is known free same number_is fetches = absurd (cc (is))
 
   pub are_served : (opening : State) (w : Whole D S M) (a place : ℕ) (l : ActorList) (seat : Seat) (order : Order) (offset limit : ℕ) (actors : List ℕ) (w' : Whole D S M)
@@ -215,26 +206,29 @@ module _ {D S M : Type 0} (disk : DiskGhosts D) (store : StoreGhosts S) (meta : 
 
   -- over devices of which no call can fail
 
-  turn_calm : (v : Whole D S M) (b : ℕ) (outcome : Outcome) (u : Whole D S M) → IsTurn disk store meta v b outcome u → IsUnfailing disk store meta v → IsUnfailing disk store meta u
+  pub turn_calm : (v : Whole D S M) (b : ℕ) (outcome : Outcome) (u : Whole D S M) → IsTurn disk store meta v b outcome u → IsUnfailing disk store meta v → IsUnfailing disk store meta u
   turn_calm v b outcome u t calm = reaches_unfailing disk store meta v (Times (record { 0 = b }) (suc zero) ∷ []) u (u, (u, inl (outcome, t), refl), refl) calm
 
   last_calm : (items : List JournalEntry) (last : JournalEntry) → AreFaultless (items ++ last ∷ []) → HasNoFault last.event
   last_calm [] last f = f.0
   last_calm (first ∷ items) last f = last_calm items last f.1
 
+  pub calm_clear : (v : Whole D S M) (b : ℕ) (answer : Answer) (u : Whole D S M) (t : IsTurn disk store meta v b (Answers answer) u) → IsUnfailing disk store meta v → Clear t.order.broker.0 answer v u
+  calm_clear v b answer u t calm =
+      let after = turn_calm v b (Answers answer) u t calm in
+      let told : HasNoFault (event.Answers answer) = last_calm v.journal.items (entry t.list.actor t.seat.number answer) (subst AreFaultless t.entered after.journal) in
+      record {
+        disk_clear = λ e f. subst (λ (j : Answer). HasNoFault (event.Answers j)) e told;
+        store_clear = λ e f. subst (λ (j : Answer). HasNoFault (event.Answers j)) e told;
+        meta_clear = λ e f. subst (λ (j : Answer). HasNoFault (event.Answers j)) e told;
+      }
+
   ends_calm : (opening : State) (place number offset limit : ℕ) (v : Whole D S M) (b : ℕ) (outcome : Outcome) (answer : Answer) (u : Whole D S M) (t : IsTurn disk store meta v b outcome u)
       → outcome ≡ Answers answer → AllKnown opening v × IsUnfailing disk store meta v → IsFree disk store meta place number offset v b u → t.place ≡ place → t.seat.number ≡ number
       → t.order.command ≡ Fetch offset limit → IsServed offset limit answer
   ends_calm opening place number offset limit v b (Answers k) answer u t is known free same number_is fetches =
       let one : k ≡ answer = cc (is) in
-      let after = turn_calm v b (Answers k) u t known.1 in
-      let told : HasNoFault (event.Answers k) = last_calm v.journal.items (entry t.list.actor t.seat.number k) (subst AreFaultless t.entered after.journal) in
-      let clear : Clear t.order.broker.0 k v u = record {
-        disk_clear = λ e f. subst (λ (j : Answer). HasNoFault (event.Answers j)) e told;
-        store_clear = λ e f. subst (λ (j : Answer). HasNoFault (event.Answers j)) e told;
-        meta_clear = λ e f. subst (λ (j : Answer). HasNoFault (event.Answers j)) e told;
-      } in
-      subst (IsServed offset limit) one (ends_served opening place number offset limit v b k u t known.0 free same number_is fetches clear)
+      subst (IsServed offset limit) one (ends_served opening place number offset limit v b k u t known.0 free same number_is fetches (calm_clear v b k u t known.1))
   ends_calm opening place number offset limit v b other answer u t is known free same number_is fetches = absurd (cc (is))
 
   pub calm_served : (opening : State) (w : Whole D S M) (a place : ℕ) (l : ActorList) (seat : Seat) (order : Order) (offset limit : ℕ) (actors : List ℕ) (w' : Whole D S M)

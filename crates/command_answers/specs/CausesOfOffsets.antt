@@ -84,3 +84,11 @@ module _ {D S M : Type 0} (disk : DiskGhosts D) (store : StoreGhosts S) (meta : 
   HasCause w b x side (Noted g) (At ts) answer w' = SearchCause w b x g 0 answer w'
   HasCause w b x side (Dates g cursor next) (At ts) answer w' = SearchCause w b x g cursor answer w'
   HasCause w b x side work which answer w' = ⊥
+
+module _ {D : Type 0} where
+  -- the broker of a search leads, and has led on
+  abbrev pub MaySearch : Node D → Work → Type 0
+  MaySearch x Idle = (is_up x ≡ true) × (leads x.role ≡ true)
+  MaySearch x (Noted g) = KeepsLead x g
+  MaySearch x (Dates g cursor next) = KeepsLead x g
+  MaySearch x other = ⊥

@@ -1,15 +1,20 @@
 -- Turns of several actors, and what a journal says of a command.
-use Rattle.std.specs.Prelude.{◌≡◌, ℕ, ◌+◌, ◌==◌, if◌then◌else◌, List, [], ◌∷◌, ◌++◌}
+use Rattle.std.specs.Prelude.{◌≡◌, ◌≤◌, ℕ, ◌+◌, ◌==◌, if◌then◌else◌, List, [], ◌∷◌, ◌++◌}
 use Rattle.tier_base.specs.declared.names.ActorId.{ActorId}
 use Rattle.disk_model.specs.declared.disk.Disk.{Ghosts as DiskGhosts}
 use Rattle.object_store.specs.declared.store.Store.{Ghosts as StoreGhosts}
 use Rattle.meta_log.specs.declared.log.MetaLog.{Ghosts as MetaGhosts}
 use Rattle.plain_log.specs.declared.answer.Answer.{Answer}
+use Rattle.plain_log.specs.declared.command.ActorList.{ActorList}
+use Rattle.plain_log.specs.declared.command.Order.{Order}
 use Rattle.plain_log.specs.declared.command.Pace.{Pace}
 use Rattle.plain_log.specs.declared.command.Pace.TheVariants.{Until, Times}
 use Rattle.plain_log.specs.declared.journal.Event.TheVariants as event
 use Rattle.plain_log.specs.declared.journal.JournalEntry.{JournalEntry}
+use Rattle.partition_turns.specs.Held.{AtNode}
+use Rattle.partition_world.specs.declared.seat.Seat.{Seat}
 use Rattle.partition_world.specs.Reaches.{Goes}
+use Rattle.partition_world.specs.Turn.{IsNext}
 use Rattle.partition_world.specs.Whole.{Whole}
 
 -- how many of these turns are the actor's
@@ -30,6 +35,12 @@ module _ {D S M : Type 0} where
     pub after : List JournalEntry
     pub is : w.journal.items
         ≡ before ++ record { actor = actor; number = number; event = event.Answers answer } ∷ after
+
+  -- where the turn is one of the command at this place, under this number, its broker knows no high watermark past a mark
+  abbrev pub KnowsUpTo : ℕ → ℕ → ℕ → Whole D S M → ℕ → Whole D S M → Type 0
+  KnowsUpTo mark place number w a w' =
+      (l : ActorList) (seat : Seat) (order : Order) → IsNext w a place l seat order → seat.number ≡ number
+      → AtNode w.held order.broker.0 (λ x. x.known ≤ mark)
 
 module _ {D S M : Type 0} (disk : DiskGhosts D) (store : StoreGhosts S) (meta : MetaGhosts M) where
   -- turns of these actors, one after another, of each of which this holds

@@ -1,5 +1,5 @@
 -- The laws of what a question for the offset of a timestamp is answered, over devices that tell.
-use Rattle.std.specs.Prelude.{◌≡◌, ℕ, ℤ, List, Option, Some, None}
+use Rattle.std.specs.Prelude.{◌≡◌, ◌≤◌, ℕ, ℤ, List, Option, Some, None}
 use Rattle.tier_base.specs.declared.names.PartitionId.{PartitionId}
 use Rattle.disk_model.specs.declared.disk.Disk.{Ghosts as DiskGhosts}
 use Rattle.object_store.specs.declared.store.Store.{Ghosts as StoreGhosts}
@@ -10,6 +10,7 @@ use Rattle.plain_log.specs.declared.answer.Place.{Place}
 use Rattle.plain_log.specs.declared.command.ActorList.{ActorList}
 use Rattle.plain_log.specs.declared.command.Command.TheVariants.{Offset}
 use Rattle.plain_log.specs.declared.command.Config.{Config}
+use Rattle.plain_log.specs.declared.command.Order.{Order}
 use Rattle.plain_log.specs.declared.command.Pace.{Pace}
 use Rattle.plain_log.specs.declared.command.Which.TheVariants.{At}
 use Rattle.plain_log.specs.declared.state.State.{State}
@@ -21,12 +22,17 @@ use Rattle.partition_turns.specs.declared.held.Node.{Node}
 use Rattle.partition_turns.specs.Held.{AtNode, node_of, ShowsHeld}
 use Rattle.partition_world.specs.declared.seat.Outcome.{Outcome}
 use Rattle.partition_world.specs.declared.seat.Outcome.TheVariants.{Answers}
+use Rattle.partition_world.specs.declared.seat.Seat.{Seat}
+use Rattle.partition_world.specs.Calm.{IsUnfailing}
 use Rattle.partition_world.specs.Central.{IsCentral}
 use Rattle.partition_world.specs.Fresh.{IsFresh}
 use Rattle.partition_world.specs.Reaches.{Reaches}
-use Rattle.partition_world.specs.Turn.{IsTurn}
+use Rattle.partition_world.specs.Turn.{IsNext, IsTurn}
 use Rattle.partition_world.specs.Whole.{Whole}
 use Rattle.command_answers.specs.FoundByTime.{SearchesKnown}
+use Rattle.command_answers.specs.Turns.{turns_left, search_left}
+use Rattle.command_answers.specs.Chains.{times, IsAnswered, KnowsUpTo, Runs}
+use Rattle.command_answers.specs.UnhinderedSearches.{IsFound, IsFree, IsUnhindered}
 
 module _ {D S M : Type 0} (disk : DiskGhosts D) where
   -- the offset of the timestamp in the log that the broker's disk shows, or that there is none
@@ -55,6 +61,35 @@ module _ {D S M : Type 0} (disk : DiskGhosts D) (store : StoreGhosts S) (meta : 
   NoSearchIsDamaged = (opening : State) (w : Whole D S M) (a : ℕ) (place : Place) (at : ℕ) (w' : Whole D S M) (ts : ℤ)
       → IsCentral disk store meta opening w → SearchesKnown meta opening w
       → (t : IsTurn disk store meta w a (Answers (Damaged place at)) w') → t.order.command ≡ Offset (At ts) → ⊥
+
+  -- a search is answered by an offset or by that there is none, by as many of its actor's turns as it has left, where nothing
+  -- stands in the way of them
+  abbrev pub UnhinderedAreFound : Type 0
+  UnhinderedAreFound = (opening : State) (w : Whole D S M) (a place : ℕ) (l : ActorList) (seat : Seat) (order : Order)
+      (ts : ℤ) (actors : List ℕ) (w' : Whole D S M) → IsCentral disk store meta opening w → SearchesKnown meta opening w
+      → IsNext w a place l seat order → order.command ≡ Offset (At ts)
+      → Runs disk store meta (IsUnhindered disk store meta place seat.number) w actors w'
+      → turns_left (Offset (At ts)) seat.work ≤ times a actors
+      → (answer : Answer) × IsFound answer × IsAnswered w' l.actor seat.number answer
+
+  -- over devices of which no call can fail that is where its broker leads on
+  abbrev pub UnfailingAreFound : Type 0
+  UnfailingAreFound = (opening : State) (w : Whole D S M) (a place : ℕ) (l : ActorList) (seat : Seat) (order : Order)
+      (ts : ℤ) (actors : List ℕ) (w' : Whole D S M) → IsCentral disk store meta opening w → SearchesKnown meta opening w
+      → IsUnfailing disk store meta w → IsNext w a place l seat order → order.command ≡ Offset (At ts)
+      → Runs disk store meta (IsFree disk store meta place seat.number) w actors w'
+      → turns_left (Offset (At ts)) seat.work ≤ times a actors
+      → (answer : Answer) × IsFound answer × IsAnswered w' l.actor seat.number answer
+
+  -- fewer of its turns are enough where its broker knows no high watermark past a mark at any of them
+  abbrev pub MarkedAreFound : Type 0
+  MarkedAreFound = (opening : State) (w : Whole D S M) (a place : ℕ) (l : ActorList) (seat : Seat) (order : Order)
+      (ts : ℤ) (mark : ℕ) (actors : List ℕ) (w' : Whole D S M) → IsCentral disk store meta opening w
+      → SearchesKnown meta opening w → IsNext w a place l seat order → order.command ≡ Offset (At ts)
+      → Runs disk store meta (λ v b u. IsUnhindered disk store meta place seat.number v b u × KnowsUpTo mark place seat.number v b u)
+      w actors w'
+      → search_left mark seat.work ≤ times a actors
+      → (answer : Answer) × IsFound answer × IsAnswered w' l.actor seat.number answer
 
   -- what a schedule reaches keeps what is known of what searches have found
   abbrev pub ReachesSearches : Type 0

@@ -1,12 +1,14 @@
 -- The laws of how many turns a command takes.
-use Rattle.std.specs.Prelude.{◌≡◌, ◌≢◌, ◌≤◌, ◌<◌, ℕ, List, slice_get}
+use Rattle.std.specs.Prelude.{◌≡◌, ◌≢◌, ◌≤◌, ◌<◌, ℕ, ℤ, List, slice_get}
 use Rattle.disk_model.specs.declared.disk.Disk.{Ghosts as DiskGhosts}
 use Rattle.object_store.specs.declared.store.Store.{Ghosts as StoreGhosts}
 use Rattle.meta_log.specs.declared.log.MetaLog.{Ghosts as MetaGhosts}
 use Rattle.plain_log.specs.declared.answer.Answer.{Answer}
 use Rattle.plain_log.specs.declared.command.ActorList.{ActorList}
+use Rattle.plain_log.specs.declared.command.Command.TheVariants.{Offset}
 use Rattle.plain_log.specs.declared.command.Order.{Order}
 use Rattle.plain_log.specs.declared.command.Pace.{Pace}
+use Rattle.plain_log.specs.declared.command.Which.TheVariants.{At}
 use Rattle.plain_log.specs.Orders.{AreRising}
 use Rattle.partition_world.specs.declared.seat.Outcome.{Outcome}
 use Rattle.partition_world.specs.declared.seat.Seat.{Seat}
@@ -14,8 +16,8 @@ use Rattle.partition_world.specs.Reaches.{Reaches}
 use Rattle.partition_world.specs.Seats.{seat_after, IsUnanswered}
 use Rattle.partition_world.specs.Turn.{IsNext, IsTurn}
 use Rattle.partition_world.specs.Whole.{Whole}
-use Rattle.command_answers.specs.Turns.{turns_left}
-use Rattle.command_answers.specs.Chains.{times, turns_in, IsAnswered, Runs}
+use Rattle.command_answers.specs.Turns.{turns_left, search_left}
+use Rattle.command_answers.specs.Chains.{times, turns_in, IsAnswered, KnowsUpTo, Runs}
 
 module _ {D S M : Type 0} (disk : DiskGhosts D) (store : StoreGhosts S) (meta : MetaGhosts M) where
   -- a turn that isn't its command's last leaves fewer to come
@@ -34,6 +36,13 @@ module _ {D S M : Type 0} (disk : DiskGhosts D) (store : StoreGhosts S) (meta : 
   CommandsAreAnswered = (w : Whole D S M) (a place : ℕ) (l : ActorList) (seat : Seat) (order : Order) (actors : List ℕ)
       (w' : Whole D S M) → AreRising w.lists → IsNext w a place l seat order
       → Runs disk store meta (λ v b u. Unit {0}) w actors w' → turns_left order.command seat.work ≤ times a actors
+      → (answer : Answer) × IsAnswered w' l.actor seat.number answer
+
+  -- a search by timestamp is so by fewer, where its broker knows no high watermark past a mark at any of them
+  abbrev pub SearchesAreAnswered : Type 0
+  SearchesAreAnswered = (w : Whole D S M) (a place : ℕ) (l : ActorList) (seat : Seat) (order : Order) (ts : ℤ) (mark : ℕ)
+      (actors : List ℕ) (w' : Whole D S M) → AreRising w.lists → IsNext w a place l seat order → order.command ≡ Offset (At ts)
+      → Runs disk store meta (KnowsUpTo mark place seat.number) w actors w' → search_left mark seat.work ≤ times a actors
       → (answer : Answer) × IsAnswered w' l.actor seat.number answer
 
   -- a schedule that gives its actor as many turns answers it

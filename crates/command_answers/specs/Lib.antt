@@ -15,6 +15,7 @@ pub mod CausesOfJoins
 pub mod UnhinderedJoins
 pub mod LawsOfJoins
 pub mod CausesOfOffsets
+pub mod UnhinderedSearches
 pub mod LawsOfOffsets
 pub mod LawsOfSearches
 pub mod Damage

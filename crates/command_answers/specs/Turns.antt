@@ -29,7 +29,8 @@
 --
 -- A search is a question for the offset of a timestamp. Its cursor rises by an offset at least where it has no piece: behind each
 -- piece, behind each run of the local log that it reads, and where it only passes over segments. So it takes 4 turns for each piece at
--- most and 1 for each such run; how many of them there are is the log's, which may grow while it goes on.
+-- most and 1 for each such run; how many of them there are is the log's, which may grow while it goes on. It ends once its cursor has
+-- come to the high watermark that its broker knows: so where that never passes a mark, the mark stands for 2^64 in the table.
 use Rattle.std.specs.Prelude.{ℕ, ◌+◌, ◌-◌, ◌*◌, ◌^◌}
 use Rattle.copy_task.specs.declared.turn.Next.{Next as Copying}
 use Rattle.copy_task.specs.declared.turn.Next.TheVariants as copying
@@ -95,9 +96,13 @@ dated_here (dating.Times piece) = 1
 dated_here (dating.Index piece from) = 2
 dated_here (dating.Log piece from span) = 3
 
--- of a search
+-- of a search that ends at a mark
+abbrev pub dating_left_to : ℕ → ℕ → Dating → ℕ
+dating_left_to mark cursor next = 1 + (4 * (mark - cursor) - dated_here next)
+
+-- of any search: an offset has 64 bits
 abbrev pub dating_left : ℕ → Dating → ℕ
-dating_left cursor next = 1 + (4 * (2 ^ 64 - cursor) - dated_here next)
+dating_left cursor next = dating_left_to (2 ^ 64) cursor next
 
 -- of a join
 abbrev pub rebuilding_left : Rebuild → ℕ
@@ -113,3 +118,10 @@ turns_left command (Seeks g next) = seeking_left next
 turns_left command (Dates g cursor next) = dating_left cursor next
 turns_left command (Expires g doomed next) = deleting_left next
 turns_left command (Rebuilds g next) = rebuilding_left next
+
+-- of a search of which so much is kept, whose broker knows no high watermark past a mark
+abbrev pub search_left : ℕ → Work → ℕ
+search_left mark Idle = 2 + 4 * mark
+search_left mark (Noted g) = 1 + 4 * mark
+search_left mark (Dates g cursor next) = dating_left_to mark cursor next
+search_left mark other = 1

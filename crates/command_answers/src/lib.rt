@@ -1,11 +1,12 @@
 //! What commands are answered, and in how many turns, as laws over definitions.
 //!
 //! They stand over the rows of a world's turns, and no code calls them but for the last. Over any devices a command is
-//! answered in so many turns of its actor, and what an answer to a question for an offset says is so; over devices that tell
-//! what they hold, what an answer to a copy, a fetch or a join says is so, one that nothing hinders is answered by what was
-//! asked for, and none is answered `Damaged`. Each fault of a device that a journal tells of is one that the device has
-//! counted, over any devices, also over those that don't tell what they hold, and whatever their counts of faults were at the
-//! start: no turn lowers a count, and a turn that is answered a fault of a device raises that device's.
+//! answered in so many turns of its actor, and what an answer to a question for an offset says is so; over devices
+//! that tell what they hold, what an answer to a copy, a fetch, a join or a search by timestamp says is so, one that
+//! nothing hinders is answered by what was asked for, and none is answered `Damaged`. Each fault of a device that a
+//! journal tells of is one that the device has counted, over any devices, also over those that don't tell what they
+//! hold, and whatever their counts of faults were at the start: no turn lowers a count, and a turn that is answered a
+//! fault of a device raises that device's.
 //!
 //! `specs/Turns.antt` has how many turns are left of a command; `specs/CausesOfCopies.antt`, `CausesOfFetches.antt`,
 //! `CausesOfJoins.antt` and `CausesOfOffsets.antt` why an answer is given, and `specs/Damage.antt` what a journal tells where
@@ -34,7 +35,10 @@ pub use fetch_laws::{
 pub use join_laws::{joins_have_causes, unhindered_are_joined};
 pub use offset_laws::offsets_have_causes;
 pub use search_laws::{
-    fresh_has_searches, no_search_is_damaged, reaches_searches, searches_tell_dates,
-    turns_keep_searches,
+    fresh_has_searches, marked_are_found, no_search_is_damaged, reaches_searches,
+    searches_tell_dates, turns_keep_searches, unfailing_are_found, unhindered_are_found,
 };
-pub use turn_laws::{commands_are_answered, others_stay, schedules_answer_commands, turns_go_on};
+pub use turn_laws::{
+    commands_are_answered, others_stay, schedules_answer_commands, searches_are_answered,
+    turns_go_on,
+};

@@ -2,6 +2,7 @@
 //! function that does nothing: calling it cites the law.
 
 ghost use Rattle.command_answers.specs.LawsOfSearches.{SearchesTellDates, NoSearchIsDamaged};
+ghost use Rattle.command_answers.specs.LawsOfSearches.{UnhinderedAreFound, UnfailingAreFound, MarkedAreFound};
 ghost use Rattle.command_answers.specs.LawsOfSearches.{ReachesSearches, TurnsKeepSearches, FreshHasSearches};
 
 use disk_model::Disk;
@@ -17,6 +18,22 @@ pub fn searches_tell_dates<D: Disk, S: Store, M: MetaLog>()
 /// No search is answered `Damaged` there.
 pub fn no_search_is_damaged<D: Disk, S: Store, M: MetaLog>()
     ensures { NoSearchIsDamaged D.Disk S.Store M.MetaLog }
+{}
+
+/// A search whose broker leads on, and that meets no fault, is answered `Offset` or `NoOffset`.
+pub fn unhindered_are_found<D: Disk, S: Store, M: MetaLog>()
+    ensures { UnhinderedAreFound D.Disk S.Store M.MetaLog }
+{}
+
+/// Over devices of which no call can fail a search is answered so where its broker leads on.
+pub fn unfailing_are_found<D: Disk, S: Store, M: MetaLog>()
+    ensures { UnfailingAreFound D.Disk S.Store M.MetaLog }
+{}
+
+/// A search that nothing hinders, and whose broker knows no high watermark past a mark, is answered so
+/// by two turns and four for each offset below that mark.
+pub fn marked_are_found<D: Disk, S: Store, M: MetaLog>()
+    ensures { MarkedAreFound D.Disk S.Store M.MetaLog }
 {}
 
 /// What a schedule reaches keeps what is known of what searches have found, beside the central fact.

@@ -2,7 +2,8 @@
 //! calling it cites the law.
 
 ghost use Rattle.command_answers.specs.LawsOfTurns.{TurnsGoOn, OthersStay};
-ghost use Rattle.command_answers.specs.LawsOfTurns.{CommandsAreAnswered, SchedulesAnswerCommands};
+ghost use Rattle.command_answers.specs.LawsOfTurns.{CommandsAreAnswered, SearchesAreAnswered};
+ghost use Rattle.command_answers.specs.LawsOfTurns.{SchedulesAnswerCommands};
 
 use disk_model::Disk;
 use meta_log::MetaLog;
@@ -22,6 +23,12 @@ pub fn others_stay<D: Disk, S: Store, M: MetaLog>()
 /// do, and whatever turns of other actors come between.
 pub fn commands_are_answered<D: Disk, S: Store, M: MetaLog>()
     ensures { CommandsAreAnswered D.Disk S.Store M.MetaLog }
+{}
+
+/// A search by timestamp whose broker knows no high watermark past a mark is answered by two turns
+/// and four for each offset below that mark, whatever the devices do.
+pub fn searches_are_answered<D: Disk, S: Store, M: MetaLog>()
+    ensures { SearchesAreAnswered D.Disk S.Store M.MetaLog }
 {}
 
 /// A schedule that gives its actor as many turns answers a command.
