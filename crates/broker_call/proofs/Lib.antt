@@ -1,3 +1,4 @@
+mod Audited
 mod Numerals
 mod Refusing
 mod Running

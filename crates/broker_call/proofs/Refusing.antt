@@ -1,15 +1,14 @@
 -- What a script without a reading comes to.
-use Rattle.std.proofs.Common.{◌≡◌, ◌≢◌, ◌∙◌, sym, ap, subst, refl, ℕ, ◌+◌, ◌≤◌, List, length, Some, None, Ok, Err, Option, ◌++◌, append-nil, arith}
+use Rattle.std.proofs.Common.{◌≡◌, ◌∙◌, sym, ap, subst, refl, ℕ, ◌+◌, ◌≤◌, List, length, Some, None, Err, Option, ◌++◌, append-nil, arith}
 use Rattle.std.specs.Prelude.{IsOk}
-use Rattle.tier_base.specs.Counts.{counted, Rose}
+use Rattle.tier_base.specs.Counts.{counted}
 use Rattle.tier_base.specs.Stream.{ReadsWhole}
 use Rattle.tier_base.specs.declared.stream.Source.{Ghosts as SourceGhosts}
 use Rattle.tier_base.specs.declared.stream.Sink.{Ghosts as SinkGhosts}
 use Rattle.script_lang.specs.declared.refusal.Why.{Why}
 use Rattle.script_lang.specs.Script.{script_in}
-use Rattle.broker_call.specs.declared.status.Status.{Status}
 use Rattle.broker_call.specs.declared.status.Status.TheVariants.{BadScript}
-use Rattle.broker_call.specs.Endings.{Simulates, IsDoneOrNoMemory, IsRefusedOrNoMemory, script_limit}
+use Rattle.broker_call.specs.Endings.{Simulates, script_limit}
 
 -- a source that was read whole gave all that it had
 whole : (old new : Option (List ℕ)) (bytes b : List ℕ) → ReadsWhole old new bytes → old ≡ Some b → b ≡ bytes

@@ -11,10 +11,10 @@ use Rattle.script_lang.specs.declared.script.PartScript.{PartScript}
 use Rattle.script_lang.specs.declared.script.Script.{Script}
 use Rattle.script_lang.specs.Fit.{IsFit}
 use Rattle.script_lang.specs.Script.{script_in}
-use Rattle.trace_text.specs.Trace.{journal_text, trace_of}
-use Rattle.thread_run.specs.Traced.{IsPart, IsRunByThreads, IsThreadedRun}
+use Rattle.trace_text.specs.Trace.{journal_text}
+use Rattle.thread_run.specs.Traced.{IsPart, IsRunByThreads}
 use Rattle.broker_call.specs.Headline.{IsTrace, IsTraceByThreads, AreRunsOf, AreRunsByThreads}
-use Rattle.broker_call.specs.Threads.{AddsThreadedRun, IsTextByThreads, IsSoFarByThreads}
+use Rattle.broker_call.specs.Threads.{AddsThreadedRun, IsSoFarByThreads}
 use Rattle.broker_call.proofs.Running.{trace_snoc}
 
 -- two readings of the same bytes are the same

@@ -1,7 +1,7 @@
 -- The headline: whatever the script, the written trace is a run of the plain log, and a load's summary tells of such runs.
 --
 -- The brokers' logs stand on disks, and what they copy in a remote store, with notes in a metadata log.
-use Rattle.std.specs.Prelude.{◌≡◌, ℕ, false, List, [], ◌∷◌, Some, Ok, Err}
+use Rattle.std.specs.Prelude.{◌≡◌, ℕ, List, [], ◌∷◌, Some, Ok, Err}
 use Rattle.std.specs.declared.option.Option.{Option}
 use Rattle.std.specs.Io.KnownBytes.{Appends}
 use Rattle.tier_base.specs.Stream.{ReadsWhole, AppendsFront}

@@ -5,3 +5,4 @@ pub mod Threads
 pub mod Telling
 pub mod Endings
 pub mod Yards
+pub mod Rounds

@@ -4,6 +4,8 @@
 --   sim --threads   the same, with a thread for each actor
 --   run DIR         reads a script, runs it over the devices of a folder, and writes the trace
 --   gen N           runs the script of the number N, and writes the summary
+--   audit DIR       audits the remote tier of each partition in a folder, and writes what was found
+--   sweep DIR       sweeps the remote tier of each partition in a folder, and writes how much went
 --
 -- N = "0" / nonzero-digit *digit, at most 4294967295
 use Rattle.std.specs.Prelude.{ℕ, ◌==◌, ◌&&◌, bytes_eq, ◌^◌, nat_lt, not, if◌then◌else◌, Bool, true, false, List, [], ◌∷◌, map, codes, string_bytes, String, Option, Some, None, option_map}
@@ -12,7 +14,7 @@ use Rattle.std.specs.Char.{is_ascii_digit}
 use Rattle.std.specs.List.{list_all}
 use Rattle.std.specs.Str.Parse.{digits_value}
 use Rattle.broker_call.specs.declared.words.Form.{Form}
-use Rattle.broker_call.specs.declared.words.Form.TheVariants.{Sim, Threads, Run, Gen}
+use Rattle.broker_call.specs.declared.words.Form.TheVariants.{Sim, Threads, Run, Gen, Audit, Sweep}
 
 -- there is a digit, and no leading zero
 abbrev pub is_shortest : List ℕ → Bool
@@ -34,7 +36,10 @@ form_in (word ∷ []) = if bytes_eq word (codes "sim") then Some Sim else None
 form_in (word ∷ second ∷ []) =
     if bytes_eq word (codes "sim") && bytes_eq second (codes "--threads")
     then Some Threads
-    else if bytes_eq word (codes "run") then Some Run else if bytes_eq word (codes "gen") then option_map Gen (number_of second) else None
+    else if bytes_eq word (codes "run") then Some Run
+    else if bytes_eq word (codes "audit") then Some Audit
+    else if bytes_eq word (codes "sweep") then Some Sweep
+    else if bytes_eq word (codes "gen") then option_map Gen (number_of second) else None
 form_in other = None
 
 -- the form of the words

@@ -12,6 +12,10 @@ usage:
                   metadata log become files of it
   tiered gen N    runs the load of number N, from 0 to 4294967295, and writes how often each command was answered
                   in which way, and where each partition ended
+  tiered audit DIR
+                  audits the remote tier of each partition in the folder DIR, and writes what it found
+  tiered sweep DIR
+                  takes away what copies and deletions that were never finished left in the remote tiers there
   tiered --help
   tiered --version
 
@@ -25,6 +29,7 @@ exit status:
   7  the script has more than 16777216 bytes
   8  the folder failed
   9  something stands in the folder
+  10 a remote tier isn't sound
 
 documents:
   README.md       what the program does, and what is proved of it

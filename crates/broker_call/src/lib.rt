@@ -1,14 +1,15 @@
-//! The call that the program makes: for the words `sim`, `sim --threads`, `run` and `gen`.
+//! The call that the program makes: for the words `sim`, `sim --threads`, `run`, `gen`, `audit` and `sweep`.
 //!
 //! `tiered` has the headline as its clauses. A script is read (`script_lang`), each of its partitions is run in a world of its
 //! own, over devices in memory (`memory_run`) or over a yard's (`run`), and the trace of the journals is written (`sim`); the
-//! script of a number is run so too, and summed up (`load`). Words, statuses and what explains a refused line stand beside it.
+//! script of a number is run so too, and summed up (`load`). The remote tiers of a yard are audited and swept (`rounds`). Words, statuses and what explains a refused line stand beside it.
 #![tactic(auto)]
 
 mod by_threads;
 mod explaining;
 mod help;
 mod load;
+mod rounds;
 mod run;
 mod sim;
 mod status;

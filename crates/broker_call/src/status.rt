@@ -3,7 +3,7 @@
 use script_lang::Why;
 use std::alloc::{AllocError, Global};
 use std::str;
-use tier_base::Blob;
+use tier_base::{Blob, PartitionId};
 
 /// How a call ends. The tests are made in this order: words, source, length, script, yard, sink.
 #[derive(Debug, Drop)]
@@ -26,6 +26,8 @@ pub enum Status {
     YardFault,
     /// Something stands in the yard, and this is the first name of it in the order of bytes.
     NotEmpty { name: Blob },
+    /// The remote tier of this partition, the first such, isn't sound, and the audit was written all the same.
+    Unsound { partition: PartitionId },
 }
 
 impl Status {
@@ -41,6 +43,7 @@ impl Status {
             Status::TooLong => 7,
             Status::YardFault => 8,
             Status::NotEmpty { .. } => 9,
+            Status::Unsound { .. } => 10,
         }
     }
 
@@ -50,7 +53,7 @@ impl Status {
             Status::Ok => Ok(String::new(alloc)),
             Status::Usage => String::from_str(
                 alloc,
-                "tiered: usage: tiered sim [--threads] or run DIR or gen N\n",
+                "tiered: usage: tiered sim [--threads] or run DIR or gen N or audit DIR or sweep DIR\n",
             ),
             Status::BadScript { line, why } => format!(in alloc; "tiered: line {line}: {why}\n"),
             Status::ReadFault => String::from_str(alloc, "tiered: read fault\n"),
@@ -59,6 +62,10 @@ impl Status {
             Status::TooLong => String::from_str(alloc, "tiered: script over 16777216 bytes\n"),
             Status::YardFault => String::from_str(alloc, "tiered: folder fault\n"),
             Status::NotEmpty { name } => not_empty(alloc, name.as_slice()),
+            Status::Unsound { partition } => {
+                let partition = partition.0;
+                format!(in alloc; "tiered: partition {partition} unsound\n")
+            }
         }
     }
 }

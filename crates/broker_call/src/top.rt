@@ -5,10 +5,12 @@ ghost use Rattle.broker_call.specs.declared.words.Form.{Form};
 ghost use Rattle.broker_call.specs.Words.{form_of as form_is};
 ghost use Rattle.broker_call.specs.Headline.{IsTrace, IsTraceByThreads};
 ghost use Rattle.broker_call.specs.Endings.{Simulates, Generates};
+ghost use Rattle.broker_call.specs.Rounds.{AuditsYard, SweepsYard};
 ghost use Rattle.broker_call.specs.Yards.{RunsInYard};
 
 use crate::by_threads::simulate_by_threads;
 use crate::load::generate;
+use crate::rounds::{audit, sweep};
 use crate::run::run;
 use crate::sim::simulate;
 use crate::status::Status;
@@ -46,7 +48,16 @@ pub fn tiered<H: AllocGlobal + Threads + Wait + Sync, R: Source, Y: Yard, W: Sin
     ensures runs { form_is words.now ≡ Some Form.Run
         → RunsInYard Y.D.Disk Y.S.Store Y.M.MetaLog R.Source W.Sink script.old script.new
         (Y.held yard.old) (Y.held yard.new) (Y.control yard.old) (Y.control yard.new) out.old out.new result }
-    ensures yard { form_is words.now ≢ Some Form.Run → yard.new ≡ yard.old }
+
+    // The remote tier of each partition in a yard is audited, or swept, and what was found or went is written.
+    ensures audits { form_is words.now ≡ Some Form.Audit
+        → AuditsYard Y.D.Disk Y.S.Store Y.M.MetaLog W.Sink (Y.held yard.old) (Y.held yard.new)
+        (Y.control yard.old) (Y.control yard.new) out.old out.new result }
+    ensures sweeps { form_is words.now ≡ Some Form.Sweep
+        → SweepsYard Y.D.Disk Y.S.Store Y.M.MetaLog W.Sink (Y.held yard.old) (Y.held yard.new)
+        (Y.control yard.old) (Y.control yard.new) out.old out.new result }
+    ensures yard { form_is words.now ≢ Some Form.Run → form_is words.now ≢ Some Form.Audit → form_is words.now ≢ Some Form.Sweep
+        → yard.new ≡ yard.old }
 
     // The script of a number is run, and what its journals come to is written.
     ensures generates { (number : ℕ) → form_is words.now ≡ Some (Form.Gen number)
@@ -80,7 +91,14 @@ pub fn tiered_in_order<H: AllocGlobal, R: Source, Y: Yard, W: Sink>(
     ensures runs { form_is words.now ≡ Some Form.Run
         → RunsInYard Y.D.Disk Y.S.Store Y.M.MetaLog R.Source W.Sink script.old script.new
         (Y.held yard.old) (Y.held yard.new) (Y.control yard.old) (Y.control yard.new) out.old out.new result }
-    ensures yard { form_is words.now ≢ Some Form.Run → yard.new ≡ yard.old }
+    ensures audits { form_is words.now ≡ Some Form.Audit
+        → AuditsYard Y.D.Disk Y.S.Store Y.M.MetaLog W.Sink (Y.held yard.old) (Y.held yard.new)
+        (Y.control yard.old) (Y.control yard.new) out.old out.new result }
+    ensures sweeps { form_is words.now ≡ Some Form.Sweep
+        → SweepsYard Y.D.Disk Y.S.Store Y.M.MetaLog W.Sink (Y.held yard.old) (Y.held yard.new)
+        (Y.control yard.old) (Y.control yard.new) out.old out.new result }
+    ensures yard { form_is words.now ≢ Some Form.Run → form_is words.now ≢ Some Form.Audit → form_is words.now ≢ Some Form.Sweep
+        → yard.new ≡ yard.old }
     ensures generates { (number : ℕ) → form_is words.now ≡ Some (Form.Gen number)
         → Generates ⟦<MemoryDisk as Disk>⟧ ⟦<MemoryStore as Store>⟧ ⟦<MemoryLog as MetaLog>⟧ W.Sink
         number out.old out.new result }
@@ -93,5 +111,7 @@ pub fn tiered_in_order<H: AllocGlobal, R: Source, Y: Yard, W: Sink>(
         Some(Form::Sim) => simulate(rt.alloc(), script, out),
         Some(Form::Run) => run(rt.alloc(), script, yard, out),
         Some(Form::Gen(number)) => generate(rt.alloc(), number, out),
+        Some(Form::Audit) => audit(rt.alloc(), yard, out),
+        Some(Form::Sweep) => sweep(rt.alloc(), yard, out),
     }
 }

@@ -16,6 +16,10 @@ pub enum Form {
     Run,
     /// `gen N`: the script of a number is run, and its summary is written.
     Gen(u32),
+    /// `audit DIR`: the remote tier of each partition in a folder is audited, and what was found is written.
+    Audit,
+    /// `sweep DIR`: the remote tier of each partition in a folder is swept, and how much went is written.
+    Sweep,
 }
 
 /// Whether each byte is a digit.
@@ -57,12 +61,14 @@ pub fn form_of(words: &[String]) -> Option<Form>
             Form::Threads,
         ),
         [word, _] if word.as_str() == "run" => Some(Form::Run),
+        [word, _] if word.as_str() == "audit" => Some(Form::Audit),
+        [word, _] if word.as_str() == "sweep" => Some(Form::Sweep),
         [word, number] if word.as_str() == "gen" => Some(Form::Gen(number_of(number.as_str())?)),
         _ => None,
     }
 }
 
-/// The folder that the words of `run` name. Other words are asked for it too, and nothing of it is touched then.
+/// The folder that the words of `run`, `audit` and `sweep` name. Other words are asked for it too, and nothing of it is touched then.
 pub fn folder(words: &[String]) -> &str {
     match words.get(1) {
         Some(word) => word.as_str(),

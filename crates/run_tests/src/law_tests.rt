@@ -1,7 +1,9 @@
-//! Laws of what fetches are answered, called once each over devices in memory.
+//! Laws of what fetches and searches by timestamp are answered, called once each over devices in memory.
 
 use command_answers::{
-    fetches_have_causes, fresh_has_spans, turns_keep_spans, unfailing_are_served,
+    fetches_have_causes, fresh_has_searches, fresh_has_spans, marked_are_found,
+    no_search_is_damaged, searches_are_answered, searches_tell_dates, turns_keep_searches,
+    turns_keep_spans, unfailing_are_found, unfailing_are_served, unhindered_are_found,
     unhindered_are_served,
 };
 use disk_model::MemoryDisk;
@@ -15,4 +17,16 @@ fn fetches_over_devices_in_memory_are_served() {
     fetches_have_causes::<MemoryDisk, MemoryStore, MemoryLog>();
     unhindered_are_served::<MemoryDisk, MemoryStore, MemoryLog>();
     unfailing_are_served::<MemoryDisk, MemoryStore, MemoryLog>();
+}
+
+#[test]
+fn searches_over_devices_in_memory_are_found() {
+    fresh_has_searches::<MemoryDisk, MemoryStore, MemoryLog>();
+    turns_keep_searches::<MemoryDisk, MemoryStore, MemoryLog>();
+    searches_tell_dates::<MemoryDisk, MemoryStore, MemoryLog>();
+    no_search_is_damaged::<MemoryDisk, MemoryStore, MemoryLog>();
+    unhindered_are_found::<MemoryDisk, MemoryStore, MemoryLog>();
+    unfailing_are_found::<MemoryDisk, MemoryStore, MemoryLog>();
+    searches_are_answered::<MemoryDisk, MemoryStore, MemoryLog>();
+    marked_are_found::<MemoryDisk, MemoryStore, MemoryLog>();
 }

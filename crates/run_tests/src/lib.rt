@@ -1,5 +1,5 @@
 //! Tests of the program's call: scripts and their traces, what the documents show, statuses, faults of the source and the
-//! sink, runs by threads and over a yard, and laws that are generic over the devices.
+//! sink, runs by threads and over a yard, audits and sweeps of a folder, and laws that are generic over the devices.
 //!
 //! They stand apart from the crates that they test, since a crate is proved anew where its tests are built.
 #![tactic(auto)]
@@ -8,6 +8,8 @@
 mod broker_tests;
 #[cfg(test)]
 mod law_tests;
+#[cfg(test)]
+mod round_tests;
 #[cfg(test)]
 mod shown;
 #[cfg(test)]

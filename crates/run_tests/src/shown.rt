@@ -34,14 +34,14 @@ pub(crate) static SHELL: [(&[&str], &[(u32, &str)], u8, &str, &str); 6] = [
         &[],
         &[],
         2,
-        "tiered: usage: tiered sim [--threads] or run DIR or gen N\nfor example: tiered sim < examples/first.script\ntiered --help tells more\n",
+        "tiered: usage: tiered sim [--threads] or run DIR or gen N or audit DIR or sweep DIR\nfor example: tiered sim < examples/first.script\ntiered --help tells more\n",
         "",
     ),
     (
         &["gen", "01"],
         &[],
         2,
-        "tiered: usage: tiered sim [--threads] or run DIR or gen N\nfor example: tiered sim < examples/first.script\ntiered --help tells more\n",
+        "tiered: usage: tiered sim [--threads] or run DIR or gen N or audit DIR or sweep DIR\nfor example: tiered sim < examples/first.script\ntiered --help tells more\n",
         "",
     ),
     (

@@ -6,7 +6,7 @@ use broker_call::{Form, Status, Why, explained, folder, form_of, printed, tiered
 use folder_yard::FolderYard;
 use std::alloc::{AllocError, Global};
 use std::fs;
-use tier_base::{Blob, MemorySink, MemorySource};
+use tier_base::{Blob, MemorySink, MemorySource, PartitionId};
 
 /// Adds a word.
 fn add(alloc: Global, words: &mut Vec<String>, word: &str) -> bool {
@@ -374,7 +374,7 @@ static STATUSES: [(&[&str], &str, &[u32], &str, &str, u8); 7] = [
         &["sim", "x"],
         "0 0 0 flush\n",
         &[],
-        "tiered: usage: tiered sim [--threads] or run DIR or gen N\n",
+        "tiered: usage: tiered sim [--threads] or run DIR or gen N or audit DIR or sweep DIR\n",
         "",
         2,
     ),
@@ -420,7 +420,10 @@ fn status(alloc: Global, number: u8) -> Option<Status> {
         6 => Some(Status::NoMemory),
         7 => Some(Status::TooLong),
         8 => Some(Status::YardFault),
-        _ => named(alloc),
+        9 => named(alloc),
+        _ => Some(Status::Unsound {
+            partition: PartitionId(3),
+        }),
     }
 }
 
@@ -440,11 +443,11 @@ fn told(alloc: Global, number: u8, line: &str) -> Option<(u8, bool)> {
 }
 
 /// The number and the line of each status.
-static LINES: [(u8, &str); 9] = [
+static LINES: [(u8, &str); 10] = [
     (0, ""),
     (
         2,
-        "tiered: usage: tiered sim [--threads] or run DIR or gen N\n",
+        "tiered: usage: tiered sim [--threads] or run DIR or gen N or audit DIR or sweep DIR\n",
     ),
     (3, "tiered: line 12: Unbuilt\n"),
     (4, "tiered: read fault\n"),
@@ -453,6 +456,7 @@ static LINES: [(u8, &str); 9] = [
     (7, "tiered: script over 16777216 bytes\n"),
     (8, "tiered: folder fault\n"),
     (9, "tiered: folder not empty: x\n"),
+    (10, "tiered: partition 3 unsound\n"),
 ];
 
 /// The number of the first status that has another number or line.
@@ -516,8 +520,11 @@ fn a_kept_script_is_explained(rt: HostRuntime) {
 }
 
 /// Words, and the form that they have.
-static FORMS: [(&[&str], Option<Form>); 15] = [
+static FORMS: [(&[&str], Option<Form>); 18] = [
     (&["sim"], Some(Form::Sim)),
+    (&["audit", "d"], Some(Form::Audit)),
+    (&["sweep", "d"], Some(Form::Sweep)),
+    (&["sweep"], None),
     (&["run", "d"], Some(Form::Run)),
     (&["run"], None),
     (&["run", "d", "e"], None),

@@ -1,4 +1,4 @@
-use Rattle.std.proofs.Common.{◌∙◌, ap, subst, ◌≡◌, List, ℕ, ◌++◌}
+use Rattle.std.proofs.Common.{◌∙◌, ap, List, ℕ, ◌++◌}
 use Rattle.std.proofs.lemmas.Result.{IfOk-weaker}
 use Rattle.tier_base.specs.declared.names.PartitionId.{PartitionId}
 use Rattle.trace_text.specs.Trace.{journal_text}

@@ -1,7 +1,6 @@
-use Rattle.std.proofs.Common.{◌≡◌, ◌∙◌, sym, ap, refl, ℕ, ◌+◌, List, [], ◌∷◌, ◌++◌, length, arith}
+use Rattle.std.proofs.Common.{◌≡◌, ◌∙◌, sym, ◌+◌, [], ◌∷◌, ◌++◌, length, arith}
 use Rattle.std.specs.Prelude.{vec_len}
 use Rattle.std.proofs.lemmas.List.{length-append}
-use Rattle.script_lang.specs.declared.script.PartScript.{PartScript}
 use Rattle.broker_call.proofs.Threaded.{part_behind, all_behind}
 use Rattle.broker_call.proofs.by_threads.all_begun.Goals as goal
 

@@ -1,4 +1,4 @@
-use Rattle.std.proofs.Common.{◌≡◌, ◌∙◌, ap, sym, Err, subst, List, ℕ}
+use Rattle.std.proofs.Common.{◌≡◌, ◌∙◌, ap, sym, Err}
 use Rattle.script_lang.specs.Script.{script_in}
 use Rattle.memory_run.proofs.MemoryDevices.{disk, store, meta}
 use Rattle.broker_call.specs.Headline.{IsTraceByThreads}

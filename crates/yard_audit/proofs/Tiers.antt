@@ -1,0 +1,131 @@
+-- Tiers as they are handed out, rest, and come back.
+use Rattle.std.proofs.Common.{◌≡◌, ◌≢◌, ◌⊎◌, inl, inr, ◌∙◌, sym, ap, refl, ℕ, ◌==◌, ◌<◌, Bool, true, false, Option, Some, None, arith}
+use Rattle.std.proofs.lemmas.Bool.Decides.{Decides-eqb}
+use Rattle.tier_base.specs.declared.names.PartitionId.{PartitionId}
+use Rattle.tier_base.specs.declared.object_key.ObjectKey.{ObjectKey}
+use Rattle.tier_base.specs.declared.plain.FileName.{FileName}
+use Rattle.std.specs.Prelude.{OnErr, Ok, Err}
+use Rattle.std.specs.declared.result.Result.{Result}
+use Rattle.tier_base.specs.Counts.{Rose}
+use Rattle.device_yard.specs.Control.{Control}
+use Rattle.disk_model.specs.Content as disk
+use Rattle.object_store.specs.Content as store
+use Rattle.meta_log.specs.Content as log
+use Rattle.device_yard.specs.Held.{Held, Same, Both, HandsStore, HandsLog}
+use Rattle.tier_sweep.specs.Sweeping.{Tier, tier_of}
+use Rattle.yard_audit.specs.Tiers.{file_on, object_on, notes_on, HoldsTier, AllRest, TierIs, IsBack}
+
+-- partitions of one number are one
+pub same_partition : (p q : PartitionId) → p.0 ≡ q.0 → p ≡ q
+same_partition p q is = let id : ℕ → PartitionId = λ n. record { 0 = n } in ap id is
+
+-- a partition is another one or not
+pub is_or_not : (p q : PartitionId) → (p ≡ q) ⊎ (p ≢ q)
+is_or_not p q = by_number (p.0 == q.0) refl
+  where
+    by_number : (b : Bool) → (p.0 == q.0) ≡ b → (p ≡ q) ⊎ (p ≢ q)
+    by_number true is = inl (same_partition p q ((Decides-eqb p.0 q.0).0 is))
+    by_number false is = inr (λ same. let yes = (Decides-eqb p.0 q.0).1 (ap (λ (r : PartitionId). r.0) same) in cc)
+
+-- one of a lesser number is another one
+pub below_is_other : (p q : PartitionId) → p.0 < q.0 → p ≢ q
+below_is_other p q less same = absurd (let is = ap (λ (r : PartitionId). r.0) same in omega (arith, less, is))
+
+-- what holds anyway holds of an error
+pub on_err : {T E : Type 0} (r : Result T E) (P : Type 0) → P → OnErr r P
+on_err (Ok x) P holds = record {}
+on_err (Err e) P holds = holds
+
+-- counts of a yard that go on
+pub back_then : (c0 c c' : Control) → IsBack c0 c → IsBack c c' → IsBack c0 c'
+back_then c0 c c' a b = record {
+  never_falls = (let f = a.never_falls in let g = b.never_falls in omega (arith, f, g));
+  named = b.named ∙ a.named;
+  out = b.out ∙ a.out;
+}
+
+pub rose_then : (c0 c c' : Control) → IsBack c0 c → Rose c.faults c'.faults → Rose c0.faults c'.faults
+rose_then c0 c c' a rose = let f = a.never_falls in omega (arith, f, rose)
+
+module _ {S : Type 0} (objects : S → store.Content) where
+  -- what is handed out has what was held
+  pub handed_objects : (held : Option S) (c : store.Content) → HandsStore objects held c → (key : ObjectKey) → c.objects key ≡ object_on objects held key
+  handed_objects None c gives key = gives.objects key
+  handed_objects (Some s) c gives key = gives.objects key
+
+  pub same_objects : (a b : Option S) → Both (λ s t. store.Keeps (objects s) (objects t)) a b → (key : ObjectKey) → object_on objects b key ≡ object_on objects a key
+  same_objects None None both key = refl
+  same_objects None (Some t) both key = absurd both
+  same_objects (Some s) None both key = absurd both
+  same_objects (Some s) (Some t) both key = both.objects key
+
+module _ {M : Type 0} (notes : M → log.Content) where
+  pub handed_notes : (held : Option M) (c : log.Content) → HandsLog notes held c → c.notes ≡ notes_on notes held
+  handed_notes None c gives = gives.notes
+  handed_notes (Some m) c gives = gives.notes
+
+  pub same_notes : (a b : Option M) → Both (λ m n. log.Keeps (notes m) (notes n)) a b → notes_on notes b ≡ notes_on notes a
+  same_notes None None both = refl
+  same_notes None (Some n) both = absurd both
+  same_notes (Some m) None both = absurd both
+  same_notes (Some m) (Some n) both = both.notes
+
+module _ {D : Type 0} (files : D → disk.Content) where
+  pub same_files : (a b : Option D) → Both (λ d e. disk.Keeps (files d) (files e)) a b → (name : FileName) → file_on files b name ≡ file_on files a name
+  same_files None None both name = refl
+  same_files None (Some e) both name = absurd both
+  same_files (Some d) None both name = absurd both
+  same_files (Some d) (Some e) both name = both.files name
+
+module _ {D S M : Type 0} (files : D → disk.Content) (objects : S → store.Content) (notes : M → log.Content) where
+  -- a call that changes nothing
+  pub same_rests : (old new : Held D S M) → Same files objects notes old new → AllRest files objects notes old new
+  same_rests old new same = record {
+    objects_rest = λ p. same_objects objects (old.stores p) (new.stores p) (same.stores p);
+    notes_rest = λ p. same_notes notes (old.logs p) (new.logs p) (same.logs p);
+    disks_rest = λ p b. same_files files (old.disks p b) (new.disks p b) (same.disks p b);
+  }
+
+  pub rests_none : (h : Held D S M) → AllRest files objects notes h h
+  rests_none h = record { objects_rest = λ p key. refl; notes_rest = λ p. refl; disks_rest = λ p b name. refl }
+
+  pub rests_then : (h0 h h' : Held D S M) → AllRest files objects notes h0 h → AllRest files objects notes h h' → AllRest files objects notes h0 h'
+  rests_then h0 h h' a b = record {
+    objects_rest = λ p key. b.objects_rest p key ∙ a.objects_rest p key;
+    notes_rest = λ p. b.notes_rest p ∙ a.notes_rest p;
+    disks_rest = λ p k name. b.disks_rest p k name ∙ a.disks_rest p k name;
+  }
+
+  -- the tier that is handed out is the one that is held
+  pub handed_tier : (held : Held D S M) (p : PartitionId) (s : S) (m : M) → HandsStore objects (held.stores p) (objects s) → HandsLog notes (held.logs p) (notes m)
+      → HoldsTier objects notes held p (tier_of (objects s) (notes m))
+  handed_tier held p s m gives says = record {
+    objects_are = handed_objects objects (held.stores p) (objects s) gives;
+    notes_are = handed_notes notes (held.logs p) (notes m) says;
+  }
+
+  -- the tier that comes back is the one that is held then
+  pub back_tier : (old new : Held D S M) (p : PartitionId) (s : S) (m : M) → TierIs p (Some s) (Some m) old new
+      → HoldsTier objects notes new p (tier_of (objects s) (notes m))
+  back_tier old new p s m is = record {
+    objects_are = λ key. sym (ap (λ (held : Option S). object_on objects held key) is.store_is);
+    notes_are = sym (ap (λ (held : Option M). notes_on notes held) is.log_is);
+  }
+
+  -- a tier that rests is the same one
+  pub held_still : (old new : Held D S M) (p : PartitionId) (tier : Tier)
+      → ((key : ObjectKey) → object_on objects (new.stores p) key ≡ object_on objects (old.stores p) key) → notes_on notes (new.logs p) ≡ notes_on notes (old.logs p)
+      → HoldsTier objects notes old p tier → HoldsTier objects notes new p tier
+  held_still old new p tier objects_rest notes_rest holds = record {
+    objects_are = λ key. holds.objects_are key ∙ sym (objects_rest key);
+    notes_are = holds.notes_are ∙ sym notes_rest;
+  }
+
+  -- and it was so before
+  pub held_before : (old new : Held D S M) (p : PartitionId) (tier : Tier)
+      → ((key : ObjectKey) → object_on objects (new.stores p) key ≡ object_on objects (old.stores p) key) → notes_on notes (new.logs p) ≡ notes_on notes (old.logs p)
+      → HoldsTier objects notes new p tier → HoldsTier objects notes old p tier
+  held_before old new p tier objects_rest notes_rest holds = record {
+    objects_are = λ key. holds.objects_are key ∙ objects_rest key;
+    notes_are = holds.notes_are ∙ notes_rest;
+  }

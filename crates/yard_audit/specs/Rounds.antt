@@ -1,0 +1,58 @@
+-- What a round over the partitions of a yard finds, and what it leaves.
+use Rattle.std.specs.Prelude.{◌↔◌, ℕ, List, map, IsTrue}
+use Rattle.std.specs.List.{AllByRecursion}
+use Rattle.tier_base.specs.declared.names.PartitionId.{PartitionId}
+use Rattle.tier_base.specs.Told.{In}
+use Rattle.disk_model.specs.Content as disk
+use Rattle.object_store.specs.Content as store
+use Rattle.meta_log.specs.Content as log
+use Rattle.remote_view.specs.Fold.{fold}
+use Rattle.device_yard.specs.Held.{Held, IsUsed, Rise}
+use Rattle.tier_audit.specs.declared.verdict.Verdict.{Verdict}
+use Rattle.tier_audit.specs.Flaws.{IsVerdict}
+use Rattle.tier_sweep.specs.Sweeping.{Tier, IsSwept, IsUnderSweep}
+use Rattle.yard_audit.specs.Tiers.{HoldsTier, DisksRest}
+
+-- the partitions of what was found
+abbrev pub partitions_of : {A : Type 0} → List (PartitionId × A) → List PartitionId
+partitions_of found = map (λ one. one.0) found
+
+module _ {D S M : Type 0} (objects : S → store.Content) (notes : M → log.Content) where
+  -- the verdict is right of the partition's tier
+  pub record IsAudited (held : Held D S M) (found : PartitionId × Verdict) : Type 0 where
+    pub tier : Tier
+    pub held_so : HoldsTier objects notes held found.0 tier
+    pub is : IsVerdict tier.objects (fold tier.notes) found.1
+
+  -- a sweep of the partition's tier took so many objects away
+  pub record IsSweptIn (old new : Held D S M) (found : PartitionId × ℕ) : Type 0 where
+    pub before : Tier
+    pub after : Tier
+    pub held_so : HoldsTier objects notes old found.0 before
+    pub left_so : HoldsTier objects notes new found.0 after
+    pub is : IsSwept before after found.1
+
+  -- a sweep of the partition's tier has come so far, or hasn't begun
+  pub record IsUnderSweepIn (old new : Held D S M) (p : PartitionId) : Type 0 where
+    pub before : Tier
+    pub after : Tier
+    pub held_so : HoldsTier objects notes old p before
+    pub left_so : HoldsTier objects notes new p after
+    pub is : IsUnderSweep before after
+
+module _ {D S M : Type 0} (files : D → disk.Content) (objects : S → store.Content) (notes : M → log.Content) where
+  -- these are the partitions of which something stands, in rising order
+  pub record AreAll (held : Held D S M) (list : List PartitionId) : Type 0 where
+    pub rise : Rise list
+    pub used : IsTrue held.tells → (p : PartitionId) → IsUsed files objects notes held p ↔ In p list
+
+  -- each partition has its verdict, and each verdict is right
+  pub record AreAudited (held : Held D S M) (found : List (PartitionId × Verdict)) : Type 0 where
+    pub all : AreAll held (partitions_of found)
+    pub right : IsTrue held.tells → AllByRecursion (IsAudited objects notes held) found
+
+  -- the tier of each partition was swept, and each disk is as it was
+  pub record AreSwept (old new : Held D S M) (found : List (PartitionId × ℕ)) : Type 0 where
+    pub all : AreAll old (partitions_of found)
+    pub swept : IsTrue old.tells → AllByRecursion (IsSweptIn objects notes old new) found
+    pub disks : IsTrue old.tells → DisksRest files old new
