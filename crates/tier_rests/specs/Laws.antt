@@ -1,0 +1,32 @@
+-- The laws of tiers that a run leaves.
+use Rattle.std.specs.Prelude.{◌≡◌, ℕ}
+use Rattle.tier_base.specs.declared.object_key.ObjectKey.{ObjectKey}
+use Rattle.plain_log.specs.declared.state.State.{State as Plain}
+use Rattle.remote_view.specs.Fold.{fold}
+use Rattle.tier_safe.specs.Scene.{Scene}
+use Rattle.tier_safe.specs.Safe.{BothSafe}
+use Rattle.tier_sweep.specs.Rest.{AreNamed}
+use Rattle.tier_sweep.specs.Sweeping.{Tier, IsSwept}
+use Rattle.tier_audit.specs.declared.verdict.Flaw.{Flaw}
+use Rattle.tier_audit.specs.declared.verdict.Flaw.TheVariants.{Left}
+use Rattle.tier_audit.specs.Whole.{AreReadable, IsWhole}
+use Rattle.tier_audit.specs.Flaws.{IsFirstFlaw}
+
+-- the objects and the notes of a scene
+abbrev pub tier_in : Scene → Tier
+tier_in c = record { objects = c.objects; notes = c.notes }
+
+-- each object has an entry, and each finished copy is readable
+abbrev pub SafeIsReadable : Type 0
+SafeIsReadable = (c : Scene) (p : Plain) → BothSafe c p
+    → AreNamed c.objects (fold c.notes) × AreReadable c.objects (fold c.notes)
+
+-- the first flaw is an object of a deleted segment
+abbrev pub SafeHasLeftAtMost : Type 0
+SafeHasLeftAtMost = (c : Scene) (p : Plain) (flaw : Flaw) → BothSafe c p → IsFirstFlaw c.objects (fold c.notes) flaw
+    → (key : ObjectKey) × (flaw ≡ Left key)
+
+-- what is swept is whole
+abbrev pub SweptIsWhole : Type 0
+SweptIsWhole = (c : Scene) (p : Plain) (new : Tier) (n : ℕ) → BothSafe c p → IsSwept (tier_in c) new n
+    → IsWhole new.objects (fold new.notes)

@@ -1,0 +1,18 @@
+//! Laws of tiers that a run leaves, each the contract of a function that does nothing.
+
+ghost use Rattle.tier_rests.specs.Laws.{SafeIsReadable, SafeHasLeftAtMost, SweptIsWhole};
+
+/// In a tier that is safe each object's id has an entry, and each finished copy is readable.
+pub fn a_safe_tier_is_readable()
+    ensures { SafeIsReadable }
+{}
+
+/// The first flaw of one, if it has any, is an object that was left.
+pub fn a_safe_tier_has_left_objects_at_most()
+    ensures { SafeHasLeftAtMost }
+{}
+
+/// What a sweep leaves of one is whole.
+pub fn a_swept_tier_is_whole()
+    ensures { SweptIsWhole }
+{}
