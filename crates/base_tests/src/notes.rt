@@ -32,6 +32,38 @@ static FINISHED: [u8; 29] = [
     1, // state
 ];
 
+/// The first copy again, packed.
+static PACKED: [u8; 77] = [
+    1, 0, // version, kind
+    0, 0, 0, 0, 0, 0, 0, 1, 0, 0, 0, 0, 0, 0, 0, 0, // id
+    0, 0, // partition
+    0, 0, 0, 0, 0, 0, 0, 0, // start
+    0, 0, 0, 0, 0, 0, 0, 1, // end
+    0, 0, 0, 0, 0, 0, 3, 0xe8, // max_ts
+    0, 0, // broker
+    0, 0, 0, 0, 0, 0, 0, 0, // event_ts
+    0, 0, 0, 0x8a, // size
+    0, // state
+    0, 0, 0, 1, // count
+    0, 0, 0, 0, // epoch
+    0, 0, 0, 0, 0, 0, 0, 0, // its start
+    0, 0, // length of the custom metadata
+];
+
+/// Its end, with the layout of its object.
+static PACKED_FINISHED: [u8; 48] = [
+    1, 1, // version, kind
+    0, 0, 0, 0, 0, 0, 0, 1, 0, 0, 0, 0, 0, 0, 0, 0, // id
+    0, 2, // broker
+    0xff, 0xff, 0xff, 0xff, 0xff, 0xff, 0xff, 0xff, // event_ts
+    1, // state
+    0, 17, // length of the custom metadata
+    1, 0, 0, 0, 0x8a, 0, 0, 0, 8, 0, 0, 0, 12, 0, 0, 0, 16, // custom metadata
+];
+
+/// The custom metadata that stands there.
+static LAYOUT: [u8; 17] = [1, 0, 0, 0, 0x8a, 0, 0, 0, 8, 0, 0, 0, 12, 0, 0, 0, 16];
+
 /// Two epochs, from offset 5 to 9: the first starts at 5, the second at 7.
 static TWO_EPOCHS: [u8; 87] = [
     0, 0, // version, kind
@@ -93,6 +125,27 @@ fn reads_first(alloc: Global) -> bool {
     }
 }
 
+/// Whether the custom metadata of the packed copy's end is read as it stands there.
+fn reads_custom(alloc: Global) -> bool {
+    match decode(alloc, PACKED_FINISHED.as_slice()) {
+        Ok(
+            Note::Update {
+                custom: Some(bytes),
+                ..
+            },
+        ) => bytes.as_slice() == LAYOUT.as_slice(),
+        _ => false,
+    }
+}
+
+/// Whether the packed copy is read as one.
+fn reads_packed(alloc: Global) -> bool {
+    match decode(alloc, PACKED.as_slice()) {
+        Ok(Note::Add(entry)) => entry.packed & entry.custom.is_none(),
+        _ => false,
+    }
+}
+
 #[test]
 fn notes_are_spelled_field_by_field(rt: HostRuntime) {
     let alloc = rt.alloc();
@@ -101,6 +154,18 @@ fn notes_are_spelled_field_by_field(rt: HostRuntime) {
     assert!(rt; is_written_again(alloc, STARTED.as_slice()), "the first");
     assert!(rt; is_written_again(alloc, FINISHED.as_slice()), "the second");
     assert!(rt; is_written_again(alloc, TWO_EPOCHS.as_slice()), "the third");
+}
+
+#[test]
+fn notes_of_a_packed_copy_are_spelled_field_by_field(rt: HostRuntime) {
+    let alloc = rt.alloc();
+    assert!(rt; reads_packed(alloc), "it is packed");
+    assert!(rt; reads_custom(alloc), "its layout");
+    assert!(rt; is_written_again(alloc, PACKED.as_slice()), "the first");
+    assert!(rt;
+        is_written_again(alloc, PACKED_FINISHED.as_slice()),
+        "the second"
+    );
 }
 
 /// The first number of bytes of a note that aren't short.
@@ -118,6 +183,9 @@ fn a_note_cut_anywhere_is_short(rt: HostRuntime) {
     let finished = first_not_short(rt.alloc(), FINISHED.as_slice());
     let added = first_not_short(rt.alloc(), TWO_EPOCHS.as_slice());
     assert!(rt; (finished, added) == (None, None));
+    let finished = first_not_short(rt.alloc(), PACKED_FINISHED.as_slice());
+    let added = first_not_short(rt.alloc(), PACKED.as_slice());
+    assert!(rt; (finished, added) == (None, None), "of a packed copy");
 }
 
 /// Reads a note with bytes of its own at a place.
@@ -136,6 +204,8 @@ fn with(
 enum Row {
     Finished,
     TwoEpochs,
+    Packed,
+    PackedFinished,
 }
 
 /// What is told of a row with bytes of their own at a place.
@@ -148,11 +218,13 @@ fn told(
     match row {
         Row::Finished => with(alloc, FINISHED.as_slice(), at, field),
         Row::TwoEpochs => with(alloc, TWO_EPOCHS.as_slice(), at, field),
+        Row::Packed => with(alloc, PACKED.as_slice(), at, field),
+        Row::PackedFinished => with(alloc, PACKED_FINISHED.as_slice(), at, field),
     }
 }
 
 /// A row, bytes of their own at a place of it, and what is told.
-static BAD: [(Row, usize, &[u8], Option<NoteRefusal>); 22] = [
+static BAD: [(Row, usize, &[u8], Option<NoteRefusal>); 33] = [
     (Row::TwoEpochs, 0, &[2], Some(NoteRefusal::BadVersion)),
     (Row::TwoEpochs, 1, &[2], Some(NoteRefusal::Bad { at: 1 })),
     (Row::TwoEpochs, 35, &[4], Some(NoteRefusal::Bad { at: 28 })),
@@ -200,6 +272,42 @@ static BAD: [(Row, usize, &[u8], Option<NoteRefusal>); 22] = [
     (Row::Finished, 28, &[3], None),
     (Row::Finished, 28, &[4], Some(NoteRefusal::BadState)),
     (Row::Finished, 29, &[0], Some(NoteRefusal::Bad { at: 29 })), // a byte more
+    (Row::Finished, 0, &[1], Some(NoteRefusal::Short)),
+    (Row::TwoEpochs, 0, &[1], Some(NoteRefusal::Short)),
+    (Row::Packed, 0, &[0], Some(NoteRefusal::Bad { at: 75 })),
+    (Row::Packed, 76, &[1], Some(NoteRefusal::Bad { at: 75 })),
+    (Row::Packed, 77, &[0], Some(NoteRefusal::Bad { at: 77 })), // a byte more
+    (
+        Row::PackedFinished,
+        0,
+        &[0],
+        Some(NoteRefusal::Bad { at: 29 }),
+    ),
+    (
+        Row::PackedFinished,
+        28,
+        &[2],
+        Some(NoteRefusal::Bad { at: 29 }),
+    ),
+    (
+        Row::PackedFinished,
+        30,
+        &[129],
+        Some(NoteRefusal::Bad { at: 29 }),
+    ),
+    (
+        Row::PackedFinished,
+        30,
+        &[16],
+        Some(NoteRefusal::Bad { at: 47 }),
+    ),
+    (Row::PackedFinished, 30, &[18], Some(NoteRefusal::Short)),
+    (
+        Row::PackedFinished,
+        48,
+        &[0],
+        Some(NoteRefusal::Bad { at: 48 }),
+    ), // a byte more
 ];
 
 #[test]
@@ -211,11 +319,13 @@ fn each_broken_rule_is_told_at_its_place(rt: HostRuntime) {
 }
 
 /// First bytes, and what is told.
-static FRONTS: [(&[u8], NoteRefusal); 4] = [
+static FRONTS: [(&[u8], NoteRefusal); 6] = [
     (&[], NoteRefusal::Short),
     (&[2], NoteRefusal::BadVersion),
     (&[0], NoteRefusal::Short),
+    (&[1], NoteRefusal::Short),
     (&[0, 2], NoteRefusal::Bad { at: 1 }),
+    (&[1, 2], NoteRefusal::Bad { at: 1 }),
 ];
 
 #[test]

@@ -98,8 +98,8 @@ module _ {D S M W : Type 0} (disk : DiskGhosts D) (store : StoreGhosts S) (meta 
   pub record SweepsYard (held held' : Held D S M) (control control' : Control) (out out' : W) (status : Status) : Type 0 where
     -- each tier was swept, and how much went is written
     pub sweep : status ≡ ending.Ok → WritesSweep disk store meta held held' (sink.written out) (sink.written out')
-    -- where the round was refused, no tier is further than its sweep; in any case the disks rest
-    pub under : IsRefused status → IsTrue held.tells → (p : PartitionId) → IsUnderSweepIn store.content meta.content held held' p
+    -- no tier is further than its sweep, and the disks rest
+    pub under : IsTrue held.tells → (p : PartitionId) → IsUnderSweepIn store.content meta.content held held' p
     pub disks : IsTrue held.tells → DisksRest disk.content held held'
     pub tells : held'.tells ≡ held.tells
     -- each device that was handed out is back

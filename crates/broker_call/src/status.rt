@@ -22,7 +22,8 @@ pub enum Status {
     NoMemory,
     /// The script has more bytes than a script may have.
     TooLong,
-    /// A call of the yard failed, or one of a disk that it handed out, before its partition's first command.
+    /// A call of the yard failed; or one of a disk that it handed out, before its partition's first command; or, in an audit or a
+    /// sweep, one of a store or a metadata log.
     YardFault,
     /// Something stands in the yard, and this is the first name of it in the order of bytes.
     NotEmpty { name: Blob },

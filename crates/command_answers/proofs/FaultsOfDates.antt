@@ -9,6 +9,7 @@ use Rattle.tier_base.specs.declared.plain.Part.TheVariants as part
 use Rattle.object_store.specs.declared.store.Store.{Ghosts as StoreGhosts}
 use Rattle.object_store.specs.declared.call.StoreCall.TheVariants.{Get}
 use Rattle.object_store.specs.declared.placing.Spot.{Spot}
+use Rattle.object_store.specs.Place.{short_of}
 use Rattle.meta_log.specs.declared.log.MetaLog.{Ghosts as MetaGhosts}
 use Rattle.remote_view.specs.Fold.{Seen as View, entry_of}
 use Rattle.remote_find.specs.declared.piece.Piece.{Piece}
@@ -23,7 +24,7 @@ use Rattle.time_find.specs.declared.turn.Next.TheVariants.{Seek, Times as ReadsT
 use Rattle.time_find.specs.declared.turn.TimeTurn.{TimeTurn}
 use Rattle.time_find.specs.declared.turn.TimeTurn.TheVariants.{Goes, Ends}
 use Rattle.time_find.specs.Passing.{Seeks}
-use Rattle.time_find.specs.Turns.{IsSearched, Times, Indexes, Searches, SeekRow, TimesRow, TimeRow, wanted_at}
+use Rattle.time_find.specs.Turns.{IsSearched, TimesBytes, Times, Indexes, Searches, SeekRow, TimesRow, TimeRow, wanted_at}
 use Rattle.plain_log.specs.declared.answer.Answer.{Answer}
 use Rattle.plain_log.specs.declared.answer.Answer.TheVariants.{MetaFault, Damaged, Run, Offset}
 use Rattle.plain_log.specs.declared.answer.Place.TheVariants.{Meta}
@@ -81,9 +82,13 @@ module _ (A B : Type 0) where
     times_told asked cursor piece base spot (Err Failed) turn old new r w = as_told (StoreRose store old new) E turn _ w (r.cause refl)
     times_told asked cursor piece base spot (Err NoMemory) turn old new r w = absurd (let no : false ≡ true = w in cc)
     times_told asked cursor piece base spot (Ok None) turn old new r w = as_told (StoreRose store old new) E turn _ w tt
-    times_told asked cursor piece base spot (Ok (Some bytes)) (Goes at next) old new r w = tt
-    times_told asked cursor piece base spot (Ok (Some bytes)) (Ends answer) old new r w = subst
-        (λ (a : Answer). Told A B (StoreRose store old new) E a) (sym w.0) tt
+    times_told asked cursor piece base spot (Ok (Some bytes)) turn old new r w = by (short_of spot bytes) turn w
+      where
+        by : (end : Option ℕ) (turn : TimeTurn) → TimesBytes end asked cursor piece base spot bytes (Ok turn)
+            → TurnTold A B (StoreRose store old new) E (date_outcome turn)
+        by (Some end) turn w = as_told (StoreRose store old new) E turn _ w tt
+        by None (Goes at next) w = tt
+        by None (Ends answer) w = subst (λ (a : Answer). Told A B (StoreRose store old new) E a) (sym w.0) tt
 
     times_counts : (asked : Asked) (cursor : ℕ) (piece : Piece) (view : View) (place : Option (ℕ × Spot)) (turn : TimeTurn) (old new : S)
         → TimesRow store.content store.control asked cursor piece view place (Ok turn) old new → StoreKeeps store old new

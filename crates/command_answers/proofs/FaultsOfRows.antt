@@ -11,7 +11,7 @@ use Rattle.plain_log.specs.declared.answer.Answer.{Answer}
 use Rattle.plain_log.specs.declared.answer.Answer.TheVariants.{Ok, OkAt, OkSpan, Down, NotLeader, Refused, LastOffset, TooManySegments, EmptySegment, DiskFault, DiskFaultAt, Damaged, OutOfRange, Empty, Run, LastEpoch, NotInSync, DownBroker, BehindStart, Known, Follows, NeedsElection, Leads, NotJoined, StaleEpoch, IsLeader, Behind, NotAbove, AboveMark, NotFollower, NoLeader, Cut, Level, Stopped, Passed, Copied, IsUp, LastIncarnation, Up as IsOpen, Moved, BelowStart, Rebuilt, Kept as Remains, Dropped, Offset as OffsetAnswer}
 use Rattle.plain_log.specs.declared.answer.Place.TheVariants.{File}
 use Rattle.plain_log.specs.declared.command.Command.{Command}
-use Rattle.plain_log.specs.declared.command.Command.TheVariants.{Append, Raw, Flush, Roll, Elect, Unclean, Learn, Join, Follow, Trim, Ack, Shrink, Expand, Raise, Clock, Stop as StopCommand, Up as UpCommand, Fetch, Copying, Offset}
+use Rattle.plain_log.specs.declared.command.Command.TheVariants.{Append, Raw, Flush, Roll, Elect, Unclean, Learn, Join, Follow, Trim, Ack, Shrink, Expand, Raise, Clock, Stop as StopCommand, Up as UpCommand, Fetch, Pack, Copying, Offset}
 use Rattle.plain_log.specs.declared.command.Which.{Which}
 use Rattle.plain_log.specs.declared.command.Which.TheVariants.{LatestTiered, At}
 use Rattle.plain_log.specs.State.{acking}
@@ -24,7 +24,7 @@ use Rattle.partition_seen.proofs.BoolTests.{some_of}
 use Rattle.partition_turns.specs.declared.held.Node.{Node}
 use Rattle.partition_turns.specs.declared.held.Held.{Held}
 use Rattle.partition_turns.specs.Held.{put_node, end_of, stable_of, stopped, the_leader, Fails, Breaks, BreaksBy}
-use Rattle.partition_turns.specs.Turns.{ClockRow, CopyingRow, OffsetRow, StopRow, UpRow, AnswerRow, FirstRow, LaterRow, Row}
+use Rattle.partition_turns.specs.Turns.{ClockRow, PackRow, CopyingRow, OffsetRow, StopRow, UpRow, AnswerRow, FirstRow, LaterRow, Row}
 use Rattle.partition_turns.specs.TurnsOfLog.{Gains, AppendRow, RawRow, FlushRow, RollRow, TrimRow, TrimOnRow}
 use Rattle.partition_turns.specs.TurnsOfFetch.{FetchRow, FetchTurn}
 use Rattle.partition_turns.specs.TurnsOfElections.{ElectRow, UncleanRow, LearnRow, AckRow, ShrinkRow, ExpandRow, RaiseRow}
@@ -183,6 +183,10 @@ module _ {D : Type 0} (content : D → Content) (control : D → Control call_co
   clock_counts h b ms Ok h' w = (keeps_same control (record h { clock = ms }) h' w, tt)
   clock_counts h b ms other h' w = elim w [ ]
 
+  pack_counts : (h : Held D) (b : ℕ) (on : Bool) (answer : Answer) (h' : Held D) → PackRow h on answer h' → Counts h b h' answer
+  pack_counts h b on Ok h' w = (keeps_same control (record h { packed = on }) h' w, tt)
+  pack_counts h b on other h' w = elim w [ ]
+
   copying_counts : (h : Held D) (b : ℕ) (on : Bool) (answer : Answer) (h' : Held D) → CopyingRow h on answer h' → Counts h b h' answer
   copying_counts h b on Ok h' w = (keeps_same control (record h { copying = on }) h' w, tt)
   copying_counts h b on other h' w = elim w [ ]
@@ -207,6 +211,7 @@ module _ {D : Type 0} (content : D → Content) (control : D → Control call_co
   answer_counts h b x Expand answer h' at w = expand_counts h b x answer h' w
   answer_counts h b x (Raise start) answer h' at w = raise_counts h b x start answer h' w
   answer_counts h b x (Clock ms) answer h' at w = clock_counts h b ms answer h' w
+  answer_counts h b x (Pack on) answer h' at w = pack_counts h b on answer h' w
   answer_counts h b x (Copying on) answer h' at w = copying_counts h b on answer h' w
   answer_counts h b x (Offset which) answer h' at w = offset_counts h b x which answer h' w
   answer_counts h b x StopCommand answer h' at w = stop_counts h b x answer h' at w

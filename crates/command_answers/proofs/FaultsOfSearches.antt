@@ -10,13 +10,14 @@ use Rattle.tier_base.specs.declared.plain.Part.TheVariants as part
 use Rattle.object_store.specs.declared.store.Store.{Ghosts as StoreGhosts}
 use Rattle.object_store.specs.declared.call.StoreCall.TheVariants.{Get}
 use Rattle.object_store.specs.declared.placing.Spot.{Spot}
+use Rattle.object_store.specs.Place.{short_of, short_in}
 use Rattle.meta_log.specs.declared.log.MetaLog.{Ghosts as MetaGhosts}
 use Rattle.index_cache.specs.Cache.{Cache, found}
 use Rattle.sparse_index.specs.Offsets.{OffsetTable}
 use Rattle.remote_view.specs.Fold.{Seen as View, entry_of}
 use Rattle.remote_find.specs.declared.piece.Piece.{Piece}
 use Rattle.remote_find.specs.Pieces.{piece_at}
-use Rattle.tier_fetch.specs.Turns.{Tiers, FetchRow, RefreshRow, IndexRow, LoadRow, LogRow, Loads, Cuts, spot_in, chosen as found_piece}
+use Rattle.tier_fetch.specs.Turns.{Tiers, FetchRow, RefreshRow, IndexRow, LoadRow, LogRow, LoadsBytes, Loads, CutsBytes, Cuts, spot_in, chosen as found_piece}
 use Rattle.tier_fetch.specs.declared.turn.FetchTurn.{FetchTurn}
 use Rattle.tier_fetch.specs.declared.turn.FetchTurn.TheVariants as fetch
 use Rattle.tier_fetch.specs.declared.turn.Next.{Next as Search}
@@ -26,7 +27,7 @@ use Rattle.tier_fetch.specs.declared.turn.Wanted.{Wanted}
 use Rattle.rebuild_task.specs.declared.turn.RebuildTurn.{RebuildTurn}
 use Rattle.rebuild_task.specs.declared.turn.RebuildTurn.TheVariants.{Goes, Ends}
 use Rattle.rebuild_task.specs.declared.turn.Wanted.{Wanted as Rebuilt}
-use Rattle.rebuild_task.specs.Turns.{Takes, EpochsRow, RebuildRow}
+use Rattle.rebuild_task.specs.Turns.{TakesBytes, Takes, EpochsRow, RebuildRow}
 use Rattle.plain_log.specs.declared.answer.Answer.{Answer}
 use Rattle.plain_log.specs.declared.answer.Answer.TheVariants.{MetaFault, Damaged, Run}
 use Rattle.partition_world.specs.Seats.{fetch_outcome, rebuild_outcome}
@@ -60,8 +61,12 @@ module _ (A B : Type 0) where
     loads_told wanted piece base spot (Err Failed) turn before after old new r w = ends_told (StoreRose store old new) E turn _ w.0 (r.cause refl)
     loads_told wanted piece base spot (Err NoMemory) turn before after old new r w = absurd (let no : false ≡ true = w.0 in cc)
     loads_told wanted piece base spot (Ok None) turn before after old new r w = ends_told (StoreRose store old new) E turn _ w.0 tt
-    loads_told wanted piece base spot (Ok (Some bytes)) (fetch.Goes next) before after old new r w = tt
-    loads_told wanted piece base spot (Ok (Some bytes)) (fetch.Ends answer) before after old new r w = subst (λ (a : Answer). Told A B (StoreRose store old new) E a) (sym w.0) tt
+    loads_told wanted piece base spot (Ok (Some bytes)) turn before after old new r w = by (short_of spot bytes) turn w
+      where
+        by : (end : Option ℕ) (turn : FetchTurn) → LoadsBytes end wanted piece base spot bytes (Ok turn) before after → TurnTold A B (StoreRose store old new) E (fetch_outcome turn)
+        by (Some end) turn w = ends_told (StoreRose store old new) E turn _ w.0 tt
+        by None (fetch.Goes next) w = tt
+        by None (fetch.Ends answer) w = subst (λ (a : Answer). Told A B (StoreRose store old new) E a) (sym w.0) tt
 
     load_counts : (wanted : Wanted) (piece : Piece) (view : View) (place : Option (ℕ × Spot)) (turn : FetchTurn) (cache cache' : Cache) (old new : S)
         → LoadRow store.content store.control wanted piece view place (Ok turn) cache cache' old new → StoreKeeps store old new × TurnTold A B (StoreRose store old new) E (fetch_outcome turn)
@@ -80,9 +85,13 @@ module _ (A B : Type 0) where
     cuts_told wanted piece spot span (Err Failed) turn old new r w = ends_told (StoreRose store old new) E turn _ w (r.cause refl)
     cuts_told wanted piece spot span (Err NoMemory) turn old new r w = absurd (let no : false ≡ true = w in cc)
     cuts_told wanted piece spot span (Ok None) turn old new r w = ends_told (StoreRose store old new) E turn _ w tt
-    cuts_told wanted piece spot span (Ok (Some bytes)) (fetch.Ends (Run tier size stop run)) old new r w = tt
-    cuts_told wanted piece spot span (Ok (Some bytes)) (fetch.Ends (Damaged place at)) old new r w = tt
-    cuts_told wanted piece spot span (Ok (Some bytes)) turn old new r w = elim w [ ]
+    cuts_told wanted piece spot span (Ok (Some bytes)) turn old new r w = by (short_in spot span.from span.most bytes) turn w
+      where
+        by : (end : Option ℕ) (turn : FetchTurn) → CutsBytes end wanted piece spot span bytes (Ok turn) → TurnTold A B (StoreRose store old new) E (fetch_outcome turn)
+        by (Some end) turn w = ends_told (StoreRose store old new) E turn _ w tt
+        by None (fetch.Ends (Run tier size stop run)) w = tt
+        by None (fetch.Ends (Damaged place at)) w = tt
+        by None turn w = elim w [ ]
 
     log_counts : (wanted : Wanted) (piece : Piece) (span : Span) (view : View) (place : Option (ℕ × Spot)) (turn : FetchTurn) (old new : S)
         → LogRow store.content store.control wanted piece span view place (Ok turn) old new → StoreKeeps store old new × TurnTold A B (StoreRose store old new) E (fetch_outcome turn)
@@ -95,13 +104,17 @@ module _ (A B : Type 0) where
     takes_told wanted spot (Err Failed) turn old new r w = rebuilt_told (StoreRose store old new) E turn _ w (r.cause refl)
     takes_told wanted spot (Err NoMemory) turn old new r w = absurd (let no : false ≡ true = w in cc)
     takes_told wanted spot (Ok None) turn old new r w = rebuilt_told (StoreRose store old new) E turn _ w tt
-    takes_told wanted spot (Ok (Some bytes)) (Goes next) old new r w = tt
-    takes_told wanted spot (Ok (Some bytes)) (Ends answer) old new r w = subst (λ (a : Answer). Told A B (StoreRose store old new) E a) (sym w.0) tt
+    takes_told wanted spot (Ok (Some bytes)) turn old new r w = by (short_of spot bytes) turn w
+      where
+        by : (end : Option ℕ) (turn : RebuildTurn) → TakesBytes end wanted spot bytes (Ok turn) → TurnTold A B (StoreRose store old new) E (rebuild_outcome turn)
+        by (Some end) turn w = rebuilt_told (StoreRose store old new) E turn _ w tt
+        by None (Goes next) w = tt
+        by None (Ends answer) w = subst (λ (a : Answer). Told A B (StoreRose store old new) E a) (sym w.0) tt
 
     epochs_counts : (wanted : ℕ) (view : View) (spot : Option Spot) (turn : RebuildTurn) (old new : S) → EpochsRow store.content store.control wanted view spot (Ok turn) old new
         → StoreKeeps store old new × TurnTold A B (StoreRose store old new) E (rebuild_outcome turn)
     epochs_counts wanted view None turn old new w = (store_same store old new w.1, rebuilt_told (StoreRose store old new) E turn _ w.0 tt)
-    epochs_counts wanted view (Some spot) turn old new w = (w.control.never_falls, takes_told wanted spot w.answer turn old new w.control w.takes)
+    epochs_counts wanted view (Some spot) turn old new w = (w.gets.control.never_falls, takes_told wanted spot w.answer turn old new w.gets.control w.takes)
 
     pub rebuild_counts : (wanted : Rebuilt) (line : List (ℕ × ℕ)) (view : View) (turn : RebuildTurn) (old new : S) → RebuildRow store.content store.control wanted line view (Ok turn) old new
         → StoreKeeps store old new × TurnTold A B (StoreRose store old new) E (rebuild_outcome turn)

@@ -11,6 +11,7 @@ use Rattle.disk_model.specs.declared.disk.Disk.{Ghosts as DiskGhosts}
 use Rattle.object_store.specs.declared.store.Store.{Ghosts as StoreGhosts}
 use Rattle.object_store.specs.declared.call.StoreCall.TheVariants.{Get}
 use Rattle.object_store.specs.declared.placing.Spot.{Spot}
+use Rattle.object_store.specs.Place.{short_of, short_in}
 use Rattle.meta_log.specs.declared.log.MetaLog.{Ghosts as MetaGhosts}
 use Rattle.sparse_index.specs.Offsets.{OffsetTable}
 use Rattle.index_cache.specs.Cache.{Cache, found}
@@ -23,7 +24,7 @@ use Rattle.tier_fetch.specs.declared.turn.Next.{Next}
 use Rattle.tier_fetch.specs.declared.turn.Next.TheVariants.{Refresh, Index, Log}
 use Rattle.tier_fetch.specs.declared.turn.Span.{Span}
 use Rattle.tier_fetch.specs.declared.turn.Wanted.{Wanted}
-use Rattle.tier_fetch.specs.Turns.{chosen, spot_in, Loads, Cuts, RefreshRow, IndexRow, LoadRow, LogRow}
+use Rattle.tier_fetch.specs.Turns.{chosen, spot_in, LoadsBytes, Loads, CutsBytes, Cuts, RefreshRow, IndexRow, LoadRow, LogRow}
 use Rattle.plain_log.specs.declared.answer.Answer.{Answer}
 use Rattle.plain_log.specs.declared.answer.Answer.TheVariants.{Down, NotLeader, OutOfRange, Empty, DiskFault, MetaFault, StoreFault, Damaged, Stopped, Run}
 use Rattle.plain_log.specs.declared.answer.Place.{Place as Spoiled}
@@ -96,7 +97,11 @@ module _ {S : Type 0} (store : StoreGhosts S) where
   loads_tells wanted piece base spot (Err Failed) answer cache cache' old new ran k = let f = k.0 in let e : StoreFault ≡ answer = cc (f) in subst (λ (n : Answer). IndexTells n old new) e (ran.cause refl)
   loads_tells wanted piece base spot (Err NoMemory) answer cache cache' old new ran k = let e = k.0 in absurd (cc (e))
   loads_tells wanted piece base spot (Ok None) answer cache cache' old new ran k = let f = k.0 in let e : Damaged (Key spot.key) 0 ≡ answer = cc (f) in subst (λ (n : Answer). IndexTells n old new) e tt
-  loads_tells wanted piece base spot (Ok (Some bytes)) answer cache cache' old new ran k = subst (λ (n : Answer). IndexTells n old new) (sym k.0) tt
+  loads_tells wanted piece base spot (Ok (Some bytes)) answer cache cache' old new ran k = by (short_of spot bytes) k
+    where
+      by : (end : Option ℕ) → LoadsBytes end wanted piece base spot bytes (Ok (Ends answer)) cache cache' → IndexTells answer old new
+      by (Some end) k = let f = k.0 in let e : Damaged (Key spot.key) end ≡ answer = cc (f) in subst (λ (n : Answer). IndexTells n old new) e tt
+      by None k = subst (λ (n : Answer). IndexTells n old new) (sym k.0) tt
 
   load_tells : (wanted : Wanted) (piece : Piece) (view : View) (place : Option (ℕ × Spot)) (answer : Answer) (cache cache' : Cache) (old new : S)
       → LoadRow store.content store.control wanted piece view place (Ok (Ends answer)) cache cache' old new → IndexTells answer old new
@@ -119,9 +124,13 @@ module _ {S : Type 0} (store : StoreGhosts S) where
   cuts_tells wanted piece spot span (Err Failed) answer old new ran k = let e : StoreFault ≡ answer = cc (k) in subst (λ (n : Answer). LogTells n old new) e (ran.cause refl)
   cuts_tells wanted piece spot span (Err NoMemory) answer old new ran k = absurd (cc (k))
   cuts_tells wanted piece spot span (Ok None) answer old new ran k = let e : Damaged (Key spot.key) 0 ≡ answer = cc (k) in subst (λ (n : Answer). LogTells n old new) e tt
-  cuts_tells wanted piece spot span (Ok (Some bytes)) (Run tier size stop run) old new ran k = tt
-  cuts_tells wanted piece spot span (Ok (Some bytes)) (Damaged place at) old new ran k = tt
-  cuts_tells wanted piece spot span (Ok (Some bytes)) answer old new ran k = elim k [ ]
+  cuts_tells wanted piece spot span (Ok (Some bytes)) answer old new ran k = by (short_in spot span.from span.most bytes) answer k
+    where
+      by : (end : Option ℕ) (answer : Answer) → CutsBytes end wanted piece spot span bytes (Ok (Ends answer)) → LogTells answer old new
+      by (Some end) answer k = let e : Damaged (Key spot.key) end ≡ answer = cc (k) in subst (λ (n : Answer). LogTells n old new) e tt
+      by None (Run tier size stop run) k = tt
+      by None (Damaged place at) k = tt
+      by None answer k = elim k [ ]
 
   log_tells : (wanted : Wanted) (piece : Piece) (span : Span) (view : View) (place : Option (ℕ × Spot)) (answer : Answer) (old new : S)
       → LogRow store.content store.control wanted piece span view place (Ok (Ends answer)) old new → LogTells answer old new

@@ -9,9 +9,10 @@ use Rattle.disk_model.specs.declared.disk.Disk.{Ghosts as DiskGhosts}
 use Rattle.object_store.specs.declared.store.Store.{Ghosts as StoreGhosts}
 use Rattle.object_store.specs.declared.call.StoreCall.TheVariants.{Get}
 use Rattle.object_store.specs.declared.placing.Spot.{Spot}
+use Rattle.object_store.specs.Place.{short_of}
 use Rattle.meta_log.specs.declared.log.MetaLog.{Ghosts as MetaGhosts}
 use Rattle.remote_view.specs.Fold.{Seen as View}
-use Rattle.rebuild_task.specs.Turns.{Takes, EpochsRow, RebuildRow}
+use Rattle.rebuild_task.specs.Turns.{TakesBytes, Takes, EpochsRow, RebuildRow}
 use Rattle.rebuild_task.specs.declared.turn.Next.TheVariants.{Epochs, Restart}
 use Rattle.rebuild_task.specs.declared.turn.RebuildTurn.TheVariants.{Goes, Ends}
 use Rattle.rebuild_task.specs.declared.turn.Wanted.{Wanted}
@@ -57,12 +58,16 @@ module _ {S : Type 0} (store : StoreGhosts S) where
   takes_fault wanted spot (Err Failed) old new ran k = ran.cause refl
   takes_fault wanted spot (Err NoMemory) old new ran k = absurd (cc (k))
   takes_fault wanted spot (Ok None) old new ran k = absurd (cc (k))
-  takes_fault wanted spot (Ok (Some bytes)) old new ran k = let e = k.0 in absurd (cc (e))
+  takes_fault wanted spot (Ok (Some bytes)) old new ran k = by (short_of spot bytes) k
+    where
+      by : (end : Option ℕ) → TakesBytes end wanted spot bytes (Ok (Ends StoreFault)) → Rose (store.control old).faults (store.control new).faults
+      by (Some end) k = absurd (cc (k))
+      by None k = let e = k.0 in absurd (cc (e))
 
   epochs_fault : (wanted : ℕ) (view : View) (spot : Option Spot) (old new : S) → EpochsRow store.content store.control wanted view spot (Ok (Ends StoreFault)) old new
       → Rose (store.control old).faults (store.control new).faults
   epochs_fault wanted view None old new row = let e = row.0 in absurd (cc (e))
-  epochs_fault wanted view (Some spot) old new row = takes_fault wanted spot row.answer old new row.control row.takes
+  epochs_fault wanted view (Some spot) old new row = takes_fault wanted spot row.answer old new row.gets.control row.takes
 
   rebuild_fault : (wanted : Wanted) (line : List (ℕ × ℕ)) (view : View) (old new : S) → RebuildRow store.content store.control wanted line view (Ok (Ends StoreFault)) old new
       → Rose (store.control old).faults (store.control new).faults

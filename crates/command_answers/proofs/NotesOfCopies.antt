@@ -48,10 +48,10 @@ update_unknown : (es : List Entry) (id : SegmentId) (broker : BrokerId) (event_t
 update_unknown es id broker event_ts state custom done at = rw (at, done) refl
 
 -- what a finish leaves deleted was so before
-finish_told : (broker : BrokerId) (event_ts : ℤ) (x : Entry) → is_deleted (told broker event_ts CopyFinished x).state ≡ true → is_deleted x.state ≡ true
-finish_told broker event_ts x gone = by x.state gone
+finish_told : (broker : BrokerId) (event_ts : ℤ) (custom : _) (x : Entry) → is_deleted (told broker event_ts CopyFinished custom x).state ≡ true → is_deleted x.state ≡ true
+finish_told broker event_ts custom x gone = by x.state gone
   where
-    by : (s : CopyState) → is_deleted (cond (is_some (next_state (Some s) CopyFinished)) (updated broker event_ts CopyFinished x) (record x { state = s })).state ≡ true → is_deleted s ≡ true
+    by : (s : CopyState) → is_deleted (cond (is_some (next_state (Some s) CopyFinished)) (updated broker event_ts CopyFinished custom x) (record x { state = s })).state ≡ true → is_deleted s ≡ true
     by CopyStarted gone = absurd cc
     by CopyFinished gone = absurd cc
     by DeleteStarted gone = refl
@@ -69,16 +69,16 @@ own_below es (Add e) start x be h at gone = elim (some_or_none (entry_of e.id es
 own_below es (Update id broker event_ts state custom) start x (inl be) h at gone = elim (some_or_none (entry_of id es)) [
   | inl none ↦ let is = ap (entry_of id) (sym (update_unknown es id broker event_ts state custom be none)) ∙ at in absurd (cc (none, is))
   | inr (y, there) ↦
-      let same : told broker event_ts state y ≡ x = one_some (entry_of id (noted es (Update id broker event_ts state custom))) (told broker event_ts state y) x (told_entry es id broker event_ts state custom y there) at in
+      let same : told broker event_ts state custom y ≡ x = one_some (entry_of id (noted es (Update id broker event_ts state custom))) (told broker event_ts state custom y) x (told_entry es id broker event_ts state custom y there) at in
       let was : is_deleted y.state ≡ true =
-      finish_told broker event_ts y (ap (λ (s : CopyState). is_deleted (told broker event_ts s y).state) (sym be) ∙ (ap (λ (e : Entry). is_deleted e.state) same ∙ gone)) in
-      let end : x.end ≡ y.end = ap (λ (e : Entry). e.end) (sym same) ∙ (told_follows broker event_ts state y).end in
+      finish_told broker event_ts custom y (ap (λ (s : CopyState). is_deleted (told broker event_ts s custom y).state) (sym be) ∙ (ap (λ (e : Entry). is_deleted e.state) same ∙ gone)) in
+      let end : x.end ≡ y.end = ap (λ (e : Entry). e.end) (sym same) ∙ (told_follows broker event_ts state custom y).end in
       rw end (h id y there was)
 ]
 own_below es (Update id broker event_ts state custom) start x (inr low) h at gone =
     let y = some_of (λ (e : Entry). e.end < start) (entry_of id es) low in
-    let same : told broker event_ts state y.0 ≡ x = one_some (entry_of id (noted es (Update id broker event_ts state custom))) (told broker event_ts state y.0) x (told_entry es id broker event_ts state custom y.0 y.1) at in
-    let end : x.end ≡ y.0.end = ap (λ (e : Entry). e.end) (sym same) ∙ (told_follows broker event_ts state y.0).end in
+    let same : told broker event_ts state custom y.0 ≡ x = one_some (entry_of id (noted es (Update id broker event_ts state custom))) (told broker event_ts state custom y.0) x (told_entry es id broker event_ts state custom y.0 y.1) at in
+    let end : x.end ≡ y.0.end = ap (λ (e : Entry). e.end) (sym same) ∙ (told_follows broker event_ts state custom y.0).end in
     rw end y.2
 
 one_below : (es : List Entry) (note : Note) (start : ℕ) → LeavesBe es start note → DeletedBelow es start → DeletedBelow (noted es note) start

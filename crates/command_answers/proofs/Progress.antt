@@ -66,6 +66,7 @@ use Rattle.partition_world.specs.Turns.{OwnRow, OwnOnRow, JoinSecondRow, Row}
 use Rattle.partition_world.specs.Whole.{Whole}
 use Rattle.partition_world.proofs.Begins.{row_of}
 use Rattle.partition_world.proofs.DateAdvances.{Rises, dated_before, own_rises, time_rises}
+use Rattle.tier_safe.proofs.Basics.{key_low}
 use Rattle.partition_world.proofs.FetchAdvances.{sought_before, fetch_advances}
 use Rattle.partition_world.proofs.RebuildEnds.{MayTurn, rebuild_may_turn}
 use Rattle.command_answers.specs.Turns.{copying_left, deleting_left, seeking_left, dated_here, rebuilding_left, turns_left, dating_left_to}
@@ -94,22 +95,14 @@ Less command work (Rebuilding next) = turns_left command (rebuilding work next) 
 to : (before next after : Next) → GoesOn next ≡ GoesOn after → copying_left after < copying_left before → copying_left next < copying_left before
 to before next after is lt = let e : next ≡ after = cc in rw e lt
 
--- a segment has four keys
-key_low : (copy : Copied) (n : ℕ) (key : ObjectKey) → slice_get (keys copy) n ≡ Some key → n < 4
-key_low copy zero key is = omega arith
-key_low copy (suc zero) key is = omega arith
-key_low copy (suc (suc zero)) key is = omega arith
-key_low copy (suc (suc (suc zero))) key is = omega arith
-key_low copy (suc (suc (suc (suc n)))) key is = absurd cc
-
 put_less : (copy : Copied) (n : ℕ) (key : Option ObjectKey) (next : Next) → slice_get (keys copy) (n + 1) ≡ key → GoesOn next ≡ GoesOn (put_at (n + 1) key) → copying_left next < copying_left (Put n)
 put_less copy n None next at is = to (Put n) next Finish is (omega arith)
-put_less copy n (Some key) next at is = let low = key_low copy (n + 1) key at in to (Put n) next (Put (n + 1)) is (omega (arith, low))
+put_less copy n (Some key) next at is = let low = key_low copy.partition copy.id copy.packed (n + 1) key at in to (Put n) next (Put (n + 1)) is (omega (arith, low))
 
 delete_less : (copy : Copied) (view : View) (n : ℕ) (key : Option ObjectKey) (next : Next) → slice_get (keys copy) (n + 1) ≡ key → GoesOn next ≡ delete_at copy view (n + 1) key
     → copying_left next < copying_left (Delete n)
 delete_less copy view n None next at is = absurd cc
-delete_less copy view n (Some key) next at is = let low = key_low copy (n + 1) key at in to (Delete n) next (Delete (n + 1)) is (omega (arith, low))
+delete_less copy view n (Some key) next at is = let low = key_low copy.partition copy.id copy.packed (n + 1) key at in to (Delete n) next (Delete (n + 1)) is (omega (arith, low))
 
 checked_less : (copy : Copied) (notes : ℕ) (state : Option CopyState) (next : Next) → GoesOn next ≡ checked copy notes state → copying_left next < copying_left Check
 checked_less copy notes (Some CopyFinished) next is = absurd cc
@@ -140,17 +133,10 @@ module _ {S M : Type 0} (store : StoreGhosts S) (meta : MetaGhosts M) where
 dto : (before next after : Deletion) → expiry.Goes next ≡ expiry.Goes after → deleting_left after < deleting_left before → deleting_left next < deleting_left before
 dto before next after is lt = let e : next ≡ after = cc in rw e lt
 
-doomed_low : (segment : Doomed) (n : ℕ) (key : ObjectKey) → slice_get (expiring.keys segment) n ≡ Some key → n < 4
-doomed_low segment zero key is = omega arith
-doomed_low segment (suc zero) key is = omega arith
-doomed_low segment (suc (suc zero)) key is = omega arith
-doomed_low segment (suc (suc (suc zero))) key is = omega arith
-doomed_low segment (suc (suc (suc (suc n)))) key is = absurd cc
-
 taken_less : (segment : Doomed) (n : ℕ) (key : Option ObjectKey) (next : Deletion) → slice_get (expiring.keys segment) (n + 1) ≡ key → expiry.Goes next ≡ expiry.Goes (expiring.delete_at (n + 1) key)
     → deleting_left next < deleting_left (deletion.Delete n)
 taken_less segment n None next at is = dto (deletion.Delete n) next deletion.Finish is (omega arith)
-taken_less segment n (Some key) next at is = let low = doomed_low segment (n + 1) key at in dto (deletion.Delete n) next (deletion.Delete (n + 1)) is (omega (arith, low))
+taken_less segment n (Some key) next at is = let low = key_low segment.partition segment.id segment.packed (n + 1) key at in dto (deletion.Delete n) next (deletion.Delete (n + 1)) is (omega (arith, low))
 
 module _ {S M : Type 0} (store : StoreGhosts S) (meta : MetaGhosts M) where
   take_row : (segment : Doomed) (n : ℕ) (key : Option ObjectKey) (next : Deletion) (old new : S) → expiring.DeleteRow store.content store.control segment n key (expiry.Goes next) old new

@@ -1,9 +1,10 @@
 -- What a turn of a fetch from the remote tier finds stands, and the last one finds a run in what it reads.
-use Rattle.std.proofs.Common.{◌≡◌, ◌∙◌, inl, inr, sym, ap, subst, refl, ℕ, ◌+◌, ◌-◌, ◌<◌, ◌≤◌, min, List, take, drop, Option, Some, None, Result, Ok, Err, arith}
+use Rattle.std.proofs.Common.{◌≡◌, ◌∙◌, inl, inr, sym, ap, subst, refl, ℕ, ◌-◌, ◌<◌, ◌≤◌, min, List, take, drop, Option, Some, None, Result, Ok, Err, arith}
 use Rattle.std.specs.Prelude.{option_map, IfOk}
 use mathlib.Core.List.{IsPrefix}
 use Rattle.tier_base.specs.declared.fault.Trouble.{Trouble}
 use Rattle.tier_base.specs.declared.fault.Trouble.TheVariants.{Failed, NoMemory}
+use Rattle.tier_base.specs.declared.plain.Part.{Part}
 use Rattle.tier_base.specs.declared.plain.Part.TheVariants as part
 use Rattle.tier_base.specs.Device.{Control}
 use Rattle.tier_base.specs.Told.{In}
@@ -17,7 +18,9 @@ use Rattle.segment_meta.specs.declared.note.Entry.{Entry}
 use Rattle.segment_meta.specs.declared.note.Note.{Note}
 use Rattle.object_store.specs.Call as store_call
 use Rattle.object_store.specs.Content as store
-use Rattle.object_store.specs.Place.{key_of}
+use Rattle.object_store.specs.Calls.{Gets}
+use Rattle.object_store.specs.Place.{key_of, all_of, some_of, short_of, short_in}
+use Rattle.object_store.proofs.Parts.{piece_not_short}
 use Rattle.object_store.specs.declared.placing.Spot.{Spot}
 use Rattle.meta_log.specs.Call as meta_call
 use Rattle.meta_log.specs.Content as meta
@@ -39,7 +42,7 @@ use Rattle.tier_fetch.specs.declared.turn.Next.{Next}
 use Rattle.tier_fetch.specs.declared.turn.Next.TheVariants.{Refresh, Index, Log}
 use Rattle.tier_fetch.specs.declared.turn.FetchTurn.TheVariants.{Goes, Ends}
 use Rattle.tier_fetch.specs.Span.{span_of}
-use Rattle.tier_fetch.specs.Turns.{Tiers, spot_in, chosen, Loads, Cuts, Gets, RefreshRow, LoadRow, IndexRow, LogRow, FetchRow}
+use Rattle.tier_fetch.specs.Turns.{Tiers, spot_in, chosen, LoadsBytes, Loads, CutsBytes, Cuts, RefreshRow, LoadRow, IndexRow, LogRow, FetchRow}
 use Rattle.tier_safe.specs.Fetches.{IsIndexOf}
 use Rattle.tier_safe.specs.Kept.{whole_of}
 use Rattle.tier_safe.specs.Scene.{Site, Seeks, Scene}
@@ -54,7 +57,7 @@ use Rattle.tier_serves.specs.Seeking.{sought_of, IsAtTurn}
 use Rattle.tier_serves.specs.Spans.{EndsIn, read_in}
 use Rattle.tier_serves.proofs.Damaging.{damage_is_of_logs}
 use Rattle.tier_serves.proofs.Pairs.{found_in}
-use Rattle.tier_serves.proofs.Reading.{spot_is, copy_of, stands, seen_start, index_read}
+use Rattle.tier_serves.proofs.Reading.{copy_of, IsGiven, gives, index_read}
 use Rattle.tier_serves.proofs.Spanning.{spans_hold}
 use Rattle.tier_serves.proofs.Turning.{shown}
 use Rattle.command_answers.specs.Found.{PieceEnds, IsFound}
@@ -154,25 +157,23 @@ module _ (c : Scene) (p : Plain) (a b : ℕ) (site : Site) (x : Broker) (stops e
     -- so does what an index shows
     loads_found : (ns : meta.Content) (view : Seen) (cache cache' : Cache) (old new : S) (piece : Piece) (place : ℕ × Spot) (later : Next) (answer : Result (Option (List ℕ)) Trouble)
         → At (Index piece) (objects old) ns view cache → spot_in wanted.partition piece.id part.Index (entry_of piece.id view.entries) ≡ Some place
-        → Gets objects calls place.1.key (drop place.1.at) answer old new → Loads wanted piece place.0 place.1 answer (Ok (Goes later)) cache cache' → PieceEnds p.paths epoch piece
+        → Gets objects calls place.1.key (all_of place.1) answer old new → Loads wanted piece place.0 place.1 answer (Ok (Goes later)) cache cache' → PieceEnds p.paths epoch piece
         → IsFound p.paths c.notes epoch wanted.offset wanted.limit later
     loads_found ns view cache cache' old new piece place later (Err Failed) h at gets k ends = let e = k.0 in absurd (cc (e))
     loads_found ns view cache cache' old new piece place later (Err NoMemory) h at gets k ends = let e = k.0 in absurd (cc (e))
     loads_found ns view cache cache' old new piece place later (Ok None) h at gets k ends = let e = k.0 in absurd (cc (e))
-    loads_found ns view cache cache' old new piece place later (Ok (Some bytes)) h at gets k ends =
-        let r = copy_of c p a b site x stops epoch wanted line (Index piece) (objects old) ns view cache piece h refl in
-        let spot = spot_is wanted.partition piece.id part.Index (entry_of piece.id view.entries) place at in
-        let of : r.entry.partition ≡ wanted.partition = h.safe.tier.partition.told piece.id r.entry r.there ∙ sym h.partition in
-        let stand = stands c p x piece wanted.partition (objects old) part.Index r h.shows.objects_are of in
-        let given : Some bytes ≡ option_map (drop place.1.at) ((objects old).objects place.1.key) = gets.bytes h.shows.store_tells in
-        let read : Some bytes ≡ option_map (drop 0) ((objects old).objects (key_of wanted.partition piece.id part.Index)) =
-        subst (λ (q : ℕ × Spot). Some bytes ≡ option_map (drop q.1.at) ((objects old).objects q.1.key)) spot.is given in
-        let start : k.index.base ≡ r.entry.start =
-        k.base_is ∙ ap (λ (q : ℕ × Spot). q.0) spot.is ∙ seen_start c p a b site x stops epoch wanted line (Index piece) (objects old) ns view cache piece spot.entry h r spot.there in
-        let is = index_read c p x piece k.index bytes r start k.rises k.bytes_are (read ∙ ap (option_map (drop 0)) stand) in
-        let same : Log piece (span_of k.index wanted.offset wanted.limit piece.to) ≡ later = (let e = k.turn_is in cc (e)) in
-        subst (IsFound p.paths c.notes epoch wanted.offset wanted.limit) same
-        (spanned piece k.index ends r (record { batches = r.held.batches; line = r.held.line; interval = r.held.interval; describes = r.held.describes; is = is }))
+    loads_found ns view cache cache' old new piece place later (Ok (Some bytes)) h at gets k ends = by (short_of place.1 bytes) k
+      where
+        by : (end : Option ℕ) → LoadsBytes end wanted piece place.0 place.1 bytes (Ok (Goes later)) cache cache' → IsFound p.paths c.notes epoch wanted.offset wanted.limit later
+        by (Some end) k = let e = k.0 in absurd (cc (e))
+        by None k =
+            let r = copy_of c p a b site x stops epoch wanted line (Index piece) (objects old) ns view cache piece h refl in
+            let g = gives c p a b site x stops epoch wanted line (Index piece) (objects old) ns view cache piece part.Index place (λ bytes. bytes) (Some bytes) tt h refl at
+            (gets.bytes h.shows.store_tells) r in
+            let is = index_read c p x piece k.index bytes r (k.base_is ∙ g.start_is) k.rises k.bytes_are g.given_is in
+            let same : Log piece (span_of k.index wanted.offset wanted.limit piece.to) ≡ later = (let e = k.turn_is in cc (e)) in
+            subst (IsFound p.paths c.notes epoch wanted.offset wanted.limit) same
+            (spanned piece k.index ends r (record { batches = r.held.batches; line = r.held.line; interval = r.held.interval; describes = r.held.describes; is = is }))
 
     load_found : (ns : meta.Content) (view : Seen) (cache cache' : Cache) (old new : S) (piece : Piece) (place : Option (ℕ × Spot)) (later : Next) → At (Index piece) (objects old) ns view cache
         → spot_in wanted.partition piece.id part.Index (entry_of piece.id view.entries) ≡ place → LoadRow objects calls wanted piece view place (Ok (Goes later)) cache cache' old new
@@ -195,45 +196,40 @@ module _ (c : Scene) (p : Plain) (a b : ℕ) (site : Site) (x : Broker) (stops e
     -- the last turn isn't damaged
     cuts_whole : (ns : meta.Content) (view : Seen) (cache : Cache) (old new : S) (piece : Piece) (span : Span) (spot : ℕ × Spot) (place : Place) (at : ℕ) (answer : Result (Option (List ℕ)) Trouble)
         → At (Log piece span) (objects old) ns view cache → spot_in wanted.partition piece.id part.Log (entry_of piece.id view.entries) ≡ Some spot
-        → Gets objects calls spot.1.key (λ object. take span.most (drop (spot.1.at + span.from) object)) answer old new → Cuts wanted piece spot.1 span answer (Ok (Ends (Damaged place at)))
+        → Gets objects calls spot.1.key (some_of spot.1 span.from span.most) answer old new → Cuts wanted piece spot.1 span answer (Ok (Ends (Damaged place at)))
         → IsFound p.paths c.notes epoch wanted.offset wanted.limit (Log piece span) → wanted.offset < wanted.mark → EndsAt wanted.mark x.log → ⊥
     cuts_whole ns view cache old new piece span spot place at answer h stood gets k f below marked = by answer (gets.bytes h.shows.store_tells) k
       where
         r : FetchReads c p x piece
         r = copy_of c p a b site x stops epoch wanted line (Log piece span) (objects old) ns view cache piece h refl
 
-        of : r.entry.partition ≡ wanted.partition
-        of = h.safe.tier.partition.told piece.id r.entry r.there ∙ sym h.partition
-
-        -- what is read is of the copy's batches
-        read : (given : Option (List ℕ)) → given ≡ option_map (λ (object : List ℕ). take span.most (drop (spot.1.at + span.from) object)) ((objects old).objects spot.1.key)
-            → given ≡ Some (take span.most (drop (0 + span.from) (joined r.held.batches)))
-        read given is =
-            let s = spot_is wanted.partition piece.id part.Log (entry_of piece.id view.entries) spot stood in
-            let whole : given ≡ option_map (λ (object : List ℕ). take span.most (drop (0 + span.from) object)) ((objects old).objects (key_of wanted.partition piece.id part.Log)) =
-            subst (λ (q : ℕ × Spot). given ≡ option_map (λ (object : List ℕ). take span.most (drop (q.1.at + span.from) object)) ((objects old).objects q.1.key)) s.is is in
-            whole ∙ ap (option_map (λ (object : List ℕ). take span.most (drop (0 + span.from) object))) (stands c p x piece wanted.partition (objects old) part.Log r h.shows.objects_are of)
+        -- what is read is of the copy's batches, and all of it that is owed
+        read : (given : Option (List ℕ)) → given ≡ option_map (some_of spot.1 span.from span.most) ((objects old).objects spot.1.key)
+            → IsGiven spot r.entry.start (joined r.held.batches) (λ bytes. take span.most (drop span.from bytes)) given
+        read given is = gives c p a b site x stops epoch wanted line (Log piece span) (objects old) ns view cache piece part.Log spot (λ bytes. take span.most (drop span.from bytes)) given tt h refl stood is r
 
         by : (answer : Result (Option (List ℕ)) Trouble)
-            → IfOk answer (λ (given : Option (List ℕ)). given ≡ option_map (λ (object : List ℕ). take span.most (drop (spot.1.at + span.from) object)) ((objects old).objects spot.1.key))
+            → IfOk answer (λ (given : Option (List ℕ)). given ≡ option_map (some_of spot.1 span.from span.most) ((objects old).objects spot.1.key))
             → Cuts wanted piece spot.1 span answer (Ok (Ends (Damaged place at))) → ⊥
         by (Err Failed) is k = cc (k)
         by (Err NoMemory) is k = cc (k)
-        by (Ok None) is k = let e = read None is in cc (e)
+        by (Ok None) is k = let g = read None is in let e = g.given_is in cc (e)
         by (Ok (Some bytes)) is k =
-            let sum : 0 + span.from ≡ span.from = omega arith in
+            let g = read (Some bytes) is in
             let e : bytes ≡ take span.most (drop span.from (joined r.held.batches)) =
-            one_some (Some bytes) bytes (take span.most (drop (0 + span.from) (joined r.held.batches))) refl (read (Some bytes) is)
-            ∙ ap (λ (n : ℕ). take span.most (drop n (joined r.held.batches))) sum in
-            none_bad (objects old) ns view cache piece span k.found h r f below marked
-            (subst (λ (given : List ℕ). IsBadAt given wanted.offset wanted.limit (min wanted.mark piece.to) k.found) e k.bad)
+            one_some (Some bytes) bytes (take span.most (drop span.from (joined r.held.batches))) refl g.given_is in
+            let all : short_in spot.1 span.from span.most bytes ≡ None =
+            ap (short_in spot.1 span.from span.most) e ∙ piece_not_short spot.1 span.from span.most (joined r.held.batches) g.whole in
+            let bad = subst (λ (end : Option ℕ). CutsBytes end wanted piece spot.1 span bytes (Ok (Ends (Damaged place at)))) all k in
+            none_bad (objects old) ns view cache piece span bad.found h r f below marked
+            (subst (λ (given : List ℕ). IsBadAt given wanted.offset wanted.limit (min wanted.mark piece.to) bad.found) e bad.bad)
 
-    log_whole : (ns : meta.Content) (view : Seen) (cache : Cache) (old new : S) (piece : Piece) (span : Span) (spot : Option (ℕ × Spot)) (place : Place) (at : ℕ)
+    log_whole : (ns : meta.Content) (view : Seen) (cache : Cache) (old new : S) (piece : Piece) (span : Span) (spot : Option (ℕ × Spot)) (place : Place) (at : ℕ) (home : Part)
         → At (Log piece span) (objects old) ns view cache → spot_in wanted.partition piece.id part.Log (entry_of piece.id view.entries) ≡ spot
-        → LogRow objects calls wanted piece span view spot (Ok (Ends (Damaged place at))) old new → place ≡ Key (key_of wanted.partition piece.id part.Log)
+        → LogRow objects calls wanted piece span view spot (Ok (Ends (Damaged place at))) old new → place ≡ Key (key_of wanted.partition piece.id home)
         → IsFound p.paths c.notes epoch wanted.offset wanted.limit (Log piece span) → wanted.offset < wanted.mark → EndsAt wanted.mark x.log → ⊥
-    log_whole ns view cache old new piece span None place at h stood row is f below marked = let e = row.0 in cc (e, is)
-    log_whole ns view cache old new piece span (Some spot) place at h stood row is f below marked =
+    log_whole ns view cache old new piece span None place at home h stood row is f below marked = let e = row.0 in cc (e, is)
+    log_whole ns view cache old new piece span (Some spot) place at home h stood row is f below marked =
         cuts_whole ns view cache old new piece span spot place at row.answer h stood row.gets row.cuts f below marked
 
     pub not_damaged : (next : Next) (place : Place) (at : ℕ) (old new : Tiers S M) → At next (objects old.store) (notes old.meta) old.view old.cache
@@ -246,5 +242,5 @@ module _ (c : Scene) (p : Plain) (a b : ℕ) (site : Site) (x : Broker) (stops e
     not_damaged (Log piece span) place at old new h row f below marked =
         let k = damage_is_of_logs objects calls notes notings wanted line (Log piece span) place at old new c p a b site x stops epoch row h in
         let same : k.piece ≡ piece = (let e = k.next_is in cc (e)) in
-        log_whole (notes old.meta) old.view old.cache old.store new.store piece span (spot_in wanted.partition piece.id part.Log (entry_of piece.id old.view.entries)) place at h refl row.1
-        (k.place_is ∙ ap (λ (q : Piece). Key (key_of wanted.partition q.id part.Log)) same) f below marked
+        log_whole (notes old.meta) old.view old.cache old.store new.store piece span (spot_in wanted.partition piece.id part.Log (entry_of piece.id old.view.entries)) place at k.home h refl row.1
+        (k.place_is ∙ ap (λ (q : Piece). Key (key_of wanted.partition q.id k.home)) same) f below marked

@@ -14,6 +14,7 @@ use Rattle.segment_meta.specs.declared.note.Note.{Note}
 use Rattle.object_store.specs.Call as store_call
 use Rattle.object_store.specs.Content as store
 use Rattle.object_store.specs.declared.placing.Spot.{Spot}
+use Rattle.object_store.specs.Place.{short_of}
 use Rattle.meta_log.specs.Call as meta_call
 use Rattle.meta_log.specs.Content as meta
 use Rattle.view_refresh.specs.Refreshing.{Refreshes}
@@ -45,7 +46,7 @@ use Rattle.time_find.specs.declared.turn.Next.TheVariants.{Seek, Times, Index, L
 use Rattle.time_find.specs.declared.turn.TimeTurn.{TimeTurn}
 use Rattle.time_find.specs.declared.turn.TimeTurn.TheVariants.{Goes, Ends}
 use Rattle.time_find.specs.Passing.{SeeksPiece, top_of}
-use Rattle.time_find.specs.Turns.{IsBelow, IsSet, IsSearched, Times as Timed, Indexes, Searches, SeekRow, TimesRow, IndexRow, LogRow, TimeRow, wanted_at}
+use Rattle.time_find.specs.Turns.{IsBelow, IsSet, IsSearched, TimesBytes, Times as Timed, Indexes, Searches, SeekRow, TimesRow, IndexRow, LogRow, TimeRow, wanted_at}
 use Rattle.tier_dates.specs.Searching.{IsAtSearch}
 use Rattle.tier_dates.proofs.Damaging.{search_damage}
 use Rattle.tier_dates.proofs.Turning.{as_turn}
@@ -83,8 +84,11 @@ module _ (paths : List Path) (notes : List Note) (epoch : ℕ) where
   timed_found asked cursor piece base spot (Err Failed) at later w ends = absurd (cc (w))
   timed_found asked cursor piece base spot (Err NoMemory) at later w ends = absurd (let no : false ≡ true = w in cc)
   timed_found asked cursor piece base spot (Ok None) at later w ends = absurd (cc (w))
-  timed_found asked cursor piece base spot (Ok (Some bytes)) at later w ends =
-      shown_found (nat_lt _ (top_of asked piece)) piece _ cursor (top_of asked piece) at later w.turn_is ends
+  timed_found asked cursor piece base spot (Ok (Some bytes)) at later w ends = by (short_of spot bytes) w
+    where
+      by : (end : Option ℕ) → TimesBytes end asked cursor piece base spot bytes (Ok (Goes at later)) → IsFoundByTime paths notes epoch later
+      by (Some end) w = absurd (cc (w))
+      by None w = shown_found (nat_lt _ (top_of asked piece)) piece _ cursor (top_of asked piece) at later w.turn_is ends
 
   module _ {S : Type 0} (objects : S → store.Content) (calls : S → Control store_call.call_code) where
     times_found : (asked : Asked) (cursor : ℕ) (piece : Piece) (view : Seen) (place : Option (ℕ × Spot)) (at : ℕ) (later : Next)

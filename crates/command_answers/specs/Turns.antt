@@ -4,13 +4,13 @@
 --   copy     13     second    once a broker's view is refreshed                12
 --                   Start     once the segment is chosen                       11
 --                   Put n     once the copy has started, n objects are put     10 - n
---                   Finish    once all four are put                            6
+--                   Finish    once all are put                                 6
 --                   Check     once the copy is whole                           5
 --                   Delete n  where it was overtaken, n objects are taken away 4 - n
 --   expire   8      second    once the view is refreshed                       7
 --                   Start     once a segment is taken up                       6
 --                   Delete n  once its deletion has started, n are taken away  5 - n
---                   Finish    once all four are taken away                     1
+--                   Finish    once all are taken away                          1
 --   fetch    4      Refresh   once the offset is found below the local log     3
 --                   Index     once the piece is chosen                         2
 --                   Log       once the index is there                          1
@@ -26,6 +26,8 @@
 --                   Log       once the offset index is there                   three less
 --   follow   2      second    once a run of the leader's log is read           1
 --   others   1
+--
+-- A segment has four objects, or one where it is packed: then its copy and its expiry take fewer turns.
 --
 -- A search is a question for the offset of a timestamp. Its cursor rises by an offset at least where it has no piece: behind each
 -- piece, behind each run of the local log that it reads, and where it only passes over segments. So it takes 4 turns for each piece at

@@ -1,30 +1,32 @@
 -- A segment that is copied: what its objects hold, and what the metadata log is told of it.
-use Rattle.std.specs.Prelude.{◌≡◌, ◌≢◌, ℕ, ◌+◌, List, [], length, false, None}
+use Rattle.std.specs.Prelude.{◌≡◌, ◌≢◌, ℕ, ◌+◌, Bool, true, if◌then◌else◌, List, [], length, Option, Some, None}
 use Rattle.tier_base.specs.declared.names.PartitionId.{PartitionId}
 use Rattle.tier_base.specs.declared.names.SegmentId.{SegmentId}
 use Rattle.tier_base.specs.declared.plain.State.TheVariants.{CopyStarted, CopyFinished}
 use Rattle.tier_base.specs.declared.object_key.ObjectKey.{ObjectKey}
+use Rattle.tier_base.specs.Layout.{layout_bytes}
 use Rattle.log_terms.specs.Line.{line_of}
 use Rattle.log_terms.specs.Log.{joined, end_from}
 use Rattle.segment_file.specs.Segment.{IsSegment, greatest_ts}
 use Rattle.segment_file.specs.Closed.{Whole}
-use Rattle.segment_bundle.specs.Parts.{Parts, parts_of}
+use Rattle.segment_bundle.specs.Parts.{Parts, parts_of, layout_of, can_pack}
 use Rattle.object_store.specs.Place.{keys_of}
 use Rattle.segment_meta.specs.declared.note.Entry.{Entry}
 use Rattle.segment_meta.specs.declared.note.Note.{Note}
 use Rattle.segment_meta.specs.declared.note.Note.TheVariants.{Add, Update}
 use Rattle.meta_log.specs.declared.teller.Teller.{Teller}
 
--- a closed segment under a remote id, with the line of its log and the interval of its indexes
+-- a closed segment under a remote id, with the line of its log and the interval of its indexes; packed, it gets one object
 pub record Copied : Type 0 where
   pub id : SegmentId
   pub partition : PartitionId
+  pub packed : Bool
   pub segment : Whole
   pub line : List (ℕ × ℕ)
   pub interval : ℕ
   pub parts : Parts
 
--- what a copy keeps: batches that the segment is, and that its parts are made of
+-- what a copy keeps: batches that the segment is, and that its parts are made of, which can be packed where they are to be
 pub record IsCopied (copy : Copied) : Type 0 where
   pub batches : List (List ℕ)
   pub some : batches ≢ []
@@ -34,10 +36,11 @@ pub record IsCopied (copy : Copied) : Type 0 where
   pub max_ts_is : copy.segment.max_ts ≡ greatest_ts batches
   pub epochs_are : copy.segment.epochs ≡ line_of batches
   pub parts_are : copy.parts ≡ parts_of batches copy.line copy.interval
+  pub packs : copy.packed ≡ true → can_pack copy.parts ≡ true
 
 -- the keys of its objects
 abbrev pub keys : Copied → List ObjectKey
-keys copy = keys_of copy.partition copy.id false
+keys copy = keys_of copy.partition copy.id copy.packed
 
 -- its entry, as it is told
 abbrev pub entry_of : Copied → Teller → Entry
@@ -52,7 +55,7 @@ entry_of copy teller = record {
   size = length copy.segment.bytes;
   state = CopyStarted;
   map = copy.segment.epochs;
-  packed = false;
+  packed = copy.packed;
   custom = None;
 }
 
@@ -60,6 +63,10 @@ entry_of copy teller = record {
 abbrev pub start_note : Copied → Teller → Note
 start_note copy teller = Add (entry_of copy teller)
 
+-- the custom metadata of what it puts: of a packed segment the layout of its object
+abbrev pub custom_of : Copied → Option (List ℕ)
+custom_of copy = if copy.packed then Some (layout_bytes (layout_of copy.parts)) else None
+
 -- that it is whole
 abbrev pub finish_note : Copied → Teller → Note
-finish_note copy teller = Update copy.id teller.broker teller.now CopyFinished None
+finish_note copy teller = Update copy.id teller.broker teller.now CopyFinished (custom_of copy)

@@ -7,7 +7,7 @@
 --   Check     refreshes the view                  Copied, MetaFault, Damaged
 --   Delete    takes an object away                Overtaken, StoreFault, Damaged
 --
--- The objects are put in the order of their keys. A copy that finds its entry's deletion begun takes all of its objects away
+-- The objects are put in the order of their keys, of which a packed segment has one. A copy that finds its entry's deletion begun takes all of its objects away
 -- again, in the same order. It keeps no state: it answers the one that its entry has in its broker's view then.
 --
 -- Source: KIP-405, where a segment's metadata is added as started, its objects are copied, and the metadata is updated as finished.
@@ -75,7 +75,7 @@ module _ {M : Type 0} (notes : M → meta.Content) (calls : M → Control meta_c
   abbrev pub FinishRow : Copied → Teller → Result CopyTurn AllocError → M → M → Type 0
   FinishRow copy teller (Ok (Ends MetaFault)) old new = Appends notes calls (finish_note copy teller) Fault old new
   FinishRow copy teller (Ok turn) old new = (turn ≡ Goes Check) × Appends notes calls (finish_note copy teller) Went old new
-  FinishRow copy teller (Err e) old new = Appends notes calls (finish_note copy teller) Dry old new
+  FinishRow copy teller (Err e) old new = (new ≡ old) ⊎ Appends notes calls (finish_note copy teller) Dry old new
 
   -- how its entry stands
   abbrev pub CheckRow : Copied → Result CopyTurn AllocError → Seen → Seen → M → M → Type 0
@@ -97,7 +97,7 @@ module _ {S : Type 0} (objects : S → store.Content) (calls : S → Control sto
   PutRow copy n (Some key) (Ok (Ends StoreFault)) old new = PutsUnder copy key Fault old new
   PutRow copy n (Some key) (Ok turn) old new =
       (turn ≡ Goes (put_at (n + 1) (slice_get (keys copy) (n + 1)))) × PutsUnder copy key Went old new
-  PutRow copy n (Some key) (Err e) old new = PutsUnder copy key Dry old new
+  PutRow copy n (Some key) (Err e) old new = (new ≡ old) ⊎ PutsUnder copy key Dry old new
 
   -- the object of a number is taken away, where it has a key
   abbrev pub DeleteRow : Copied → Seen → ℕ → Option ObjectKey → CopyTurn → S → S → Type 0

@@ -1,9 +1,9 @@
 //! A segment that is copied.
 
-ghost use Rattle.std.specs.Prelude.{◌≡◌, IfOk, slice_get};
+ghost use Rattle.std.specs.Prelude.{◌≡◌, ◌&&◌, IfOk, slice_get};
 ghost use Rattle.segment_meta.specs.Rules.{IsNote};
-ghost use Rattle.segment_bundle.specs.Parts.{part_in};
-ghost use Rattle.copy_task.specs.Copying.{Copied, keys, start_note, finish_note};
+ghost use Rattle.segment_bundle.specs.Parts.{part_in, can_pack};
+ghost use Rattle.copy_task.specs.Copying.{Copied, keys, custom_of, start_note, finish_note};
 
 use bytes::Bytes;
 use epoch_line::Line;
@@ -14,13 +14,14 @@ use segment_file::Closed;
 use segment_meta::{Entry, Note};
 use std::alloc::{AllocError, Global};
 use std::marker::Model;
-use tier_base::{Part, PartitionId, SegmentId, State};
+use tier_base::{Blob, Part, PartitionId, SegmentId, State};
 
 /// A closed segment under a remote id, and what its objects hold. Its bytes are shared, not copied.
 #[derive(Drop)]
 pub struct Copying {
     id: SegmentId,
     partition: PartitionId,
+    packed: bool,
     segment: Closed,
     bundle: Bundle,
 }
@@ -33,6 +34,7 @@ impl Model for Copying {
     ghost view = { λ c. record {
       id = c.id;
       partition = c.partition;
+      packed = c.packed;
       segment = c.segment;
       line = c.bundle.line;
       interval = c.bundle.interval;
@@ -42,6 +44,7 @@ impl Model for Copying {
     ghost invariant = { λ c. IsCopied (record {
       id = c.id;
       partition = c.partition;
+      packed = c.packed;
       segment = c.segment;
       line = c.bundle.line;
       interval = c.bundle.interval;
@@ -50,7 +53,8 @@ impl Model for Copying {
 }
 
 impl Copying {
-    /// A segment of the partition under an id. The line is its log's, the interval that of its indexes in bytes.
+    /// A segment of the partition under an id, and whether it is to be packed: it isn't where its parts can't be. The line is its
+    /// log's, the interval that of its indexes in bytes.
     pub fn of(
         alloc: Global,
         partition: PartitionId,
@@ -58,18 +62,21 @@ impl Copying {
         segment: Closed,
         line: &Line,
         interval: u32,
+        packed: bool,
     ) -> Result<Copying, AllocError>
         ensures id { IfOk result (λ copy. copy.id ≡ id) }
         ensures partition { IfOk result (λ copy. copy.partition ≡ partition) }
         ensures segment { IfOk result (λ copy. copy.segment ≡ segment) }
         ensures line { IfOk result (λ copy. copy.line ≡ line.now) }
         ensures interval { IfOk result (λ copy. copy.interval ≡ interval) }
+        ensures packed { IfOk result (λ copy. copy.packed ≡ (packed && can_pack copy.parts)) }
     {
         let bundle = Bundle::of(alloc, &segment, line, interval)?;
         let _whole = segment.bytes();
         Ok(Copying {
             id,
             partition,
+            packed: packed && bundle.layout().is_some(),
             segment,
             bundle,
         })
@@ -107,7 +114,7 @@ impl Copying {
     pub fn key(&self, n: u8) -> Option<ObjectKey>
         ensures { result ≡ slice_get (keys self.now) n }
     {
-        let keys = keys_of(self.partition, self.id, false);
+        let keys = keys_of(self.partition, self.id, self.packed);
         if n < keys.count() {
             Some(keys.get(n))
         } else {
@@ -116,10 +123,10 @@ impl Copying {
     }
 
     /// The bytes of a part.
-    pub fn part(&self, part: Part) -> &Bytes
-        ensures { result.now ≡ part_in self.now.parts part }
+    pub fn part(&self, alloc: Global, part: Part) -> Result<Bytes, AllocError>
+        ensures { IfOk result (λ bytes. bytes ≡ part_in self.now.parts part) }
     {
-        self.bundle.part(part)
+        self.bundle.part(alloc, part)
     }
 
     /// What a broker tells of the copy as it starts.
@@ -141,22 +148,32 @@ impl Copying {
             size: self.segment.bytes().len() as u32,
             state: State::CopyStarted,
             map,
-            packed: false,
+            packed: self.packed,
             custom: None,
         }))
     }
 
     /// What a broker tells of the copy once its objects stand.
-    pub fn finish_note(&self, teller: Teller) -> Note
-        ensures note { result ≡ finish_note self.now teller }
-        ensures rules { IsNote result }
+    pub fn finish_note(&self, alloc: Global, teller: Teller) -> Result<Note, AllocError>
+        ensures note { IfOk result (λ note. note ≡ finish_note self.now teller) }
+        ensures rules { IfOk result IsNote }
     {
-        Note::Update {
+        Ok(Note::Update {
             id: self.id,
             broker: teller.broker,
             event_ts: teller.now,
             state: State::CopyFinished,
-            custom: None,
+            custom: self.custom(alloc)?,
+        })
+    }
+
+    /// The custom metadata of what is put.
+    fn custom(&self, alloc: Global) -> Result<Option<Blob>, AllocError>
+        ensures { IfOk result (λ custom. custom ≡ custom_of self.now) }
+    {
+        match self.bundle.layout() {
+            Some(layout) if self.packed => Ok(Some(layout.to_bytes(alloc)?)),
+            _ => Ok(None),
         }
     }
 }

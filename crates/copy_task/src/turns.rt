@@ -31,8 +31,8 @@ pub fn copy_turn<S: Store, M: MetaLog>(
 {
     match next {
         Next::Start => start(alloc, copying, teller, meta),
-        Next::Put(n) => put(copying, n, store),
-        Next::Finish => finish(copying, teller, meta),
+        Next::Put(n) => put(alloc, copying, n, store),
+        Next::Finish => finish(alloc, copying, teller, meta),
         Next::Check => check(copying, view, meta),
         Next::Delete(n) => Ok(delete(copying, n, view, store)),
     }
@@ -56,14 +56,20 @@ fn start<M: MetaLog>(
 }
 
 /// Puts an object, where one has this number.
-fn put<S: Store>(copying: &Copying, n: u8, store: &mut S) -> Result<CopyTurn, AllocError>
+fn put<S: Store>(
+    alloc: Global,
+    copying: &Copying,
+    n: u8,
+    store: &mut S,
+) -> Result<CopyTurn, AllocError>
     ensures { PutRow S.content S.control copying.now n (slice_get (keys copying.now) n) result
         store.old store.new }
 {
     let Some(key) = copying.key(n) else {
         return Ok(CopyTurn::Goes(Next::Finish));
     };
-    match store.put(&key, copying.part(key.part)) {
+    let bytes = copying.part(alloc, key.part)?;
+    match store.put(&key, &bytes) {
         Ok(()) => Ok(CopyTurn::Goes(put_at(copying, n + 1))),
         Err(Trouble::Failed) => Ok(CopyTurn::Ends(Answer::StoreFault)),
         Err(Trouble::NoMemory) => Err(AllocError),
@@ -82,13 +88,15 @@ fn put_at(copying: &Copying, n: u8) -> Next
 
 /// Tells the metadata log that a copy is whole.
 fn finish<M: MetaLog>(
+    alloc: Global,
     copying: &Copying,
     teller: Teller,
     meta: &mut M,
 ) -> Result<CopyTurn, AllocError>
     ensures { FinishRow M.content M.control copying.now teller result meta.old meta.new }
 {
-    match meta.append(&copying.finish_note(teller)) {
+    let note = copying.finish_note(alloc, teller)?;
+    match meta.append(&note) {
         Ok(_) => Ok(CopyTurn::Goes(Next::Check)),
         Err(Trouble::Failed) => Ok(CopyTurn::Ends(Answer::MetaFault)),
         Err(Trouble::NoMemory) => Err(AllocError),

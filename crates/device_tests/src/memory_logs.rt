@@ -7,11 +7,11 @@ use crate::log_calls::{append, arm};
 use meta_log::{MemoryLog, MetaCall, MetaLog, Planned};
 use segment_meta::{Entry, Note};
 use std::alloc::{AllocError, Global};
-use tier_base::State;
+use tier_base::{Blob, State};
 
-/// The copy of offsets 0 to 14 starts, of epoch 0 up to 9 and of epoch 1 from 10 on.
-static STARTED: [u8; 87] = [
-    0, 0, // version, kind
+/// The packed copy of offsets 0 to 14 starts, of epoch 0 up to 9 and of epoch 1 from 10 on.
+static STARTED: [u8; 89] = [
+    1, 0, // version, kind
     0, 0, 0, 0, 0, 0, 0, 1, 0, 0, 0, 0, 0, 0, 0, 6, // id
     0, 0, // partition
     0, 0, 0, 0, 0, 0, 0, 0, // start
@@ -26,21 +26,24 @@ static STARTED: [u8; 87] = [
     0, 0, 0, 0, 0, 0, 0, 0, // its start
     0, 0, 0, 1, // epoch
     0, 0, 0, 0, 0, 0, 0, 10, // its start
+    0, 0, // length of the custom metadata
 ];
 
 /// It has finished, told by broker 2 at 7 milliseconds.
-static FINISHED: [u8; 29] = [
-    0, 1, // version, kind
+static FINISHED: [u8; 33] = [
+    1, 1, // version, kind
     0, 0, 0, 0, 0, 0, 0, 1, 0, 0, 0, 0, 0, 0, 0, 6, // id
     0, 2, // broker
     0, 0, 0, 0, 0, 0, 0, 7, // event_ts
     1, // state
+    0, 2, // length of the custom metadata
+    8, 9, // custom metadata
 ];
 
 /// Whether an entry says what the first row spells.
 fn is_first(entry: &Entry) -> bool {
     let span = (entry.start, entry.end, entry.max_ts, entry.event_ts) == (0, 14, 1000, 5);
-    let rest = (entry.broker.0, entry.size) == (1, 138);
+    let rest = (entry.broker.0, entry.size, entry.packed) == (1, 138, true);
     let map = entry.map.entries() == [(0, 0), (1, 10)].as_slice();
     span & rest & map
 }
@@ -50,6 +53,14 @@ fn is_started(note: &Note) -> bool {
     match note {
         Note::Add(entry) => is_first(entry),
         Note::Update { .. } => false,
+    }
+}
+
+/// Whether custom metadata is that of the second row.
+fn is_custom(custom: &Option<Blob>) -> bool {
+    match custom {
+        Some(bytes) => bytes.as_slice() == [8, 9].as_slice(),
+        None => false,
     }
 }
 
@@ -65,7 +76,7 @@ fn is_finished(note: &Note) -> bool {
             ..
         } => {
             let told = (broker.0, *event_ts, *state) == (2, 7, State::CopyFinished);
-            told & custom.is_none()
+            told & is_custom(custom)
         }
     }
 }

@@ -342,9 +342,9 @@ static PARTS: [(Part, &str); 4] = [
 ];
 
 /// The key of that number of the segment, where there is one.
-fn key_of(number: u8) -> Option<ObjectKey> {
+fn key_of(number: u8, packed: bool) -> Option<ObjectKey> {
     let id = segment_id(PartitionId(3), BrokerId(2), 5, 258);
-    let keys = keys_of(PartitionId(3), id, false);
+    let keys = keys_of(PartitionId(3), id, packed);
     if number < keys.count() {
         Some(keys.get(number))
     } else {
@@ -372,7 +372,7 @@ fn is_spelt(alloc: Global, key: ObjectKey, part: Part, text: &str) -> Result<boo
 
 /// Whether the key of that number is spelt so, and a part stands there whole.
 fn stands(alloc: Global, number: u8, part: Part, text: &str) -> bool {
-    match key_of(number) {
+    match key_of(number, false) {
         Some(key) => is_spelt(alloc, key, part, text) == Ok(true),
         None => false,
     }
@@ -385,19 +385,92 @@ fn the_parts_of_a_segment_have_four_keys(rt: HostRuntime) {
         assert!(rt; stands(rt.alloc(), number, *part, text), "{text}");
         number = number.saturating_add(1);
     }
-    assert!(rt; key_of(number).is_none(), "a fifth");
+    assert!(rt; key_of(number, false).is_none(), "a fifth");
 }
 
-/// Whether a part of a packed segment stands nowhere.
-fn is_nowhere(alloc: Global, part: Part) -> Result<bool, AllocError> {
-    let custom = Blob::from_slice(alloc, b"custom".as_slice())?;
-    Ok(place(PartitionId(0), id(1), true, Some(&custom), part).is_none())
+/// The key of a packed segment's one object as text.
+const PACK: &str = "3/00030002-0000-0005-0000-000000000102.pack";
+
+/// Whether a packed segment has this key alone.
+fn has_one_key(alloc: Global, text: &str) -> Result<bool, AllocError> {
+    let Some(key) = key_of(0, true) else {
+        return Ok(false);
+    };
+    let spelt = key.to_text(alloc)?;
+    Ok(spelt.as_slice() == text.as_bytes() && key_of(1, true).is_none())
 }
 
 #[test]
-fn nothing_stands_of_a_packed_segment(rt: HostRuntime) {
-    for (part, text) in &PARTS {
-        assert_eq!(rt; is_nowhere(rt.alloc(), *part), Ok(true), "{text}");
+fn a_packed_segment_has_one_key(rt: HostRuntime) {
+    assert_eq!(rt; has_one_key(rt.alloc(), PACK), Ok(true));
+}
+
+/// A layout's bytes: its parts have 300, 16, 24 and 70000.
+const LAYOUT: [u8; 17] = [
+    1, // version
+    0, 0, 1, 44, // log
+    0, 0, 0, 16, // index
+    0, 0, 0, 24, // times
+    0, 1, 17, 112, // epochs
+];
+
+/// What custom metadata tells of a part: where it begins, and how long it is.
+static PLACES: [(&str, Option<&[u8]>, Part, Option<(u64, u64)>); 9] = [
+    ("log", Some(&LAYOUT), Part::Log, Some((0, 300))),
+    ("index", Some(&LAYOUT), Part::Index, Some((300, 16))),
+    ("times", Some(&LAYOUT), Part::TimeIndex, Some((316, 24))),
+    ("epochs", Some(&LAYOUT), Part::Epochs, Some((340, 70000))),
+    ("all", Some(&LAYOUT), Part::Pack, Some((0, 70340))),
+    ("none told", None, Part::Log, None),
+    ("empty", Some(&[]), Part::Log, None),
+    (
+        "cut",
+        Some(&[1, 0, 0, 1, 44, 0, 0, 0, 16, 0, 0, 0, 24, 0, 1, 17]),
+        Part::Log,
+        None,
+    ),
+    (
+        "another version",
+        Some(&[2, 0, 0, 1, 44, 0, 0, 0, 16, 0, 0, 0, 24, 0, 1, 17, 112]),
+        Part::Log,
+        None,
+    ),
+];
+
+/// Where a part of a packed segment stands in its object, by its custom metadata.
+fn packed_spot(
+    alloc: Global,
+    custom: Option<&[u8]>,
+    part: Part,
+) -> Result<Option<Spot>, AllocError> {
+    let id = segment_id(PartitionId(3), BrokerId(2), 5, 258);
+    match custom {
+        Some(bytes) => {
+            let blob = Blob::from_slice(alloc, bytes)?;
+            Ok(place(PartitionId(3), id, true, Some(&blob), part))
+        }
+        None => Ok(place(PartitionId(3), id, true, None, part)),
+    }
+}
+
+/// Whether a part of a packed segment stands there.
+fn is_at(spot: Option<Spot>, place: Option<(u64, u64)>) -> bool {
+    match (spot, place) {
+        (Some(spot), Some((at, len))) => {
+            key_of(0, true) == Some(spot.key) && spot.at == at && spot.len == Some(len)
+        }
+        (None, None) => true,
+        _ => false,
+    }
+}
+
+#[test]
+fn a_layout_tells_where_the_parts_of_a_packed_segment_stand(rt: HostRuntime) {
+    for (message, custom, part, place) in &PLACES {
+        let Ok(spot) = packed_spot(rt.alloc(), *custom, *part) else {
+            panic!(rt; "no memory");
+        };
+        assert!(rt; is_at(spot, *place), "{message}");
     }
 }
 

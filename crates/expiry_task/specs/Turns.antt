@@ -5,11 +5,11 @@
 --   Delete    takes an object away                       StoreFault
 --   Finish    appends the note that no object stands     Deleted, MetaFault
 --
--- The objects are taken away in the order of their keys. An expiry that fails is taken up by a later one, which does all of it again.
+-- The objects are taken away in the order of their keys, of which a packed segment has one. An expiry that fails is taken up by a later one, which does all of it again.
 --
 -- Source: KIP-405, where a segment's metadata is updated as delete-started, its objects are deleted, and the metadata is updated as
 -- delete-finished.
-use Rattle.std.specs.Prelude.{◌≡◌, ℕ, ◌+◌, false, List, Option, Some, None, slice_get, Ok, Err}
+use Rattle.std.specs.Prelude.{◌≡◌, ℕ, ◌+◌, List, Option, Some, None, slice_get, Ok, Err}
 use Rattle.std.specs.declared.result.Result.{Result}
 use Rattle.std.specs.declared.alloc.AllocError.{AllocError}
 use Rattle.tier_base.specs.declared.plain.State.{State}
@@ -18,6 +18,7 @@ use Rattle.tier_base.specs.declared.object_key.ObjectKey.{ObjectKey}
 use Rattle.tier_base.specs.Device.{Control, Went, Fault, Dry}
 use Rattle.segment_meta.specs.declared.note.Note.{Note}
 use Rattle.segment_meta.specs.declared.note.Note.TheVariants.{Update}
+use Rattle.segment_meta.specs.Rules.{bare_custom}
 use Rattle.object_store.specs.Call as store_call
 use Rattle.object_store.specs.Calls.{Deletes}
 use Rattle.object_store.specs.Content as store
@@ -35,11 +36,11 @@ use Rattle.expiry_task.specs.declared.turn.Next.TheVariants.{Start, Delete, Fini
 
 -- the segment has another state
 abbrev pub note_of : Doomed → Teller → State → Note
-note_of doomed teller state = Update doomed.id teller.broker teller.now state None
+note_of doomed teller state = Update doomed.id teller.broker teller.now state (bare_custom doomed.packed)
 
 -- the keys of its objects
 abbrev pub keys : Doomed → List ObjectKey
-keys doomed = keys_of doomed.partition doomed.id false
+keys doomed = keys_of doomed.partition doomed.id doomed.packed
 
 -- the turn that takes the object of a number away, where it has a key, or the one behind the last
 abbrev pub delete_at : ℕ → Option ObjectKey → Next

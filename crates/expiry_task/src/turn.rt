@@ -8,6 +8,8 @@ use tier_base::{PartitionId, SegmentId};
 pub struct Doomed {
     pub partition: PartitionId,
     pub id: SegmentId,
+    /// Whether its objects are one.
+    pub packed: bool,
 }
 
 /// What the next turn of an expiry does.

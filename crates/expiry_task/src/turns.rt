@@ -7,12 +7,13 @@ use crate::turn::{Doomed, ExpiryTurn, Next};
 use meta_log::{MetaLog, Teller};
 use object_store::{ObjectKey, Store, keys_of};
 use plain_log::Answer;
-use segment_meta::Note;
-use std::alloc::AllocError;
+use segment_meta::{Note, bare_custom};
+use std::alloc::{AllocError, Global};
 use tier_base::{State, Trouble};
 
 /// Takes the next turn of an expiry.
 pub fn expiry_turn<S: Store, M: MetaLog>(
+    alloc: Global,
     doomed: Doomed,
     next: Next,
     teller: Teller,
@@ -23,17 +24,22 @@ pub fn expiry_turn<S: Store, M: MetaLog>(
         (record { store = store.old; meta = meta.old }) (record { store = store.new; meta = meta.new }) }
 {
     match next {
-        Next::Start => start(doomed, teller, meta),
+        Next::Start => start(alloc, doomed, teller, meta),
         Next::Delete(n) => Ok(delete(doomed, n, store)),
-        Next::Finish => finish(doomed, teller, meta),
+        Next::Finish => finish(alloc, doomed, teller, meta),
     }
 }
 
 /// Tells the metadata log that a deletion starts.
-fn start<M: MetaLog>(doomed: Doomed, teller: Teller, meta: &mut M) -> Result<ExpiryTurn, AllocError>
+fn start<M: MetaLog>(
+    alloc: Global,
+    doomed: Doomed,
+    teller: Teller,
+    meta: &mut M,
+) -> Result<ExpiryTurn, AllocError>
     ensures { StartRow M.content M.control doomed teller result meta.old meta.new }
 {
-    match meta.append(&note_of(doomed, teller, State::DeleteStarted)) {
+    match meta.append(&note_of(alloc, doomed, teller, State::DeleteStarted)) {
         Ok(_) => Ok(ExpiryTurn::Goes(Next::Delete(0))),
         Err(Trouble::Failed) => Ok(ExpiryTurn::Ends(Answer::MetaFault)),
         Err(Trouble::NoMemory) => Err(AllocError),
@@ -68,7 +74,7 @@ fn delete_at(doomed: &Doomed, n: u8) -> Next
 fn key_at(doomed: &Doomed, n: u8) -> Option<ObjectKey>
     ensures { result ≡ slice_get (keys doomed.now) n }
 {
-    let keys = keys_of(doomed.partition, doomed.id, false);
+    let keys = keys_of(doomed.partition, doomed.id, doomed.packed);
     if n < keys.count() {
         Some(keys.get(n))
     } else {
@@ -78,6 +84,7 @@ fn key_at(doomed: &Doomed, n: u8) -> Option<ObjectKey>
 
 /// Tells the metadata log that no object stands.
 fn finish<M: MetaLog>(
+    alloc: Global,
     doomed: Doomed,
     teller: Teller,
     meta: &mut M,
@@ -85,7 +92,7 @@ fn finish<M: MetaLog>(
     ensures { FinishRow M.content M.control doomed teller result meta.old meta.new }
 {
     let id = doomed.id;
-    match meta.append(&note_of(doomed, teller, State::DeleteFinished)) {
+    match meta.append(&note_of(alloc, doomed, teller, State::DeleteFinished)) {
         Ok(_) => Ok(ExpiryTurn::Ends(Answer::Deleted(id))),
         Err(Trouble::Failed) => Ok(ExpiryTurn::Ends(Answer::MetaFault)),
         Err(Trouble::NoMemory) => Err(AllocError),
@@ -93,7 +100,7 @@ fn finish<M: MetaLog>(
 }
 
 /// That a segment has another state.
-fn note_of(doomed: Doomed, teller: Teller, state: State) -> Note
+fn note_of(alloc: Global, doomed: Doomed, teller: Teller, state: State) -> Note
     ensures { result ≡ note_of doomed teller state }
 {
     Note::Update {
@@ -101,6 +108,6 @@ fn note_of(doomed: Doomed, teller: Teller, state: State) -> Note
         broker: teller.broker,
         event_ts: teller.now,
         state,
-        custom: None,
+        custom: bare_custom(alloc, doomed.packed),
     }
 }

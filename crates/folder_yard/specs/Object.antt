@@ -1,6 +1,6 @@
 -- The names of a partition's objects as text.
 --
--- name = id ( ".log" / ".index" / ".timeindex" / ".epochs" )
+-- name = id ( ".log" / ".index" / ".timeindex" / ".epochs" / ".pack" )
 --
 -- It is what stands behind the "/" of the object's key: tier_base's module Key has the grammar of an id.
 use Rattle.std.specs.Prelude.{◌≡◌, ℕ, List, ◌++◌}

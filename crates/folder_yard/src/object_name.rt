@@ -19,6 +19,7 @@ fn end_of(part: Part) -> &'static str
         Part::Index => ".index",
         Part::TimeIndex => ".timeindex",
         Part::Epochs => ".epochs",
+        Part::Pack => ".pack",
     }
 }
 
@@ -62,6 +63,9 @@ fn part_of(end: &[u8]) -> Option<Part>
     }
     if end == b".epochs".as_slice() {
         return Some(Part::Epochs);
+    }
+    if end == b".pack".as_slice() {
+        return Some(Part::Pack);
     }
     None
 }

@@ -7,7 +7,7 @@ use epoch_line::Line;
 use segment_bundle::Bundle;
 use segment_file::Closed;
 use std::alloc::Global;
-use tier_base::Part;
+use tier_base::{Layout, Part};
 
 /// Adds the batch of a base offset to the bytes of a segment.
 fn grow(alloc: Global, bytes: &mut Vec<u8>, base: u64) -> bool {
@@ -69,10 +69,18 @@ static INDEX: [u8; 16] = [
 /// Its time index.
 static TIMES: [u8; 12] = [0, 0, 0, 0, 0, 0, 0x03, 0xe8, 0, 0, 0, 0];
 
+/// Whether a bundle's part has these bytes.
+fn has(alloc: Global, bundle: &Bundle, part: Part, bytes: &[u8]) -> bool {
+    match bundle.part(alloc, part) {
+        Ok(held) => held.as_slice() == bytes,
+        Err(_) => false,
+    }
+}
+
 /// Whether a bundle's log part and its source are the segment's bytes, and its line and its interval those it was made of.
-fn keeps(bundle: &Bundle, closed: &Closed) -> (bool, bool, bool, u32) {
+fn keeps(alloc: Global, bundle: &Bundle, closed: &Closed) -> (bool, bool, bool, u32) {
     (
-        bundle.part(Part::Log).as_slice() == closed.bytes().as_slice(),
+        has(alloc, bundle, Part::Log, closed.bytes().as_slice()),
         bundle.source().as_slice() == closed.bytes().as_slice(),
         bundle.line().entries() == ENTRIES.as_slice(),
         bundle.interval(),
@@ -80,28 +88,26 @@ fn keeps(bundle: &Bundle, closed: &Closed) -> (bool, bool, bool, u32) {
 }
 
 /// Whether a bundle's other parts have the bytes that they should.
-fn has_parts(bundle: &Bundle) -> (bool, bool, bool) {
+fn has_parts(alloc: Global, bundle: &Bundle) -> (bool, bool, bool) {
     (
-        bundle.part(Part::Index).as_slice() == INDEX.as_slice(),
-        bundle.part(Part::TimeIndex).as_slice() == TIMES.as_slice(),
-        bundle.part(Part::Epochs).as_slice() == EPOCHS.as_bytes(),
+        has(alloc, bundle, Part::Index, INDEX.as_slice()),
+        has(alloc, bundle, Part::TimeIndex, TIMES.as_slice()),
+        has(alloc, bundle, Part::Epochs, EPOCHS.as_bytes()),
     )
 }
 
-/// How long the parts of a bundle are.
-fn lengths(bundle: &Bundle) -> [usize; 4] {
-    [
-        bundle.part(Part::Log).len(),
-        bundle.part(Part::Index).len(),
-        bundle.part(Part::TimeIndex).len(),
-        bundle.part(Part::Epochs).len(),
-    ]
+/// How long a bundle's pack is, and how long the parts in it.
+fn lengths(alloc: Global, bundle: &Bundle) -> Option<(usize, Layout)> {
+    match (bundle.part(alloc, Part::Pack), bundle.layout()) {
+        (Ok(pack), Some(layout)) => Some((pack.len(), layout)),
+        _ => None,
+    }
 }
 
 /// What the bundle of a segment keeps.
 fn kept_of(alloc: Global, closed: &Closed) -> Option<(bool, bool, bool, u32)> {
     match bundle_of(alloc, closed, LINE) {
-        Some(bundle) => Some(keeps(&bundle, closed)),
+        Some(bundle) => Some(keeps(alloc, &bundle, closed)),
         None => None,
     }
 }
@@ -125,15 +131,15 @@ fn bundle(alloc: Global, count: u64, line: &str) -> Option<Bundle> {
 /// Whether the bundle of 150 batches has its parts.
 fn parts(alloc: Global) -> Option<(bool, bool, bool)> {
     match bundle(alloc, 150, LINE) {
-        Some(bundle) => Some(has_parts(&bundle)),
+        Some(bundle) => Some(has_parts(alloc, &bundle)),
         None => None,
     }
 }
 
-/// How long the parts of the bundle of two batches are.
-fn short(alloc: Global) -> Option<[usize; 4]> {
+/// How long the pack of the bundle of two batches is, and its parts.
+fn short(alloc: Global) -> Option<(usize, Layout)> {
     match bundle(alloc, 2, "0\n1\n0 0\n") {
-        Some(bundle) => Some(lengths(&bundle)),
+        Some(bundle) => lengths(alloc, &bundle),
         None => None,
     }
 }
@@ -150,5 +156,11 @@ fn a_bundle_keeps_what_it_was_made_of(rt: HostRuntime) {
 
 #[test]
 fn a_short_segment_has_a_time_entry_alone(rt: HostRuntime) {
-    assert_eq!(rt; short(rt.alloc()), Some([138, 0, 12, 8]));
+    let layout = Layout {
+        log: 138,
+        index: 0,
+        times: 12,
+        epochs: 8,
+    };
+    assert_eq!(rt; short(rt.alloc()), Some((158, layout)));
 }

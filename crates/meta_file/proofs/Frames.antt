@@ -1,11 +1,11 @@
 -- Notes as they stand in the file.
-use Rattle.std.proofs.Common.{◌≡◌, ◌∙◌, sym, ap, refl, ℕ, ◌+◌, ◌*◌, ◌<◌, ◌≤◌, ◌^◌, List, [], ◌∷◌, ◌++◌, length, take, drop, arith, length-append, append_assoc}
+use Rattle.std.proofs.Common.{◌≡◌, ◌∙◌, sym, ap, refl, ℕ, ◌+◌, ◌*◌, ◌<◌, ◌≤◌, ◌^◌, Bool, true, false, List, [], ◌∷◌, ◌++◌, length, take, drop, Some, None, arith, length-append, append_assoc}
 use Rattle.std.specs.Int.{w32, w64, to_be_bytes, from_be_bytes}
 use Rattle.std.proofs.lemmas.List.{take_at, drop_at, append-nil}
 use Rattle.std.proofs.lemmas.Nat.{from_be_bytes-to_be_bytes_4, from_be_bytes-to_be_bytes_8}
 use Rattle.segment_meta.specs.declared.note.Note.{Note}
 use Rattle.segment_meta.specs.declared.note.Note.TheVariants.{Add, Update}
-use Rattle.segment_meta.specs.Spelling.{ts_bytes, pair_bytes, pairs_bytes, span_bytes, event_bytes, entry_bytes, note_bytes}
+use Rattle.segment_meta.specs.Spelling.{ts_bytes, pair_bytes, pairs_bytes, span_bytes, event_bytes, entry_bytes, packed_bytes, update_bytes, note_bytes}
 use Rattle.segment_meta.specs.Reading.{note_in}
 use Rattle.segment_meta.proofs.Again.{note_again}
 use Rattle.meta_file.specs.Notes.{framed, frames, gate_bytes, IsTold, AreTold}
@@ -16,17 +16,26 @@ unfolding pair_bytes
 pairs_len [] = refl
 pairs_len (p ∷ ps) = let more = pairs_len ps in let both = length-append (pair_bytes p) (pairs_bytes ps) in omega (arith, more, both)
 
+packed_len : (packed : Bool) → length (packed_bytes packed) ≤ 2
+packed_len false = omega arith
+packed_len true = omega arith
+
 -- a note is short
 pub note_len : (note : Note) → IsTold note → length (note_bytes note) < 2 ^ 32
-unfolding note_bytes entry_bytes span_bytes event_bytes ts_bytes
+unfolding note_bytes entry_bytes span_bytes event_bytes update_bytes ts_bytes
 note_len (Add entry) told =
     let few = told.rules.map.few in
     let id = told.fits.id.size in
     let pairs = pairs_len entry.map in
-    simp length-append (omega (arith, few, id, pairs))
-note_len (Update id broker event_ts state custom) told =
+    let tail = packed_len entry.packed in
+    simp length-append (omega (arith, few, id, pairs, tail))
+note_len (Update id broker event_ts state None) told =
     let id_len = told.fits.0.size in
     simp length-append (omega (arith, id_len))
+note_len (Update id broker event_ts state (Some bytes)) told =
+    let id_len = told.fits.0.size in
+    let few = told.rules.1.few in
+    simp length-append (omega (arith, id_len, few))
 
 -- a note and its length
 pub framed_len : (note : Note) → length (framed note) ≡ 4 + length (note_bytes note)

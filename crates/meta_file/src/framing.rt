@@ -1,6 +1,8 @@
 //! A note as it stands in the file, both ways. The module Notes of specs/ has the table.
 
-ghost use Rattle.std.specs.Prelude.{◌≡◌, ◌≤◌, ◌↔◌, length, IfOk, IsTrue};
+ghost use Rattle.std.specs.Prelude.{◌≡◌, ◌<◌, ◌≤◌, ◌↔◌, length, IfOk, IsTrue};
+ghost use Rattle.std.specs.List.{All};
+ghost use Rattle.std.specs.Option.{ForSome};
 ghost use Rattle.segment_meta.specs.declared.refusal.NoteRefusal.TheVariants.{NoMemory};
 ghost use Rattle.segment_meta.specs.Rules.{IsNote, NoteFits, EntryFits};
 ghost use Rattle.meta_file.specs.Notes.{framed, IsTold};
@@ -9,6 +11,7 @@ ghost use Rattle.meta_file.specs.Told.{size_in};
 
 use segment_meta::{Entry, Note, NoteRefusal, decode, encode};
 use std::alloc::{AllocError, Global};
+use tier_base::Blob;
 
 /// How many bytes tell a note's length.
 const SIZE_BYTES: usize = 4;
@@ -25,6 +28,22 @@ fn entry_fits(entry: &Entry)
     let _size = entry.size;
 }
 
+/// Bytes are of their type.
+fn bytes_fit(bytes: &[u8])
+    ensures { All (λ b. b < 256) bytes.now }
+{
+    let _len = bytes.len();
+}
+
+/// The bytes of custom metadata are of their type.
+fn custom_fits(custom: &Option<Blob>)
+    ensures { ForSome custom.now (All (λ b. b < 256)) }
+{
+    if let Some(bytes) = custom {
+        bytes_fit(bytes.as_slice());
+    }
+}
+
 /// The fields of a note are of their types.
 fn fits(note: &Note)
     ensures { NoteFits note.now }
@@ -35,11 +54,13 @@ fn fits(note: &Note)
             id,
             broker,
             event_ts,
+            custom,
             ..
         } => {
             id.as_bytes();
             let _broker = broker.0;
             let _event_ts = *event_ts;
+            custom_fits(custom);
         }
     }
 }

@@ -1,14 +1,12 @@
 //! Copies of notes.
 
 ghost use Rattle.std.specs.Prelude.{◌≡◌, IfOk};
-ghost use Rattle.segment_meta.specs.Rules.{IsAdded, IsNote};
 
-use segment_meta::{Entry, Note};
+use segment_meta::{Entry, Note, copied_custom};
 use std::alloc::{AllocError, Global};
 
 /// An entry of the same fields.
 fn copied_entry(alloc: Global, entry: &Entry) -> Result<Entry, AllocError>
-    requires { IsAdded entry.now }
     ensures { IfOk result (λ copy. copy ≡ entry.now) }
 {
     Ok(Entry {
@@ -23,13 +21,12 @@ fn copied_entry(alloc: Global, entry: &Entry) -> Result<Entry, AllocError>
         state: entry.state,
         map: entry.map.copy(alloc)?,
         packed: entry.packed,
-        custom: None,
+        custom: copied_custom(alloc, &entry.custom)?,
     })
 }
 
 /// A note that says the same.
 pub fn copied(alloc: Global, note: &Note) -> Result<Note, AllocError>
-    requires { IsNote note.now }
     ensures { IfOk result (λ copy. copy ≡ note.now) }
 {
     match note {
@@ -39,13 +36,13 @@ pub fn copied(alloc: Global, note: &Note) -> Result<Note, AllocError>
             broker,
             event_ts,
             state,
-            ..
+            custom,
         } => Ok(Note::Update {
             id: *id,
             broker: *broker,
             event_ts: *event_ts,
             state: *state,
-            custom: None,
+            custom: copied_custom(alloc, custom)?,
         }),
     }
 }

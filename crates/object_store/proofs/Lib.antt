@@ -1,4 +1,6 @@
 mod Calls
 mod Listed
+pub mod Parts
+mod Pieces
 mod Slots
 mod Updated

@@ -13,7 +13,7 @@ use Rattle.tier_base.specs.declared.plain.Part.{Part}
 use Rattle.tier_base.specs.declared.plain.Part.TheVariants as part
 use Rattle.tier_base.specs.declared.object_key.ObjectKey.{ObjectKey}
 use Rattle.object_store.specs.declared.slot.Rank.{Rank}
-use Rattle.object_store.specs.declared.slot.Rank.TheVariants.{First, Second, Third, Fourth}
+use Rattle.object_store.specs.declared.slot.Rank.TheVariants.{First, Second, Third, Fourth, Fifth}
 use Rattle.object_store.specs.declared.slot.Slot.{Slot}
 use Rattle.object_store.specs.contracts.slot.RankOrd.TheImpl as rank_ord
 use Rattle.object_store.specs.contracts.slot.SlotOrd.TheImpl.Laws as slot_laws
@@ -27,6 +27,7 @@ rank_exact First First h = refl
 rank_exact Second Second h = refl
 rank_exact Third Third h = refl
 rank_exact Fourth Fourth h = refl
+rank_exact Fifth Fifth h = refl
 rank_exact a b h = cc
 
 -- the fields of a slot
@@ -47,12 +48,14 @@ part_back part.Log = refl
 part_back part.Index = refl
 part_back part.TimeIndex = refl
 part_back part.Epochs = refl
+part_back part.Pack = refl
 
 rank_back : (r : Rank) → rank_of (part_at r) ≡ r
 rank_back First = refl
 rank_back Second = refl
 rank_back Third = refl
 rank_back Fourth = refl
+rank_back Fifth = refl
 
 pub key_back : (k : ObjectKey) → key_at (slot_of k) ≡ k
 key_back k = ap (λ (p : Part). record { partition = k.partition; id = k.id; part = p }) (part_back k.part)

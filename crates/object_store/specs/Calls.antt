@@ -1,17 +1,27 @@
 -- A call of a store that ended so.
-use Rattle.std.specs.Prelude.{ℕ, List}
+use Rattle.std.specs.Prelude.{◌≡◌, ℕ, List, Option, option_map, IfOk, IsTrue}
+use Rattle.std.specs.declared.result.Result.{Result}
+use Rattle.tier_base.specs.declared.fault.Trouble.{Trouble}
 use Rattle.tier_base.specs.declared.object_key.ObjectKey.{ObjectKey}
-use Rattle.tier_base.specs.Device.{Control, RanQuietly, MayBeDone, Fate}
-use Rattle.tier_base.specs.Told.{replaced, removed}
-use Rattle.object_store.specs.declared.call.StoreCall.TheVariants.{Put, Delete}
+use Rattle.tier_base.specs.Device.{Control, Ran, RanQuietly, MayBeDone, Fate, fate_of}
+use Rattle.tier_base.specs.Told.{replaced, removed, handed_after}
+use Rattle.object_store.specs.declared.call.StoreCall.TheVariants.{Put, Get, Delete}
 use Rattle.object_store.specs.Call.{call_code}
-use Rattle.object_store.specs.Content.{Content, Changes}
+use Rattle.object_store.specs.Content.{Content, Changes, Keeps}
 
 module _ {S : Type 0} (objects : S → Content) (calls : S → Control call_code) where
   -- an object was put
   pub record Puts (key : ObjectKey) (bytes : List ℕ) (fate : Fate) (old new : S) : Type 0 where
     pub control : RanQuietly Put fate (calls old) (calls new)
     pub content : Changes key (replaced bytes) (MayBeDone Put fate (calls old)) (objects old) (objects new)
+
+  -- a read of an object was answered so, by this part of it where it goes well
+  pub record Gets (key : ObjectKey) (part : List ℕ → List ℕ) (answer : Result (Option (List ℕ)) Trouble) (old new : S)
+      : Type 0 where
+    pub control : Ran Get (fate_of answer) (calls old) (calls new)
+    pub handed : (calls new).handed ≡ handed_after answer (calls old).handed
+    pub content : Keeps (objects old) (objects new)
+    pub bytes : IsTrue (objects old).tells → IfOk answer (λ given. given ≡ option_map part ((objects old).objects key))
 
   -- an object was taken away
   pub record Deletes (key : ObjectKey) (fate : Fate) (old new : S) : Type 0 where

@@ -6,7 +6,7 @@ use Rattle.tier_base.specs.declared.plain.Part.{Part}
 use Rattle.tier_base.specs.declared.plain.Part.TheVariants as part
 use Rattle.tier_base.specs.declared.object_key.ObjectKey.{ObjectKey}
 use Rattle.object_store.specs.declared.slot.Rank.{Rank}
-use Rattle.object_store.specs.declared.slot.Rank.TheVariants.{First, Second, Third, Fourth}
+use Rattle.object_store.specs.declared.slot.Rank.TheVariants.{First, Second, Third, Fourth, Fifth}
 use Rattle.object_store.specs.declared.slot.Slot.{Slot}
 use Rattle.object_store.specs.declared.shelf.Shelf.{Shelf}
 use Rattle.object_store.specs.contracts.slot.SlotOrd.TheImpl as slot_ord
@@ -22,6 +22,7 @@ rank_of part.Log = First
 rank_of part.Index = Second
 rank_of part.TimeIndex = Third
 rank_of part.Epochs = Fourth
+rank_of part.Pack = Fifth
 
 -- the part at a place
 abbrev pub part_at : Rank → Part
@@ -29,6 +30,7 @@ part_at First = part.Log
 part_at Second = part.Index
 part_at Third = part.TimeIndex
 part_at Fourth = part.Epochs
+part_at Fifth = part.Pack
 
 -- the slot of a key
 abbrev pub slot_of : ObjectKey → Slot

@@ -12,6 +12,7 @@ pub enum Rank {
     Second,
     Third,
     Fourth,
+    Fifth,
 }
 
 /// A key, as it stands in the order.
@@ -30,6 +31,7 @@ fn rank_of(part: Part) -> Rank
         Part::Index => Rank::Second,
         Part::TimeIndex => Rank::Third,
         Part::Epochs => Rank::Fourth,
+        Part::Pack => Rank::Fifth,
     }
 }
 
@@ -41,6 +43,7 @@ fn part_at(rank: Rank) -> Part
         Rank::Second => Part::Index,
         Rank::Third => Part::TimeIndex,
         Rank::Fourth => Part::Epochs,
+        Rank::Fifth => Part::Pack,
     }
 }
 

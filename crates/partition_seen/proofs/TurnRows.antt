@@ -8,7 +8,7 @@ use Rattle.registry.specs.declared.registry.Replica.{Replica}
 use Rattle.plain_log.specs.declared.answer.Answer.{Answer}
 use Rattle.plain_log.specs.declared.answer.Answer.TheVariants.{Ok}
 use Rattle.plain_log.specs.declared.command.Command.{Command}
-use Rattle.plain_log.specs.declared.command.Command.TheVariants.{Append, Raw, Flush, Roll, Elect, Unclean, Learn, Join, Follow, Copy, Trim, Expire, Ack, Shrink, Expand, Raise, Clock, Stop as StopCommand, Up as UpCommand, Fetch, Copying, Offset}
+use Rattle.plain_log.specs.declared.command.Command.TheVariants.{Append, Raw, Flush, Roll, Elect, Unclean, Learn, Join, Follow, Copy, Trim, Expire, Ack, Shrink, Expand, Raise, Clock, Stop as StopCommand, Up as UpCommand, Fetch, Pack, Copying, Offset}
 use Rattle.plain_log.specs.declared.command.Which.TheVariants.{LatestTiered, At}
 use Rattle.plain_log.specs.declared.command.Order.{Order}
 use Rattle.plain_log.specs.declared.journal.Event.TheVariants.{Begins as Began}
@@ -29,7 +29,7 @@ use Rattle.partition_seen.specs.Seen.{Node, Held}
 use Rattle.partition_seen.specs.Held.{broker_of, noted_of}
 use Rattle.partition_seen.specs.Central.{LinesStand, BegunStands}
 use Rattle.partition_seen.specs.RowsOfLog.{Notes}
-use Rattle.partition_seen.specs.Rows.{ClockRow, CopyingRow, AnswerRow, FirstRow, LaterRow}
+use Rattle.partition_seen.specs.Rows.{ClockRow, SwitchRow, AnswerRow, FirstRow, LaterRow}
 use Rattle.partition_seen.proofs.BoolTests.{and_true, eq_same, when_true}
 use Rattle.partition_seen.proofs.Standing.{Standing, Allowed, silent, LogsSafe, Steady, steady_self, steady_set, put_steady, put_lines, map_set, broker_at, wider_self}
 use Rattle.partition_seen.proofs.OwnRows.{append_allowed, raw_allowed, flush_allowed, roll_allowed, stop_allowed, up_allowed, fetch_allowed}
@@ -57,8 +57,14 @@ clock_allowed h p b x s ms Ok h' st w = record {
 }
 clock_allowed h p b x s ms other h' st w = elim w [ ]
 
--- nor is whether segments are copied
-copying_allowed : (h : Held) (p : State) (b : ℕ) (x : Node) (s : Replica) (on : Bool) (answer : Answer) (h' : Held) → Standing h p b x s → CopyingRow h answer h'
+-- nor is in which form segments are copied
+pack_allowed : (h : Held) (p : State) (b : ℕ) (x : Node) (s : Replica) (on : Bool) (answer : Answer) (h' : Held) → Standing h p b x s → SwitchRow h answer h'
+    → Allowed p b x s None (Pack on) answer h'
+pack_allowed h p b x s on Ok h' st w = silent h p b x s None (Pack on) Ok h' st refl w
+pack_allowed h p b x s on other h' st w = elim w [ ]
+
+-- nor whether they are
+copying_allowed : (h : Held) (p : State) (b : ℕ) (x : Node) (s : Replica) (on : Bool) (answer : Answer) (h' : Held) → Standing h p b x s → SwitchRow h answer h'
     → Allowed p b x s None (Copying on) answer h'
 copying_allowed h p b x s on Ok h' st w = silent h p b x s None (Copying on) Ok h' st refl w
 copying_allowed h p b x s on other h' st w = elim w [ ]
@@ -77,6 +83,7 @@ one_turn h p b x s Shrink answer h' st w = shrink_allowed h p b x s answer h' st
 one_turn h p b x s Expand answer h' st w = expand_allowed h p b x s answer h' st w
 one_turn h p b x s (Raise start) answer h' st w = raise_allowed h p b x s start answer h' st w
 one_turn h p b x s (Clock ms) answer h' st w = clock_allowed h p b x s ms answer h' st w
+one_turn h p b x s (Pack on) answer h' st w = pack_allowed h p b x s on answer h' st w
 one_turn h p b x s (Copying on) answer h' st w = copying_allowed h p b x s on answer h' st w
 one_turn h p b x s StopCommand answer h' st w = stop_allowed h p b x s answer h' st w
 one_turn h p b x s UpCommand answer h' st w = up_allowed h p b x s answer h' st w

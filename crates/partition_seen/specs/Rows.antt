@@ -8,7 +8,7 @@ use Rattle.record_batch.specs.Build.{built}
 use Rattle.plain_log.specs.declared.answer.Answer.{Answer}
 use Rattle.plain_log.specs.declared.answer.Answer.TheVariants.{Ok, Down, IsUp, DiskFault, LastIncarnation, Up}
 use Rattle.plain_log.specs.declared.command.Command.{Command}
-use Rattle.plain_log.specs.declared.command.Command.TheVariants.{Append, Raw, Flush, Roll, Elect, Unclean, Learn, Join, Follow, Copy, Trim, Expire, Ack, Shrink, Expand, Raise, Clock, Stop as StopCommand, Up as UpCommand, Fetch, Copying, Offset}
+use Rattle.plain_log.specs.declared.command.Command.TheVariants.{Append, Raw, Flush, Roll, Elect, Unclean, Learn, Join, Follow, Copy, Trim, Expire, Ack, Shrink, Expand, Raise, Clock, Stop as StopCommand, Up as UpCommand, Fetch, Pack, Copying, Offset}
 use Rattle.plain_log.specs.declared.command.Which.TheVariants.{LatestTiered, At}
 use Rattle.partition_seen.specs.declared.begun.Begun.{Begun}
 use Rattle.partition_seen.specs.declared.begun.Turned.{Turned}
@@ -57,10 +57,10 @@ abbrev pub ClockRow : Held → ℤ → Answer → Held → Type 0
 ClockRow h ms Ok h' = h' ≡ record h { clock = ms }
 ClockRow h ms other h' = ⊥
 
--- copying
-abbrev pub CopyingRow : Held → Answer → Held → Type 0
-CopyingRow h Ok h' = h' ≡ h
-CopyingRow h other h' = ⊥
+-- pack and copying: how segments are copied, and whether they are, isn't seen
+abbrev pub SwitchRow : Held → Answer → Held → Type 0
+SwitchRow h Ok h' = h' ≡ h
+SwitchRow h other h' = ⊥
 
 -- a command of one turn
 abbrev pub AnswerRow : Held → ℕ → Node → Command → Answer → Held → Type 0
@@ -76,7 +76,8 @@ AnswerRow h b x Shrink answer h' = ShrinkRow h b answer h'
 AnswerRow h b x Expand answer h' = ExpandRow h b x answer h'
 AnswerRow h b x (Raise start) answer h' = RaiseRow h b x start answer h'
 AnswerRow h b x (Clock ms) answer h' = ClockRow h ms answer h'
-AnswerRow h b x (Copying on) answer h' = CopyingRow h answer h'
+AnswerRow h b x (Pack on) answer h' = SwitchRow h answer h'
+AnswerRow h b x (Copying on) answer h' = SwitchRow h answer h'
 AnswerRow h b x StopCommand answer h' = StopRow h b x answer h'
 AnswerRow h b x UpCommand answer h' = UpRow h b x answer h'
 AnswerRow h b x (Fetch offset limit) answer h' = FetchRow h x offset limit answer h'

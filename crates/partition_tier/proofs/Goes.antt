@@ -3,7 +3,7 @@ use Rattle.std.proofs.Common.{◌≡◌, ℕ, Option, None, Some, false, slice_g
 use Rattle.record_batch.specs.Build.{built}
 use Rattle.plain_log.specs.declared.answer.Answer.{Answer}
 use Rattle.plain_log.specs.declared.command.Command.{Command}
-use Rattle.plain_log.specs.declared.command.Command.TheVariants.{Append, Raw, Flush, Roll, Elect, Unclean, Learn, Join, Follow, Trim, Copy, Expire, Ack, Shrink, Expand, Raise, Clock, Stop as StopCommand, Up as UpCommand, Fetch, Copying, Offset}
+use Rattle.plain_log.specs.declared.command.Command.TheVariants.{Append, Raw, Flush, Roll, Elect, Unclean, Learn, Join, Follow, Trim, Copy, Expire, Ack, Shrink, Expand, Raise, Clock, Stop as StopCommand, Up as UpCommand, Fetch, Pack, Copying, Offset}
 use Rattle.plain_log.specs.declared.command.Which.TheVariants.{LatestTiered, At}
 use Rattle.partition_seen.specs.declared.begun.Begun.{Begun}
 use Rattle.partition_seen.specs.declared.begun.Turned.{Turned}
@@ -13,7 +13,7 @@ use Rattle.partition_seen.specs.Rows.{AnswerRow, FirstRow, LaterRow, Row}
 use Rattle.partition_seen.specs.Sound.{NodeSound}
 use Rattle.partition_tier.specs.Turns.{may_raise}
 use Rattle.partition_tier.proofs.Nodes.{Goes, stays}
-use Rattle.partition_tier.proofs.OwnRows.{append_goes, raw_goes, flush_goes, roll_goes, stop_goes, up_goes, clock_goes, copying_goes, fetch_goes, trim_goes}
+use Rattle.partition_tier.proofs.OwnRows.{append_goes, raw_goes, flush_goes, roll_goes, stop_goes, up_goes, clock_goes, switch_goes, fetch_goes, trim_goes}
 use Rattle.partition_tier.proofs.RegistryRows.{elect_goes, unclean_goes, learn_goes, ack_goes, shrink_goes, expand_goes, raise_goes, leaders_goes, copy_goes, copy_on_goes, expire_on_goes, fetch_on_goes, offset_goes, offset_on_goes, offset_at_goes}
 use Rattle.partition_tier.proofs.FollowerRows.{join_goes, join_on_goes, follow_goes, follow_on_goes, trim_on_goes}
 
@@ -30,7 +30,8 @@ answer_goes h b x Shrink answer h' at s w = shrink_goes h b x answer h' at s w
 answer_goes h b x Expand answer h' at s w = expand_goes h b x answer h' at s w
 answer_goes h b x (Raise start) answer h' at s w = raise_goes h b x start answer h' at s w
 answer_goes h b x (Clock ms) answer h' at s w = clock_goes h b x ms answer h' at s w
-answer_goes h b x (Copying on) answer h' at s w = copying_goes h b x answer h' at s w
+answer_goes h b x (Pack on) answer h' at s w = switch_goes h b x answer h' at s w
+answer_goes h b x (Copying on) answer h' at s w = switch_goes h b x answer h' at s w
 answer_goes h b x StopCommand answer h' at s w = stop_goes h b x answer h' at s w
 answer_goes h b x UpCommand answer h' at s w = up_goes h b x answer h' at s w
 answer_goes h b x (Fetch offset limit) answer h' at s w = fetch_goes h b x offset limit answer h' at s w

@@ -11,7 +11,7 @@ use Rattle.partition_seen.specs.Seen.{Back, Node, Held}
 use Rattle.partition_seen.specs.Held.{back_of, broken, stopped, put_node}
 use Rattle.partition_seen.specs.Log.{with_batch}
 use Rattle.partition_seen.specs.RowsOfLog.{AppendRow, RawRow, FlushRow, RollRow, TrimRow, FetchRow}
-use Rattle.partition_seen.specs.Rows.{opened, StopRow, UpRow, ClockRow, CopyingRow}
+use Rattle.partition_seen.specs.Rows.{opened, StopRow, UpRow, ClockRow, SwitchRow}
 use Rattle.partition_seen.specs.Sound.{NodeSound}
 use Rattle.partition_tier.proofs.Nodes.{Goes, goes_on, node_stops, node_breaks, node_opens, nodes_stay, stays, puts}
 
@@ -72,9 +72,9 @@ pub clock_goes : (h : Held) (b : ℕ) (x : Node) (ms : ℤ) (answer : Answer) (h
 clock_goes h b x ms Ok h' at s w = nodes_stay h b x h' at s (ap (λ (k : Held). k.nodes) w)
 clock_goes h b x ms other h' at s w = elim w [ ]
 
-pub copying_goes : (h : Held) (b : ℕ) (x : Node) (answer : Answer) (h' : Held) → slice_get h.nodes b ≡ Some x → NodeSound x → CopyingRow h answer h' → Goes h b x h'
-copying_goes h b x Ok h' at s w = stays h b x h' at s w
-copying_goes h b x other h' at s w = elim w [ ]
+pub switch_goes : (h : Held) (b : ℕ) (x : Node) (answer : Answer) (h' : Held) → slice_get h.nodes b ≡ Some x → NodeSound x → SwitchRow h answer h' → Goes h b x h'
+switch_goes h b x Ok h' at s w = stays h b x h' at s w
+switch_goes h b x other h' at s w = elim w [ ]
 
 pub fetch_goes : (h : Held) (b : ℕ) (x : Node) (offset limit : ℕ) (answer : Answer) (h' : Held) → slice_get h.nodes b ≡ Some x → NodeSound x → FetchRow h x offset limit answer h' → Goes h b x h'
 fetch_goes h b x offset limit Down h' at s w = stays h b x h' at s w.1

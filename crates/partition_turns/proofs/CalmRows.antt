@@ -12,7 +12,7 @@ use Rattle.plain_log.specs.declared.answer.Answer.{Answer}
 use Rattle.plain_log.specs.declared.answer.Answer.TheVariants.{Ok, OkAt, OkSpan, Down, NotLeader, Refused, LastOffset, TooManySegments, EmptySegment, DiskFault, DiskFaultAt, Damaged, OutOfRange, Empty, Run, LastEpoch, NotInSync, DownBroker, BehindStart, Known, Follows, NeedsElection, Leads, NotJoined, StaleEpoch, IsLeader, Behind, NotAbove, AboveMark, NotFollower, NoLeader, Cut, Level, Stopped, Passed, Copied, IsUp, LastIncarnation, Up as IsOpen, Moved, BelowStart, Rebuilt, Kept as Remains, Dropped, Offset as OffsetAnswer}
 use Rattle.plain_log.specs.declared.answer.Place.TheVariants.{File}
 use Rattle.plain_log.specs.declared.command.Command.{Command}
-use Rattle.plain_log.specs.declared.command.Command.TheVariants.{Append, Raw, Flush, Roll, Elect, Unclean, Learn, Join, Follow, Trim, Ack, Shrink, Expand, Raise, Clock, Stop as StopCommand, Up as UpCommand, Fetch, Copying, Offset}
+use Rattle.plain_log.specs.declared.command.Command.TheVariants.{Append, Raw, Flush, Roll, Elect, Unclean, Learn, Join, Follow, Trim, Ack, Shrink, Expand, Raise, Clock, Stop as StopCommand, Up as UpCommand, Fetch, Pack, Copying, Offset}
 use Rattle.plain_log.specs.declared.command.Which.{Which}
 use Rattle.plain_log.specs.declared.command.Which.TheVariants.{LatestTiered, At}
 use Rattle.plain_log.specs.State.{acking}
@@ -27,7 +27,7 @@ use Rattle.partition_turns.specs.declared.held.Node.{Node}
 use Rattle.partition_turns.specs.declared.held.Held.{Held}
 use Rattle.partition_turns.specs.Held.{put_node, end_of, stable_of, the_leader, Rests, Fails, Breaks, IsCalm, BreaksBy}
 use Rattle.partition_turns.specs.Calm.{AreCalm, IsFaultless, HasNoFault}
-use Rattle.partition_turns.specs.Turns.{ClockRow, CopyingRow, OffsetRow, StopRow, UpRow, AnswerRow, FirstRow, LaterRow, Row}
+use Rattle.partition_turns.specs.Turns.{ClockRow, PackRow, CopyingRow, OffsetRow, StopRow, UpRow, AnswerRow, FirstRow, LaterRow, Row}
 use Rattle.partition_turns.specs.TurnsOfLog.{Gains, AppendRow, RawRow, FlushRow, RollRow, TrimRow, TrimOnRow}
 use Rattle.partition_turns.specs.TurnsOfFetch.{FetchRow, FetchTurn}
 use Rattle.partition_turns.specs.TurnsOfElections.{Leaves, ElectRow, UncleanRow, LearnRow, AckRow, ShrinkRow, ExpandRow, RaiseRow}
@@ -235,6 +235,10 @@ module _ {D : Type 0} (content : D → Content) (control : D → Control call_co
   clock_calm h ms Ok h' c w = (calm_same control (record h { clock = ms }) h' w c, tt)
   clock_calm h ms other h' c w = elim w [ ]
 
+  pack_calm : (h : Held D) (on : Bool) (answer : Answer) (h' : Held D) → AreCalm control h.nodes → PackRow h on answer h' → Calmly h' answer
+  pack_calm h on Ok h' c w = (calm_same control (record h { packed = on }) h' w c, tt)
+  pack_calm h on other h' c w = elim w [ ]
+
   copying_calm : (h : Held D) (on : Bool) (answer : Answer) (h' : Held D) → AreCalm control h.nodes → CopyingRow h on answer h' → Calmly h' answer
   copying_calm h on Ok h' c w = (calm_same control (record h { copying = on }) h' w c, tt)
   copying_calm h on other h' c w = elim w [ ]
@@ -259,6 +263,7 @@ module _ {D : Type 0} (content : D → Content) (control : D → Control call_co
   answer_calm h b x Expand answer h' at c w = expand_calm h b x answer h' c w
   answer_calm h b x (Raise start) answer h' at c w = raise_calm h b x start answer h' c w
   answer_calm h b x (Clock ms) answer h' at c w = clock_calm h ms answer h' c w
+  answer_calm h b x (Pack on) answer h' at c w = pack_calm h on answer h' c w
   answer_calm h b x (Copying on) answer h' at c w = copying_calm h on answer h' c w
   answer_calm h b x (Offset which) answer h' at c w = offset_calm h x which answer h' c w
   answer_calm h b x StopCommand answer h' at c w = stop_calm h b x answer h' at c w

@@ -7,7 +7,7 @@ use Rattle.record_batch.specs.Build.{built}
 use Rattle.plain_log.specs.declared.answer.Answer.{Answer}
 use Rattle.plain_log.specs.declared.answer.Answer.TheVariants.{Ok}
 use Rattle.plain_log.specs.declared.command.Command.{Command}
-use Rattle.plain_log.specs.declared.command.Command.TheVariants.{Append, Raw, Flush, Roll, Elect, Unclean, Learn, Join, Follow, Copy, Trim, Expire, Ack, Shrink, Expand, Raise, Clock, Stop as StopCommand, Up as UpCommand, Fetch, Copying, Offset}
+use Rattle.plain_log.specs.declared.command.Command.TheVariants.{Append, Raw, Flush, Roll, Elect, Unclean, Learn, Join, Follow, Copy, Trim, Expire, Ack, Shrink, Expand, Raise, Clock, Stop as StopCommand, Up as UpCommand, Fetch, Pack, Copying, Offset}
 use Rattle.plain_log.specs.declared.command.Which.TheVariants.{LatestTiered, At}
 use Rattle.broker_log.specs.Seen as log
 use Rattle.partition_seen.specs.declared.begun.Begun.{Begun}
@@ -18,7 +18,7 @@ use Rattle.partition_seen.specs.Rows as seen_rows
 use Rattle.partition_turns.specs.declared.held.Node.{Node}
 use Rattle.partition_turns.specs.declared.held.Held.{Held}
 use Rattle.partition_turns.specs.Held.{node_of}
-use Rattle.partition_turns.specs.Turns.{ClockRow, CopyingRow, AnswerRow, FirstRow, LaterRow, Row}
+use Rattle.partition_turns.specs.Turns.{ClockRow, PackRow, CopyingRow, AnswerRow, FirstRow, LaterRow, Row}
 use Rattle.partition_turns.proofs.ElectionsRefined.{elect_refined, unclean_refined, learn_refined, ack_refined, shrink_refined, expand_refined, raise_refined}
 use Rattle.partition_turns.proofs.FetchRefined.{fetch_turn_refined}
 use Rattle.partition_turns.proofs.FollowersRefined.{join_refined, join_on_refined, follow_refined, follow_on_refined}
@@ -37,10 +37,20 @@ module _ {D : Type 0} (content : D → Content) (control : D → Control call_co
       })
   clock_refined h a b x s ms other h' v w = elim w [ ]
 
+  pack_refined : (h : Held D) (a : seen.Held) (b : ℕ) (x : Node D) (s : log.Seen) (on : Bool) (answer : Answer) (h' : Held D) → Sees content h a b x s → PackRow h on answer h'
+      → Refines content h' (λ c. seen_rows.SwitchRow a answer c)
+  pack_refined h a b x s on Ok h' v w =
+      subst (λ (k : Held D). Refines content k (λ c. seen_rows.SwitchRow a Ok c)) (sym w) (record {
+        after = a;
+        held = record { registry = v.held.registry; nodes = v.held.nodes; clock = v.held.clock };
+        row = refl;
+      })
+  pack_refined h a b x s on other h' v w = elim w [ ]
+
   copying_refined : (h : Held D) (a : seen.Held) (b : ℕ) (x : Node D) (s : log.Seen) (on : Bool) (answer : Answer) (h' : Held D) → Sees content h a b x s → CopyingRow h on answer h'
-      → Refines content h' (λ c. seen_rows.CopyingRow a answer c)
+      → Refines content h' (λ c. seen_rows.SwitchRow a answer c)
   copying_refined h a b x s on Ok h' v w =
-      subst (λ (k : Held D). Refines content k (λ c. seen_rows.CopyingRow a Ok c)) (sym w) (record {
+      subst (λ (k : Held D). Refines content k (λ c. seen_rows.SwitchRow a Ok c)) (sym w) (record {
         after = a;
         held = record { registry = v.held.registry; nodes = v.held.nodes; clock = v.held.clock };
         row = refl;
@@ -61,6 +71,7 @@ module _ {D : Type 0} (content : D → Content) (control : D → Control call_co
   answer_refined h a b x s Expand answer h' v k w = expand_refined content control h a b x s answer h' v w
   answer_refined h a b x s (Raise start) answer h' v k w = raise_refined content control h a b x s start answer h' v w
   answer_refined h a b x s (Clock ms) answer h' v k w = clock_refined h a b x s ms answer h' v w
+  answer_refined h a b x s (Pack on) answer h' v k w = pack_refined h a b x s on answer h' v w
   answer_refined h a b x s (Copying on) answer h' v k w = copying_refined h a b x s on answer h' v w
   answer_refined h a b x s (Offset which) answer h' v k w = offset_refined content control h a b x s which answer h' v w
   answer_refined h a b x s StopCommand answer h' v k w = stop_refined content control h a b x s answer h' v w

@@ -20,7 +20,7 @@ use Rattle.plain_log.specs.declared.answer.Answer.{Answer}
 use Rattle.plain_log.specs.declared.answer.Answer.TheVariants.{Ok, OkAt, OkSpan, Down, NotLeader, Refused, LastOffset, TooManySegments, EmptySegment, DiskFault, DiskFaultAt, Damaged, OutOfRange, Empty, Run, LastEpoch, NotInSync, DownBroker, BehindStart, Known, Follows, NeedsElection, Leads, NotJoined, StaleEpoch, IsLeader, Behind, NotAbove, AboveMark, NotFollower, NoLeader, Cut, Level, Stopped, Passed, Copied, IsUp, LastIncarnation, Up as IsOpen, Moved, BelowStart, Rebuilt, Kept as Remains, Dropped, Offset as OffsetAnswer}
 use Rattle.plain_log.specs.declared.answer.Place.TheVariants.{File}
 use Rattle.plain_log.specs.declared.command.Command.{Command}
-use Rattle.plain_log.specs.declared.command.Command.TheVariants.{Append, Raw, Flush, Roll, Elect, Unclean, Learn, Join, Follow, Trim, Ack, Shrink, Expand, Raise, Clock, Stop as StopCommand, Up as UpCommand, Fetch, Copying, Offset}
+use Rattle.plain_log.specs.declared.command.Command.TheVariants.{Append, Raw, Flush, Roll, Elect, Unclean, Learn, Join, Follow, Trim, Ack, Shrink, Expand, Raise, Clock, Stop as StopCommand, Up as UpCommand, Fetch, Pack, Copying, Offset}
 use Rattle.plain_log.specs.declared.command.Which.{Which}
 use Rattle.plain_log.specs.declared.command.Which.TheVariants.{LatestTiered, At}
 use Rattle.plain_log.specs.declared.state.Role.{Role}
@@ -436,6 +436,8 @@ module _ {D : Type 0} (content : D → Content) (control : D → Control call_co
   answer_sound n h b x (Raise start) answer h' at s w = raise_sound n h b x start answer h' s w
   answer_sound n h b x (Clock ms) Ok h' at s w = subst (HeldSound n) (sym w) (record { count = s.count; same = s.same; epoch = s.epoch; nodes = s.nodes })
   answer_sound n h b x (Clock ms) other h' at s w = elim w [ ]
+  answer_sound n h b x (Pack on) Ok h' at s w = subst (HeldSound n) (sym w) (record { count = s.count; same = s.same; epoch = s.epoch; nodes = s.nodes })
+  answer_sound n h b x (Pack on) other h' at s w = elim w [ ]
   answer_sound n h b x (Copying on) Ok h' at s w = subst (HeldSound n) (sym w) (record { count = s.count; same = s.same; epoch = s.epoch; nodes = s.nodes })
   answer_sound n h b x (Copying on) other h' at s w = elim w [ ]
   answer_sound n h b x (Offset which) answer h' at s w = offset_sound n h x which answer h' s w

@@ -152,9 +152,10 @@ module _ {D : Type 0} (control : D → Control call_code) where
   AreCalmDisks [] = Unit {0}
   AreCalmDisks (disk ∷ disks) = IsCalm (control disk) × AreCalmDisks disks
 
-  -- brokers over these disks: broker 0 leads epoch 0, the others have joined it, and all are in sync; segments are copied
+  -- brokers over these disks: broker 0 leads epoch 0, the others have joined it, and all are in sync; segments are copied, none packed
   pub record IsFreshHeld (disks : List D) (h : Held D) : Type 0 where
     pub registry : h.registry ≡ fresh_registry (length disks)
     pub nodes : AreFreshFrom true disks h.nodes
     pub clock : h.clock ≡ pos 0
     pub copying : h.copying ≡ true
+    pub packed : h.packed ≡ false

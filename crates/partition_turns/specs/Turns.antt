@@ -13,7 +13,7 @@ use Rattle.plain_log.specs.declared.answer.Answer.{Answer}
 use Rattle.plain_log.specs.declared.answer.Answer.TheVariants.{Ok, Down, NotLeader, IsUp, DiskFault, Damaged, LastIncarnation, Up, Offset as OffsetAnswer}
 use Rattle.plain_log.specs.declared.answer.Place.TheVariants.{File}
 use Rattle.plain_log.specs.declared.command.Command.{Command}
-use Rattle.plain_log.specs.declared.command.Command.TheVariants.{Append, Raw, Flush, Roll, Elect, Unclean, Learn, Join, Follow, Copy, Trim, Expire, Ack, Shrink, Expand, Raise, Clock, Stop as StopCommand, Up as UpCommand, Fetch, Copying, Offset}
+use Rattle.plain_log.specs.declared.command.Command.TheVariants.{Append, Raw, Flush, Roll, Elect, Unclean, Learn, Join, Follow, Copy, Trim, Expire, Ack, Shrink, Expand, Raise, Clock, Stop as StopCommand, Up as UpCommand, Fetch, Pack, Copying, Offset}
 use Rattle.plain_log.specs.declared.command.Which.{Which}
 use Rattle.plain_log.specs.declared.command.Which.TheVariants.{Earliest, Latest, EarliestLocal, LatestTiered, At}
 use Rattle.plain_log.specs.State.{leads}
@@ -51,6 +51,11 @@ module _ {D : Type 0} where
   abbrev pub ClockRow : Held D → ℤ → Answer → Held D → Type 0
   ClockRow h ms Ok h' = h' ≡ record h { clock = ms }
   ClockRow h ms other h' = ⊥
+
+  -- pack: segments that are chosen for copy from then on have one object each, or an object a part
+  abbrev pub PackRow : Held D → Bool → Answer → Held D → Type 0
+  PackRow h on Ok h' = h' ≡ record h { packed = on }
+  PackRow h on other h' = ⊥
 
   -- copying: from then on segments are copied, or none is chosen to be
   abbrev pub CopyingRow : Held D → Bool → Answer → Held D → Type 0
@@ -106,6 +111,7 @@ module _ {D : Type 0} (content : D → Content) (control : D → Control call_co
   AnswerRow h b x Expand answer h' = ExpandRow h b x answer h'
   AnswerRow h b x (Raise start) answer h' = RaiseRow h b x start answer h'
   AnswerRow h b x (Clock ms) answer h' = ClockRow h ms answer h'
+  AnswerRow h b x (Pack on) answer h' = PackRow h on answer h'
   AnswerRow h b x (Copying on) answer h' = CopyingRow h on answer h'
   AnswerRow h b x (Offset which) answer h' = OffsetRow h x which answer h'
   AnswerRow h b x StopCommand answer h' = StopRow h b x answer h'

@@ -33,13 +33,15 @@ pub struct Node<D: Disk> {
     pub known: u64,
 }
 
-/// The registry, the brokers, the partition's clock in milliseconds, and whether segments are copied to the remote tier.
+/// The registry, the brokers, the partition's clock in milliseconds, whether segments are copied to the remote tier, and
+/// whether those that are chosen for it are packed, so that each has one object there.
 #[derive(Drop)]
 pub struct Held<D: Disk> {
     pub registry: Registry,
     pub nodes: Row<Node<D>>,
     pub clock: i64,
     pub copying: bool,
+    pub packed: bool,
 }
 
 impl<D: Disk> Node<D> {
@@ -155,6 +157,7 @@ impl<D: Disk> Held<D> {
             Command::Expand => Ok(at_once(self.expand(broker))),
             Command::Raise { start } => Ok(at_once(self.raise(b, *start))),
             Command::Clock { ms } => Ok(at_once(self.set_clock(*ms))),
+            Command::Pack(on) => Ok(at_once(self.set_packed(*on))),
             Command::Copying(on) => Ok(at_once(self.set_copying(*on))),
             Command::Stop => Ok(at_once(self.stop(b))),
             Command::Up => Ok(at_once(self.up(b)?)),
@@ -166,8 +169,6 @@ impl<D: Disk> Held<D> {
             | Command::Expire
             | Command::Offset(Which::LatestTiered | Which::At(_)) => Ok(None),
             Command::Offset(which) => Ok(at_once(self.offset(b, *which))),
-            // No world runs it yet.
-            Command::Pack(_) => unreachable!(),
         }
     }
 }

@@ -203,6 +203,7 @@ impl<D: Disk> Held<D> {
             nodes,
             clock: 0,
             copying: true,
+            packed: false,
         })
     }
 

@@ -1,8 +1,8 @@
-//! A broker's stops and starts, the partition's clock, and whether it copies segments.
+//! A broker's stops and starts, the partition's clock, and whether and in which form it copies segments.
 
 ghost use Rattle.std.specs.Prelude.{◌≡◌, ◌<◌, length, IfOk, OnErr};
 ghost use Rattle.partition_turns.specs.Held.{AtNode, CanStop, StaysHeld};
-ghost use Rattle.partition_turns.specs.Turns.{StopRow, UpRow, ClockRow, CopyingRow};
+ghost use Rattle.partition_turns.specs.Turns.{StopRow, UpRow, ClockRow, PackRow, CopyingRow};
 
 use crate::held::Held;
 use broker_log::OpenRefusal;
@@ -48,6 +48,14 @@ impl<D: Disk> Held<D> {
         ensures { ClockRow self.old ms result self.new }
     {
         self.clock = ms;
+        Answer::Ok
+    }
+
+    /// Lets segments that are chosen for copy from now on have one object each, or an object a part.
+    pub(crate) fn set_packed(&mut self, on: bool) -> Answer
+        ensures { PackRow self.old on result self.new }
+    {
+        self.packed = on;
         Answer::Ok
     }
 

@@ -54,6 +54,7 @@ use Rattle.partition_world.proofs.Begins.{MayComeTo, row_of, row_may}
 use Rattle.partition_world.proofs.ExpiryAdvances.{deleting_before, few_deleting, expiry_advances}
 use Rattle.partition_world.proofs.RebuildEnds.{MayTurn, rebuild_may_turn}
 use Rattle.partition_world.specs.TurnsOfRebuild.{wanted_of as rebuilt_to}
+use Rattle.tier_safe.proofs.Basics.{key_low}
 use Rattle.partition_world.proofs.FetchAdvances.{sought_before, few_sought, fetch_advances}
 use Rattle.partition_world.proofs.DateAdvances.{Rises, taken_to, few_taken_to, own_rises, time_rises, goes_further}
 
@@ -130,22 +131,14 @@ few_taken (Rebuilds g next) = let few = few_rebuilding next in omega (arith, few
 to : (before next after : Next) → GoesOn next ≡ GoesOn after → taken_before before < taken_before after → taken_before before < taken_before next
 to before next after is lt = let e : next ≡ after = cc in rw e lt
 
--- a segment has four keys
-key_low : (copy : Copied) (n : ℕ) (key : ObjectKey) → slice_get (keys copy) n ≡ Some key → n < 4
-key_low copy zero key is = omega arith
-key_low copy (suc zero) key is = omega arith
-key_low copy (suc (suc zero)) key is = omega arith
-key_low copy (suc (suc (suc zero))) key is = omega arith
-key_low copy (suc (suc (suc (suc n)))) key is = absurd cc
-
 put_advances : (copy : Copied) (n : ℕ) (key : Option ObjectKey) (next : Next) → slice_get (keys copy) (n + 1) ≡ key → GoesOn next ≡ GoesOn (put_at (n + 1) key) → taken_before (Put n) < taken_before next
 put_advances copy n None next at is = to (Put n) next Finish is (omega arith)
-put_advances copy n (Some key) next at is = let low = key_low copy (n + 1) key at in to (Put n) next (Put (n + 1)) is (omega (arith, low))
+put_advances copy n (Some key) next at is = let low = key_low copy.partition copy.id copy.packed (n + 1) key at in to (Put n) next (Put (n + 1)) is (omega (arith, low))
 
 delete_advances : (copy : Copied) (view : Seen) (n : ℕ) (key : Option ObjectKey) (next : Next) → slice_get (keys copy) (n + 1) ≡ key → GoesOn next ≡ delete_at copy view (n + 1) key
     → taken_before (Delete n) < taken_before next
 delete_advances copy view n None next at is = absurd cc
-delete_advances copy view n (Some key) next at is = let low = key_low copy (n + 1) key at in to (Delete n) next (Delete (n + 1)) is (omega (arith, low))
+delete_advances copy view n (Some key) next at is = let low = key_low copy.partition copy.id copy.packed (n + 1) key at in to (Delete n) next (Delete (n + 1)) is (omega (arith, low))
 
 checked_advances : (copy : Copied) (notes : ℕ) (state : Option State) (next : Next) → GoesOn next ≡ checked copy notes state → taken_before Check < taken_before next
 checked_advances copy notes (Some CopyFinished) next is = absurd cc

@@ -122,13 +122,18 @@ module _ {S M : Type 0} (store : StoreGhosts S) (meta : MetaGhosts M) where
 
   put_dry : (copy : Copied) (n : ℕ) (key : Option ObjectKey) (e : _) (old new : S) → PutRow store.content store.control copy n key (Err e) old new → (store.content new).tells ≡ (store.content old).tells
   put_dry copy n None e old new w = ap (λ (s : S). (store.content s).tells) w.1
-  put_dry copy n (Some key) e old new w = w.puts.content.tells
+  put_dry copy n (Some key) e old new (inl same) = ap (λ (s : S). (store.content s).tells) same
+  put_dry copy n (Some key) e old new (inr w) = w.puts.content.tells
+
+  finish_dry : (copy : Copied) (teller : Teller) (e : _) (old new : M) → FinishRow meta.content meta.control copy teller (Err e) old new → (meta.content new).tells ≡ (meta.content old).tells
+  finish_dry copy teller e old new (inl same) = ap (λ (m : M). (meta.content m).tells) same
+  finish_dry copy teller e old new (inr k) = k.content.tells
 
   pub dry_tells : (copy : Copied) (teller : Teller) (next : Next) (e : _) (old new : Tiers S M) → CopyRow store.content store.control meta.content meta.control copy teller next (Err e) old new
       → TellsOn old.store old.meta new.store new.meta
   dry_tells copy teller Start e old new w = (ap (λ (t : Tiers S M). (store.content t.store).tells) w.0, start_dry copy teller e old.meta new.meta w.1)
   dry_tells copy teller (Put n) e old new w = (put_dry copy n (slice_get (keys copy) n) e old.store new.store w.1, ap (λ (t : Tiers S M). (meta.content t.meta).tells) w.0)
-  dry_tells copy teller Finish e old new w = (ap (λ (t : Tiers S M). (store.content t.store).tells) w.0, w.1.content.tells)
+  dry_tells copy teller Finish e old new w = (ap (λ (t : Tiers S M). (store.content t.store).tells) w.0, finish_dry copy teller e old.meta new.meta w.1)
   dry_tells copy teller Check e old new w = (ap (λ (s : S). (store.content s).tells) w.0, w.1.content.tells)
   dry_tells copy teller (Delete n) e old new w = absurd w
 

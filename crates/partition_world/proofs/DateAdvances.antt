@@ -9,6 +9,7 @@ use Rattle.tier_base.specs.declared.fault.Trouble.TheVariants.{Failed, NoMemory}
 use Rattle.tier_base.specs.declared.plain.Part.TheVariants as part
 use Rattle.disk_model.specs.declared.disk.Disk.{Ghosts as DiskGhosts}
 use Rattle.object_store.specs.declared.placing.Spot.{Spot}
+use Rattle.object_store.specs.Place.{short_of}
 use Rattle.object_store.specs.declared.store.Store.{Ghosts as StoreGhosts}
 use Rattle.meta_log.specs.declared.log.MetaLog.{Ghosts as MetaGhosts}
 use Rattle.broker_log.specs.Seen.{Kept}
@@ -20,7 +21,7 @@ use Rattle.tier_fetch.specs.declared.turn.FetchTurn.TheVariants as fetch
 use Rattle.tier_fetch.specs.declared.turn.Next.TheVariants as fetching
 use Rattle.plain_log.specs.declared.answer.Answer.TheVariants.{Run}
 use Rattle.time_find.specs.Passing.{Seeks, top_of}
-use Rattle.time_find.specs.Turns.{GoesOn, IsSearched, Times, Indexes, Searches, TimesRow, TimeRow, OwnRow}
+use Rattle.time_find.specs.Turns.{GoesOn, IsSearched, TimesBytes, Times, Indexes, Searches, TimesRow, TimeRow, OwnRow}
 use Rattle.time_find.specs.declared.turn.Asked.{Asked}
 use Rattle.time_find.specs.declared.turn.Next.{Next}
 use Rattle.time_find.specs.declared.turn.Next.TheVariants as search
@@ -75,8 +76,11 @@ times_rises : (asked : Asked) (cursor : ℕ) (piece : Piece) (base : ℕ) (spot 
 times_rises asked cursor piece base spot (Err Failed) at next w = absurd (cc (w))
 times_rises asked cursor piece base spot (Err NoMemory) at next w = absurd (let no : false ≡ true = w in cc)
 times_rises asked cursor piece base spot (Ok None) at next w = absurd (cc (w))
-times_rises asked cursor piece base spot (Ok (Some bytes)) at next w =
-    shown_rises (nat_lt _ (top_of asked piece)) piece _ cursor (top_of asked piece) at next w.turn_is
+times_rises asked cursor piece base spot (Ok (Some bytes)) at next w = by (short_of spot bytes) w
+  where
+    by : (end : Option ℕ) → TimesBytes end asked cursor piece base spot bytes (Ok (Goes at next)) → Rises (search.Times piece) next
+    by (Some end) w = absurd (cc (w))
+    by None w = shown_rises (nat_lt _ (top_of asked piece)) piece _ cursor (top_of asked piece) at next w.turn_is
 
 indexes_rises : (cursor : ℕ) (piece : Piece) (from : ℕ) (found : Result FetchTurn AllocError) (at : ℕ) (next : Next)
     → Indexes cursor piece from found (Ok (Goes at next)) → Rises (search.Index piece from) next

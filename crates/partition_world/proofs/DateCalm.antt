@@ -9,6 +9,7 @@ use Rattle.tier_base.specs.declared.plain.Part.TheVariants as part
 use Rattle.disk_model.specs.declared.disk.Disk.{Ghosts as DiskGhosts}
 use Rattle.object_store.specs.declared.call.StoreCall.TheVariants.{Get}
 use Rattle.object_store.specs.declared.placing.Spot.{Spot}
+use Rattle.object_store.specs.Place.{short_of}
 use Rattle.object_store.specs.declared.store.Store.{Ghosts as StoreGhosts}
 use Rattle.meta_log.specs.declared.log.MetaLog.{Ghosts as MetaGhosts}
 use Rattle.broker_log.specs.Seen.{Kept, OnDisk, closed_in}
@@ -22,7 +23,7 @@ use Rattle.tier_fetch.specs.declared.turn.Span.{Span}
 use Rattle.plain_log.specs.declared.answer.Answer.TheVariants.{MetaFault, DiskFault, Damaged, Run, Offset}
 use Rattle.plain_log.specs.declared.answer.Place.TheVariants.{Meta, File}
 use Rattle.time_find.specs.Passing.{passed_over, Seeks}
-use Rattle.time_find.specs.Turns.{IsSearched, Times, Indexes, Searches, SeekRow, TimesRow, TimeRow, ReadRow, OwnRow, wanted_at}
+use Rattle.time_find.specs.Turns.{IsSearched, TimesBytes, Times, Indexes, Searches, SeekRow, TimesRow, TimeRow, ReadRow, OwnRow, wanted_at}
 use Rattle.time_find.specs.declared.turn.Asked.{Asked}
 use Rattle.time_find.specs.declared.turn.Next.{Next}
 use Rattle.time_find.specs.declared.turn.Next.TheVariants as search
@@ -96,8 +97,12 @@ module _ {S M : Type 0} (store : StoreGhosts S) (meta : MetaGhosts M) where
   times_quiet asked cursor piece base spot (Err Failed) turn old new r w c = no_fault _ (store.control old) (store.control new) r c
   times_quiet asked cursor piece base spot (Err NoMemory) turn old new r w c = absurd (let no : false ≡ true = w in cc)
   times_quiet asked cursor piece base spot (Ok None) turn old new r w c = shown_quiet turn _ w tt
-  times_quiet asked cursor piece base spot (Ok (Some bytes)) (Goes at next) old new r w c = tt
-  times_quiet asked cursor piece base spot (Ok (Some bytes)) (Ends answer) old new r w c = rw w.0 tt
+  times_quiet asked cursor piece base spot (Ok (Some bytes)) turn old new r w c = by (short_of spot bytes) turn w
+    where
+      by : (end : Option ℕ) (turn : TimeTurn) → TimesBytes end asked cursor piece base spot bytes (Ok turn) → IsQuiet (date_outcome turn)
+      by (Some end) turn w = shown_quiet turn _ w tt
+      by None (Goes at next) w = tt
+      by None (Ends answer) w = rw w.0 tt
 
   times_calm : (asked : Asked) (cursor : ℕ) (piece : Piece) (view : View) (place : Option (ℕ × Spot)) (turn : TimeTurn) (old new : S)
       → TimesRow store.content store.control asked cursor piece view place (Ok turn) old new → IsCalm (store.control old)

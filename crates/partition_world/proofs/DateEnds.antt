@@ -8,6 +8,7 @@ use Rattle.tier_base.specs.declared.fault.Trouble.TheVariants.{Failed, NoMemory}
 use Rattle.tier_base.specs.declared.plain.Part.TheVariants as part
 use Rattle.object_store.specs.declared.store.Store.{Ghosts as StoreGhosts}
 use Rattle.object_store.specs.declared.placing.Spot.{Spot}
+use Rattle.object_store.specs.Place.{short_of}
 use Rattle.meta_log.specs.declared.log.MetaLog.{Ghosts as MetaGhosts}
 use Rattle.disk_model.specs.declared.disk.Disk.{Ghosts as DiskGhosts}
 use Rattle.sparse_index.specs.Offsets.{OffsetTable}
@@ -23,16 +24,17 @@ use Rattle.tier_fetch.specs.declared.turn.FetchTurn.TheVariants as fetch
 use Rattle.tier_fetch.specs.declared.turn.Next.TheVariants as fetching
 use Rattle.tier_fetch.specs.declared.turn.Span.{Span}
 use Rattle.tier_fetch.specs.declared.turn.Wanted.{Wanted}
-use Rattle.tier_fetch.specs.Turns.{spot_in, Loads, LoadRow, FetchRow, Tiers}
+use Rattle.tier_fetch.specs.Turns.{spot_in, LoadsBytes, Loads, LoadRow, FetchRow, Tiers}
 use Rattle.tier_fetch.specs.Turns as rows
 use Rattle.time_find.specs.declared.turn.Asked.{Asked}
 use Rattle.time_find.specs.declared.turn.Next.{Next}
 use Rattle.time_find.specs.declared.turn.Next.TheVariants.{Seek, Times as ReadsTimes, Index, Log}
 use Rattle.time_find.specs.declared.turn.TimeTurn.{TimeTurn}
-use Rattle.time_find.specs.declared.turn.TimeTurn.TheVariants.{Goes, Ends}
+use Rattle.time_find.specs.declared.turn.TimeTurn.TheVariants.{Ends}
 use Rattle.time_find.specs.Passing.{Seeks, passed_over}
 use Rattle.time_find.specs.Turns.{
   IsSearched,
+  TimesBytes,
   Times,
   Indexes,
   Searches,
@@ -78,7 +80,11 @@ times_ends : (asked : Asked) (cursor : ℕ) (piece : Piece) (base : ℕ) (spot :
 times_ends asked cursor piece base spot (Err Failed) answer w = let e : answer ≡ StoreFault = cc (w) in subst MayEnd (sym e) tt
 times_ends asked cursor piece base spot (Err NoMemory) answer w = absurd (cc (w))
 times_ends asked cursor piece base spot (Ok None) answer w = let e : answer ≡ Damaged (Key spot.key) 0 = cc (w) in subst MayEnd (sym e) tt
-times_ends asked cursor piece base spot (Ok (Some bytes)) answer w = subst MayEnd (sym w.0) tt
+times_ends asked cursor piece base spot (Ok (Some bytes)) answer w = by (short_of spot bytes) w
+  where
+    by : (end : Option ℕ) → TimesBytes end asked cursor piece base spot bytes (Ok (Ends answer)) → MayEnd answer
+    by (Some end) w = let e : answer ≡ Damaged (Key spot.key) end = cc (w) in subst MayEnd (sym e) tt
+    by None w = subst MayEnd (sym w.0) tt
 
 loads_ends : (wanted : Wanted) (piece : Piece) (base : ℕ) (spot : Spot) (given : Result (Option (List ℕ)) Trouble) (answer : Answer)
     (old new : Cache) → Loads wanted piece base spot given (Ok (fetch.Ends answer)) old new → MayEnd answer
@@ -86,7 +92,11 @@ loads_ends wanted piece base spot (Err Failed) answer old new w = let e : answer
 loads_ends wanted piece base spot (Err NoMemory) answer old new w = let no = w.0 in absurd (cc (no))
 loads_ends wanted piece base spot (Ok None) answer old new w =
     let e : answer ≡ Damaged (Key spot.key) 0 = cc (w.0) in subst MayEnd (sym e) tt
-loads_ends wanted piece base spot (Ok (Some bytes)) answer old new w = subst MayEnd (sym w.0) tt
+loads_ends wanted piece base spot (Ok (Some bytes)) answer old new w = by (short_of spot bytes) w
+  where
+    by : (end : Option ℕ) → LoadsBytes end wanted piece base spot bytes (Ok (fetch.Ends answer)) old new → MayEnd answer
+    by (Some end) w = let e : answer ≡ Damaged (Key spot.key) end = cc (w.0) in subst MayEnd (sym e) tt
+    by None w = subst MayEnd (sym w.0) tt
 
 -- by what a fetch's turn came to, of the segment's log
 searches_ends : (asked : Asked) (from : ℕ) (told answer : Answer) → fetches.MayEnd told

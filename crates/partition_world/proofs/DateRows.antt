@@ -1,6 +1,5 @@
 -- What a search by timestamp goes on with, and its row in the local log and among the remote segments.
-use Rattle.std.proofs.Common.{◌≡◌, inl, inr, sym, refl, subst, ℕ, zero, suc, ◌<◌, ◌≤◌, max, List, [], ◌∷◌, length, Option, Some, None, Bool}
-use Rattle.std.proofs.Common.{true, false, slice_get, arith}
+use Rattle.std.proofs.Common.{◌≡◌, inl, inr, sym, refl, subst, ℕ, ◌<◌, ◌≤◌, max, List, [], length, Option, Some, Bool, true, false, slice_get}
 use Rattle.std.specs.Prelude.{nat_lt, if◌then◌else◌, unwrap_or, IsSomeAnd}
 use Rattle.std.proofs.lemmas.Bool.{ltb-false}
 use Rattle.std.proofs.Math.Nat.{max-eq_right}
@@ -16,11 +15,11 @@ use Rattle.time_find.specs.Turns.{IsSet}
 use Rattle.partition_turns.specs.declared.held.Node.{Node}
 use Rattle.partition_turns.specs.declared.held.Held.{Held}
 use Rattle.partition_turns.specs.Held.{AtNode, Rests, StaysHeld, put_node}
-use Rattle.partition_world.specs.declared.tier.Side.{Side}
 use Rattle.partition_world.specs.declared.tier.Tier.{Tier}
 use Rattle.partition_world.specs.Tier.{AtSide}
 use Rattle.partition_world.specs.TurnsOfDate.{resumed_at, resumed_with, SearchesOwn, SearchesRemote, WantsForDate, SearchRow}
 use Rattle.partition_world.specs.Turns.{HaltsTier, StaysTier}
+use Rattle.partition_world.proofs.Dispatch.{some_more, there}
 
 -- where a search is resumed, its piece still ends past the cursor
 pub set_at : (start cursor : ℕ) (next : Next) → IsSet cursor next → IsSet (resumed_at start cursor) (resumed_with start cursor next)
@@ -44,17 +43,6 @@ log_stays {D} disk h b x kept at stays lasts =
       subst (λ (o : Option (Node D)). IsSomeAnd o (λ y. Rests disk.content disk.control h b y after)) (sym at)
           (kept, stays, lasts, refl),
     )
-
--- a fact of what is there implies another
-some_more : {A : Type 0} (P Q : A → Type 0) (o : Option A) → ((x : A) → P x → Q x) → IsSomeAnd o P → IsSomeAnd o Q
-some_more P Q None f h = h
-some_more P Q (Some x) f h = f x h
-
--- what holds of each holds of the one at a place
-there : {A : Type 0} (P : A → Type 0) (xs : List A) (i : ℕ) → i < length xs → ((x : A) → P x) → IsSomeAnd (slice_get xs i) P
-there P [] i lt f = absurd (omega (arith, lt))
-there P (x ∷ xs) zero lt f = f x
-there P (x ∷ xs) (suc i) lt f = there P xs i (omega (arith, lt)) f
 
 module _ {D S M : Type 0} (disk : DiskGhosts D) (store : StoreGhosts S) (meta : MetaGhosts M) (h : Held D) (t : Tier S M) (b : ℕ)
     (asked : Asked) (cursor : ℕ) (next : Next) where

@@ -1,5 +1,5 @@
 -- A later turn of a search by timestamp is its row.
-use Rattle.std.proofs.Common.{◌≡◌, ◌⊎◌, inl, inr, sym, subst, ℕ, ◌<◌, Option, Some, None, Bool, true, false, slice_get}
+use Rattle.std.proofs.Common.{◌≡◌, ◌⊎◌, inl, inr, sym, subst, ℕ, ◌<◌, Option, Some, Bool, true, false, slice_get}
 use Rattle.std.specs.Prelude.{◌^◌, ℤ, IsSomeAnd}
 use Rattle.tier_base.specs.declared.names.PartitionId.{PartitionId}
 use Rattle.disk_model.specs.declared.disk.Disk.{Ghosts as DiskGhosts}
@@ -25,11 +25,7 @@ use Rattle.partition_world.specs.Seats.{date_outcome}
 use Rattle.partition_world.specs.TurnsOfCopy.{KeepsLead}
 use Rattle.partition_world.specs.TurnsOfDate.{resumed_at, resumed_with, is_own, asked_of, SearchRow, Searches, DateOnRow}
 use Rattle.partition_world.proofs.DateEnds.{MayEnd, MayEndOwn, date_ends, own_ends}
-
--- a fact of what is there implies another
-some_more : {A : Type 0} (P Q : A → Type 0) (o : Option A) → ((x : A) → P x → Q x) → IsSomeAnd o P → IsSomeAnd o Q
-some_more P Q None f h = h
-some_more P Q (Some x) f h = f x h
+use Rattle.partition_world.proofs.Dispatch.{some_more}
 
 module _ {D S M : Type 0} (disk : DiskGhosts D) (store : StoreGhosts S) (meta : MetaGhosts M) where
   -- what a turn is answered, in the local log or not

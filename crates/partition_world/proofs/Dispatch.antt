@@ -1,34 +1,44 @@
 -- A turn's row is that of its command, and a log that was read is as it was.
-use Rattle.std.proofs.Common.{◌≡◌, inl, inr, ap, ◌∙◌, ℕ, zero, suc, ◌<◌, List, [], ◌∷◌, length, Some, None, Option, slice_get, true, false, arith}
-use Rattle.std.specs.Prelude.{IsSomeAnd, OnErr}
+use Rattle.std.proofs.Common.{◌≡◌, inl, inr, ap, refl, ◌∙◌, ℕ, ℤ, zero, suc, ◌<◌, List, [], ◌∷◌, length, Some, None, Option, slice_get, true, false, arith}
+use Rattle.std.specs.Prelude.{IfOk, IsSomeAnd, OnErr}
+use Rattle.std.specs.declared.alloc.AllocError.{AllocError}
 use Rattle.std.specs.declared.result.Result.{Result}
 use Rattle.std.specs.declared.result.Result.TheVariants.{Ok, Err}
 use Rattle.disk_model.specs.declared.disk.Disk.{Ghosts as DiskGhosts}
 use Rattle.object_store.specs.declared.store.Store.{Ghosts as StoreGhosts}
 use Rattle.meta_log.specs.declared.log.MetaLog.{Ghosts as MetaGhosts}
 use Rattle.plain_log.specs.declared.command.Command.{Command}
-use Rattle.plain_log.specs.declared.command.Command.TheVariants.{Copy, Trim, Expire, Offset}
+use Rattle.plain_log.specs.declared.command.Command.TheVariants.{Copy, Trim, Expire, Follow, Offset}
+use Rattle.plain_log.specs.declared.command.Which.{Which}
 use Rattle.plain_log.specs.declared.command.Which.TheVariants.{LatestTiered, At}
+use Rattle.plain_log.specs.declared.command.Config.{Config}
+use Rattle.plain_log.specs.declared.answer.Answer.{Answer}
+use Rattle.tier_base.specs.declared.names.PartitionId.{PartitionId}
 use Rattle.tier_base.specs.declared.plain.Settings.{Settings}
 use Rattle.broker_log.specs.Seen.{Kept, Up, Down, Away, is_up, settings_in, WhileUp}
 use Rattle.partition_turns.specs.declared.held.Node.{Node}
 use Rattle.partition_turns.specs.declared.held.Held.{Held}
 use Rattle.partition_turns.specs.Held.{AtNode, Rests, put_node}
 use Rattle.partition_turns.specs.Turns.{IsOfTier}
+use Rattle.partition_turns.specs.TurnsOfFollowers.{FollowOnRow}
+use Rattle.partition_seen.specs.declared.begun.Begun.{Begun}
+use Rattle.time_find.specs.declared.turn.Next.TheVariants.{Seek}
 use Rattle.partition_world.specs.declared.tier.Side.{Side}
 use Rattle.partition_world.specs.declared.tier.Tier.{Tier}
 use Rattle.partition_world.specs.declared.seat.Outcome.{Outcome}
+use Rattle.partition_world.specs.declared.seat.Outcome.TheVariants.{Answers}
 use Rattle.partition_world.specs.Tier.{AtSide}
 use Rattle.partition_world.specs.TurnsOfCopy.{ReadsLog}
-use Rattle.partition_world.specs.Turns.{OwnRow, BeginRow, StaysTier}
+use Rattle.partition_world.specs.TurnsOfDate.{DateOnRow}
+use Rattle.partition_world.specs.Turns.{OwnRow, BeginRow, NotedRow, StaysTier}
 
 -- a fact of what is there implies another
-some_more : {A : Type 0} (P Q : A → Type 0) (o : Option A) → ((x : A) → P x → Q x) → IsSomeAnd o P → IsSomeAnd o Q
+pub some_more : {A : Type 0} (P Q : A → Type 0) (o : Option A) → ((x : A) → P x → Q x) → IsSomeAnd o P → IsSomeAnd o Q
 some_more P Q None f h = h
 some_more P Q (Some x) f h = f x h
 
 -- what holds of each holds of the one at a place
-there : {A : Type 0} (P : A → Type 0) (xs : List A) (i : ℕ) → i < length xs → ((x : A) → P x) → IsSomeAnd (slice_get xs i) P
+pub there : {A : Type 0} (P : A → Type 0) (xs : List A) (i : ℕ) → i < length xs → ((x : A) → P x) → IsSomeAnd (slice_get xs i) P
 there P [] i lt f = absurd (omega (arith, lt))
 there P (x ∷ xs) zero lt f = f x
 there P (x ∷ xs) (suc i) lt f = there P xs i (omega (arith, lt)) f
@@ -60,6 +70,22 @@ module _ {D S M : Type 0} (disk : DiskGhosts D) (store : StoreGhosts S) (meta : 
   begin_at h t b command outcome h' t' lt own r =
       some_more (λ x. OwnRow disk h t b x command outcome h' t') (λ x. AtSide t b (λ side. BeginRow disk store meta h t b x side command outcome h' t')) (slice_get h.nodes b)
       (λ x row. there (λ side. BeginRow disk store meta h t b x side command outcome h' t') t.sides b lt (λ side. begin_row h t b x side command outcome h' t' own row)) r
+
+  -- the second turn of a follow
+  pub follow_at : (p : PartitionId) (config : Config) (h : Held D) (t : Tier S M) (b : ℕ) (g : Begun) (command : Command) (limit : ℕ) (answer : Answer) (h' : Held D)
+      → command ≡ Follow limit → b < length t.sides → AtNode h b (λ x. FollowOnRow disk.content disk.control h b x g answer h')
+      → AtNode h b (λ x. AtSide t b (λ side. NotedRow disk store meta p config h t b x side g command (Answers answer) h' t))
+  follow_at p config h t b g command limit answer h' is lt r =
+      some_more (λ x. FollowOnRow disk.content disk.control h b x g answer h')
+      (λ x. AtSide t b (λ side. NotedRow disk store meta p config h t b x side g command (Answers answer) h' t)) (slice_get h.nodes b)
+      (λ x row. there (λ side. NotedRow disk store meta p config h t b x side g command (Answers answer) h' t) t.sides b lt (λ side. rw is ((answer, refl, row), refl))) r
+
+  -- and of a search by timestamp
+  pub date_at : (p : PartitionId) (config : Config) (h : Held D) (t : Tier S M) (b : ℕ) (g : Begun) (command : Command) (which : Which) (ts : ℤ) (r : Result Outcome AllocError) (h' : Held D) (t' : Tier S M)
+      → command ≡ Offset which → which ≡ At ts
+      → IfOk r (λ outcome. AtNode h b (λ x. AtSide t b (λ side. DateOnRow disk store meta p h t b x side g ts 0 Seek outcome h' t')))
+      → IfOk r (λ outcome. AtNode h b (λ x. AtSide t b (λ side. NotedRow disk store meta p config h t b x side g command outcome h' t')))
+  date_at p config h t b g command which ts r h' t' is at row = rw (is, at) row
 
   read_rests : (h : Held D) (b : ℕ) (x y : Node D) (h' : Held D) → ReadsLog disk x y → h' ≡ put_node h b y → Rests disk.content disk.control h b x h'
   read_rests h b x y h' r is = (r.kept, r.stays, r.lasts, is ∙ ap (λ (k : Node D). put_node h b k) r.after)

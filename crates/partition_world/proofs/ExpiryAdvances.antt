@@ -1,5 +1,5 @@
 -- Each turn of an expiry leaves fewer.
-use Rattle.std.proofs.Common.{◌≡◌, refl, ℕ, zero, suc, ◌+◌, ◌<◌, ◌≤◌, slice_get, Some, None, Option, Ok, arith}
+use Rattle.std.proofs.Common.{◌≡◌, refl, ℕ, ◌+◌, ◌<◌, ◌≤◌, slice_get, Some, None, Option, Ok, arith}
 use Rattle.std.specs.Prelude.{min}
 use Rattle.tier_base.specs.declared.object_key.ObjectKey.{ObjectKey}
 use Rattle.object_store.specs.declared.store.Store.{Ghosts as StoreGhosts}
@@ -10,6 +10,7 @@ use Rattle.expiry_task.specs.declared.turn.Doomed.{Doomed}
 use Rattle.expiry_task.specs.declared.turn.ExpiryTurn.TheVariants.{Goes as GoesOn}
 use Rattle.expiry_task.specs.declared.turn.Next.{Next}
 use Rattle.expiry_task.specs.declared.turn.Next.TheVariants.{Start, Delete, Finish}
+use Rattle.tier_safe.proofs.Basics.{key_low}
 
 -- how many an expiry has taken at most that does this next
 abbrev pub deleting_before : Next → ℕ
@@ -26,18 +27,10 @@ few_deleting Finish = omega arith
 to : (before next after : Next) → GoesOn next ≡ GoesOn after → deleting_before before < deleting_before after → deleting_before before < deleting_before next
 to before next after is lt = let e : next ≡ after = cc in rw e lt
 
--- a segment has four keys
-key_low : (doomed : Doomed) (n : ℕ) (key : ObjectKey) → slice_get (keys doomed) n ≡ Some key → n < 4
-key_low doomed zero key is = omega arith
-key_low doomed (suc zero) key is = omega arith
-key_low doomed (suc (suc zero)) key is = omega arith
-key_low doomed (suc (suc (suc zero))) key is = omega arith
-key_low doomed (suc (suc (suc (suc n)))) key is = absurd cc
-
 delete_advances : (doomed : Doomed) (n : ℕ) (key : Option ObjectKey) (next : Next) → slice_get (keys doomed) (n + 1) ≡ key → GoesOn next ≡ GoesOn (delete_at (n + 1) key)
     → deleting_before (Delete n) < deleting_before next
 delete_advances doomed n None next at is = to (Delete n) next Finish is (omega arith)
-delete_advances doomed n (Some key) next at is = let low = key_low doomed (n + 1) key at in to (Delete n) next (Delete (n + 1)) is (omega (arith, low))
+delete_advances doomed n (Some key) next at is = let low = key_low doomed.partition doomed.id doomed.packed (n + 1) key at in to (Delete n) next (Delete (n + 1)) is (omega (arith, low))
 
 module _ {S M : Type 0} (store : StoreGhosts S) (meta : MetaGhosts M) where
   delete_row : (doomed : Doomed) (n : ℕ) (key : Option ObjectKey) (next : Next) (old new : S) → DeleteRow store.content store.control doomed n key (GoesOn next) old new

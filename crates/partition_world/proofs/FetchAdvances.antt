@@ -7,13 +7,14 @@ use Rattle.remote_view.specs.Fold.{Seen}
 use Rattle.tier_base.specs.declared.fault.Trouble.{Trouble}
 use Rattle.tier_base.specs.declared.fault.Trouble.TheVariants.{Failed, NoMemory}
 use Rattle.object_store.specs.declared.placing.Spot.{Spot}
+use Rattle.object_store.specs.Place.{short_of, short_in}
 use Rattle.index_cache.specs.Cache.{Cache, found}
 use Rattle.sparse_index.specs.Offsets.{OffsetTable}
 use Rattle.remote_view.specs.Fold.{entry_of}
 use Rattle.remote_find.specs.declared.piece.Piece.{Piece}
 use Rattle.remote_find.specs.Pieces.{piece_at}
 use Rattle.tier_base.specs.declared.plain.Part.TheVariants as part
-use Rattle.tier_fetch.specs.Turns.{Tiers as Fetched, FetchRow, IndexRow, LoadRow, LogRow, Loads, Cuts, spot_in, reads_by, chosen as found_piece}
+use Rattle.tier_fetch.specs.Turns.{Tiers as Fetched, FetchRow, IndexRow, LoadRow, LogRow, LoadsBytes, Loads, CutsBytes, Cuts, spot_in, reads_by, chosen as found_piece}
 use Rattle.tier_fetch.specs.declared.turn.FetchTurn.TheVariants as fetch
 use Rattle.tier_fetch.specs.declared.turn.Next.{Next as Search}
 use Rattle.tier_fetch.specs.declared.turn.Next.TheVariants.{Refresh, Index, Log}
@@ -46,7 +47,11 @@ module _ {S M : Type 0} (store : StoreGhosts S) (meta : MetaGhosts M) where
   loads_advances wanted piece base spot (Err Failed) next old new w = let e = w.0 in absurd (cc (e))
   loads_advances wanted piece base spot (Err NoMemory) next old new w = absurd (let no : false ≡ true = w.0 in cc)
   loads_advances wanted piece base spot (Ok None) next old new w = let e = w.0 in absurd (cc (e))
-  loads_advances wanted piece base spot (Ok (Some bytes)) next old new w = same_next (Index piece) next _ w.turn_is (omega arith)
+  loads_advances wanted piece base spot (Ok (Some bytes)) next old new w = by (short_of spot bytes) w
+    where
+      by : (end : Option ℕ) → LoadsBytes end wanted piece base spot bytes (Ok (fetch.Goes next)) old new → sought_before (Index piece) < sought_before next
+      by (Some end) w = let e = w.0 in absurd (cc (e))
+      by None w = same_next (Index piece) next _ w.turn_is (omega arith)
 
   load_advances : (wanted : Wanted) (piece : Piece) (view : Seen) (place : Option (ℕ × Spot)) (next : Search) (cache cache' : Cache) (old new : S)
       → LoadRow store.content store.control wanted piece view place (Ok (fetch.Goes next)) cache cache' old new → sought_before (Index piece) < sought_before next
@@ -64,7 +69,11 @@ module _ {S M : Type 0} (store : StoreGhosts S) (meta : MetaGhosts M) where
   cuts_ends wanted piece spot span (Err Failed) next w = absurd (cc (w))
   cuts_ends wanted piece spot span (Err NoMemory) next w = absurd (let no : false ≡ true = w in cc)
   cuts_ends wanted piece spot span (Ok None) next w = absurd (cc (w))
-  cuts_ends wanted piece spot span (Ok (Some bytes)) next w = absurd w
+  cuts_ends {A} wanted piece spot span (Ok (Some bytes)) next w = by (short_in spot span.from span.most bytes) w
+    where
+      by : (end : Option ℕ) → CutsBytes end wanted piece spot span bytes (Ok (fetch.Goes next)) → A
+      by (Some end) w = absurd (cc (w))
+      by None w = absurd w
 
   log_ends : {A : Type 0} (wanted : Wanted) (piece : Piece) (span : Span) (view : Seen) (place : Option (ℕ × Spot)) (next : Search) (old new : S)
       → LogRow store.content store.control wanted piece span view place (Ok (fetch.Goes next)) old new → A

@@ -10,13 +10,14 @@ use Rattle.tier_base.specs.declared.fault.Trouble.{Trouble}
 use Rattle.tier_base.specs.declared.fault.Trouble.TheVariants.{Failed, NoMemory}
 use Rattle.object_store.specs.declared.call.StoreCall.TheVariants.{Get}
 use Rattle.object_store.specs.declared.placing.Spot.{Spot}
+use Rattle.object_store.specs.Place.{short_of, short_in}
 use Rattle.index_cache.specs.Cache.{Cache, found}
 use Rattle.sparse_index.specs.Offsets.{OffsetTable}
 use Rattle.remote_view.specs.Fold.{entry_of}
 use Rattle.remote_find.specs.declared.piece.Piece.{Piece}
 use Rattle.remote_find.specs.Pieces.{piece_at}
 use Rattle.tier_base.specs.declared.plain.Part.TheVariants as part
-use Rattle.tier_fetch.specs.Turns.{Tiers as Fetched, FetchRow, RefreshRow, IndexRow, LoadRow, LogRow, Loads, Cuts, spot_in, chosen as found_piece}
+use Rattle.tier_fetch.specs.Turns.{Tiers as Fetched, FetchRow, RefreshRow, IndexRow, LoadRow, LogRow, LoadsBytes, Loads, CutsBytes, Cuts, spot_in, chosen as found_piece}
 use Rattle.tier_fetch.specs.declared.turn.FetchTurn.{FetchTurn}
 use Rattle.tier_fetch.specs.declared.turn.FetchTurn.TheVariants as fetch
 use Rattle.tier_fetch.specs.declared.turn.Next.{Next as Search}
@@ -50,8 +51,12 @@ module _ {S M : Type 0} (store : StoreGhosts S) (meta : MetaGhosts M) where
   loads_quiet wanted piece base spot (Err Failed) turn before after old new r w c = no_fault _ (store.control old) (store.control new) r c
   loads_quiet wanted piece base spot (Err NoMemory) turn before after old new r w c = absurd (let no : false ≡ true = w.0 in cc)
   loads_quiet wanted piece base spot (Ok None) turn before after old new r w c = ends_quiet turn _ w.0 tt
-  loads_quiet wanted piece base spot (Ok (Some bytes)) (fetch.Goes next) before after old new r w c = tt
-  loads_quiet wanted piece base spot (Ok (Some bytes)) (fetch.Ends answer) before after old new r w c = rw w.0 tt
+  loads_quiet wanted piece base spot (Ok (Some bytes)) turn before after old new r w c = by (short_of spot bytes) turn w
+    where
+      by : (end : Option ℕ) (turn : FetchTurn) → LoadsBytes end wanted piece base spot bytes (Ok turn) before after → IsQuiet (fetch_outcome turn)
+      by (Some end) turn w = ends_quiet turn _ w.0 tt
+      by None (fetch.Goes next) w = tt
+      by None (fetch.Ends answer) w = rw w.0 tt
 
   load_calm : (wanted : Wanted) (piece : Piece) (view : View) (place : Option (ℕ × Spot)) (turn : FetchTurn) (cache cache' : Cache) (old new : S)
       → LoadRow store.content store.control wanted piece view place (Ok turn) cache cache' old new → IsCalm (store.control old) → IsCalm (store.control new) × IsQuiet (fetch_outcome turn)
@@ -72,9 +77,13 @@ module _ {S M : Type 0} (store : StoreGhosts S) (meta : MetaGhosts M) where
   cuts_quiet wanted piece spot span (Err Failed) turn old new r w c = no_fault _ (store.control old) (store.control new) r c
   cuts_quiet wanted piece spot span (Err NoMemory) turn old new r w c = absurd (let no : false ≡ true = w in cc)
   cuts_quiet wanted piece spot span (Ok None) turn old new r w c = ends_quiet turn _ w tt
-  cuts_quiet wanted piece spot span (Ok (Some bytes)) (fetch.Ends (Run tier size stop run)) old new r w c = tt
-  cuts_quiet wanted piece spot span (Ok (Some bytes)) (fetch.Ends (Damaged place at)) old new r w c = tt
-  cuts_quiet wanted piece spot span (Ok (Some bytes)) turn old new r w c = elim w [ ]
+  cuts_quiet wanted piece spot span (Ok (Some bytes)) turn old new r w c = by (short_in spot span.from span.most bytes) turn w
+    where
+      by : (end : Option ℕ) (turn : FetchTurn) → CutsBytes end wanted piece spot span bytes (Ok turn) → IsQuiet (fetch_outcome turn)
+      by (Some end) turn w = ends_quiet turn _ w tt
+      by None (fetch.Ends (Run tier size stop run)) w = tt
+      by None (fetch.Ends (Damaged place at)) w = tt
+      by None turn w = elim w [ ]
 
   log_calm : (wanted : Wanted) (piece : Piece) (span : Span) (view : View) (place : Option (ℕ × Spot)) (turn : FetchTurn) (old new : S)
       → LogRow store.content store.control wanted piece span view place (Ok turn) old new → IsCalm (store.control old) → IsCalm (store.control new) × IsQuiet (fetch_outcome turn)

@@ -6,6 +6,7 @@ use Rattle.tier_base.specs.declared.fault.Trouble.TheVariants.{Failed, NoMemory}
 use Rattle.tier_base.specs.declared.plain.Part.TheVariants as part
 use Rattle.object_store.specs.declared.store.Store.{Ghosts as StoreGhosts}
 use Rattle.object_store.specs.declared.placing.Spot.{Spot}
+use Rattle.object_store.specs.Place.{short_of, short_in}
 use Rattle.meta_log.specs.declared.log.MetaLog.{Ghosts as MetaGhosts}
 use Rattle.sparse_index.specs.Offsets.{OffsetTable}
 use Rattle.index_cache.specs.Cache.{Cache, found}
@@ -22,7 +23,7 @@ use Rattle.tier_fetch.specs.declared.turn.Next.{Next}
 use Rattle.tier_fetch.specs.declared.turn.Next.TheVariants.{Refresh, Index, Log}
 use Rattle.tier_fetch.specs.declared.turn.Span.{Span}
 use Rattle.tier_fetch.specs.declared.turn.Wanted.{Wanted}
-use Rattle.tier_fetch.specs.Turns.{chosen, spot_in, Loads, Cuts, RefreshRow, IndexRow, LoadRow, LogRow, FetchRow, Tiers}
+use Rattle.tier_fetch.specs.Turns.{chosen, spot_in, LoadsBytes, Loads, CutsBytes, Cuts, RefreshRow, IndexRow, LoadRow, LogRow, FetchRow, Tiers}
 use Rattle.partition_world.proofs.CopyEnds.{TellsOn}
 
 -- what it may be answered
@@ -46,7 +47,11 @@ module _ {S M : Type 0} (store : StoreGhosts S) (meta : MetaGhosts M) where
   loads_ends wanted piece base spot (Err Failed) answer old new w = let e : answer ≡ StoreFault = cc (w.0) in subst MayEnd (sym e) tt
   loads_ends wanted piece base spot (Err NoMemory) answer old new w = let no = w.0 in absurd (cc (no))
   loads_ends wanted piece base spot (Ok None) answer old new w = let e : answer ≡ Damaged (Key spot.key) 0 = cc (w.0) in subst MayEnd (sym e) tt
-  loads_ends wanted piece base spot (Ok (Some bytes)) answer old new w = subst MayEnd (sym w.0) tt
+  loads_ends wanted piece base spot (Ok (Some bytes)) answer old new w = by (short_of spot bytes) w
+    where
+      by : (end : Option ℕ) → LoadsBytes end wanted piece base spot bytes (Ok (Ends answer)) old new → MayEnd answer
+      by (Some end) w = let e : answer ≡ Damaged (Key spot.key) end = cc (w.0) in subst MayEnd (sym e) tt
+      by None w = subst MayEnd (sym w.0) tt
 
   load_ends : (wanted : Wanted) (piece : Piece) (view : View) (place : Option (ℕ × Spot)) (answer : Answer) (cache cache' : Cache) (old new : S)
       → LoadRow store.content store.control wanted piece view place (Ok (Ends answer)) cache cache' old new → MayEnd answer
@@ -63,9 +68,13 @@ module _ {S M : Type 0} (store : StoreGhosts S) (meta : MetaGhosts M) where
   cuts_ends wanted piece spot span (Err Failed) answer w = let e : answer ≡ StoreFault = cc (w) in subst MayEnd (sym e) tt
   cuts_ends wanted piece spot span (Err NoMemory) answer w = absurd (cc (w))
   cuts_ends wanted piece spot span (Ok None) answer w = let e : answer ≡ Damaged (Key spot.key) 0 = cc (w) in subst MayEnd (sym e) tt
-  cuts_ends wanted piece spot span (Ok (Some bytes)) (Run tier size stop run) w = tt
-  cuts_ends wanted piece spot span (Ok (Some bytes)) (Damaged place at) w = tt
-  cuts_ends wanted piece spot span (Ok (Some bytes)) answer w = elim w [ ]
+  cuts_ends wanted piece spot span (Ok (Some bytes)) answer w = by (short_in spot span.from span.most bytes) answer w
+    where
+      by : (end : Option ℕ) (answer : Answer) → CutsBytes end wanted piece spot span bytes (Ok (Ends answer)) → MayEnd answer
+      by (Some end) answer w = let e : answer ≡ Damaged (Key spot.key) end = cc (w) in subst MayEnd (sym e) tt
+      by None (Run tier size stop run) w = tt
+      by None (Damaged place at) w = tt
+      by None answer w = elim w [ ]
 
   log_ends : (wanted : Wanted) (piece : Piece) (span : Span) (view : View) (place : Option (ℕ × Spot)) (answer : Answer) (old new : S)
       → LogRow store.content store.control wanted piece span view place (Ok (Ends answer)) old new → MayEnd answer
@@ -124,7 +133,11 @@ module _ {S M : Type 0} (store : StoreGhosts S) (meta : MetaGhosts M) where
   loads_dry wanted piece base spot (Err Failed) e old new w = w.1
   loads_dry wanted piece base spot (Err NoMemory) e old new w = w.1
   loads_dry wanted piece base spot (Ok None) e old new w = w.1
-  loads_dry wanted piece base spot (Ok (Some bytes)) e old new w = w
+  loads_dry wanted piece base spot (Ok (Some bytes)) e old new w = by (short_of spot bytes) w
+    where
+      by : (end : Option ℕ) → LoadsBytes end wanted piece base spot bytes (Err e) old new → new ≡ old
+      by (Some end) w = w.1
+      by None w = w
 
   load_dry : (wanted : Wanted) (piece : Piece) (view : View) (place : Option (ℕ × Spot)) (e : AllocError) (cache cache' : Cache) (old new : S)
       → LoadRow store.content store.control wanted piece view place (Err e) cache cache' old new → cache' ≡ cache

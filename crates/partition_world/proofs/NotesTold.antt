@@ -303,7 +303,8 @@ module _ {S M : Type 0} (store : StoreGhosts S) (meta : MetaGhosts M) where
   copy_wants copy teller Start e old new (same, inl is) tells = same_count meta old.meta new.meta is
   copy_wants copy teller Start e old new (same, inr a) tells = appends_none meta _ old.meta new.meta a tells
   copy_wants copy teller (Put n) e old new w tells = same_count meta old.meta new.meta (ap (λ (t : Tiers S M). t.meta) w.0)
-  copy_wants copy teller Finish e old new w tells = appends_none meta _ old.meta new.meta w.1 tells
+  copy_wants copy teller Finish e old new (same, inl is) tells = same_count meta old.meta new.meta is
+  copy_wants copy teller Finish e old new (same, inr a) tells = appends_none meta _ old.meta new.meta a tells
   copy_wants copy teller Check e old new w tells = keeps_count meta old.meta new.meta w.1.content
   copy_wants copy teller (Delete n) e old new w tells = absurd w
 

@@ -8,13 +8,14 @@ use Rattle.tier_base.specs.declared.fault.Trouble.{Trouble}
 use Rattle.tier_base.specs.declared.fault.Trouble.TheVariants.{Failed, NoMemory}
 use Rattle.object_store.specs.declared.call.StoreCall.TheVariants.{Get}
 use Rattle.object_store.specs.declared.placing.Spot.{Spot}
+use Rattle.object_store.specs.Place.{short_of}
 use Rattle.object_store.specs.declared.store.Store.{Ghosts as StoreGhosts}
 use Rattle.remote_view.specs.Fold.{Seen as View}
 use Rattle.rebuild_task.specs.declared.turn.Next.TheVariants.{Restart}
 use Rattle.rebuild_task.specs.declared.turn.RebuildTurn.{RebuildTurn}
 use Rattle.rebuild_task.specs.declared.turn.RebuildTurn.TheVariants.{Goes, Ends}
 use Rattle.rebuild_task.specs.declared.turn.Wanted.{Wanted}
-use Rattle.rebuild_task.specs.Turns.{Takes, EpochsRow, RebuildRow}
+use Rattle.rebuild_task.specs.Turns.{TakesBytes, Takes, EpochsRow, RebuildRow}
 use Rattle.plain_log.specs.declared.answer.Answer.{Answer}
 use Rattle.plain_log.specs.declared.answer.Answer.TheVariants.{StoreFault, Damaged}
 use Rattle.partition_world.specs.Calm.{IsCalm}
@@ -35,9 +36,13 @@ takes_may : (wanted : ℕ) (spot : Spot) (answer : Result (Option (List ℕ)) Tr
 takes_may wanted spot (Err Failed) turn w = may_same turn _ w tt
 takes_may wanted spot (Err NoMemory) turn w = absurd (let no : false ≡ true = w in cc)
 takes_may wanted spot (Ok None) turn w = may_same turn _ w tt
-takes_may wanted spot (Ok (Some bytes)) (Goes (Restart line)) w = tt
-takes_may wanted spot (Ok (Some bytes)) (Goes next) w = elim w [ ]
-takes_may wanted spot (Ok (Some bytes)) (Ends answer) w = may_same (Ends answer) _ (ap (λ (a : Answer). Ok (Ends a)) w.0) tt
+takes_may wanted spot (Ok (Some bytes)) turn w = by (short_of spot bytes) turn w
+  where
+    by : (end : Option ℕ) (turn : RebuildTurn) → TakesBytes end wanted spot bytes (Ok turn) → MayTurn turn
+    by (Some end) turn w = may_same turn _ w tt
+    by None (Goes (Restart line)) w = tt
+    by None (Goes next) w = elim w [ ]
+    by None (Ends answer) w = may_same (Ends answer) _ (ap (λ (a : Answer). Ok (Ends a)) w.0) tt
 
 quiet_same : (turn after : RebuildTurn) → ◌≡◌ {A = Result RebuildTurn AllocError} (Ok turn) (Ok after) → IsQuiet (rebuild_outcome after) → IsQuiet (rebuild_outcome turn)
 quiet_same turn after is q = let same : turn ≡ after = cc (is) in subst (λ (t : RebuildTurn). IsQuiet (rebuild_outcome t)) (sym same) q
@@ -48,8 +53,12 @@ takes_quiet : {S : Type 0} (store : StoreGhosts S) (wanted : ℕ) (spot : Spot) 
 takes_quiet store wanted spot (Err Failed) turn old new r w c = no_fault _ (store.control old) (store.control new) r c
 takes_quiet store wanted spot (Err NoMemory) turn old new r w c = absurd (let no : false ≡ true = w in cc)
 takes_quiet store wanted spot (Ok None) turn old new r w c = quiet_same turn _ w tt
-takes_quiet store wanted spot (Ok (Some bytes)) (Goes next) old new r w c = tt
-takes_quiet store wanted spot (Ok (Some bytes)) (Ends answer) old new r w c = subst (λ (a : Answer). IsQuiet (rebuild_outcome (Ends a))) (sym w.0) tt
+takes_quiet store wanted spot (Ok (Some bytes)) turn old new r w c = by (short_of spot bytes) turn w
+  where
+    by : (end : Option ℕ) (turn : RebuildTurn) → TakesBytes end wanted spot bytes (Ok turn) → IsQuiet (rebuild_outcome turn)
+    by (Some end) turn w = quiet_same turn _ w tt
+    by None (Goes next) w = tt
+    by None (Ends answer) w = subst (λ (a : Answer). IsQuiet (rebuild_outcome (Ends a))) (sym w.0) tt
 
 module _ {S : Type 0} (store : StoreGhosts S) where
   epochs_may : (wanted : ℕ) (view : View) (spot : Option Spot) (turn : RebuildTurn) (old new : S) → EpochsRow store.content store.control wanted view spot (Ok turn) old new → MayTurn turn
@@ -66,7 +75,7 @@ module _ {S : Type 0} (store : StoreGhosts S) where
 
   epochs_kept : (wanted : ℕ) (view : View) (spot : Option Spot) (result : Result RebuildTurn AllocError) (old new : S) → EpochsRow store.content store.control wanted view spot result old new → IsKept old new
   epochs_kept wanted view None result old new w = record { tells = ap (λ (s : S). (store.content s).tells) w.1; objects = ap (λ (s : S). (store.content s).objects) w.1 }
-  epochs_kept wanted view (Some spot) result old new w = record { tells = w.content.tells; objects = fun_ext (λ k. w.content.objects k) }
+  epochs_kept wanted view (Some spot) result old new w = record { tells = w.gets.content.tells; objects = fun_ext (λ k. w.gets.content.objects k) }
 
   pub rebuild_kept : (wanted : Wanted) (line : List (ℕ × ℕ)) (view : View) (result : Result RebuildTurn AllocError) (old new : S) → RebuildRow store.content store.control wanted line view result old new → IsKept old new
   rebuild_kept wanted line view result old new w = epochs_kept wanted.offset view _ result old new w
@@ -76,7 +85,7 @@ module _ {S : Type 0} (store : StoreGhosts S) where
   epochs_calm wanted view None turn old new w c =
       (rw w.1 c, quiet_same turn _ w.0 tt)
   epochs_calm wanted view (Some spot) turn old new w c =
-      (call_calm _ _ (store.control old) (store.control new) w.control c, takes_quiet store wanted spot w.answer turn old new w.control w.takes c)
+      (call_calm _ _ (store.control old) (store.control new) w.gets.control c, takes_quiet store wanted spot w.answer turn old new w.gets.control w.takes c)
 
   pub rebuild_calm : (wanted : Wanted) (line : List (ℕ × ℕ)) (view : View) (turn : RebuildTurn) (old new : S) → RebuildRow store.content store.control wanted line view (Ok turn) old new → IsCalm (store.control old)
       → IsCalm (store.control new) × IsQuiet (rebuild_outcome turn)

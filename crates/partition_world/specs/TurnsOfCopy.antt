@@ -7,7 +7,7 @@
 --
 -- A broker that has stopped, or has another role than at the first turn, has lost its lead. Of the broker's log only the second
 -- turn takes notice, and reads it. Where segments aren't copied no copy begins; one that has begun goes on.
-use Rattle.std.specs.Prelude.{◌≡◌, ◌⊎◌, ℕ, ◌-◌, ◌^◌, ◌<◌, true, false, max, Option, Some, None, Ok, Err, IsSomeAnd}
+use Rattle.std.specs.Prelude.{◌≡◌, ◌⊎◌, ℕ, ◌-◌, ◌^◌, ◌<◌, ◌&&◌, Bool, true, false, max, Option, Some, None, Ok, Err, IsSomeAnd}
 use Rattle.std.specs.declared.alloc.AllocError.{AllocError}
 use Rattle.tier_base.specs.declared.names.PartitionId.{PartitionId}
 use Rattle.tier_base.specs.declared.plain.FileName.{FileName}
@@ -21,6 +21,7 @@ use Rattle.local_log.specs.Reading.{IsClosedFrom, ClosedFails}
 use Rattle.local_log.specs.declared.refusal.ReadRefusal.TheVariants as refusal
 use Rattle.remote_find.specs.Pieces.{covered_to}
 use Rattle.remote_view.specs.Fold.{Seen as View}
+use Rattle.segment_bundle.specs.Parts.{can_pack}
 use Rattle.copy_task.specs.Candidate.{candidate}
 use Rattle.copy_task.specs.Copying.{Copied, IsCopied}
 use Rattle.copy_task.specs.Turns.{Tiers, CopyRow}
@@ -72,6 +73,11 @@ module _ {D : Type 0} where
     pub few : IsSomeAnd (incarnation_in x.log) (λ i. next_of side i < 2 ^ 64 - 1)
     pub line_is : copy.line ≡ line_of x
     pub interval_is : WhileUp x.log (λ log. copy.interval ≡ log.settings.index_interval)
+
+-- a segment that is chosen is packed, where the partition's form says so and its parts can be
+abbrev pub IsPackedBy : Bool → Outcome → Type 0
+IsPackedBy packed (Chose copy) = copy.packed ≡ (packed && can_pack copy.parts)
+IsPackedBy packed other = Unit {0}
 
 module _ {D S M : Type 0} (meta : MetaGhosts M) where
   -- the first turn of a leader's command on the remote tier: its view is refreshed
@@ -133,6 +139,7 @@ module _ {D S M : Type 0} (disk : DiskGhosts D) where
     pub node : Node D
     pub side_after : Side
     pub row : ReadRow disk p b x side (copied_to x side h.registry.start) outcome node side_after
+    pub form : IsPackedBy h.packed outcome
     pub held : h' ≡ put_node h b node
     pub tier : t' ≡ put_side t b side_after
 

@@ -98,6 +98,7 @@ module _ {D : Type 0} where
     pub first : due_of h side ≡ Some entry
     pub id_is : doomed.id ≡ entry.id
     pub partition_is : doomed.partition ≡ p
+    pub packed_is : doomed.packed ≡ entry.packed
     pub stays : h' ≡ h
 
   -- no segment is due, and the log start is to rise to this

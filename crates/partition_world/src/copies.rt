@@ -3,10 +3,11 @@
 //! The first turn refreshes the leader's view, the second chooses a closed segment and reads it; from the third on the
 //! copy makes a call of a device in each. A broker that has stopped, or has another role, has lost its lead.
 
-ghost use Rattle.std.specs.Prelude.{◌≡◌, ◌↔◌, ◌<◌, true, false, None, Some, length, IfOk, OnErr, IsSomeAnd, IsTrue};
+ghost use Rattle.std.specs.Prelude.{◌≡◌, ◌↔◌, ◌<◌, ◌&&◌, true, false, None, Some, length, IfOk, OnErr, IsSomeAnd, IsTrue};
 ghost use Rattle.tier_safe.specs.Views.{IsIdOf};
 ghost use Rattle.broker_log.specs.Seen.{closed_in, incarnation_in};
 ghost use Rattle.local_log.specs.Reading.{first_past};
+ghost use Rattle.segment_bundle.specs.Parts.{can_pack};
 ghost use Rattle.copy_task.specs.Candidate.{candidate};
 ghost use Rattle.copy_task.specs.Copying.{IsCopied};
 ghost use Rattle.copy_task.specs.Turns.{CopyRow};
@@ -14,7 +15,7 @@ ghost use Rattle.partition_turns.specs.declared.held.Node.{Node as Broker};
 ghost use Rattle.partition_turns.specs.Held.{AtNode, is_up, line_of, put_node};
 ghost use Rattle.partition_world.specs.declared.tier.Side.{Side as Knowledge};
 ghost use Rattle.partition_world.specs.Tier.{AtSide, next_of, put_side, Halts};
-ghost use Rattle.partition_world.specs.TurnsOfCopy.{KeepsLead, copied_to, LeadersFirstRow, CopyFirstRow, ChooseRow, ReadRow, ReadsLog, CopyOnRow, tiers_of, teller_of, WantsForCopy};
+ghost use Rattle.partition_world.specs.TurnsOfCopy.{KeepsLead, copied_to, IsPackedBy, LeadersFirstRow, CopyFirstRow, ChooseRow, ReadRow, ReadsLog, CopyOnRow, tiers_of, teller_of, WantsForCopy};
 ghost use Rattle.partition_world.specs.Turns.{StaysTier};
 
 use crate::seat::{Outcome, copy_outcome};
@@ -58,7 +59,7 @@ fn has_next<D: Disk>(node: &Node<D>, copied: u64) -> bool
     candidate(node.log.first_past(copied), node.known).is_some()
 }
 
-/// The segment of a broker's log under an id.
+/// The segment of a broker's log under an id, and whether it is to be packed.
 fn copying<D: Disk>(
     alloc: Global,
     node: &Node<D>,
@@ -66,6 +67,7 @@ fn copying<D: Disk>(
     id: SegmentId,
     segment: Closed,
     interval: u32,
+    packed: bool,
 ) -> Result<Copying, AllocError>
     requires { is_up node.now ≡ true }
     ensures is { IfOk result IsCopied }
@@ -74,11 +76,12 @@ fn copying<D: Disk>(
     ensures segment { IfOk result (λ copy. copy.segment ≡ segment) }
     ensures line { IfOk result (λ copy. copy.line ≡ line_of node.now) }
     ensures interval { IfOk result (λ copy. copy.interval ≡ interval) }
+    ensures packed { IfOk result (λ copy. copy.packed ≡ (packed && can_pack copy.parts)) }
 {
     let Some(line) = node.log.line() else {
         unreachable!()
     };
-    Copying::of(alloc, partition, id, segment, line, interval)
+    Copying::of(alloc, partition, id, segment, line, interval, packed)
 }
 
 /// The id of a copy by a broker.
@@ -91,18 +94,20 @@ fn id_of(partition: PartitionId, broker: BrokerId, incarnation: u32, attempt: u6
     segment_id(partition, broker, incarnation, attempt)
 }
 
-/// Reads the first closed segment that ends past an offset, for a copy under the broker's next id.
+/// Reads the first closed segment that ends past an offset, for a copy under the broker's next id, which is to be packed or not.
 fn read_next<D: Disk>(
     alloc: Global,
     partition: PartitionId,
     broker: BrokerId,
     offset: u64,
+    packed: bool,
     node: &mut Node<D>,
     side: &mut Side,
 ) -> Result<Outcome, AllocError>
     requires up { is_up node.old ≡ true }
     requires next { IsSomeAnd (first_past offset (closed_in node.old.log)) (λ segment. Unit {0}) }
     ensures row { IfOk result (λ outcome. ReadRow D.Disk partition broker.0 node.old side.old offset outcome node.new side.new) }
+    ensures form { IfOk result (IsPackedBy packed) }
     ensures err { OnErr result (ReadsLog D.Disk node.old node.new) }
     ensures side { OnErr result (side.new ≡ side.old) }
 {
@@ -116,7 +121,8 @@ fn read_next<D: Disk>(
     };
     match node.log.closed_from(offset) {
         Ok(Some(segment)) if next < u64::MAX => {
-            let copying = copying(alloc, node, partition, id, segment, settings.index_interval)?;
+            let interval = settings.index_interval;
+            let copying = copying(alloc, node, partition, id, segment, interval, packed)?;
             side.count(incarnation);
             Ok(Outcome::Chose(copying))
         }
@@ -230,14 +236,16 @@ impl<S: Store, M: MetaLog> Tier<S, M> {
         ensures row { IfOk result (λ outcome. AtNode held.old broker.0 (λ x. AtSide self.old broker.0 (λ side.
             (x' : Broker D) × (side' : Knowledge) × ReadRow D.Disk partition broker.0 x side copied outcome x' side'
             × (held.new ≡ put_node held.old broker.0 x') × (self.new ≡ put_side self.old broker.0 side')))) }
+        ensures form { IfOk result (IsPackedBy held.old.packed) }
         ensures err { OnErr result (AtNode held.old broker.0 (λ x. (x' : Broker D) × ReadsLog D.Disk x x'
             × (held.new ≡ put_node held.old broker.0 x'))) }
         ensures tier { OnErr result (self.new ≡ self.old) }
     {
         let b = broker.0 as usize;
+        let packed = held.packed;
         let node = held.nodes.at_mut(b);
         let side = self.sides.at_mut(b);
-        read_next(alloc, partition, broker, copied, node, side)
+        read_next(alloc, partition, broker, copied, packed, node, side)
     }
 
     /// Takes a later turn of a copy.

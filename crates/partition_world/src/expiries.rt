@@ -122,8 +122,11 @@ impl<S: Store, M: MetaLog> Tier<S, M> {
         }
         let side = self.sides.get(b);
         if let Some(entry) = side.view.due(held.registry.start) {
-            let id = entry.id;
-            return Ok(Outcome::Dooms(Doomed { partition, id }));
+            return Ok(Outcome::Dooms(Doomed {
+                partition,
+                id: entry.id,
+                packed: entry.packed,
+            }));
         }
         let Some(start) = rises_to(alloc, held, node, side, keep)? else {
             return Ok(Outcome::Answers(Answer::Kept));
@@ -135,6 +138,7 @@ impl<S: Store, M: MetaLog> Tier<S, M> {
     /// Takes a later turn of an expiry: one of the deletion of its remote segment.
     pub(crate) fn delete_on<D: Disk>(
         &mut self,
+        alloc: Global,
         broker: BrokerId,
         noted: &Begun,
         doomed: Doomed,
@@ -150,7 +154,7 @@ impl<S: Store, M: MetaLog> Tier<S, M> {
             return Ok(Outcome::Answers(Answer::LostLead));
         }
         let teller = teller(held, broker);
-        let turn = expiry_turn(doomed, next, teller, &mut self.store, &mut self.meta)?;
+        let turn = expiry_turn(alloc, doomed, next, teller, &mut self.store, &mut self.meta)?;
         Ok(expiry_outcome(turn))
     }
 }

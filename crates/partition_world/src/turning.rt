@@ -62,7 +62,7 @@ impl<S: Store, M: MetaLog> Tier<S, M> {
                 self.go_dating(alloc, partition, order, noted, *cursor, *next, held)
             }
             Work::Expires(noted, doomed, next) => {
-                self.go_deleting(order, noted, *doomed, *next, held)
+                self.go_deleting(alloc, order, noted, *doomed, *next, held)
             }
             Work::Rebuilds(noted, next) => {
                 self.go_rebuilding(alloc, partition, order, noted, next, held)
@@ -150,17 +150,20 @@ impl<S: Store, M: MetaLog> Tier<S, M> {
                 held,
             ),
             Command::Join => self.join_on(alloc, order.broker, noted, held),
-            Command::Offset(Which::LatestTiered) => Ok(self.offset_on(b, noted, held)),
-            Command::Offset(Which::At(ts)) => self.date_on(
-                alloc,
-                partition,
-                order.broker,
-                noted,
-                *ts,
-                0,
-                Dating::Seek,
-                held,
-            ),
+            Command::Offset(which) => match which {
+                Which::LatestTiered => Ok(self.offset_on(b, noted, held)),
+                Which::At(ts) => self.date_on(
+                    alloc,
+                    partition,
+                    order.broker,
+                    noted,
+                    *ts,
+                    0,
+                    Dating::Seek,
+                    held,
+                ),
+                _ => unreachable!(),
+            },
             Command::Follow { .. } => Ok(Outcome::Answers(held.follow_on(b, noted)?)),
             _ => unreachable!(),
         }
@@ -256,6 +259,7 @@ impl<S: Store, M: MetaLog> Tier<S, M> {
     /// Carries out a turn of an expiry that has taken up a remote segment.
     fn go_deleting<D: Disk>(
         &mut self,
+        alloc: Global,
         order: &Order,
         noted: &Begun,
         doomed: Doomed,
@@ -270,7 +274,7 @@ impl<S: Store, M: MetaLog> Tier<S, M> {
             outcome held.now self.new)) }
         ensures err { OnErr result (StaysTier D.Disk S.Store M.MetaLog held.now self.old order.now.broker.0 held.now self.new) }
     {
-        self.delete_on(order.broker, noted, doomed, next, held)
+        self.delete_on(alloc, order.broker, noted, doomed, next, held)
     }
 
     /// Carries out a turn of a join that begins its log anew.

@@ -2,7 +2,7 @@
 use Rattle.std.specs.Prelude.{◌≤◌, ◌<◌, ◌^◌, ◌≤ℤ◌, ◌<ℤ◌, pos, List, [], ◌∷◌, length, All}
 use Rattle.record_batch.specs.Build.{IsBuildable}
 use Rattle.plain_log.specs.declared.command.Command.{Command}
-use Rattle.plain_log.specs.declared.command.Command.TheVariants.{Append, Raw, Flush, Roll, Elect, Unclean, Learn, Join, Follow, Trim, Copy, Expire, Ack, Shrink, Expand, Raise, Clock, Stop, Up, Fetch, Copying, Offset}
+use Rattle.plain_log.specs.declared.command.Command.TheVariants.{Append, Raw, Flush, Roll, Elect, Unclean, Learn, Join, Follow, Trim, Copy, Expire, Ack, Shrink, Expand, Raise, Clock, Stop, Up, Fetch, Pack, Copying, Offset}
 use Rattle.plain_log.specs.declared.command.Order.{Order}
 use Rattle.plain_log.specs.declared.command.ActorList.{ActorList}
 use Rattle.plain_log.specs.declared.command.Config.{Config}
@@ -29,9 +29,9 @@ IsInRange (Clock ms) = (pos 0 ≤ℤ ms) × (ms <ℤ pos 9223372036854775808)
 IsInRange Stop = Unit {0}
 IsInRange Up = Unit {0}
 IsInRange (Fetch offset limit) = (offset ≤ 4611686018427387904) × (limit ≤ 2147483647)
+IsInRange (Pack on) = Unit {0}
 IsInRange (Copying on) = Unit {0}
 IsInRange (Offset which) = Unit {0}
-IsInRange other = ⊥
 
 -- the order is in range, and goes to a broker of the configuration
 pub record IsOrderFor (config : Config) (order : Order) : Type 0 where

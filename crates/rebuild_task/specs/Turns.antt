@@ -5,12 +5,13 @@
 --
 -- The segment is the one that holds the last offset below the wanted one, by the leader's line up to there, the wanted offset
 -- standing for the log's end. The local log is to begin anew with the entries of the line that was read which start below the
--- wanted offset. A view without such a segment, or that tells of a packed one, is damage of the metadata log. An object that isn't
--- there is damaged at 0, and a text without a reading where it begins.
+-- wanted offset. A view without such a segment, or whose entry of it places no epochs, is damage of the metadata log. An object
+-- that isn't there is damaged at 0, one that lacks bytes of the epochs behind those that it has, and a text without a reading where
+-- it begins.
 --
 -- Source: KIP-405, where a follower that begins at its leader's local log start offset builds its leader epochs out of the remote
 -- segment of the offset before.
-use Rattle.std.specs.Prelude.{◌≡◌, ◌≢◌, ℕ, ◌-◌, List, drop, option_map, Option, Some, None, Ok, Err, IsErr, IfOk, IsTrue}
+use Rattle.std.specs.Prelude.{◌≡◌, ◌≢◌, ℕ, ◌-◌, List, Option, Some, None, Ok, Err, IsErr}
 use Rattle.std.specs.declared.result.Result.{Result}
 use Rattle.std.specs.declared.alloc.AllocError.{AllocError}
 use Rattle.tier_base.specs.declared.fault.Trouble.{Trouble}
@@ -18,16 +19,15 @@ use Rattle.tier_base.specs.declared.fault.Trouble.TheVariants.{Failed, NoMemory}
 use Rattle.tier_base.specs.declared.names.PartitionId.{PartitionId}
 use Rattle.tier_base.specs.declared.names.SegmentId.{SegmentId}
 use Rattle.tier_base.specs.declared.plain.Part.TheVariants.{Epochs as EpochsPart}
-use Rattle.tier_base.specs.Device.{Control, Ran, fate_of}
-use Rattle.tier_base.specs.Told.{handed_after}
+use Rattle.tier_base.specs.Device.{Control}
 use Rattle.epoch_line.specs.Line.{IsLine, cut_end}
 use Rattle.epoch_line.specs.Text.{text_of}
 use Rattle.segment_meta.specs.declared.note.Entry.{Entry}
 use Rattle.object_store.specs.declared.placing.Spot.{Spot}
-use Rattle.object_store.specs.declared.call.StoreCall.TheVariants.{Get}
 use Rattle.object_store.specs.Call.{call_code}
-use Rattle.object_store.specs.Content.{Content, Keeps}
-use Rattle.object_store.specs.Place.{spot_of}
+use Rattle.object_store.specs.Calls.{Gets}
+use Rattle.object_store.specs.Content.{Content}
+use Rattle.object_store.specs.Place.{spot_of, all_of, short_of}
 use Rattle.remote_view.specs.Fold.{Seen, entry_of}
 use Rattle.remote_find.specs.declared.piece.Piece.{Piece}
 use Rattle.remote_find.specs.Pieces.{piece_at}
@@ -59,25 +59,26 @@ pub record IsTaken (wanted : ℕ) (bytes : List ℕ) (line : List (ℕ × ℕ)) 
 abbrev pub IsUnread : List ℕ → Type 0
 IsUnread bytes = (line : List (ℕ × ℕ)) → IsLine line → bytes ≢ text_of line
 
--- what becomes of a rebuild by what the store answered
+-- what becomes of a rebuild by bytes of its epochs, and by where more of them are lacking
+abbrev pub TakesBytes : Option ℕ → ℕ → Spot → List ℕ → Result RebuildTurn AllocError → Type 0
+TakesBytes (Some end) wanted spot bytes result = result ≡ Ok (Ends (Damaged (Key spot.key) end))
+TakesBytes None wanted spot bytes (Ok (Goes (Restart line))) = IsTaken wanted bytes line
+TakesBytes None wanted spot bytes (Ok (Goes next)) = ⊥
+TakesBytes None wanted spot bytes (Ok (Ends answer)) = (answer ≡ Damaged (Key spot.key) spot.at) × IsUnread bytes
+TakesBytes None wanted spot bytes (Err e) = Unit {0}
+
+-- by what the store answered of them
 abbrev pub Takes : ℕ → Spot → Result (Option (List ℕ)) Trouble → Result RebuildTurn AllocError → Type 0
 Takes wanted spot (Err Failed) result = result ≡ Ok (Ends StoreFault)
 Takes wanted spot (Err NoMemory) result = IsErr result
 Takes wanted spot (Ok None) result = result ≡ Ok (Ends (Damaged (Key spot.key) 0))
-Takes wanted spot (Ok (Some bytes)) (Ok (Goes (Restart line))) = IsTaken wanted bytes line
-Takes wanted spot (Ok (Some bytes)) (Ok (Goes next)) = ⊥
-Takes wanted spot (Ok (Some bytes)) (Ok (Ends answer)) = (answer ≡ Damaged (Key spot.key) spot.at) × IsUnread bytes
-Takes wanted spot (Ok (Some bytes)) (Err e) = Unit {0}
+Takes wanted spot (Ok (Some bytes)) result = TakesBytes (short_of spot bytes) wanted spot bytes result
 
 module _ {S : Type 0} (objects : S → Content) (calls : S → Control call_code) where
   -- one read of a segment's epochs
   pub record ReadsEpochs (wanted : ℕ) (spot : Spot) (result : Result RebuildTurn AllocError) (old new : S) : Type 0 where
     pub answer : Result (Option (List ℕ)) Trouble
-    pub control : Ran Get (fate_of answer) (calls old) (calls new)
-    pub handed : (calls new).handed ≡ handed_after answer (calls old).handed
-    pub content : Keeps (objects old) (objects new)
-    pub bytes : IsTrue (objects old).tells
-        → IfOk answer (λ given. given ≡ option_map (drop spot.at) ((objects old).objects spot.key))
+    pub gets : Gets objects calls spot.key (all_of spot) answer old new
     pub takes : Takes wanted spot answer result
 
   -- they are read where they stand

@@ -1,6 +1,6 @@
 //! The turn of a rebuild that reads the remote tier, at most one call of a device.
 
-ghost use Rattle.std.specs.Prelude.{◌≡◌, ◌-◌, Ok};
+ghost use Rattle.std.specs.Prelude.{◌≡◌, ◌-◌, ◌<◌, ◌^◌, Ok, IfSome};
 ghost use Rattle.plain_log.specs.declared.answer.Answer.TheVariants.{Damaged};
 ghost use Rattle.plain_log.specs.declared.answer.Place.TheVariants.{Key, Meta};
 ghost use Rattle.remote_find.specs.Pieces.{piece_at};
@@ -10,7 +10,7 @@ ghost use Rattle.rebuild_task.specs.Turns.{epochs_of, Takes, RebuildRow};
 use crate::turn::{Next, RebuildTurn, Wanted};
 use bytes::Bytes;
 use epoch_line::{Line, TextRefusal};
-use object_store::{Spot, Store, place};
+use object_store::{Spot, Store, get_spot, place};
 use plain_log::{Answer, Place};
 use remote_find::find;
 use remote_view::View;
@@ -30,8 +30,7 @@ pub fn rebuild_turn<S: Store>(
     let Some(spot) = epochs_of(wanted, line, view) else {
         return Ok(lost(view));
     };
-    let answer = store.get(&spot.key, spot.at);
-    match answer {
+    match get_spot(store, &spot) {
         Ok(given) => take(alloc, wanted.offset, &spot, given),
         Err(Trouble::Failed) => Ok(RebuildTurn::Ends(Answer::StoreFault)),
         Err(Trouble::NoMemory) => Err(AllocError),
@@ -40,8 +39,9 @@ pub fn rebuild_turn<S: Store>(
 
 /// Where the epochs stand of the segment that holds the last offset below the wanted one.
 fn epochs_of(wanted: Wanted, line: &Line, view: &View) -> Option<Spot>
-    ensures { result ≡ epochs_of wanted.partition view.now.entries
+    ensures spot { result ≡ epochs_of wanted.partition view.now.entries
         (piece_at view.now.entries line.now wanted.offset (wanted.offset - 1)) }
+    ensures near { IfSome result (λ spot. spot.at < 2 ^ 34) }
 {
     let Some(piece) = find(view, line, wanted.offset, wanted.offset.saturating_sub(1)) else {
         return None;
@@ -65,11 +65,15 @@ fn take(
     spot: &Spot,
     given: Option<Bytes>,
 ) -> Result<RebuildTurn, AllocError>
+    requires { spot.now.at < 2 ^ 34 }
     ensures { Takes wanted spot.now (Ok given) result }
 {
     let Some(bytes) = given else {
         return Ok(damaged(spot, 0));
     };
+    if let Some(end) = spot.short(bytes.as_slice()) {
+        return Ok(damaged(spot, end));
+    }
     match Line::from_text(alloc, bytes.as_slice()) {
         Ok(mut line) => {
             line.cut_end(wanted);

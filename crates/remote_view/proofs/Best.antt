@@ -166,51 +166,51 @@ other_numbers id (e ∷ es) is kept none =
     let parts = absent (bytes_eq e.id.0 id.0) e (entry_of id es) none in
     (λ same. both_ways (bytes_eq e.id.0 id.0) parts.0 (let one : id ≡ e.id = same_number id e.id is kept.0.id same in rw one (bytes_self e.id.0)), other_numbers id es is kept.1 parts.1)
 
-module _ (broker : BrokerId) (event_ts : ℤ) (state : State) where
+module _ (broker : BrokerId) (event_ts : ℤ) (state : State) (custom : Option (List ℕ)) where
   -- an entry that counts only when it is changed
   pub finish_best : (test : Entry → Bool) (x : Entry) (best : Option Entry) (es : List Entry) → AreDistinct es → AreKept es → entry_of x.id es ≡ Some x → test x ≡ false
-      → best_from best (filter test (changed x.id (updated broker event_ts state) es))
-      ≡ cond (test (updated broker event_ts state x)) (Some (better_of (best_from best (filter test es)) (updated broker event_ts state x))) (best_from best (filter test es))
+      → best_from best (filter test (changed x.id (updated broker event_ts state custom) es))
+      ≡ cond (test (updated broker event_ts state custom x)) (Some (better_of (best_from best (filter test es)) (updated broker event_ts state custom x))) (best_from best (filter test es))
   finish_best test x best [] distinct kept here out = absurd (cc)
   finish_best test x best (e ∷ es) distinct kept here out =
       by (bytes_eq e.id.0 x.id.0) refl here (λ b there. finish_best test x b es distinct.1 kept.1 there out)
     where
       late : (u : Bool) → HaveOthers (id_number x.id) (filter test es)
-          → best_from best (cond u (updated broker event_ts state x ∷ filter test es) (filter test es))
-          ≡ cond u (Some (better_of (best_from best (filter test es)) (updated broker event_ts state x))) (best_from best (filter test es))
-      late true h = insert_late best (updated broker event_ts state x) (filter test es) h
+          → best_from best (cond u (updated broker event_ts state custom x ∷ filter test es) (filter test es))
+          ≡ cond u (Some (better_of (best_from best (filter test es)) (updated broker event_ts state custom x))) (best_from best (filter test es))
+      late true h = insert_late best (updated broker event_ts state custom x) (filter test es) h
       late false h = refl
 
       early : (v u : Bool) (changed_es : List Entry)
-          → ((b : Option Entry) → best_from b (filter test changed_es) ≡ cond u (Some (better_of (best_from b (filter test es)) (updated broker event_ts state x))) (best_from b (filter test es)))
+          → ((b : Option Entry) → best_from b (filter test changed_es) ≡ cond u (Some (better_of (best_from b (filter test es)) (updated broker event_ts state custom x))) (best_from b (filter test es)))
           → best_from best (cond v (e ∷ filter test changed_es) (filter test changed_es))
-          ≡ cond u (Some (better_of (best_from best (cond v (e ∷ filter test es) (filter test es))) (updated broker event_ts state x))) (best_from best (cond v (e ∷ filter test es) (filter test es)))
+          ≡ cond u (Some (better_of (best_from best (cond v (e ∷ filter test es) (filter test es))) (updated broker event_ts state custom x))) (best_from best (cond v (e ∷ filter test es) (filter test es)))
       early true u changed_es more = more (Some (better_of best e))
       early false u changed_es more = more best
 
       by : (t : Bool) → bytes_eq e.id.0 x.id.0 ≡ t → cond t (Some e) (entry_of x.id es) ≡ Some x
           → ((b : Option Entry) → entry_of x.id es ≡ Some x
-          → best_from b (filter test (changed x.id (updated broker event_ts state) es))
-          ≡ cond (test (updated broker event_ts state x)) (Some (better_of (best_from b (filter test es)) (updated broker event_ts state x))) (best_from b (filter test es)))
-          → best_from best (filter test (cond t (updated broker event_ts state e ∷ es) (e ∷ changed x.id (updated broker event_ts state) es)))
-          ≡ cond (test (updated broker event_ts state x)) (Some (better_of (best_from best (cond (test e) (e ∷ filter test es) (filter test es))) (updated broker event_ts state x)))
+          → best_from b (filter test (changed x.id (updated broker event_ts state custom) es))
+          ≡ cond (test (updated broker event_ts state custom x)) (Some (better_of (best_from b (filter test es)) (updated broker event_ts state custom x))) (best_from b (filter test es)))
+          → best_from best (filter test (cond t (updated broker event_ts state custom e ∷ es) (e ∷ changed x.id (updated broker event_ts state custom) es)))
+          ≡ cond (test (updated broker event_ts state custom x)) (Some (better_of (best_from best (cond (test e) (e ∷ filter test es) (filter test es))) (updated broker event_ts state custom x)))
           (best_from best (cond (test e) (e ∷ filter test es) (filter test es)))
       by true one is more =
           let same : e ≡ x = cc in
           let none : entry_of x.id es ≡ None = ap (λ (y : Entry). entry_of y.id es) (sym same) ∙ distinct.0 in
           let apart = others_filter test (id_number x.id) es (other_numbers x.id es (rw same at kept.0.id) kept.1 none) in
           let not_e : test e ≡ false = ap test same ∙ out in
-          rw (not_e, same) (late (test (updated broker event_ts state x)) apart)
-      by false one is more = early (test e) (test (updated broker event_ts state x)) (changed x.id (updated broker event_ts state) es) (λ b. more b is)
+          rw (not_e, same) (late (test (updated broker event_ts state custom x)) apart)
+      by false one is more = early (test e) (test (updated broker event_ts state custom x)) (changed x.id (updated broker event_ts state custom) es) (λ b. more b is)
 
   -- an entry that counts neither before nor after it is changed
-  pub same_filter : (test : Entry → Bool) (x : Entry) (es : List Entry) → entry_of x.id es ≡ Some x → test x ≡ false → test (updated broker event_ts state x) ≡ false
-      → filter test (changed x.id (updated broker event_ts state) es) ≡ filter test es
+  pub same_filter : (test : Entry → Bool) (x : Entry) (es : List Entry) → entry_of x.id es ≡ Some x → test x ≡ false → test (updated broker event_ts state custom x) ≡ false
+      → filter test (changed x.id (updated broker event_ts state custom) es) ≡ filter test es
   same_filter test x [] here out out' = refl
   same_filter test x (e ∷ es) here out out' = by (bytes_eq e.id.0 x.id.0) here (λ there. same_filter test x es there out out')
     where
-      by : (t : Bool) → cond t (Some e) (entry_of x.id es) ≡ Some x → (entry_of x.id es ≡ Some x → filter test (changed x.id (updated broker event_ts state) es) ≡ filter test es)
-          → filter test (cond t (updated broker event_ts state e ∷ es) (e ∷ changed x.id (updated broker event_ts state) es)) ≡ cond (test e) (e ∷ filter test es) (filter test es)
+      by : (t : Bool) → cond t (Some e) (entry_of x.id es) ≡ Some x → (entry_of x.id es ≡ Some x → filter test (changed x.id (updated broker event_ts state custom) es) ≡ filter test es)
+          → filter test (cond t (updated broker event_ts state custom e ∷ es) (e ∷ changed x.id (updated broker event_ts state custom) es)) ≡ cond (test e) (e ∷ filter test es) (filter test es)
       by true is more = let same : e ≡ x = cc in rw (same, out, out') refl
       by false is more = ap (λ (l : List Entry). cond (test e) (e ∷ l) l) (more is)
 
@@ -222,13 +222,13 @@ module _ (broker : BrokerId) (event_ts : ℤ) (state : State) where
       rw parts.0 (ap (λ (l : List Entry). e ∷ l) (no_others id es parts.1))
 
   -- an entry that no longer counts is as good as none
-  pub gone_filter : (test : Entry → Bool) (id : SegmentId) (es : List Entry) → AreDistinct es → ((e : Entry) → test (updated broker event_ts state e) ≡ false)
-      → filter test (changed id (updated broker event_ts state) es) ≡ filter test (others id es)
+  pub gone_filter : (test : Entry → Bool) (id : SegmentId) (es : List Entry) → AreDistinct es → ((e : Entry) → test (updated broker event_ts state custom e) ≡ false)
+      → filter test (changed id (updated broker event_ts state custom) es) ≡ filter test (others id es)
   gone_filter test id [] distinct out = refl
   gone_filter test id (e ∷ es) distinct out = by (bytes_eq e.id.0 id.0) refl (gone_filter test id es distinct.1 out)
     where
-      by : (t : Bool) → bytes_eq e.id.0 id.0 ≡ t → filter test (changed id (updated broker event_ts state) es) ≡ filter test (others id es)
-          → filter test (cond t (updated broker event_ts state e ∷ es) (e ∷ changed id (updated broker event_ts state) es)) ≡ filter test (cond (not t) (e ∷ others id es) (others id es))
+      by : (t : Bool) → bytes_eq e.id.0 id.0 ≡ t → filter test (changed id (updated broker event_ts state custom) es) ≡ filter test (others id es)
+          → filter test (cond t (updated broker event_ts state custom e ∷ es) (e ∷ changed id (updated broker event_ts state custom) es)) ≡ filter test (cond (not t) (e ∷ others id es) (others id es))
       by true is more =
           let none : entry_of id es ≡ None = ap (λ (q : SegmentId). entry_of q es) (sym (same_id e.id id is)) ∙ distinct.0 in
           rw (out e, no_others id es none) refl

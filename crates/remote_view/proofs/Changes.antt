@@ -21,38 +21,38 @@ use Rattle.remote_view.proofs.Keeping.{skip_right}
 use Rattle.remote_view.proofs.Renewing.{all_right}
 
 -- an update leaves the id, the offsets and the map
-pub change_keeps : (id : SegmentId) (broker : BrokerId) (event_ts : ℤ) (state : State) (es : List Entry) → AreKept es
-    → AreKept (changed id (updated broker event_ts state) es)
-change_keeps id broker event_ts state [] h = tt
-change_keeps id broker event_ts state (e ∷ es) h =
-    by (bytes_eq e.id.0 id.0) (record { id = h.0.id; ordered = h.0.ordered; bounded = h.0.bounded; map = h.0.map }) (change_keeps id broker event_ts state es h.1)
+pub change_keeps : (id : SegmentId) (broker : BrokerId) (event_ts : ℤ) (state : State) (custom : Option (List ℕ)) (es : List Entry) → AreKept es
+    → AreKept (changed id (updated broker event_ts state custom) es)
+change_keeps id broker event_ts state custom [] h = tt
+change_keeps id broker event_ts state custom (e ∷ es) h =
+    by (bytes_eq e.id.0 id.0) (record { id = h.0.id; ordered = h.0.ordered; bounded = h.0.bounded; map = h.0.map }) (change_keeps id broker event_ts state custom es h.1)
   where
-    by : (t : Bool) → IsKept (updated broker event_ts state e) → AreKept (changed id (updated broker event_ts state) es)
-        → AreKept (cond t (updated broker event_ts state e ∷ es) (e ∷ changed id (updated broker event_ts state) es))
+    by : (t : Bool) → IsKept (updated broker event_ts state custom e) → AreKept (changed id (updated broker event_ts state custom) es)
+        → AreKept (cond t (updated broker event_ts state custom e ∷ es) (e ∷ changed id (updated broker event_ts state custom) es))
     by true first rest = (first, h.1)
     by false first rest = (h.0, rest)
 
 -- an update finds and misses the same ids
-change_misses : (q id : SegmentId) (broker : BrokerId) (event_ts : ℤ) (state : State) (es : List Entry) → entry_of q es ≡ None
-    → entry_of q (changed id (updated broker event_ts state) es) ≡ None
-change_misses q id broker event_ts state [] none = refl
-change_misses q id broker event_ts state (e ∷ es) none = by (bytes_eq e.id.0 id.0) (bytes_eq e.id.0 q.0) refl none (λ rest. change_misses q id broker event_ts state es rest)
+change_misses : (q id : SegmentId) (broker : BrokerId) (event_ts : ℤ) (state : State) (custom : Option (List ℕ)) (es : List Entry) → entry_of q es ≡ None
+    → entry_of q (changed id (updated broker event_ts state custom) es) ≡ None
+change_misses q id broker event_ts state custom [] none = refl
+change_misses q id broker event_ts state custom (e ∷ es) none = by (bytes_eq e.id.0 id.0) (bytes_eq e.id.0 q.0) refl none (λ rest. change_misses q id broker event_ts state custom es rest)
   where
-    by : (t u : Bool) → bytes_eq e.id.0 q.0 ≡ u → cond u (Some e) (entry_of q es) ≡ None → (entry_of q es ≡ None → entry_of q (changed id (updated broker event_ts state) es) ≡ None)
-        → entry_of q (cond t (updated broker event_ts state e ∷ es) (e ∷ changed id (updated broker event_ts state) es)) ≡ None
+    by : (t u : Bool) → bytes_eq e.id.0 q.0 ≡ u → cond u (Some e) (entry_of q es) ≡ None → (entry_of q es ≡ None → entry_of q (changed id (updated broker event_ts state custom) es) ≡ None)
+        → entry_of q (cond t (updated broker event_ts state custom e ∷ es) (e ∷ changed id (updated broker event_ts state custom) es)) ≡ None
     by t true is none more = absurd (cc)
     by true false is none more = rw is none
     by false false is none more = rw is (more none)
 
-pub change_distinct : (id : SegmentId) (broker : BrokerId) (event_ts : ℤ) (state : State) (es : List Entry) → AreDistinct es
-    → AreDistinct (changed id (updated broker event_ts state) es)
-change_distinct id broker event_ts state [] h = tt
-change_distinct id broker event_ts state (e ∷ es) h = by (bytes_eq e.id.0 id.0) (change_distinct id broker event_ts state es h.1)
+pub change_distinct : (id : SegmentId) (broker : BrokerId) (event_ts : ℤ) (state : State) (custom : Option (List ℕ)) (es : List Entry) → AreDistinct es
+    → AreDistinct (changed id (updated broker event_ts state custom) es)
+change_distinct id broker event_ts state custom [] h = tt
+change_distinct id broker event_ts state custom (e ∷ es) h = by (bytes_eq e.id.0 id.0) (change_distinct id broker event_ts state custom es h.1)
   where
-    by : (t : Bool) → AreDistinct (changed id (updated broker event_ts state) es)
-        → AreDistinct (cond t (updated broker event_ts state e ∷ es) (e ∷ changed id (updated broker event_ts state) es))
+    by : (t : Bool) → AreDistinct (changed id (updated broker event_ts state custom) es)
+        → AreDistinct (cond t (updated broker event_ts state custom e ∷ es) (e ∷ changed id (updated broker event_ts state custom) es))
     by true rest = h
-    by false rest = (change_misses e.id id broker event_ts state es h.0, rest)
+    by false rest = (change_misses e.id id broker event_ts state custom es h.0, rest)
 
 -- one entry more
 pub kept_push : (es : List Entry) (e : Entry) → AreKept es → IsKept e → AreKept (es ++ e ∷ [])
@@ -110,20 +110,20 @@ adds_it es e started none = rw none (by e.state started)
     by : (state : State) → state ≡ CopyStarted → es ++ e ∷ [] ≡ cond (is_some (next_state None state)) (es ++ e ∷ []) es
     by state is = rw is refl
 
-pub misses_it : (es : List Entry) (id : SegmentId) (broker : BrokerId) (event_ts : ℤ) (state : State) → state ≢ CopyStarted → entry_of id es ≡ None
-    → es ≡ noted es (Update id broker event_ts state None)
-misses_it es id broker event_ts CopyStarted other none = absurd (other refl)
-misses_it es id broker event_ts CopyFinished other none = rw none refl
-misses_it es id broker event_ts DeleteStarted other none = rw none refl
-misses_it es id broker event_ts DeleteFinished other none = rw none refl
+pub misses_it : (es : List Entry) (id : SegmentId) (broker : BrokerId) (event_ts : ℤ) (state : State) (custom : Option (List ℕ)) → state ≢ CopyStarted → entry_of id es ≡ None
+    → es ≡ noted es (Update id broker event_ts state custom)
+misses_it es id broker event_ts CopyStarted custom other none = absurd (other refl)
+misses_it es id broker event_ts CopyFinished custom other none = rw none refl
+misses_it es id broker event_ts DeleteStarted custom other none = rw none refl
+misses_it es id broker event_ts DeleteFinished custom other none = rw none refl
 
-pub no_step : (es : List Entry) (id : SegmentId) (x : Entry) (broker : BrokerId) (event_ts : ℤ) (state : State) → entry_of id es ≡ Some x → is_some (next_state (Some x.state) state) ≡ false
-    → es ≡ noted es (Update id broker event_ts state None)
-no_step es id x broker event_ts state here none = rw (here, none) refl
+pub no_step : (es : List Entry) (id : SegmentId) (x : Entry) (broker : BrokerId) (event_ts : ℤ) (state : State) (custom : Option (List ℕ)) → entry_of id es ≡ Some x → is_some (next_state (Some x.state) state) ≡ false
+    → es ≡ noted es (Update id broker event_ts state custom)
+no_step es id x broker event_ts state custom here none = rw (here, none) refl
 
-pub a_step : (es : List Entry) (id : SegmentId) (x : Entry) (broker : BrokerId) (event_ts : ℤ) (state : State) → entry_of id es ≡ Some x → is_some (next_state (Some x.state) state) ≡ true
-    → changed id (updated broker event_ts state) es ≡ noted es (Update id broker event_ts state None)
-a_step es id x broker event_ts state here some = rw (here, some) refl
+pub a_step : (es : List Entry) (id : SegmentId) (x : Entry) (broker : BrokerId) (event_ts : ℤ) (state : State) (custom : Option (List ℕ)) → entry_of id es ≡ Some x → is_some (next_state (Some x.state) state) ≡ true
+    → changed id (updated broker event_ts state custom) es ≡ noted es (Update id broker event_ts state custom)
+a_step es id x broker event_ts state custom here some = rw (here, some) refl
 
 -- no entries and empty stairs
 pub viewed_none : (es : List Entry) (stairs : Stairs) → es ≡ [] → ((epoch : ℕ) → stair_on stairs epoch ≡ []) → IsViewed es stairs
@@ -138,13 +138,13 @@ viewed_add es stairs e h added is none = record {
 }
 
 -- an entry changed, and the stairs with it
-pub viewed_update : (es new : List Entry) (old stairs left : Stairs) (fresh : List Stair) (id : SegmentId) (x : Entry) (broker : BrokerId) (event_ts : ℤ) (state : State)
-    → IsViewed es old → x.id ≡ id → new ≡ changed id (updated broker event_ts state) es → IsFresh (changed x.id (updated broker event_ts state) es) stairs fresh
+pub viewed_update : (es new : List Entry) (old stairs left : Stairs) (fresh : List Stair) (id : SegmentId) (x : Entry) (broker : BrokerId) (event_ts : ℤ) (state : State) (custom : Option (List ℕ))
+    → IsViewed es old → x.id ≡ id → new ≡ changed id (updated broker event_ts state custom) es → IsFresh (changed x.id (updated broker event_ts state custom) es) stairs fresh
     → ((e : ℕ) → stair_on left e ≡ replaced fresh e (stair_on stairs e)) → IsViewed new left
-viewed_update es new old stairs left fresh id x broker event_ts state h one is made replaced' = rw is (record {
-  kept = change_keeps id broker event_ts state es h.kept;
-  distinct = change_distinct id broker event_ts state es h.distinct;
-  right = λ epoch. rw one at (all_right (changed x.id (updated broker event_ts state) es) stairs left fresh made replaced' epoch);
+viewed_update es new old stairs left fresh id x broker event_ts state custom h one is made replaced' = rw is (record {
+  kept = change_keeps id broker event_ts state custom es h.kept;
+  distinct = change_distinct id broker event_ts state custom es h.distinct;
+  right = λ epoch. rw one at (all_right (changed x.id (updated broker event_ts state custom) es) stairs left fresh made replaced' epoch);
 })
 
 -- the same stairs

@@ -36,8 +36,8 @@ noted_distinct es (Add e) is h = by (entry_of e.id es) refl
     by (Some x) here = subst AreDistinct (adds_nothing es e x is.started here) h
 noted_distinct es (Update id broker event_ts state custom) is h = by (is_some (next_state (state_of id es) state))
   where
-    by : (t : Bool) → AreDistinct (cond t (changed id (updated broker event_ts state) es) es)
-    by true = change_distinct id broker event_ts state es h
+    by : (t : Bool) → AreDistinct (cond t (changed id (updated broker event_ts state custom) es) es)
+    by true = change_distinct id broker event_ts state custom es h
     by false = h
 
 folded_distinct : (es : List Entry) (notes : List Note) → AllByRecursion IsNote notes → AreDistinct es → AreDistinct (folded_from es notes)

@@ -59,11 +59,11 @@ laid_says es sub x q stair laid o distinct within right h =
     ∙ ap (λ (b : Option Entry). cond (gives q o x) (Some (better_of b x).id) (option_map (λ e. e.id) (finished q o sub))) (held_found es sub q o distinct within))
 
 -- the better of two has one id, however its state has changed
-better_id : (broker : BrokerId) (event_ts : ℤ) (state : State) (best : Option Entry) (x : Entry) → (better_of best (updated broker event_ts state x)).id ≡ (better_of best x).id
-better_id broker event_ts state None x = refl
-better_id broker event_ts state (Some b) x = by (is_better x b)
+better_id : (broker : BrokerId) (event_ts : ℤ) (state : State) (custom : Option (List ℕ)) (best : Option Entry) (x : Entry) → (better_of best (updated broker event_ts state custom x)).id ≡ (better_of best x).id
+better_id broker event_ts state custom None x = refl
+better_id broker event_ts state custom (Some b) x = by (is_better x b)
   where
-    by : (t : Bool) → (cond t (updated broker event_ts state x) b).id ≡ (cond t x b).id
+    by : (t : Bool) → (cond t (updated broker event_ts state custom x) b).id ≡ (cond t x b).id
     by true = refl
     by false = refl
 
@@ -72,16 +72,16 @@ id_of true better best = refl
 id_of false better best = refl
 
 -- a copy that finishes
-pub finish_right : (broker : BrokerId) (event_ts : ℤ) (state : State) (es : List Entry) (x : Entry) (q : ℕ) (stair laid : List Tread) → AreDistinct es → AreKept es → entry_of x.id es ≡ Some x
-    → is_readable x.state ≡ false → is_readable state ≡ true → IsStair es q stair → IsLaidIn es x q stair laid → IsStair (changed x.id (updated broker event_ts state) es) q laid
-finish_right broker event_ts state es x q stair laid distinct kept here out into right h = record {
+pub finish_right : (broker : BrokerId) (event_ts : ℤ) (state : State) (custom : Option (List ℕ)) (es : List Entry) (x : Entry) (q : ℕ) (stair laid : List Tread) → AreDistinct es → AreKept es → entry_of x.id es ≡ Some x
+    → is_readable x.state ≡ false → is_readable state ≡ true → IsStair es q stair → IsLaidIn es x q stair laid → IsStair (changed x.id (updated broker event_ts state custom) es) q laid
+finish_right broker event_ts state custom es x q stair laid distinct kept here out into right h = record {
   rises = h.rises;
   best = λ o.
       laid_says es es x q stair laid o distinct (λ b among. among) right h
-      ∙ (ap (λ (id : SegmentId). cond (gives q o x) (Some id) (option_map (λ e. e.id) (finished q o es))) (sym (better_id broker event_ts state (finished q o es) x))
-      ∙ (sym (id_of (gives q o x) (better_of (finished q o es) (updated broker event_ts state x)) (finished q o es))
-      ∙ ap (option_map (λ e. e.id)) (sym (finish_best broker event_ts state (covers q o) x None es distinct kept here (readable_covers q o x false out)
-      ∙ ap (λ (t : Bool). cond t (Some (better_of (finished q o es) (updated broker event_ts state x))) (finished q o es)) (readable_covers q o (updated broker event_ts state x) true into)))));
+      ∙ (ap (λ (id : SegmentId). cond (gives q o x) (Some id) (option_map (λ e. e.id) (finished q o es))) (sym (better_id broker event_ts state custom (finished q o es) x))
+      ∙ (sym (id_of (gives q o x) (better_of (finished q o es) (updated broker event_ts state custom x)) (finished q o es))
+      ∙ ap (option_map (λ e. e.id)) (sym (finish_best broker event_ts state custom (covers q o) x None es distinct kept here (readable_covers q o x false out)
+      ∙ ap (λ (t : Bool). cond t (Some (better_of (finished q o es) (updated broker event_ts state custom x))) (finished q o es)) (readable_covers q o (updated broker event_ts state custom x) true into)))));
 }
 
 -- an entry more that can be read
@@ -145,19 +145,19 @@ pub more_left_out : (id : SegmentId) (es : List Entry) (i : ℕ) (x : Entry) (q 
 more_left_out id es i x q stair below is one right = rw (others_more id es i x below is, one, append_nil (others id (take i es))) right
 
 -- an entry that can't be read any more
-pub gone_right : (broker : BrokerId) (event_ts : ℤ) (state : State) (es : List Entry) (id : SegmentId) (q : ℕ) (stair : List Tread) → AreDistinct es → is_readable state ≡ false
-    → IsStair (others id es) q stair → IsStair (changed id (updated broker event_ts state) es) q stair
-gone_right broker event_ts state es id q stair distinct out right =
-    same_right (others id es) (changed id (updated broker event_ts state) es) q stair
-    (λ o. ap (best_from None) (gone_filter broker event_ts state (covers q o) id es distinct (λ e. readable_covers q o (updated broker event_ts state e) false out))) right
+pub gone_right : (broker : BrokerId) (event_ts : ℤ) (state : State) (custom : Option (List ℕ)) (es : List Entry) (id : SegmentId) (q : ℕ) (stair : List Tread) → AreDistinct es → is_readable state ≡ false
+    → IsStair (others id es) q stair → IsStair (changed id (updated broker event_ts state custom) es) q stair
+gone_right broker event_ts state custom es id q stair distinct out right =
+    same_right (others id es) (changed id (updated broker event_ts state custom) es) q stair
+    (λ o. ap (best_from None) (gone_filter broker event_ts state custom (covers q o) id es distinct (λ e. readable_covers q o (updated broker event_ts state custom e) false out))) right
 
 -- a change of an entry that gives the epoch neither before nor after it
-pub untouched : (broker : BrokerId) (event_ts : ℤ) (state : State) (es : List Entry) (x : Entry) (q : ℕ) (stair : List Tread) → entry_of x.id es ≡ Some x
-    → ((o : ℕ) → covers q o x ≡ false) → ((o : ℕ) → covers q o (updated broker event_ts state x) ≡ false) → IsStair es q stair
-    → IsStair (changed x.id (updated broker event_ts state) es) q stair
-untouched broker event_ts state es x q stair here before after right =
-    same_right es (changed x.id (updated broker event_ts state) es) q stair
-    (λ o. ap (best_from None) (same_filter broker event_ts state (covers q o) x es here (before o) (after o))) right
+pub untouched : (broker : BrokerId) (event_ts : ℤ) (state : State) (custom : Option (List ℕ)) (es : List Entry) (x : Entry) (q : ℕ) (stair : List Tread) → entry_of x.id es ≡ Some x
+    → ((o : ℕ) → covers q o x ≡ false) → ((o : ℕ) → covers q o (updated broker event_ts state custom x) ≡ false) → IsStair es q stair
+    → IsStair (changed x.id (updated broker event_ts state custom) es) q stair
+untouched broker event_ts state custom es x q stair here before after right =
+    same_right es (changed x.id (updated broker event_ts state custom) es) q stair
+    (λ o. ap (best_from None) (same_filter broker event_ts state custom (covers q o) x es here (before o) (after o))) right
 
 -- an entry that is found was kept
 pub kept_found : (id : SegmentId) (es : List Entry) (x : Entry) → AreKept es → entry_of id es ≡ Some x → IsKept x

@@ -1,5 +1,5 @@
 -- The stairs that a note changes, made anew and put in the place of the old ones.
-use Rattle.std.proofs.Common.{◌≡◌, ◌∙◌, refl, sym, ap, ℕ, ◌+◌, ◌<◌, ℤ, Bool, true, false, cond, List, [], ◌∷◌, ◌++◌, Some, None, length, take, get_or, map, inl, inr}
+use Rattle.std.proofs.Common.{◌≡◌, ◌∙◌, refl, sym, ap, ℕ, ◌+◌, ◌<◌, ℤ, Bool, true, false, cond, List, [], ◌∷◌, ◌++◌, Option, Some, None, length, take, get_or, map, inl, inr}
 use Rattle.std.specs.Prelude.{◌==◌}
 use Rattle.std.specs.List.{AllByRecursion}
 use Rattle.std.proofs.lemmas.Bool.{cases_eq, eq-eqb, ne_eqb, or_parts}
@@ -59,32 +59,32 @@ unnamed (s ∷ fresh) (p ∷ ps) q end same none =
     rw (← first, parts.0) (unnamed fresh ps q end rest parts.1)
 
 -- what a step makes of an entry that gives an epoch nowhere
-nowhere : (broker : BrokerId) (event_ts : ℤ) (state : State) (es : List Entry) (x : Entry) (q : ℕ) (stair : List Tread) → entry_of x.id es ≡ Some x → ((o : ℕ) → gives q o x ≡ false)
-    → IsStair es q stair → IsStair (changed x.id (updated broker event_ts state) es) q stair
-nowhere broker event_ts state es x q stair here none right =
-    untouched broker event_ts state es x q stair here (λ o. out (is_readable x.state) x o refl (none o)) (λ o. out (is_readable state) (updated broker event_ts state x) o refl (none o)) right
+nowhere : (broker : BrokerId) (event_ts : ℤ) (state : State) (custom : Option (List ℕ)) (es : List Entry) (x : Entry) (q : ℕ) (stair : List Tread) → entry_of x.id es ≡ Some x → ((o : ℕ) → gives q o x ≡ false)
+    → IsStair es q stair → IsStair (changed x.id (updated broker event_ts state custom) es) q stair
+nowhere broker event_ts state custom es x q stair here none right =
+    untouched broker event_ts state custom es x q stair here (λ o. out (is_readable x.state) x o refl (none o)) (λ o. out (is_readable state) (updated broker event_ts state custom x) o refl (none o)) right
   where
     out : (t : Bool) (e : Entry) (o : ℕ) → is_readable e.state ≡ t → gives q o e ≡ false → covers q o e ≡ false
     out true e o is none = readable_covers q o e true is ∙ none
     out false e o is none = readable_covers q o e false is
 
 -- all epochs of the entry's map have a new stair
-pub made_fresh : (broker : BrokerId) (event_ts : ℤ) (state : State) (es : List Entry) (x : Entry) (old stairs : Stairs) (fresh : List Stair) → entry_of x.id es ≡ Some x → IsKept x
+pub made_fresh : (broker : BrokerId) (event_ts : ℤ) (state : State) (custom : Option (List ℕ)) (es : List Entry) (x : Entry) (old stairs : Stairs) (fresh : List Stair) → entry_of x.id es ≡ Some x → IsKept x
     → ((q : ℕ) → IsStair es q (stair_on old q)) → ((q : ℕ) → stair_on stairs q ≡ stair_on old q) → HaveRoom stairs fresh → map (λ s. s.epoch) fresh ≡ map (λ p. p.0) x.map
-    → AllByRecursion (λ s. IsStair (changed x.id (updated broker event_ts state) es) s.epoch s.treads) fresh → IsFresh (changed x.id (updated broker event_ts state) es) stairs fresh
-made_fresh broker event_ts state es x old stairs fresh here kept right same room epochs each = record {
+    → AllByRecursion (λ s. IsStair (changed x.id (updated broker event_ts state custom) es) s.epoch s.treads) fresh → IsFresh (changed x.id (updated broker event_ts state custom) es) stairs fresh
+made_fresh broker event_ts state custom es x old stairs fresh here kept right same room epochs each = record {
   each = each;
   room = room;
-  kept = λ q none. rw (same q) (nowhere broker event_ts state es x q (stair_on old q) here (λ o. given_nowhere x q o kept (unnamed fresh x.map q (x.end + 1) epochs none)) (right q));
+  kept = λ q none. rw (same q) (nowhere broker event_ts state custom es x q (stair_on old q) here (λ o. given_nowhere x q o kept (unnamed fresh x.map q (x.end + 1) epochs none)) (right q));
 }
 
 -- a step between states that can't be read changes no stair
-pub none_fresh : (broker : BrokerId) (event_ts : ℤ) (state : State) (es : List Entry) (x : Entry) (stairs : Stairs) (fresh : List Stair) → fresh ≡ [] → entry_of x.id es ≡ Some x
-    → is_readable x.state ≡ false → is_readable state ≡ false → ((q : ℕ) → IsStair es q (stair_on stairs q)) → IsFresh (changed x.id (updated broker event_ts state) es) stairs fresh
-none_fresh broker event_ts state es x stairs fresh none here out into right = rw none (record {
+pub none_fresh : (broker : BrokerId) (event_ts : ℤ) (state : State) (custom : Option (List ℕ)) (es : List Entry) (x : Entry) (stairs : Stairs) (fresh : List Stair) → fresh ≡ [] → entry_of x.id es ≡ Some x
+    → is_readable x.state ≡ false → is_readable state ≡ false → ((q : ℕ) → IsStair es q (stair_on stairs q)) → IsFresh (changed x.id (updated broker event_ts state custom) es) stairs fresh
+none_fresh broker event_ts state custom es x stairs fresh none here out into right = rw none (record {
   each = tt;
   room = tt;
-  kept = λ q left. untouched broker event_ts state es x q (stair_on stairs q) here (λ o. readable_covers q o x false out) (λ o. readable_covers q o (updated broker event_ts state x) false into) (right q);
+  kept = λ q left. untouched broker event_ts state custom es x q (stair_on stairs q) here (λ o. readable_covers q o x false out) (λ o. readable_covers q o (updated broker event_ts state custom x) false into) (right q);
 })
 
 pub each_push : (P : Stair → Type 0) (fresh : List Stair) (last : Stair) → AllByRecursion P fresh → P last → AllByRecursion P (fresh ++ last ∷ [])

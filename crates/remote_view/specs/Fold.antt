@@ -9,6 +9,7 @@ use Rattle.std.specs.Str.{bytes_eq}
 use Rattle.tier_base.specs.declared.names.BrokerId.{BrokerId}
 use Rattle.tier_base.specs.declared.names.SegmentId.{SegmentId}
 use Rattle.tier_base.specs.declared.plain.State.{State}
+use Rattle.tier_base.specs.declared.plain.State.TheVariants.{CopyFinished}
 use Rattle.tier_base.specs.Counts.{counted}
 use Rattle.tier_base.specs.Key.{IsId}
 use Rattle.segment_meta.specs.declared.note.Entry.{Entry}
@@ -26,9 +27,19 @@ entry_of id (entry ∷ entries) = if bytes_eq entry.id.0 id.0 then Some entry el
 abbrev pub state_of : SegmentId → List Entry → Option State
 state_of id entries = option_map (λ entry. entry.state) (entry_of id entries)
 
+-- the custom metadata after an update: a finished copy's is what the update tells, and no other update changes it
+abbrev pub custom_after : State → Option (List ℕ) → Option (List ℕ) → Option (List ℕ)
+custom_after CopyFinished told old = told
+custom_after state told old = old
+
 -- an entry as an update leaves it
-abbrev pub updated : BrokerId → ℤ → State → Entry → Entry
-updated broker event_ts state entry = record entry { broker = broker; event_ts = event_ts; state = state }
+abbrev pub updated : BrokerId → ℤ → State → Option (List ℕ) → Entry → Entry
+updated broker event_ts state custom entry = record entry {
+  broker = broker;
+  event_ts = event_ts;
+  state = state;
+  custom = custom_after state custom entry.custom;
+}
 
 -- the entries, an id's entry changed
 abbrev pub changed : SegmentId → (Entry → Entry) → List Entry → List Entry
@@ -41,7 +52,7 @@ abbrev pub noted : List Entry → Note → List Entry
 noted entries (Add entry) =
     if is_some (next_state (state_of entry.id entries) entry.state) then entries ++ entry ∷ [] else entries
 noted entries (Update id broker event_ts state custom) =
-    if is_some (next_state (state_of id entries) state) then changed id (updated broker event_ts state) entries
+    if is_some (next_state (state_of id entries) state) then changed id (updated broker event_ts state custom) entries
     else entries
 
 -- the entries after further notes

@@ -1,14 +1,13 @@
 //! Changes of entries.
 
 ghost use Rattle.std.specs.Prelude.{◌≡◌, IfOk};
-ghost use Rattle.segment_meta.specs.Rules.{IsAdded};
 ghost use Rattle.std.specs.Str.{bytes_eq};
 ghost use Rattle.tier_base.specs.Key.{IsId};
 ghost use Rattle.remote_view.specs.Fold.{updated};
 
-use segment_meta::Entry;
+use segment_meta::{Entry, copied_custom};
 use std::alloc::{AllocError, Global};
-use tier_base::{BrokerId, SegmentId, State};
+use tier_base::{Blob, BrokerId, SegmentId, State};
 
 /// Whether two ids are one.
 pub(crate) fn is_same(one: &SegmentId, other: &SegmentId) -> bool
@@ -19,7 +18,6 @@ pub(crate) fn is_same(one: &SegmentId, other: &SegmentId) -> bool
 
 /// An entry of the same fields.
 pub(crate) fn copied(alloc: Global, entry: &Entry) -> Result<Entry, AllocError>
-    requires { IsAdded entry.now }
     ensures { IfOk result (λ copy. copy ≡ entry.now) }
 {
     Ok(Entry {
@@ -34,17 +32,26 @@ pub(crate) fn copied(alloc: Global, entry: &Entry) -> Result<Entry, AllocError>
         state: entry.state,
         map: entry.map.copy(alloc)?,
         packed: entry.packed,
-        custom: None,
+        custom: copied_custom(alloc, &entry.custom)?,
     })
 }
 
 /// Sets what an update tells.
-pub(crate) fn update(entry: &mut Entry, broker: BrokerId, event_ts: i64, state: State)
-    ensures { entry.new ≡ updated broker event_ts state entry.old }
+pub(crate) fn update(
+    entry: &mut Entry,
+    broker: BrokerId,
+    event_ts: i64,
+    state: State,
+    custom: Option<Blob>,
+)
+    ensures { entry.new ≡ updated broker event_ts state custom entry.old }
 {
     entry.broker = broker;
     entry.event_ts = event_ts;
     entry.state = state;
+    if state == State::CopyFinished {
+        entry.custom = custom;
+    }
 }
 
 /// An entry's id is one.

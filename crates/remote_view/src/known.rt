@@ -9,7 +9,7 @@ use segment_meta::Entry;
 use std::alloc::{AllocError, Global};
 use std::collections::BTreeMap;
 use std::marker::Model;
-use tier_base::{BrokerId, SegmentId, State};
+use tier_base::{Blob, BrokerId, SegmentId, State};
 
 /// The entries.
 #[derive(Drop)]
@@ -73,11 +73,18 @@ impl Known {
     }
 
     /// Updates an id's entry.
-    pub fn change(&mut self, id: &SegmentId, broker: BrokerId, event_ts: i64, state: State)
-        ensures { self.new ≡ changed id.now (updated broker event_ts state) self.old }
+    pub fn change(
+        &mut self,
+        id: &SegmentId,
+        broker: BrokerId,
+        event_ts: i64,
+        state: State,
+        custom: Option<Blob>,
+    )
+        ensures { self.new ≡ changed id.now (updated broker event_ts state custom) self.old }
     {
         if let Some(place) = self.places.get(id).copied() {
-            update(&mut self.entries[place], broker, event_ts, state);
+            update(&mut self.entries[place], broker, event_ts, state, custom);
         }
     }
 }

@@ -3,7 +3,7 @@
 //! A copy that finishes is laid over the stairs of its epochs. One whose deletion starts leaves them, and what lay under
 //! it shows again: those stairs are made of the other entries.
 
-ghost use Rattle.std.specs.Prelude.{◌≡◌, ℕ, ℤ, true, Some, is_some, OnOk, IfOk};
+ghost use Rattle.std.specs.Prelude.{◌≡◌, ℕ, ℤ, true, List, Option, Some, is_some, OnOk, IfOk};
 ghost use Rattle.tier_base.specs.declared.names.BrokerId.{BrokerId};
 ghost use Rattle.segment_meta.specs.Steps.{next_state};
 ghost use Rattle.remote_view.specs.Fold.{entry_of, changed, updated, IsKept, AreKept, AreDistinct, others};
@@ -74,8 +74,8 @@ fn anew(
     requires stair { IsStair known.now epoch stair.now }
     requires here { entry_of entry.now.id known.now ≡ Some entry.now }
     requires step { is_some (next_state (Some entry.now.state) state) ≡ true }
-    ensures { IfOk result (λ laid. (broker : BrokerId) (event_ts : ℤ)
-        → IsStair (changed entry.now.id (updated broker event_ts state) known.now) epoch laid) }
+    ensures { IfOk result (λ laid. (broker : BrokerId) (event_ts : ℤ) (custom : Option (List ℕ))
+        → IsStair (changed entry.now.id (updated broker event_ts state custom) known.now) epoch laid) }
 {
     if is_readable(state) {
         let stair = Row::from_vec(Vec::from_slice(alloc, stair)?);
@@ -99,8 +99,8 @@ pub(crate) fn fresh(
     requires here { entry_of entry.now.id known.now ≡ Some entry.now }
     requires step { is_some (next_state (Some entry.now.state) state) ≡ true }
     ensures same { (epoch : ℕ) → stair_on stairs.new epoch ≡ stair_on stairs.old epoch }
-    ensures ok { IfOk result (λ fresh. (broker : BrokerId) (event_ts : ℤ)
-        → IsFresh (changed entry.now.id (updated broker event_ts state) known.now) stairs.new fresh) }
+    ensures ok { IfOk result (λ fresh. (broker : BrokerId) (event_ts : ℤ) (custom : Option (List ℕ))
+        → IsFresh (changed entry.now.id (updated broker event_ts state custom) known.now) stairs.new fresh) }
 {
     let mut fresh = Row::new(alloc);
     if !is_readable(entry.state) && !is_readable(state) {

@@ -19,10 +19,10 @@ use crate::seeking::id_at;
 use crate::stairs::Stairs;
 use crate::stepping::fresh;
 use crate::tread::Tread;
-use segment_meta::{Entry, Note, next_state};
+use segment_meta::{Entry, Note, copied_custom, next_state};
 use std::alloc::{AllocError, Global};
 use std::marker::Model;
-use tier_base::{BrokerId, SegmentId, State};
+use tier_base::{Blob, BrokerId, SegmentId, State};
 
 /// The remote segments that a broker knows of, in the order of their first notes.
 #[derive(Drop)]
@@ -70,8 +70,8 @@ impl View {
                 broker,
                 event_ts,
                 state,
-                ..
-            } => self.update(id, *broker, *event_ts, *state)?,
+                custom,
+            } => self.update(id, *broker, *event_ts, *state, custom)?,
         }
         self.notes = self.notes.saturating_add(1);
         Ok(())
@@ -155,10 +155,11 @@ impl View {
         broker: BrokerId,
         event_ts: i64,
         state: State,
+        custom: &Option<Blob>,
     ) -> Result<(), AllocError>
         requires { state ≢ CopyStarted }
         ensures ok { OnOk result (self.new
-            ≡ record self.old { entries = noted self.old.entries (Update id.now broker event_ts state None) }) }
+            ≡ record self.old { entries = noted self.old.entries (Update id.now broker event_ts state custom.now) }) }
         ensures err { OnErr result (self.new ≡ self.old) }
     {
         let Some(entry) = self.known.get(id) else {
@@ -167,8 +168,9 @@ impl View {
         if next_state(Some(entry.state), state).is_none() {
             return Ok(());
         }
+        let custom = copied_custom(self.alloc, custom)?;
         let fresh = fresh(self.alloc, &self.known, &mut self.stairs, entry, state)?;
-        self.known.change(id, broker, event_ts, state);
+        self.known.change(id, broker, event_ts, state, custom);
         self.stairs.replace_all(fresh);
         Ok(())
     }

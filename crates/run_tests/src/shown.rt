@@ -54,7 +54,7 @@ pub(crate) static SHELL: [(&[&str], &[(u32, &str)], u8, &str, &str); 6] = [
 ];
 
 /// The lines of a script, each with how often it stands there, and what is told of it.
-pub(crate) static REFUSED: [(&[(u32, &str)], &str); 27] = [
+pub(crate) static REFUSED: [(&[(u32, &str)], &str); 26] = [
     (&[(1, "0 0 0 flush é")], "tiered: line 1: NotText\n"),
     (&[(1, "0 0 0 frob")], "tiered: line 1: Word\n"),
     (&[(1, "brokers 9")], "tiered: line 1: Number\n"),
@@ -83,7 +83,6 @@ pub(crate) static REFUSED: [(&[(u32, &str)], &str); 27] = [
         &[(1, "0 0 0 flush"), (1, "turn 0 1048576"), (1, "turn 0 1")],
         "tiered: line 3: TurnSum\n",
     ),
-    (&[(1, "0 0 - pack 1")], "tiered: line 1: Unbuilt\n"),
     (&[(1, "0x 0 0 flush")], "tiered: line 1: Number\n"),
     (&[(1, "x 0 0 flush")], "tiered: line 1: Word\n"),
     (&[(1, "0 0 - flush")], "tiered: line 1: Word\n"),

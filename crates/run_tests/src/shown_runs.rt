@@ -6,7 +6,7 @@ mod part_3;
 mod part_4;
 
 /// How many scripts there are.
-pub(crate) static COUNT: u32 = 55;
+pub(crate) static COUNT: u32 = 57;
 
 /// How many parts they stand in.
 pub(crate) static PARTS: usize = 4;

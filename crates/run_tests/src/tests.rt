@@ -340,9 +340,9 @@ fn examples_of_the_remote_tier_give_their_traces(rt: HostRuntime) {
 static STATUSES: [(&[&str], &str, &[u32], &str, &str, u8); 7] = [
     (
         &["sim"],
-        "0 0 - pack 1\n",
+        "0 0 - pack 2\n",
         &[],
-        "tiered: line 1: Unbuilt\n",
+        "tiered: line 1: Number\n",
         "",
         3,
     ),
@@ -413,7 +413,7 @@ fn status(alloc: Global, number: u8) -> Option<Status> {
         2 => Some(Status::Usage),
         3 => Some(Status::BadScript {
             line: 12,
-            why: Why::Unbuilt,
+            why: Why::Twice,
         }),
         4 => Some(Status::ReadFault),
         5 => Some(Status::WriteFault),
@@ -449,7 +449,7 @@ static LINES: [(u8, &str); 10] = [
         2,
         "tiered: usage: tiered sim [--threads] or run DIR or gen N or audit DIR or sweep DIR\n",
     ),
-    (3, "tiered: line 12: Unbuilt\n"),
+    (3, "tiered: line 12: Twice\n"),
     (4, "tiered: read fault\n"),
     (5, "tiered: write fault\n"),
     (6, "tiered: out of memory\n"),

@@ -1,7 +1,7 @@
 //! The causes in words, and the sections of docs/SCRIPT.md that speak of them.
 
 use crate::line::{first_word, last_word};
-use crate::words::{COMMANDS, OPTIONS, UNBUILT};
+use crate::words::{COMMANDS, OPTIONS};
 use script_lang::Why;
 
 /// What is wrong, where a word stands at the place or none does, and where the line may only end there.
@@ -24,7 +24,6 @@ pub fn cause(why: Why, is_there: bool, is_end: bool) -> &'static str {
         Why::FetchSum => "with this line the fetches pass their sum, 268435456 bytes",
         Why::CopySum => "with this line the copies pass their sum, 2147483648 bytes",
         Why::TurnSum => "with this line the turns are more than 1048576",
-        Why::Unbuilt => "no program runs this yet",
     }
 }
 
@@ -51,9 +50,6 @@ fn section_of_words(text: &[u8], heads: &[&[u8]]) -> &'static str {
         if let Some(name) = among(&COMMANDS, last_word(head)) {
             return name;
         }
-        if among(&UNBUILT, last_word(head)).is_some() {
-            return "What isn't built yet";
-        }
     }
     "Actors and the schedule"
 }
@@ -68,6 +64,5 @@ pub fn section(why: Why, text: &[u8], heads: &[&[u8]]) -> &'static str {
         Why::TooLate | Why::Twice => "Options",
         Why::ActorPartition | Why::NoActor => "Actors and the schedule",
         Why::TooMany | Why::BatchTooLarge | Why::FetchSum | Why::CopySum | Why::TurnSum => "Limits",
-        Why::Unbuilt => "What isn't built yet",
     }
 }

@@ -10,7 +10,7 @@ use crate::line::{heads, line_at};
 use crate::place::{Place, counts_of, find_place};
 use crate::shown::write_shown;
 use crate::wanted::{Wanted, ask};
-use crate::words::{COMMANDS, UNBUILT};
+use crate::words::COMMANDS;
 use script_lang::Why;
 use std::alloc::{AllocError, Global};
 use std::fmt::Write;
@@ -43,10 +43,7 @@ fn things(alloc: Global, wanted: &Wanted) -> Result<Vec<String>, AllocError> {
 
 /// Whether there are several words, and each is a command.
 fn are_commands(words: &[&'static str]) -> bool {
-    1 < words.len()
-        && words
-            .iter()
-            .all(|word| COMMANDS.contains(word) || UNBUILT.contains(word))
+    1 < words.len() && words.iter().all(|word| COMMANDS.contains(word))
 }
 
 /// What stands before the first thing.

@@ -162,7 +162,7 @@ fn word_of(why: Why, heads: &[&[u8]]) -> usize {
     let number = match why {
         Why::ActorPartition | Why::NoActor => 1,
         Why::TurnSum => 2,
-        Why::TooMany | Why::BatchTooLarge | Why::FetchSum | Why::CopySum | Why::Unbuilt => 3,
+        Why::TooMany | Why::BatchTooLarge | Why::FetchSum | Why::CopySum => 3,
         _ => 0,
     };
     if later { number + 1 } else { number }

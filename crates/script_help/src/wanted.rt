@@ -6,7 +6,7 @@ ghost use Rattle.script_help.specs.Wanted.{LeadsOn};
 
 use crate::asking::{goes_on_with, has_words};
 use crate::numbers::{Numbers, numbers_at};
-use crate::words::{COMMANDS, LINES, OPTIONS, OTHERS, UNBUILT};
+use crate::words::{COMMANDS, LINES, OPTIONS, OTHERS};
 use std::alloc::{AllocError, Global};
 
 /// The most bytes before a place of which it is asked what would be right there.
@@ -86,7 +86,6 @@ fn words_at(alloc: Global, head: &[u8]) -> Result<Vec<&'static str>, AllocError>
         return with_words(alloc, words, head, &LINES);
     }
     let words = with_words(alloc, words, head, &COMMANDS)?;
-    let words = with_words(alloc, words, head, &UNBUILT)?;
     with_words(alloc, words, head, &OTHERS)
 }
 

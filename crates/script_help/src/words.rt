@@ -15,15 +15,12 @@ pub static OPTIONS: [&str; 8] = [
 /// The first words of other lines.
 pub static LINES: [&str; 3] = ["later", "turn", "fault"];
 
-/// The commands that programs run.
-pub static COMMANDS: [&str; 22] = [
+/// The commands.
+pub static COMMANDS: [&str; 23] = [
     "append", "raw", "flush", "roll", "fetch", "offset", "elect", "unclean", "learn", "join",
-    "follow", "ack", "shrink", "expand", "copy", "copying", "trim", "expire", "raise", "clock",
-    "stop", "up",
+    "follow", "ack", "shrink", "expand", "copy", "copying", "pack", "trim", "expire", "raise",
+    "clock", "stop", "up",
 ];
-
-/// The commands that no program runs yet.
-pub static UNBUILT: [&str; 1] = ["pack"];
 
 /// The words behind others.
 pub static OTHERS: [&str; 20] = [

@@ -19,7 +19,7 @@ use Rattle.script_lang.specs.declared.options.Options.{Options}
 use Rattle.script_lang.specs.declared.script.PartScript.{PartScript}
 use Rattle.script_lang.specs.Forms.{brokers_of}
 use Rattle.script_lang.specs.Limits.{AreSmall, size_of, none_so_far}
-use Rattle.script_lang.specs.Script.{Told, idle, slot_at, with_order, with_pace, with_fault, parts_stepped, empty_part, empty_parts, config_of, nothing_told, is_built_command, is_built}
+use Rattle.script_lang.specs.Script.{Told, idle, slot_at, with_order, with_pace, with_fault, parts_stepped, empty_part, empty_parts, config_of, nothing_told}
 use Rattle.script_lang.specs.Fit.{AreNumbered, IsSaid, IsSaidTo, IsFormInRange, FitsBatch, AreCountsWith, IsSound}
 
 -- what holds of all items holds, or what follows from it, when one is changed
@@ -78,39 +78,39 @@ orders-order P (s ∷ ss) zero p o is h (suc a) = h (suc a)
 orders-order P (s ∷ ss) (suc k) p o is h zero = h 0
 orders-order P (s ∷ ss) (suc k) p o is h (suc a) = orders-order P ss k p o is (λ b. h (suc b)) a
 
-in-range : (command : Command) → IsSaid command → size_of command ≤ 1048576 → is_built_command command ≡ true → IsInRange command
-in-range (Append recs) said fits built = record { some = said; fits = fits }
-in-range (Raw bytes) said fits built = fits
-in-range Flush said fits built = tt
-in-range Roll said fits built = tt
-in-range Elect said fits built = tt
-in-range Unclean said fits built = tt
-in-range Learn said fits built = tt
-in-range Join said fits built = tt
-in-range (Follow limit) said fits built = said
-in-range Ack said fits built = tt
-in-range Shrink said fits built = tt
-in-range Expand said fits built = tt
-in-range Copy said fits built = tt
-in-range Trim said fits built = tt
-in-range Expire said fits built = tt
-in-range (Raise start) said fits built = said
-in-range (Clock ms) said fits built = said
-in-range Stop said fits built = tt
-in-range Up said fits built = tt
-in-range (Fetch offset limit) said fits built = said
-in-range (Pack on) said fits built = absurd (cc)
-in-range (Copying on) said fits built = tt
-in-range (Offset which) said fits built = tt
+in-range : (command : Command) → IsSaid command → size_of command ≤ 1048576 → IsInRange command
+in-range (Append recs) said fits = record { some = said; fits = fits }
+in-range (Raw bytes) said fits = fits
+in-range Flush said fits = tt
+in-range Roll said fits = tt
+in-range Elect said fits = tt
+in-range Unclean said fits = tt
+in-range Learn said fits = tt
+in-range Join said fits = tt
+in-range (Follow limit) said fits = said
+in-range Ack said fits = tt
+in-range Shrink said fits = tt
+in-range Expand said fits = tt
+in-range Copy said fits = tt
+in-range Trim said fits = tt
+in-range Expire said fits = tt
+in-range (Raise start) said fits = said
+in-range (Clock ms) said fits = said
+in-range Stop said fits = tt
+in-range Up said fits = tt
+in-range (Fetch offset limit) said fits = said
+in-range (Pack on) said fits = tt
+in-range (Copying on) said fits = tt
+in-range (Offset which) said fits = tt
 
-order-for : (options : Options) (order : Order) → IsSaidTo (brokers_of options) order → size_of order.command ≤ 1048576 → is_built_command order.command ≡ true → IsOrderFor (config_of options) order
-order-for options order said fits built = record { broker = said.broker; command = in-range order.command said.command fits built }
+order-for : (options : Options) (order : Order) → IsSaidTo (brokers_of options) order → size_of order.command ≤ 1048576 → IsOrderFor (config_of options) order
+order-for options order said fits = record { broker = said.broker; command = in-range order.command said.command fits }
 
 -- with an order
 pub sound-order : (t self : Told) (counts : Counts) (actor : ActorId) (partition : PartitionId) (order : Order) (at_once : Bool) (number : ℕ) → t ≡ self → IsSound t
-    → IsFormInRange self.options (Placed actor partition order at_once) → AreCountsWith self.sums (Placed actor partition order at_once) counts → FitsBatch (Placed actor partition order at_once) → is_built (Placed actor partition order at_once) ≡ true
+    → IsFormInRange self.options (Placed actor partition order at_once) → AreCountsWith self.sums (Placed actor partition order at_once) counts → FitsBatch (Placed actor partition order at_once)
     → IsSound (record { options = t.options; begun = true; sums = counts; actors = with_order t.actors actor.0 partition order; parts = parts_stepped t.parts at_once actor number partition.0 })
-sound-order t self counts actor partition order at_once number is h range with fits built =
+sound-order t self counts actor partition order at_once number is h range with fits =
     let said : IsSaidTo (brokers_of t.options) order = rw is (range.1) in
     let count : counts.commands ≡ t.sums.commands + 1 = rw is (with.commands) in
     let empty = stepped-empty t.parts at_once actor number partition.0 (empty-of t h) in
@@ -118,7 +118,7 @@ sound-order t self counts actor partition order at_once number is h range with f
       options = h.options;
       small = with.small;
       few = λ a. omega (arith, few-order t.actors actor.0 t.sums.commands partition order h.few a, count);
-      orders = orders-order (IsOrderFor (config_of t.options)) t.actors actor.0 partition order (order-for t.options order said fits built) h.orders;
+      orders = orders-order (IsOrderFor (config_of t.options)) t.actors actor.0 partition order (order-for t.options order said fits) h.orders;
       unbegun = λ e. absurd (cc);
       actors = length-slice_set t.actors actor.0 _ ∙ h.actors;
       numbered = empty.numbered;

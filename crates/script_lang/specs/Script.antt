@@ -7,9 +7,6 @@
 --   3. TooLate, Twice                     an option behind a command, later, turn or fault line; an option given again
 --   4. ActorPartition, NoActor            an actor with commands of another partition; turns of one without commands
 --   5. TooMany, BatchTooLarge, FetchSum, CopySum, TurnSum     the limits (Limits)
---   6. Unbuilt                            a form that isn't built yet
---
--- Built are blank lines and comments, all options, later, turn, fault, and all commands but pack.
 --
 -- Behind the last line each partition's schedule steps its actors in rising order, each to the end of its list.
 use Rattle.std.specs.Prelude.{◌≡◌, ℕ, zero, suc, ◌+◌, ◌==◌, Bool, true, false, if◌then◌else◌, is_some, ℤ, pos, negsuc, List, [], ◌∷◌, ◌++◌, length, replicate, take, Option, Some, None, Result, Ok, Err}
@@ -19,8 +16,6 @@ use Rattle.std.specs.Ordering.{int_eq}
 use Rattle.tier_base.specs.declared.names.ActorId.{ActorId}
 use Rattle.tier_base.specs.declared.names.PartitionId.{PartitionId}
 use Rattle.tier_base.specs.declared.plain.Keep.{Keep}
-use Rattle.plain_log.specs.declared.command.Command.{Command}
-use Rattle.plain_log.specs.declared.command.Command.TheVariants.{Append, Raw, Flush, Roll, Elect, Unclean, Learn, Join, Follow, Ack, Shrink, Expand, Copy, Trim, Expire, Raise, Clock, Stop, Up, Fetch, Copying, Offset}
 use Rattle.plain_log.specs.declared.command.Config.{Config}
 use Rattle.plain_log.specs.declared.command.Order.{Order}
 use Rattle.plain_log.specs.declared.command.Pace.{Pace}
@@ -34,7 +29,7 @@ use Rattle.script_lang.specs.declared.options.Options.{Options}
 use Rattle.script_lang.specs.declared.options.OptionLine.{OptionLine}
 use Rattle.script_lang.specs.declared.options.OptionLine.TheVariants.{Brokers, Partitions, SegmentBytes, IndexIntervalBytes, RetentionMs, RetentionBytes, LocalRetentionMs, LocalRetentionBytes}
 use Rattle.script_lang.specs.declared.refusal.Why.{Why}
-use Rattle.script_lang.specs.declared.refusal.Why.TheVariants.{TooLate, Twice, ActorPartition, NoActor, Unbuilt}
+use Rattle.script_lang.specs.declared.refusal.Why.TheVariants.{TooLate, Twice, ActorPartition, NoActor}
 use Rattle.script_lang.specs.declared.refusal.ScriptRefusal.{ScriptRefusal}
 use Rattle.script_lang.specs.declared.refusal.ScriptRefusal.TheVariants.{Bad, NoMemory}
 use Rattle.script_lang.specs.declared.script.PartScript.{PartScript}
@@ -138,44 +133,6 @@ sums_with segment_bytes s (Placed actor partition order at_once) = within segmen
 sums_with segment_bytes s (Turn actor turns) = turns_within (with_turns s turns)
 sums_with segment_bytes s (Faulty partition fault) = Ok s
 
--- the commands that are built
-abbrev pub is_built_command : Command → Bool
-is_built_command (Append recs) = true
-is_built_command (Raw bytes) = true
-is_built_command Flush = true
-is_built_command Roll = true
-is_built_command Elect = true
-is_built_command Unclean = true
-is_built_command Learn = true
-is_built_command Join = true
-is_built_command (Follow limit) = true
-is_built_command Ack = true
-is_built_command Shrink = true
-is_built_command Expand = true
-is_built_command Copy = true
-is_built_command Trim = true
-is_built_command Expire = true
-is_built_command (Raise start) = true
-is_built_command (Clock ms) = true
-is_built_command Stop = true
-is_built_command Up = true
-is_built_command (Fetch offset limit) = true
-is_built_command (Copying on) = true
-is_built_command (Offset which) = true
-is_built_command other = false
-
--- the forms that are built
-abbrev pub is_built : Form → Bool
-is_built Blank = true
-is_built (Given option) = true
-is_built (Placed actor partition order at_once) = is_built_command order.command
-is_built (Turn actor turns) = true
-is_built (Faulty partition fault) = true
-
--- a form that is built
-abbrev pub built_form : Form → Result (Unit {0}) Why
-built_form form = if is_built form then Ok tt else Err Unbuilt
-
 -- the options with this one
 abbrev pub options_with : Options → OptionLine → Options
 options_with options (Brokers n) = record options { brokers = Some n }
@@ -219,7 +176,6 @@ unfoldable pub form_behind : Told → Form → Result Told Why
 form_behind t form = do
   stands ← may_stand t form
   sums ← sums_with (segment_bytes_of t.options) t.sums form
-  built ← built_form form
   Ok (told_with t sums form)
 
 -- a line behind the lines so far

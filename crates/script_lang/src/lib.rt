@@ -7,7 +7,6 @@
 #![tactic(auto)]
 
 mod actors;
-mod built;
 mod commands;
 mod counting;
 mod fault;

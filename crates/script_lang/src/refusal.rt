@@ -40,8 +40,6 @@ pub enum Why {
     CopySum,
     /// The `turn` lines step more than 1,048,576 times.
     TurnSum,
-    /// The line has a reading, and no program runs its form yet.
-    Unbuilt,
 }
 
 impl Why {
@@ -62,7 +60,6 @@ impl Why {
             Why::FetchSum => "FetchSum",
             Why::CopySum => "CopySum",
             Why::TurnSum => "TurnSum",
-            Why::Unbuilt => "Unbuilt",
         }
     }
 }

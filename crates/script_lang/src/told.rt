@@ -1,17 +1,15 @@
 //! What the lines so far say, and which line may stand behind them.
 //!
-//! A line is read in steps: its text, its form, whether the form may stand here, what the counts come to with it,
-//! whether it is built; and then it is put behind the lines so far. Each step tells causes that come before the next
-//! step's.
+//! A line is read in steps: its text, its form, whether the form may stand here, what the counts come to with
+//! it; and then it is put behind the lines so far. Each step tells causes that come before the next step's.
 
-ghost use Rattle.std.specs.Prelude.{◌≡◌, ◌<◌, false, Ok, IfOk, OnOk, IsTrue};
+ghost use Rattle.std.specs.Prelude.{◌≡◌, ◌<◌, false, Ok, IfOk, OnOk};
 ghost use Rattle.script_lang.specs.Reading.{Reads};
 ghost use Rattle.script_lang.specs.declared.form.Form.{Form};
-ghost use Rattle.script_lang.specs.Script.{nothing_told, same_partition, known_actor, may_stand, sums_with, is_built, built_form, told_with, form_behind, line_behind, script_of, segment_bytes_of, slot_at};
+ghost use Rattle.script_lang.specs.Script.{nothing_told, same_partition, known_actor, may_stand, sums_with, told_with, form_behind, line_behind, script_of, segment_bytes_of, slot_at};
 ghost use Rattle.script_lang.specs.Fit.{IsOptionInRange, IsFormInRange, FitsBatch, AreCountsWith, IsFit};
 
 use crate::actors::Actors;
-use crate::built::check_built;
 use crate::counting::Counts;
 use crate::fault::Fault;
 use crate::form::Form;
@@ -150,7 +148,6 @@ impl Told {
         requires range { IsFormInRange self.options (Form.Placed actor partition order at_once) }
         requires counts { AreCountsWith self.sums (Form.Placed actor partition order at_once) counts }
         requires batch { FitsBatch (Form.Placed actor partition order at_once) }
-        requires built { IsTrue (is_built (Form.Placed actor partition order at_once)) }
         ensures { IfOk result (λ told. told ≡ told_with self counts (Form.Placed actor partition order at_once)) }
     {
         let mut told = self;
@@ -198,7 +195,6 @@ impl Told {
         requires stands { may_stand self form ≡ Ok tt }
         requires counts { AreCountsWith self.sums form counts }
         requires batch { FitsBatch form }
-        requires built { IsTrue (is_built form) }
         ensures { IfOk result (λ told. told ≡ told_with self counts form) }
     {
         match form {
@@ -223,7 +219,6 @@ impl Told {
     {
         self.allow(&form)?;
         let counts = self.count(&form)?;
-        check_built(&form)?;
         Ok(self.with_form(counts, form)?)
     }
 

@@ -1,18 +1,21 @@
--- The four objects of a remote segment, and a bundle of them.
+-- The parts of a remote segment, and a bundle of them.
 --
 --   part        what it holds
 --   Log         the segment's batches, one after another
 --   Index       its offset index
 --   TimeIndex   its time index, as closing the segment makes it
 --   Epochs      the text of the leader epochs that start at or below the segment's last offset
+--   Pack        these four, one behind another
 --
--- Source: KIP-405, LogSegmentData. The formats of the last three are in the modules Offsets and Times of sparse_index
--- and Text of epoch_line.
-use Rattle.std.specs.Prelude.{◌≡◌, ◌≢◌, ℕ, List, [], ◌∷◌}
+-- Source: KIP-405, LogSegmentData. The formats of the indexes and of the epochs are in the modules Offsets and Times of
+-- sparse_index and Text of epoch_line. The pack is ours: its layout (the module Layout of tier_base) is what KIP-917 lets a
+-- store keep of a segment.
+use Rattle.std.specs.Prelude.{◌≡◌, ◌≢◌, ℕ, ◌^◌, ◌&&◌, nat_lt, Bool, if◌then◌else◌, List, [], ◌∷◌, ◌++◌, length, Option, Some, None}
 use Rattle.log_terms.specs.Batch.{base_of}
 use Rattle.log_terms.specs.Log.{joined, end_from}
 use Rattle.tier_base.specs.declared.plain.Part.{Part}
-use Rattle.tier_base.specs.declared.plain.Part.TheVariants.{Log, Index, TimeIndex, Epochs}
+use Rattle.tier_base.specs.declared.plain.Part.TheVariants.{Log, Index, TimeIndex, Epochs, Pack}
+use Rattle.tier_base.specs.declared.layout.Layout.{Layout}
 use Rattle.sparse_index.specs.Bytes.{bytes_of}
 use Rattle.sparse_index.specs.Offsets.{entry_bytes}
 use Rattle.sparse_index.specs.Times.{moment_bytes}
@@ -21,19 +24,43 @@ use Rattle.epoch_line.specs.Text.{text_of}
 use Rattle.segment_file.specs.Index.{placed_from, index_of, time_index_of}
 use Rattle.segment_file.specs.Segment.{IsSegment}
 
--- the bytes of the four parts
+-- the bytes of the four parts that aren't packed
 pub record Parts : Type 0 where
   pub log : List ℕ
   pub index : List ℕ
   pub times : List ℕ
   pub epochs : List ℕ
 
--- one of them
+-- one of them, or all
 abbrev pub part_in : Parts → Part → List ℕ
 part_in parts Log = parts.log
 part_in parts Index = parts.index
 part_in parts TimeIndex = parts.times
 part_in parts Epochs = parts.epochs
+part_in parts Pack = parts.log ++ (parts.index ++ (parts.times ++ parts.epochs))
+
+-- how long they are
+abbrev pub layout_of : Parts → Layout
+layout_of parts = record {
+  log = length parts.log;
+  index = length parts.index;
+  times = length parts.times;
+  epochs = length parts.epochs;
+}
+
+-- a layout's field has room for a length
+abbrev pub has_room : ℕ → Bool
+has_room size = nat_lt size (2 ^ 32)
+
+-- they can be packed: a layout has room for the length of each
+abbrev pub can_pack : Parts → Bool
+can_pack parts =
+    has_room (length parts.log)
+    && (has_room (length parts.index) && (has_room (length parts.times) && has_room (length parts.epochs)))
+
+-- the layout of what can be packed
+abbrev pub pack_of : Parts → Option Layout
+pack_of parts = if can_pack parts then Some (layout_of parts) else None
 
 -- the offset of the first record
 abbrev pub first_offset : List (List ℕ) → ℕ

@@ -1,18 +1,19 @@
-//! The four parts of a remote segment, and what they were made of. The module Parts of specs/ says what each holds.
+//! The parts of a remote segment, and what they were made of. The module Parts of specs/ says what each holds.
 
-ghost use Rattle.std.specs.Prelude.{◌≡◌, ◌+◌, ◌<◌, ◌^◌, ℕ, List, IfOk};
+ghost use Rattle.std.specs.Prelude.{◌≡◌, ◌+◌, ◌<◌, ◌^◌, ◌++◌, ℕ, List, IfOk};
+ghost use Rattle.tier_base.specs.declared.plain.Part.TheVariants.{Pack};
 ghost use Rattle.log_terms.specs.Log.{joined};
 ghost use Rattle.epoch_line.specs.Line.{cut_end};
 ghost use Rattle.epoch_line.specs.Text.{text_of};
 ghost use Rattle.segment_file.specs.Segment.{IsSegment};
-ghost use Rattle.segment_bundle.specs.Parts.{part_in, parts_of, IsBundle};
+ghost use Rattle.segment_bundle.specs.Parts.{part_in, parts_of, pack_of, IsBundle};
 
 use bytes::Bytes;
 use epoch_line::Line;
 use segment_file::Closed;
 use std::alloc::{AllocError, Global};
 use std::marker::Model;
-use tier_base::Part;
+use tier_base::{Layout, Part};
 
 /// The parts of a remote segment. The log part is the source itself.
 #[derive(Drop)]
@@ -86,16 +87,41 @@ impl Bundle {
         self.interval
     }
 
-    /// The bytes of a part.
-    pub fn part(&self, part: Part) -> &Bytes
-        ensures { result.now ≡ part_in self.now.parts part }
+    /// The bytes of a part. Those of the four are shared; the pack is made when it is asked for.
+    pub fn part(&self, alloc: Global, part: Part) -> Result<Bytes, AllocError>
+        ensures { IfOk result (λ bytes. bytes ≡ part_in self.now.parts part) }
     {
         match part {
-            Part::Log => &self.source,
-            Part::Index => &self.index,
-            Part::TimeIndex => &self.times,
-            Part::Epochs => &self.epochs,
+            Part::Log => share(&self.source),
+            Part::Index => share(&self.index),
+            Part::TimeIndex => share(&self.times),
+            Part::Epochs => share(&self.epochs),
+            Part::Pack => self.pack(alloc),
         }
+    }
+
+    /// How long the parts are, where a layout has room for that.
+    pub fn layout(&self) -> Option<Layout>
+        ensures { result ≡ pack_of self.now.parts }
+    {
+        Some(Layout {
+            log: u32::try_from(self.source.len()).ok()?,
+            index: u32::try_from(self.index.len()).ok()?,
+            times: u32::try_from(self.times.len()).ok()?,
+            epochs: u32::try_from(self.epochs.len()).ok()?,
+        })
+    }
+
+    /// The four parts, one behind another.
+    fn pack(&self, alloc: Global) -> Result<Bytes, AllocError>
+        ensures { IfOk result (λ bytes. bytes ≡ part_in self.now.parts Pack) }
+    {
+        let mut bytes = Vec::new(alloc);
+        bytes.extend_from_slice(self.source.as_slice())?;
+        bytes.extend_from_slice(self.index.as_slice())?;
+        bytes.extend_from_slice(self.times.as_slice())?;
+        bytes.extend_from_slice(self.epochs.as_slice())?;
+        Ok(Bytes::from_vec(bytes)?)
     }
 }
 

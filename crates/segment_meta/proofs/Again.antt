@@ -1,5 +1,5 @@
 -- What was written of a note is read as that note.
-use Rattle.std.proofs.Common.{◌≡◌, ◌≢◌, ◌∙◌, ap, sym, refl, ℕ, ◌+◌, ◌^◌, ◌<◌, ◌≤◌, nat_lt, false, ℤ, List, [], ◌∷◌, ◌++◌, length, Option, Some, None, Ok, arith, append_assoc, append-nil, length-append, eq-eqb, le-ltb, FitsSigned}
+use Rattle.std.proofs.Common.{◌≡◌, ◌≢◌, ◌∙◌, ap, sym, refl, ℕ, ◌+◌, ◌*◌, ◌^◌, ◌<◌, ◌≤◌, nat_lt, Bool, true, false, ℤ, List, [], ◌∷◌, ◌++◌, length, Option, Some, None, is_some, Ok, arith, append_assoc, append-nil, length-append, eq-eqb, le-ltb, FitsSigned}
 use Rattle.std.specs.List.{AllByRecursion}
 use Rattle.std.specs.Int.{w16, w32, w64, to_be_bytes, cast_unsigned}
 use Rattle.std.proofs.lemmas.Bool.{lt-ltb, le-leb}
@@ -15,9 +15,9 @@ use Rattle.segment_meta.specs.declared.note.Entry.{Entry}
 use Rattle.segment_meta.specs.declared.note.Front.{Front}
 use Rattle.segment_meta.specs.declared.note.Note.{Note}
 use Rattle.segment_meta.specs.declared.note.Note.TheVariants.{Add, Update}
-use Rattle.segment_meta.specs.Rules.{IsMap, IsAdded, IsNote, EntryFits, NoteFits}
-use Rattle.segment_meta.specs.Spelling.{state_code, ts_bytes, pair_bytes, pairs_bytes, span_bytes, event_bytes, entry_bytes, note_bytes}
-use Rattle.segment_meta.specs.Reading.{cut_at, number_at, ts_at, id_at, range_at, front_at, pair_at, pairs_at, entry_of, added_in, updated_in, note_in}
+use Rattle.segment_meta.specs.Rules.{IsMap, IsAdded, IsCustom, MayTell, IsNote, EntryFits, NoteFits}
+use Rattle.segment_meta.specs.Spelling.{ts_bytes, pair_bytes, pairs_bytes, span_bytes, event_bytes, entry_bytes, version_of, custom_bytes, packed_bytes, update_bytes, note_bytes}
+use Rattle.segment_meta.specs.Reading.{cut_at, number_at, ts_at, id_at, range_at, front_at, pair_at, pairs_at, packed_in, entry_of, added_in, size_may, custom_in, updated_in, kind_in, note_in}
 
 -- so many bytes are cut off again
 cut-again : (size : ℕ) (field rest : List ℕ) → length field ≡ size → cut_at size (field ++ rest) ≡ Ok (field, rest)
@@ -166,46 +166,82 @@ regrouped entry rest started =
     ) refl
 
 -- the parts of an entry that is added are the entry
-entry-same : (entry : Entry) → IsAdded entry → entry_of entry.id (front_of entry) entry.map ≡ entry
+entry-same : (entry : Entry) → IsAdded entry → entry_of entry.packed entry.id (front_of entry) entry.map ≡ entry
 entry-same entry rules =
-    ap (λ s. record entry { state = s; packed = false; custom = None }) (sym rules.started)
-    ∙ (ap (λ b. record entry { packed = b; custom = None }) (sym rules.apart) ∙ ap (λ c. record entry { custom = c }) (sym rules.bare))
+    ap (λ s. record entry { state = s; custom = None }) (sym rules.started) ∙ ap (λ c. record entry { custom = c }) (sym rules.bare)
+
+-- that an entry is packed is read again
+packed-again : (packed : Bool) (at : ℕ) → packed_in packed at (packed_bytes packed) ≡ Ok tt
+unfolding packed_in number_at
+packed-again false at = refl
+packed-again true at = refl
 
 -- an entry that is added is read again
-added-again : (entry : Entry) → EntryFits entry → IsAdded entry → added_in (entry_bytes entry) ≡ Ok (Add entry)
+added-again : (entry : Entry) → EntryFits entry → IsAdded entry
+    → added_in entry.packed (entry_bytes entry ++ packed_bytes entry.packed) ≡ Ok (Add entry)
 unfolding added_in entry_bytes
 added-again entry fits rules =
+    let tail = packed_bytes entry.packed in
     let map = pairs_bytes entry.map in
-    let count = to_be_bytes w32 (length entry.map) ++ pairs_bytes entry.map in
-    let last : pairs_bytes entry.map ++ [] ≡ pairs_bytes entry.map = append-nil (pairs_bytes entry.map) in
+    let count = to_be_bytes w32 (length entry.map) in
     rw (
-      regrouped entry count rules.started,
+      append_assoc (span_bytes entry) (event_bytes entry ++ (count ++ map)) tail,
+      append_assoc (event_bytes entry) (count ++ map) tail,
+      append_assoc count map tail,
+      regrouped entry (count ++ (map ++ tail)) rules.started,
       id-again entry.id _ fits.id.size,
-      front-again entry count fits rules,
-      u32-again (length entry.map) (pairs_bytes entry.map) (omega (arith, rules.map.few)),
+      front-again entry (count ++ (map ++ tail)) fits rules,
+      u32-again (length entry.map) (map ++ tail) (omega (arith, rules.map.few)),
       lt-ltb 0 (length entry.map) (map-some entry.start entry.end entry.map rules.map),
       le-leb (length entry.map) 67108864 rules.map.few,
-      ← last,
-      map-again entry.start entry.end entry.map [] rules.map,
+      map-again entry.start entry.end entry.map tail rules.map,
+      packed-again entry.packed (63 + 12 * length entry.map),
     ) (ap (λ (t : Entry). Ok (Add t)) (entry-same entry rules))
 
+-- the length of custom metadata passes its test
+size-passes : (state : State) (bytes : List ℕ) → IsCustom state bytes → size_may state (length bytes) ≡ true
+size-passes CopyFinished bytes c = le-leb (length bytes) 128 c.few
+size-passes CopyStarted bytes c = let none : bytes ≡ [] = c.bare (λ wrong. absurd (cc)) in rw none refl
+size-passes DeleteStarted bytes c = let none : bytes ≡ [] = c.bare (λ wrong. absurd (cc)) in rw none refl
+size-passes DeleteFinished bytes c = let none : bytes ≡ [] = c.bare (λ wrong. absurd (cc)) in rw none refl
+
+-- custom metadata is read again
+custom-again : (state : State) (custom : Option (List ℕ)) → MayTell state custom
+    → custom_in (is_some custom) state (custom_bytes custom) ≡ Ok custom
+unfolding custom_in
+custom-again state None may = refl
+custom-again state (Some bytes) may =
+    let all : cut_at (length bytes) bytes ≡ Ok (bytes, []) = rw (append-nil bytes) at (cut-again (length bytes) bytes [] refl) in
+    rw (u16-again (length bytes) bytes (omega (arith, may.few)), size-passes state bytes may, all) refl
+
 -- an update is read again
-updated-again : (id : SegmentId) (broker : BrokerId) (event_ts : ℤ) (state : State) → length id.0 ≡ 16 → broker.0 < 2 ^ 16 → FitsSigned w64 event_ts
-    → state ≢ CopyStarted
-    → updated_in (id.0 ++ (to_be_bytes w16 broker.0 ++ (ts_bytes event_ts ++ state_code state ∷ []))) ≡ Ok (Update id broker event_ts state None)
-unfolding updated_in
-updated-again id broker event_ts CopyStarted long fits fits' later = absurd (later refl)
-updated-again id broker event_ts CopyFinished long fits fits' later =
-    rw (id-again id _ long, u16-again broker.0 (ts_bytes event_ts ++ 1 ∷ []) fits, ts-again event_ts (1 ∷ []) fits') refl
-updated-again id broker event_ts DeleteStarted long fits fits' later =
-    rw (id-again id _ long, u16-again broker.0 (ts_bytes event_ts ++ 2 ∷ []) fits, ts-again event_ts (2 ∷ []) fits') refl
-updated-again id broker event_ts DeleteFinished long fits fits' later =
-    rw (id-again id _ long, u16-again broker.0 (ts_bytes event_ts ++ 3 ∷ []) fits, ts-again event_ts (3 ∷ []) fits') refl
+updated-again : (id : SegmentId) (broker : BrokerId) (event_ts : ℤ) (state : State) (custom : Option (List ℕ))
+    → length id.0 ≡ 16 → broker.0 < 2 ^ 16 → FitsSigned w64 event_ts
+    → state ≢ CopyStarted → MayTell state custom
+    → updated_in (is_some custom) (update_bytes id broker event_ts state custom) ≡ Ok (Update id broker event_ts state custom)
+unfolding updated_in update_bytes
+updated-again id broker event_ts CopyStarted custom long fits fits' later may = absurd (later refl)
+updated-again id broker event_ts CopyFinished custom long fits fits' later may =
+    let told = custom_bytes custom in
+    rw (id-again id _ long, u16-again broker.0 (ts_bytes event_ts ++ 1 ∷ told) fits, ts-again event_ts (1 ∷ told) fits', custom-again CopyFinished custom may) refl
+updated-again id broker event_ts DeleteStarted custom long fits fits' later may =
+    let told = custom_bytes custom in
+    rw (id-again id _ long, u16-again broker.0 (ts_bytes event_ts ++ 2 ∷ told) fits, ts-again event_ts (2 ∷ told) fits', custom-again DeleteStarted custom may) refl
+updated-again id broker event_ts DeleteFinished custom long fits fits' later may =
+    let told = custom_bytes custom in
+    rw (id-again id _ long, u16-again broker.0 (ts_bytes event_ts ++ 3 ∷ told) fits, ts-again event_ts (3 ∷ told) fits', custom-again DeleteFinished custom may) refl
+
+-- a version is read again
+version-again : (packed : Bool) (bytes : List ℕ) → note_in (version_of packed ∷ bytes) ≡ kind_in packed bytes
+unfolding note_in
+version-again false bytes = refl
+version-again true bytes = refl
 
 -- what was written of a note is read as that note
 pub note_again : (note : Note) → IsNote note → NoteFits note → note_in (note_bytes note) ≡ Ok note
-unfolding note_in note_bytes
-note_again (Add entry) rules fits = added-again entry fits rules
+unfolding note_bytes
+note_again (Add entry) rules fits =
+    version-again entry.packed (0 ∷ (entry_bytes entry ++ packed_bytes entry.packed)) ∙ added-again entry fits rules
 note_again (Update id broker event_ts state custom) rules fits =
-    updated-again id broker event_ts state fits.0.size fits.1 fits.2 rules.0
-    ∙ ap (λ (c : Option (List ℕ)). Ok (Update id broker event_ts state c)) (sym rules.1)
+    version-again (is_some custom) (1 ∷ update_bytes id broker event_ts state custom)
+    ∙ updated-again id broker event_ts state custom fits.0.size fits.1 fits.2 rules.0 rules.1

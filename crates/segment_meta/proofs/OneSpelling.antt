@@ -1,5 +1,5 @@
 -- What is read as a note keeps the rules, and stands in the bytes as the note is spelled.
-use Rattle.std.proofs.Common.{◌≡◌, ◌≢◌, ◌∙◌, ap, sym, refl, ℕ, zero, suc, ◌+◌, ◌*◌, ◌^◌, ◌<◌, ◌≤◌, ◌==◌, ◌&&◌, nat_lt, nat_le, true, false, Bool, cond, List, [], ◌∷◌, ◌++◌, length, Option, Some, None, Result, Ok, Err, IfOk, arith, append-nil}
+use Rattle.std.proofs.Common.{◌≡◌, ◌≢◌, ◌∙◌, ap, refl, ℕ, zero, suc, ◌+◌, ◌*◌, ◌^◌, ◌<◌, ◌≤◌, ◌==◌, ◌&&◌, nat_lt, nat_le, true, false, Bool, cond, List, [], ◌∷◌, ◌++◌, length, Option, Some, None, Result, Ok, Err, IfOk, arith, append_assoc, append-nil, is_some}
 use Rattle.std.specs.List.{All, AllByRecursion}
 use Rattle.std.specs.Int.{w16, w32, w64, to_be_bytes}
 use Rattle.std.proofs.lemmas.Bool.{eqb-true}
@@ -11,12 +11,12 @@ use Rattle.segment_meta.specs.declared.note.Note.{Note}
 use Rattle.segment_meta.specs.declared.note.Note.TheVariants.{Add, Update}
 use Rattle.segment_meta.specs.declared.refusal.NoteRefusal.{NoteRefusal}
 use Rattle.segment_meta.specs.declared.refusal.NoteRefusal.TheVariants.{BadVersion, BadState, Bad}
-use Rattle.segment_meta.specs.Rules.{IsMap, IsNote}
-use Rattle.segment_meta.specs.Spelling.{state_code, ts_bytes, pair_bytes, pairs_bytes, span_bytes, event_bytes, entry_bytes, note_bytes}
-use Rattle.segment_meta.specs.Reading.{passing, number_at, ts_at, id_at, byte_at, range_at, front_at, epoch_may, start_may, pair_at, pairs_at, entry_of, added_in, later_state, updated_in, kind_in, note_in, Answers}
+use Rattle.segment_meta.specs.Rules.{IsMap, IsCustom, MayTell, IsNote}
+use Rattle.segment_meta.specs.Spelling.{state_code, ts_bytes, pair_bytes, pairs_bytes, span_bytes, event_bytes, entry_bytes, version_of, custom_bytes, packed_bytes, update_bytes, note_bytes}
+use Rattle.segment_meta.specs.Reading.{passing, cut_at, number_at, ts_at, id_at, byte_at, range_at, front_at, epoch_may, start_may, pair_at, pairs_at, packed_in, entry_of, added_in, later_state, size_may, custom_in, updated_in, kind_in, note_in, Answers}
 use Rattle.segment_meta.proofs.Inverting.{peeled, ok_same, passed, whole_ok}
 use Rattle.segment_meta.proofs.Mapping.{Follows, pair_follows}
-use Rattle.segment_meta.proofs.Standing.{AreBytes, Stands, both, u16_stands, u32_stands, u64_stands, ts_stands, id_stands, byte_stands}
+use Rattle.segment_meta.proofs.Standing.{AreBytes, Stands, both, cut_long, cut_stands, u16_stands, u32_stands, u64_stands, ts_stands, id_stands, byte_stands}
 
 -- the offsets of a segment
 record Range (range : ℕ × ℕ) (bytes rest : List ℕ) : Type 0 where
@@ -156,32 +156,87 @@ behind-map start end count (p ∷ pairs) high some few long h =
       few = omega (arith, few, long);
     }
 
+-- that an entry is packed
+packed-read : (packed : Bool) (at : ℕ) (bytes : List ℕ) (end : Unit {0}) → packed_in packed at bytes ≡ Ok end → AreBytes bytes
+    → bytes ≡ packed_bytes packed
+unfolding packed_in
+packed-read false at bytes end e h = (whole_ok at tt end bytes e).1
+packed-read true at bytes end e h =
+    peeled (bytes ≡ packed_bytes true) (passing (λ n. n == 0) (Bad at) (number_at w16 bytes)) _ end e (λ size e1 m1.
+    let is = passed (λ n. n == 0) (Bad at) (number_at w16 bytes) size e1 in
+    let none : size.0 ≡ 0 = eqb-true size.0 0 is.1 in
+    let left = whole_ok (at + 2) tt end size.1 m1 in
+    (u16_stands bytes size.0 size.1 h is.0).stands.parts ∙ (rw (none, left.1) refl))
+
+-- a length that passed its test is that of custom metadata
+empty : (bytes : List ℕ) → length bytes ≡ 0 → bytes ≡ []
+empty [] none = refl
+empty (b ∷ bytes) none = absurd (omega (arith, none))
+
+is-custom : (state : State) (bytes : List ℕ) (n : ℕ) → length bytes ≡ n → size_may state n ≡ true → IsCustom state bytes
+is-custom CopyFinished bytes n long may = record { few = grind (arith, long, may); bare = λ wrong. absurd (wrong refl) }
+is-custom CopyStarted bytes n long may =
+    let none = eqb-true n 0 may in record { few = omega (arith, long, none); bare = λ late. empty bytes (long ∙ none) }
+is-custom DeleteStarted bytes n long may =
+    let none = eqb-true n 0 may in record { few = omega (arith, long, none); bare = λ late. empty bytes (long ∙ none) }
+is-custom DeleteFinished bytes n long may =
+    let none = eqb-true n 0 may in record { few = omega (arith, long, none); bare = λ late. empty bytes (long ∙ none) }
+
+record CustomRead (packed : Bool) (state : State) (custom : Option (List ℕ)) (bytes : List ℕ) : Type 0 where
+  told : packed ≡ is_some custom
+  may : MayTell state custom
+  spelled : AreBytes bytes → bytes ≡ custom_bytes custom
+
+custom-read : (packed : Bool) (state : State) (bytes : List ℕ) (custom : Option (List ℕ)) → custom_in packed state bytes ≡ Ok custom
+    → CustomRead packed state custom bytes
+unfolding custom_in
+custom-read false state bytes custom e =
+    let end = whole_ok 29 None custom bytes e in
+    rw (← end.0) (record { told = refl; may = tt; spelled = λ h. end.1 })
+custom-read true state bytes custom e =
+    let P = CustomRead true state custom bytes in
+    peeled P (passing (size_may state) (Bad 29) (number_at w16 bytes)) _ custom e (λ size e1 m1.
+    peeled P (cut_at size.0 size.1) _ custom m1 (λ field e2 m2.
+    let is = passed (size_may state) (Bad 29) (number_at w16 bytes) size e1 in
+    let end = whole_ok (31 + size.0) (Some field.0) custom field.1 m2 in
+    let long = cut_long size.0 size.1 field.0 field.1 e2 in
+    rw (← end.0)
+    (record {
+      told = refl;
+      may = is-custom state field.0 size.0 long is.1;
+      spelled = λ h.
+          let s1 = (u16_stands bytes size.0 size.1 h is.0).stands in
+          let s2 = cut_stands size.0 size.1 field.0 field.1 s1.left e2 in
+          (both s1 s2.stands).parts ∙ (rw (end.1, long) (append-nil (to_be_bytes w16 size.0 ++ field.0)));
+    })))
+
 -- a note that was read
 record NoteRead (note : Note) (bytes : List ℕ) : Type 0 where
   rules : IsNote note
   spelled : AreBytes bytes → bytes ≡ note_bytes note
 
-added-read : (bytes : List ℕ) (note : Note) → added_in bytes ≡ Ok note → NoteRead note (0 ∷ 0 ∷ bytes)
+added-read : (packed : Bool) (bytes : List ℕ) (note : Note) → added_in packed bytes ≡ Ok note
+    → NoteRead note (version_of packed ∷ 0 ∷ bytes)
 unfolding added_in note_bytes entry_bytes span_bytes event_bytes
-added-read bytes note e =
-    let P = NoteRead note (0 ∷ 0 ∷ bytes) in
+added-read packed bytes note e =
+    let P = NoteRead note (version_of packed ∷ 0 ∷ bytes) in
     peeled P (id_at bytes) _ note e (λ id e1 m1.
     peeled P (front_at id.1) _ note m1 (λ front e2 m2.
     peeled P (passing (λ n. nat_lt 0 n && nat_le n 67108864) (Bad 59) (number_at w32 front.1)) _ note m2 (λ count e3 m3.
     peeled P (pairs_at front.0.start front.0.end count.0 63 None count.1) _ note m3 (λ pairs e4 m4.
-    let end = whole_ok (63 + 12 * count.0) (Add (entry_of id.0 front.0 pairs.0)) note pairs.1 m4 in
+    peeled P (packed_in packed (63 + 12 * count.0) pairs.1) _ note m4 (λ end e5 m5.
+    let same = ok_same _ (Add (entry_of packed id.0 front.0 pairs.0)) note refl m5 in
     let early = front-read id.1 front.0 front.1 e2 in
     let number = passed (λ n. nat_lt 0 n && nat_le n 67108864) (Bad 59) (number_at w32 front.1) count e3 in
     let some : (0 < count.0) × (count.0 ≤ 67108864) = (grind (arith, number.1), grind (arith, number.1)) in
     let map = pairs-read front.0.start front.0.end count.0 63 None count.1 pairs.0 pairs.1 e4 in
-    rw (← end.0)
+    rw (← same)
     (record {
       rules = record {
         started = refl;
         ordered = early.ordered;
         bounded = early.bounded;
         map = behind-map front.0.start front.0.end count.0 pairs.0 early.bounded some.0 some.1 map.long (map.behind early.ordered);
-        apart = refl;
         bare = refl;
       };
       spelled = λ h.
@@ -190,8 +245,9 @@ added-read bytes note e =
           let s3 = (u32_stands front.1 count.0 count.1 s2.2.left number.0).stands in
           let s4 = map.stands s3.left in
           let all = both (both s1.stands s2.1) (both s2.2 (both s3 s4)) in
-          ap (λ (t : List ℕ). 0 ∷ 0 ∷ t) (all.parts ∙ (rw (end.1, map.long) (append-nil _)));
-    })))))
+          let tail = packed-read packed (63 + 12 * count.0) pairs.1 end e5 s4.left in
+          ap (λ (t : List ℕ). version_of packed ∷ 0 ∷ t) (all.parts ∙ (rw (tail, map.long) refl));
+    }))))))
 
 -- a state that an update told
 later-by : (a b c : Bool) (code : ℕ) (s : State) → (code == 1) ≡ a → (code == 2) ≡ b → (code == 3) ≡ c
@@ -208,59 +264,76 @@ later-by false false true code s is1 is2 is3 e =
     rw (← same) (eqb-true code 3 is3, λ wrong. absurd (cc))
 later-by false false false code s is1 is2 is3 e = absurd (cc)
 
-updated-read : (bytes : List ℕ) (note : Note) → updated_in bytes ≡ Ok note → NoteRead note (0 ∷ 1 ∷ bytes)
-unfolding updated_in note_bytes
-updated-read bytes note e =
-    let P = NoteRead note (0 ∷ 1 ∷ bytes) in
+-- an update's fields, and what stands behind them
+regrouped : (a b c : List ℕ) (code : ℕ) (rest : List ℕ) → (a ++ (b ++ (c ++ code ∷ []))) ++ rest ≡ a ++ (b ++ (c ++ code ∷ rest))
+regrouped a b c code rest =
+    append_assoc a (b ++ (c ++ code ∷ [])) rest
+    ∙ ap (λ (t : List ℕ). a ++ t) (append_assoc b (c ++ code ∷ []) rest ∙ ap (λ (t : List ℕ). b ++ t) (append_assoc c (code ∷ []) rest))
+
+updated-read : (packed : Bool) (bytes : List ℕ) (note : Note) → updated_in packed bytes ≡ Ok note
+    → NoteRead note (version_of packed ∷ 1 ∷ bytes)
+unfolding updated_in note_bytes update_bytes
+updated-read packed bytes note e =
+    let P = NoteRead note (version_of packed ∷ 1 ∷ bytes) in
     peeled P (id_at bytes) _ note e (λ id e1 m1.
     peeled P (number_at w16 id.1) _ note m1 (λ broker e2 m2.
     peeled P (ts_at broker.1) _ note m2 (λ event_ts e3 m3.
     peeled P (byte_at event_ts.1) _ note m3 (λ code e4 m4.
     peeled P (later_state code.0) _ note m4 (λ state e5 m5.
-    let end = whole_ok 29 (Update id.0 (record { 0 = broker.0 }) event_ts.0 state None) note code.1 m5 in
+    peeled P (custom_in packed state code.1) _ note m5 (λ custom e6 m6.
+    let same = ok_same _ (Update id.0 (record { 0 = broker.0 }) event_ts.0 state custom) note refl m6 in
+    let late = custom-read packed state code.1 custom e6 in
     let told = later-by (code.0 == 1) (code.0 == 2) (code.0 == 3) code.0 state refl refl refl e5 in
-    rw (← end.0)
+    rw (← same, late.told)
     (record {
-      rules = (told.1, refl);
+      rules = (told.1, late.may);
       spelled = λ h.
           let s1 = id_stands bytes id.0 id.1 (λ k d l. h (suc (suc k)) d (omega (arith, l))) e1 in
           let s2 = (u16_stands id.1 broker.0 broker.1 s1.stands.left e2).stands in
           let s3 = ts_stands broker.1 event_ts.0 event_ts.1 s2.left e3 in
           let s4 = byte_stands event_ts.1 code.0 code.1 s3.left e4 in
           let all = both s1.stands (both s2 (both s3 s4)) in
-          ap (λ (t : List ℕ). 0 ∷ 1 ∷ t) (all.parts ∙ (rw (end.1, told.0) (append-nil _)));
-    }))))))
+          let tail = late.spelled s4.left in
+          ap (λ (t : List ℕ). version_of (is_some custom) ∷ 1 ∷ t)
+          (all.parts ∙ (rw (tail, told.0) (regrouped id.0.0 (to_be_bytes w16 broker.0) (ts_bytes event_ts.0) (state_code state) (custom_bytes custom))));
+    })))))))
 
-kind-by : (a b : Bool) (kind : ℕ) (bytes : List ℕ) (note : Note) → (kind == 0) ≡ a → (kind == 1) ≡ b
-    → cond {A = Result Note NoteRefusal} a (added_in bytes) (cond b (updated_in bytes) (Err (Bad 1))) ≡ Ok note
-    → NoteRead note (0 ∷ kind ∷ bytes)
-kind-by true b kind bytes note is1 is2 e = rw (eqb-true kind 0 is1) (added-read bytes note e)
-kind-by false true kind bytes note is1 is2 e = rw (eqb-true kind 1 is2) (updated-read bytes note e)
-kind-by false false kind bytes note is1 is2 e = absurd (cc)
+kind-by : (packed a b : Bool) (kind : ℕ) (bytes : List ℕ) (note : Note) → (kind == 0) ≡ a → (kind == 1) ≡ b
+    → cond {A = Result Note NoteRefusal} a (added_in packed bytes) (cond b (updated_in packed bytes) (Err (Bad 1))) ≡ Ok note
+    → NoteRead note (version_of packed ∷ kind ∷ bytes)
+kind-by packed true b kind bytes note is1 is2 e = rw (eqb-true kind 0 is1) (added-read packed bytes note e)
+kind-by packed false true kind bytes note is1 is2 e = rw (eqb-true kind 1 is2) (updated-read packed bytes note e)
+kind-by packed false false kind bytes note is1 is2 e = absurd (cc)
 
-kind-read : (bytes : List ℕ) (note : Note) → kind_in bytes ≡ Ok note → NoteRead note (0 ∷ bytes)
-kind-read [] note e = absurd (cc)
-kind-read (kind ∷ bytes) note e = kind-by (kind == 0) (kind == 1) kind bytes note refl refl e
+kind-read : (packed : Bool) (bytes : List ℕ) (note : Note) → kind_in packed bytes ≡ Ok note → NoteRead note (version_of packed ∷ bytes)
+kind-read packed [] note e = absurd (cc)
+kind-read packed (kind ∷ bytes) note e = kind-by packed (kind == 0) (kind == 1) kind bytes note refl refl e
 
-version-by : (a : Bool) (version : ℕ) (bytes : List ℕ) (note : Note) → (version == 0) ≡ a
-    → cond {A = Result Note NoteRefusal} a (kind_in bytes) (Err BadVersion) ≡ Ok note → NoteRead note (version ∷ bytes)
-version-by true version bytes note is e = rw (eqb-true version 0 is) (kind-read bytes note e)
-version-by false version bytes note is e = absurd (cc)
+version-is : (b : Bool) (version : ℕ) → nat_le version 1 ≡ true → (version == 1) ≡ b → version ≡ version_of b
+version-is true version low is = eqb-true version 1 is
+version-is false version low is = grind (arith, low, is)
+
+version-by : (a b : Bool) (version : ℕ) (bytes : List ℕ) (note : Note) → nat_le version 1 ≡ a → (version == 1) ≡ b
+    → cond {A = Result Note NoteRefusal} a (kind_in b bytes) (Err BadVersion) ≡ Ok note → NoteRead note (version ∷ bytes)
+version-by true b version bytes note low is e = rw (version-is b version low is) (kind-read b bytes note e)
+version-by false b version bytes note low is e = absurd (cc)
 
 note-read : (bytes : List ℕ) (note : Note) → note_in bytes ≡ Ok note → NoteRead note bytes
 unfolding note_in
 note-read [] note e = absurd (cc)
-note-read (version ∷ bytes) note e = version-by (version == 0) version bytes note refl e
+note-read (version ∷ bytes) note e = version-by (nat_le version 1) (version == 1) version bytes note refl refl e
 
 -- what was read to be added keeps the rules, whatever memory there was
-pub added_rules : (bytes : List ℕ) (r : Result Note NoteRefusal) → Answers (λ (note : Note). note) r (added_in bytes) → IfOk r IsNote
-added_rules bytes (Ok note) h = (added-read bytes note h).rules
-added_rules bytes (Err why) h = tt
+pub added_rules : (packed : Bool) (bytes : List ℕ) (r : Result Note NoteRefusal) → Answers (λ (note : Note). note) r (added_in packed bytes)
+    → IfOk r IsNote
+added_rules packed bytes (Ok note) h = (added-read packed bytes note h).rules
+added_rules packed bytes (Err why) h = tt
 
 -- and so does what was read to update
-pub updated_rules : (bytes : List ℕ) (r : Result Note NoteRefusal) → r ≡ updated_in bytes → IfOk r IsNote
-updated_rules bytes (Ok note) h = (updated-read bytes note (sym h)).rules
-updated_rules bytes (Err why) h = tt
+pub updated_rules : (packed : Bool) (bytes : List ℕ) (r : Result Note NoteRefusal) → Answers (λ (note : Note). note) r (updated_in packed bytes)
+    → IfOk r IsNote
+updated_rules packed bytes (Ok note) h = (updated-read packed bytes note h).rules
+updated_rules packed bytes (Err why) h = tt
 
 -- what was read stands in the bytes as it is spelled
 pub one_spelling : (bytes : List ℕ) (note : Note) → All (λ b. b < 256) bytes → note_in bytes ≡ Ok note → bytes ≡ note_bytes note

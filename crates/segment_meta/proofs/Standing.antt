@@ -56,6 +56,18 @@ cut-by size bytes field rest false long h e =
       clean = rw (← front) (All-take (λ b. b < 256) size bytes h);
     }
 
+-- as long as they are to be
+pub cut_long : (size : ℕ) (bytes field rest : List ℕ) → cut_at size bytes ≡ Ok (field, rest) → length field ≡ size
+cut_long size bytes field rest e = by (nat_lt (length bytes) size) refl e
+  where
+    by : (t : Bool) → nat_lt (length bytes) size ≡ t
+        → cond {A = Read (List ℕ)} t (Err Short) (Ok (take size bytes, drop size bytes)) ≡ Ok (field, rest) → length field ≡ size
+    by true short e = absurd (cc)
+    by false long e =
+        let same : (take size bytes, drop size bytes) ≡ (field, rest) = ok_same _ _ _ refl e in
+        let front : take size bytes ≡ field = ap (λ (x : List ℕ × List ℕ). x.0) same in
+        rw (← front) (grind (arith, length-take))
+
 pub cut_stands : (size : ℕ) (bytes field rest : List ℕ) → AreBytes bytes → cut_at size bytes ≡ Ok (field, rest) → Cut size field bytes rest
 cut_stands size bytes field rest h e = cut-by size bytes field rest (nat_lt (length bytes) size) refl h e
 

@@ -2,14 +2,15 @@
 -- bytes, with what stands behind it. The places are those of the table in the module Spelling.
 --
 --   no byte, or the bytes end inside a field         Short
---   a version that isn't 0                           BadVersion
+--   a version that is neither 0 nor 1                BadVersion
 --   a kind that is neither 0 nor 1                   Bad at 1
 --   an end below the start, or past the last offset  Bad at 28
 --   a state that can't stand there                   BadState
 --   a count of no epoch, or of too many              Bad at 59
 --   an epoch or a start that can't stand there       Bad at its place
+--   a length of custom metadata that can't be there  Bad at its place
 --   bytes behind the last field                      Bad at the first of them
-use Rattle.std.specs.Prelude.{◌≡◌, ℕ, zero, suc, ◌+◌, ◌*◌, ◌^◌, ◌==◌, ◌&&◌, nat_le, nat_lt, Bool, false, if◌then◌else◌, ℤ, List, [], ◌∷◌, length, take, drop, Option, Some, None, Result, Ok, Err}
+use Rattle.std.specs.Prelude.{◌≡◌, ℕ, zero, suc, ◌+◌, ◌*◌, ◌^◌, ◌==◌, ◌&&◌, nat_le, nat_lt, Bool, true, false, if◌then◌else◌, ℤ, List, [], ◌∷◌, length, take, drop, Option, Some, None, Result, Ok, Err}
 use Rattle.std.specs.Int.{Width, w16, w32, w64, byte_len, from_be_bytes, cast_signed}
 use Rattle.tier_base.specs.declared.names.SegmentId.{SegmentId}
 use Rattle.tier_base.specs.declared.plain.State.{State}
@@ -123,9 +124,16 @@ abbrev pub whole : {A : Type 0} → ℕ → A → List ℕ → Result A NoteRefu
 whole at x [] = Ok x
 whole at x (b ∷ bytes) = Err (Bad at)
 
+-- the rest of an entry that is packed or not, from this place on: no custom metadata
+unfoldable pub packed_in : Bool → ℕ → List ℕ → Result (Unit {0}) NoteRefusal
+packed_in false at bytes = whole at tt bytes
+packed_in true at bytes = do
+  size ← passing (λ n. n == 0) (Bad at) (number_at w16 bytes)
+  whole (at + 2) tt size.1
+
 -- the entry of these parts, whose copy has started
-abbrev pub entry_of : SegmentId → Front → List (ℕ × ℕ) → Entry
-entry_of id front pairs = record {
+abbrev pub entry_of : Bool → SegmentId → Front → List (ℕ × ℕ) → Entry
+entry_of packed id front pairs = record {
   id = id;
   partition = front.partition;
   start = front.start;
@@ -136,18 +144,19 @@ entry_of id front pairs = record {
   size = front.size;
   state = CopyStarted;
   map = pairs;
-  packed = false;
+  packed = packed;
   custom = None;
 }
 
--- a note that adds, behind version and kind
-unfoldable pub added_in : List ℕ → Result Note NoteRefusal
-added_in bytes = do
+-- a note that adds an entry, packed or not, behind version and kind
+unfoldable pub added_in : Bool → List ℕ → Result Note NoteRefusal
+added_in packed bytes = do
   id ← id_at bytes
   front ← front_at id.1
   count ← passing (λ n. nat_lt 0 n && nat_le n 67108864) (Bad 59) (number_at w32 front.1)
   pairs ← pairs_at front.0.start front.0.end count.0 63 None count.1
-  whole (63 + 12 * count.0) (Add (entry_of id.0 front.0 pairs.0)) pairs.1
+  end ← packed_in packed (63 + 12 * count.0) pairs.1
+  Ok (Add (entry_of packed id.0 front.0 pairs.0))
 
 -- a state that an update may tell
 abbrev pub later_state : ℕ → Result State NoteRefusal
@@ -155,26 +164,40 @@ later_state code =
     if code == 1 then Ok CopyFinished else if code == 2 then Ok DeleteStarted
     else if code == 3 then Ok DeleteFinished else Err BadState
 
--- a note that updates, behind version and kind
-unfoldable pub updated_in : List ℕ → Result Note NoteRefusal
-updated_in bytes = do
+-- custom metadata of so many bytes may stand in an update to a state
+abbrev pub size_may : State → ℕ → Bool
+size_may CopyFinished n = nat_le n 128
+size_may state n = n == 0
+
+-- the rest of an update to a state, of a packed segment or not: the custom metadata
+unfoldable pub custom_in : Bool → State → List ℕ → Result (Option (List ℕ)) NoteRefusal
+custom_in false state bytes = whole 29 None bytes
+custom_in true state bytes = do
+  size ← passing (size_may state) (Bad 29) (number_at w16 bytes)
+  custom ← cut_at size.0 size.1
+  whole (31 + size.0) (Some custom.0) custom.1
+
+-- a note that updates an entry, packed or not, behind version and kind
+unfoldable pub updated_in : Bool → List ℕ → Result Note NoteRefusal
+updated_in packed bytes = do
   id ← id_at bytes
   broker ← number_at w16 id.1
   event_ts ← ts_at broker.1
   code ← byte_at event_ts.1
   state ← later_state code.0
-  whole 29 (Update id.0 (record { 0 = broker.0 }) event_ts.0 state None) code.1
+  custom ← custom_in packed state code.1
+  Ok (Update id.0 (record { 0 = broker.0 }) event_ts.0 state custom)
 
--- the rest of a note, behind its version
-abbrev pub kind_in : List ℕ → Result Note NoteRefusal
-kind_in [] = Err Short
-kind_in (kind ∷ bytes) =
-    if kind == 0 then added_in bytes else if kind == 1 then updated_in bytes else Err (Bad 1)
+-- the rest of a note of a segment that is packed or not, behind its version
+abbrev pub kind_in : Bool → List ℕ → Result Note NoteRefusal
+kind_in packed [] = Err Short
+kind_in packed (kind ∷ bytes) =
+    if kind == 0 then added_in packed bytes else if kind == 1 then updated_in packed bytes else Err (Bad 1)
 
 -- the note that bytes are, or why they are none
 unfoldable pub note_in : List ℕ → Result Note NoteRefusal
 note_in [] = Err Short
-note_in (version ∷ bytes) = if version == 0 then kind_in bytes else Err BadVersion
+note_in (version ∷ bytes) = if nat_le version 1 then kind_in (version == 1) bytes else Err BadVersion
 
 -- an answer, its value seen by view
 abbrev pub seen : {X Y : Type 0} → (X → Y) → Result X NoteRefusal → Result Y NoteRefusal

@@ -1,8 +1,10 @@
 -- What a note must say.
-use Rattle.std.specs.Prelude.{◌≡◌, ◌≢◌, ℕ, ◌^◌, ◌<◌, ◌≤◌, false, List, [], ◌∷◌, length, None, FitsSigned}
+use Rattle.std.specs.Prelude.{◌≡◌, ◌≢◌, ℕ, ◌^◌, ◌<◌, ◌≤◌, Bool, true, false, List, [], ◌∷◌, length, Option, Some, None, FitsSigned}
 use Rattle.std.specs.Int.{w64}
-use Rattle.std.specs.List.{AllByRecursion}
-use Rattle.tier_base.specs.declared.plain.State.TheVariants.{CopyStarted}
+use Rattle.std.specs.List.{All, AllByRecursion}
+use Rattle.std.specs.Option.{ForSome}
+use Rattle.tier_base.specs.declared.plain.State.{State}
+use Rattle.tier_base.specs.declared.plain.State.TheVariants.{CopyStarted, CopyFinished}
 use Rattle.tier_base.specs.Key.{IsId}
 use Rattle.epoch_line.specs.Line.{IsLine}
 use Rattle.segment_meta.specs.declared.note.Entry.{Entry}
@@ -27,13 +29,27 @@ pub record IsAdded (entry : Entry) : Type 0 where
   pub ordered : entry.start ≤ entry.end
   pub bounded : entry.end < 2 ^ 62
   pub map : IsMap entry.start entry.end entry.map
-  pub apart : entry.packed ≡ false
   pub bare : entry.custom ≡ None
+
+-- custom metadata that an update to a state may tell: short, and empty unless the copy is finished
+pub record IsCustom (state : State) (bytes : List ℕ) : Type 0 where
+  pub few : length bytes ≤ 128
+  pub bare : state ≢ CopyFinished → bytes ≡ []
+
+-- and so where it tells any
+abbrev pub MayTell : State → Option (List ℕ) → Type 0
+MayTell state None = Unit {0}
+MayTell state (Some bytes) = IsCustom state bytes
+
+-- the custom metadata of an update that tells nothing of it, of a segment that is packed or not
+abbrev pub bare_custom : Bool → Option (List ℕ)
+bare_custom false = None
+bare_custom true = Some []
 
 -- the rules of a note
 abbrev pub IsNote : Note → Type 0
 IsNote (Add entry) = IsAdded entry
-IsNote (Update id broker event_ts state custom) = (state ≢ CopyStarted) × (custom ≡ None)
+IsNote (Update id broker event_ts state custom) = (state ≢ CopyStarted) × MayTell state custom
 
 -- an entry as a program holds it
 pub record EntryFits (entry : Entry) : Type 0 where
@@ -47,4 +63,5 @@ pub record EntryFits (entry : Entry) : Type 0 where
 -- a note as a program holds it
 abbrev pub NoteFits : Note → Type 0
 NoteFits (Add entry) = EntryFits entry
-NoteFits (Update id broker event_ts state custom) = IsId id × (broker.0 < 2 ^ 16) × FitsSigned w64 event_ts
+NoteFits (Update id broker event_ts state custom) =
+    IsId id × (broker.0 < 2 ^ 16) × FitsSigned w64 event_ts × ForSome custom (All (λ b. b < 256))

@@ -4,6 +4,7 @@
 //! further one makes the next state. A note has one spelling in bytes.
 #![tactic(auto)]
 
+mod custom;
 mod fields;
 mod laws;
 mod note;
@@ -12,6 +13,7 @@ mod refusal;
 mod state;
 mod writing;
 
+pub use custom::{bare_custom, copied_custom};
 pub use laws::{a_note_has_one_spelling, a_written_note_is_read_again};
 pub use note::{Entry, Note};
 pub use reading::decode;

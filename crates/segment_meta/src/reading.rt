@@ -1,25 +1,27 @@
 //! A note out of its bytes. The module Reading of specs/ says what bytes say as a note, and Spelling has the table.
 //!
-//! The fields are read from left to right, so the first fault is told. Only the map takes memory: it grows by the
-//! epochs that are there, so a count alone takes none.
+//! The fields are read from left to right, so the first fault is told. The map and the custom metadata alone take memory:
+//! the map grows by the epochs that are there, so a count alone takes none.
 
 ghost use Rattle.std.specs.Prelude.{◌≡◌, ◌<◌, ◌≤◌, ◌^◌, IfOk, None};
 ghost use Rattle.std.specs.Option.{option_map};
 ghost use Rattle.epoch_line.specs.Line.{last_entry};
 ghost use Rattle.segment_meta.specs.Rules.{IsNote};
-ghost use Rattle.segment_meta.specs.Reading.{range_at, front_at, epoch_may, start_may, pair_at, pairs_at, whole, entry_of, added_in, later_state, updated_in, kind_in, note_in, seen, Answers};
+ghost use Rattle.segment_meta.specs.Reading.{range_at, front_at, epoch_may, start_may, pair_at, pairs_at, whole, packed_in, entry_of, added_in, later_state, size_may, custom_in, updated_in, kind_in, note_in, seen, Answers};
 
 use crate::fields::{cut, id_of, read_ts, read_u8, read_u16, read_u32, read_u64};
 use crate::note::{Entry, Front, Note};
 use crate::refusal::NoteRefusal;
 use epoch_line::Line;
 use std::alloc::Global;
-use tier_base::{BrokerId, OFFSET_LIMIT, PartitionId, SegmentId, State};
+use tier_base::{Blob, BrokerId, OFFSET_LIMIT, PartitionId, SegmentId, State};
 
 /// Epochs are below 2^31.
 const EPOCHS: u32 = 1 << 31;
 /// The most epochs of a map.
 const MOST_EPOCHS: u32 = 67_108_864;
+/// The most bytes of custom metadata.
+const MOST_CUSTOM: u16 = 128;
 
 /// The note of these bytes, or their first fault.
 #[tactic(auto, unfolding(crate::specs::Reading::note_in))]
@@ -28,13 +30,14 @@ pub fn decode(alloc: Global, bytes: &[u8]) -> Result<Note, NoteRefusal>
     ensures rules { IfOk result IsNote }
 {
     let (version, rest) = read_u8(bytes)?;
-    if version != 0 {
+    if version > 1 {
         return Err(NoteRefusal::BadVersion);
     }
+    let packed = version == 1;
     let (kind, rest) = read_u8(rest)?;
     match kind {
-        0 => added(alloc, rest),
-        1 => updated(rest),
+        0 => added(alloc, packed, rest),
+        1 => updated(alloc, packed, rest),
         _ => Err(NoteRefusal::Bad { at: 1 }),
     }
 }
@@ -146,10 +149,36 @@ fn map(
     Ok((map, rest))
 }
 
-/// A note that adds an entry, behind version and kind.
+/// Nothing, where these bytes, which begin at this place, are none.
+fn whole(at: u32, bytes: &[u8]) -> Result<(), NoteRefusal>
+    ensures { result ≡ whole at tt bytes.now }
+{
+    match bytes {
+        [] => Ok(()),
+        _ => Err(NoteRefusal::Bad { at }),
+    }
+}
+
+/// Nothing, where these bytes, which begin at this place, are what stands behind an entry's map.
+#[tactic(auto, unfolding(crate::specs::Reading::packed_in))]
+fn packed_end(packed: bool, at: u32, bytes: &[u8]) -> Result<(), NoteRefusal>
+    requires { at ≤ 805306431 }
+    ensures { result ≡ packed_in packed at bytes.now }
+{
+    if !packed {
+        return whole(at, bytes);
+    }
+    let (size, rest) = read_u16(bytes)?;
+    if size != 0 {
+        return Err(NoteRefusal::Bad { at });
+    }
+    whole(at + 2, rest)
+}
+
+/// A note that adds an entry, packed or not, behind version and kind.
 #[tactic(auto, unfolding(crate::specs::Reading::added_in, crate::specs::Reading::id_at))]
-fn added(alloc: Global, bytes: &[u8]) -> Result<Note, NoteRefusal>
-    ensures { Answers (λ note. note) result (added_in bytes.now) }
+fn added(alloc: Global, packed: bool, bytes: &[u8]) -> Result<Note, NoteRefusal>
+    ensures { Answers (λ note. note) result (added_in packed bytes.now) }
 {
     let (id, rest) = cut(bytes, 16)?;
     let (front, rest) = front(rest)?;
@@ -158,17 +187,13 @@ fn added(alloc: Global, bytes: &[u8]) -> Result<Note, NoteRefusal>
         return Err(NoteRefusal::Bad { at: 59 });
     }
     let (map, rest) = map(alloc, (front.start, front.end), count, rest)?;
-    let [] = rest else {
-        return Err(NoteRefusal::Bad {
-            at: 63 + 12 * count,
-        });
-    };
-    Ok(Note::Add(entry(id_of(id), front, map)))
+    packed_end(packed, 63 + 12 * count, rest)?;
+    Ok(Note::Add(entry(packed, id_of(id), front, map)))
 }
 
 /// The entry of these parts.
-fn entry(id: SegmentId, front: Front, map: Line) -> Entry
-    ensures { result ≡ entry_of id front map }
+fn entry(packed: bool, id: SegmentId, front: Front, map: Line) -> Entry
+    ensures { result ≡ entry_of packed id front map }
 {
     Entry {
         id,
@@ -181,7 +206,7 @@ fn entry(id: SegmentId, front: Front, map: Line) -> Entry
         size: front.size,
         state: State::CopyStarted,
         map,
-        packed: false,
+        packed,
         custom: None,
     }
 }
@@ -198,24 +223,55 @@ fn later_state(code: u8) -> Result<State, NoteRefusal>
     }
 }
 
-/// A note that updates an entry, behind version and kind.
+/// Whether custom metadata of so many bytes may stand in an update to a state.
+fn size_may(state: State, size: u16) -> bool
+    ensures { result ≡ size_may state size }
+{
+    match state {
+        State::CopyFinished => size <= MOST_CUSTOM,
+        _ => size == 0,
+    }
+}
+
+/// The custom metadata of an update to a state, whose last bytes these are.
+#[tactic(auto, unfolding(crate::specs::Reading::custom_in))]
+fn custom(
+    alloc: Global,
+    packed: bool,
+    state: State,
+    bytes: &[u8],
+) -> Result<Option<Blob>, NoteRefusal>
+    ensures { Answers (λ custom. custom) result (custom_in packed state bytes.now) }
+{
+    if !packed {
+        whole(29, bytes)?;
+        return Ok(None);
+    }
+    let (size, rest) = read_u16(bytes)?;
+    if !size_may(state, size) {
+        return Err(NoteRefusal::Bad { at: 29 });
+    }
+    let (custom, rest) = cut(rest, size as usize)?;
+    whole(31 + size as u32, rest)?;
+    Ok(Some(Blob::from_slice(alloc, custom)?))
+}
+
+/// A note that updates an entry, packed or not, behind version and kind.
 #[tactic(auto, unfolding(crate::specs::Reading::updated_in, crate::specs::Reading::id_at))]
-fn updated(bytes: &[u8]) -> Result<Note, NoteRefusal>
-    ensures { result ≡ updated_in bytes.now }
+fn updated(alloc: Global, packed: bool, bytes: &[u8]) -> Result<Note, NoteRefusal>
+    ensures { Answers (λ note. note) result (updated_in packed bytes.now) }
 {
     let (id, rest) = cut(bytes, 16)?;
     let (broker, rest) = read_u16(rest)?;
     let (event_ts, rest) = read_ts(rest)?;
     let (code, rest) = read_u8(rest)?;
     let state = later_state(code)?;
-    let [] = rest else {
-        return Err(NoteRefusal::Bad { at: 29 });
-    };
+    let custom = custom(alloc, packed, state, rest)?;
     Ok(Note::Update {
         id: id_of(id),
         broker: BrokerId(broker),
         event_ts,
         state,
-        custom: None,
+        custom,
     })
 }

@@ -11,7 +11,7 @@ pub enum NoteRefusal {
     /// The bytes end before the note does.
     #[error("the note is cut short")]
     Short,
-    /// The version isn't 0, so its fields aren't known here.
+    /// The version is neither 0 nor 1, so its fields aren't known here.
     #[error("the note has an unknown version")]
     BadVersion,
     /// The state can't stand in a note of this kind.
@@ -20,7 +20,7 @@ pub enum NoteRefusal {
     /// The field that begins at this place breaks a rule, or the note ends before it.
     #[error("the note can't go on so at {at}")]
     Bad { at: u32 },
-    /// There was no memory for the map.
+    /// There was no memory for the map or the custom metadata.
     #[error("no memory for the note")]
     NoMemory,
 }

@@ -2,41 +2,52 @@
 
 ghost use Rattle.std.specs.Prelude.{◌≡◌, ◌≤◌, ◌++◌, ◌∷◌, [], length, OnOk, IfOk};
 ghost use Rattle.std.specs.Int.{w16, w32, w64, to_be_bytes};
-ghost use Rattle.segment_meta.specs.Rules.{IsNote, IsAdded};
-ghost use Rattle.segment_meta.specs.Spelling.{state_code, ts_bytes, pair_bytes, pairs_bytes, span_bytes, event_bytes, entry_bytes, note_bytes};
+ghost use Rattle.std.specs.Option.{ForSome};
+ghost use Rattle.segment_meta.specs.Rules.{IsNote, IsAdded, MayTell};
+ghost use Rattle.segment_meta.specs.Spelling.{state_code, ts_bytes, pair_bytes, pairs_bytes, span_bytes, event_bytes, entry_bytes, version_of, packed_bytes, custom_bytes, update_bytes, note_bytes};
 
 use crate::note::{Entry, Note};
 use std::alloc::{AllocError, Global};
-use tier_base::{SegmentId, State};
+use tier_base::{Blob, SegmentId, State};
 
 /// The bytes of a note.
-#[tactic(auto, unfolding(crate::specs::Spelling::note_bytes))]
+#[tactic(auto, unfolding(crate::specs::Spelling::note_bytes, crate::specs::Spelling::update_bytes))]
 pub fn encode(alloc: Global, note: &Note) -> Result<Vec<u8>, AllocError>
     requires { IsNote note.now }
     ensures { IfOk result (λ bytes. bytes.items ≡ note_bytes note.now) }
 {
     let mut out = Vec::new(alloc);
-    push_u8(&mut out, 0)?;
     match note {
         Note::Add(entry) => {
+            push_u8(&mut out, version(entry.packed))?;
             push_u8(&mut out, 0)?;
             push_entry(&mut out, entry)?;
+            push_packed(&mut out, entry.packed)?;
         }
         Note::Update {
             id,
             broker,
             event_ts,
             state,
-            ..
+            custom,
         } => {
+            push_u8(&mut out, version(custom.is_some()))?;
             push_u8(&mut out, 1)?;
             push_id(&mut out, *id)?;
             push_u16(&mut out, broker.0)?;
             push_ts(&mut out, *event_ts)?;
             push_u8(&mut out, code(*state))?;
+            push_custom(&mut out, custom)?;
         }
     }
     Ok(out)
+}
+
+/// The version of a note.
+fn version(packed: bool) -> u8
+    ensures { result ≡ version_of packed }
+{
+    if packed { 1 } else { 0 }
 }
 
 fn push_u8(out: &mut Vec<u8>, number: u8) -> Result<(), AllocError>
@@ -145,4 +156,26 @@ fn push_entry(out: &mut Vec<u8>, entry: &Entry) -> Result<(), AllocError>
     let pairs = entry.map.entries();
     push_u32(out, pairs.len() as u32)?;
     push_pairs(out, pairs)
+}
+
+/// Writes what stands behind the map of an entry.
+fn push_packed(out: &mut Vec<u8>, packed: bool) -> Result<(), AllocError>
+    ensures { OnOk result (out.new.items ≡ out.old.items ++ packed_bytes packed) }
+{
+    if packed {
+        push_u16(out, 0)?;
+    }
+    Ok(())
+}
+
+/// Writes custom metadata, where there is any.
+fn push_custom(out: &mut Vec<u8>, custom: &Option<Blob>) -> Result<(), AllocError>
+    requires { ForSome custom.now (λ bytes. length bytes ≤ 128) }
+    ensures { OnOk result (out.new.items ≡ out.old.items ++ custom_bytes custom.now) }
+{
+    if let Some(bytes) = custom {
+        push_u16(out, bytes.len() as u16)?;
+        out.extend_from_slice(bytes.as_slice())?;
+    }
+    Ok(())
 }

@@ -6,7 +6,7 @@ use std::alloc::{AllocError, Global};
 use tier_base::{MemorySource, Source};
 
 /// Scripts without a reading, and what is told of them.
-static ROWS: [(&str, &str, &str); 34] = [
+static ROWS: [(&str, &str, &str); 33] = [
     (
         "an unknown command",
         "# c\n0 0 0 frob\n",
@@ -15,7 +15,7 @@ static ROWS: [(&str, &str, &str); 34] = [
     (
         "a broker's command for the partition",
         "0\t0 - flush\r\n",
-        "    0 0 - flush\n          ^\nno such word can stand here\nexpected a command, one of copying, clock or pack\nsee docs/SCRIPT.md, \"Actors and the schedule\"\n",
+        "    0 0 - flush\n          ^\nno such word can stand here\nexpected a command, one of copying, pack or clock\nsee docs/SCRIPT.md, \"Actors and the schedule\"\n",
     ),
     (
         "an unknown first word",
@@ -110,7 +110,7 @@ static ROWS: [(&str, &str, &str); 34] = [
     (
         "a flag",
         "0 0 - pack 2\n",
-        "    0 0 - pack 2\n               ^\nthis isn't a number in decimal digits, or it is out of its range\nexpected a number from 0 to 1\nsee docs/SCRIPT.md, \"What isn't built yet\"\n",
+        "    0 0 - pack 2\n               ^\nthis isn't a number in decimal digits, or it is out of its range\nexpected a number from 0 to 1\nsee docs/SCRIPT.md, \"pack\"\n",
     ),
     (
         "the second record",
@@ -156,11 +156,6 @@ static ROWS: [(&str, &str, &str); 34] = [
         "turns past their sum",
         "0 0 0 up\nturn 0 1048576\nturn 0 1\n",
         "    turn 0 1\n           ^\nwith this line the turns are more than 1048576\nsee docs/SCRIPT.md, \"Limits\"\n",
-    ),
-    (
-        "a command that isn't built",
-        "later 0 0 - pack 1\n",
-        "    later 0 0 - pack 1\n                ^\nno program runs this yet\nsee docs/SCRIPT.md, \"What isn't built yet\"\n",
     ),
     (
         "the seventh record",

@@ -4,7 +4,7 @@ use crate::scripts::read;
 use script_lang::{PartScript, Script};
 use std::alloc::{AllocError, Global};
 
-/// Lines, and the command or the fault that they name; or that what they ask for isn't built.
+/// Lines, and the command or the fault that they name.
 static FORMS: [(&str, &str); 35] = [
     (
         "fault 0 disk 0 sync 4294967295 after",
@@ -68,8 +68,8 @@ static FORMS: [(&str, &str); 35] = [
         "0 0 - clock 9223372036854775807",
         "Clock { ms: 9223372036854775807 }",
     ),
-    ("0 0 - pack 0", "Bad { line: 1, why: Unbuilt }"),
-    ("0 0 - copying 01", "Copying(true)"),
+    ("0 0 - pack 01", "Pack(true)"),
+    ("0 0 - copying 00", "Copying(false)"),
     (
         "0 0 0 append 0005,x6bfF,-,:h=-,x=:v.1 6,-,:",
         "Append(Row { items: [Rec { ts: 5, key: Some(Blob { bytes: [107, 255] }), value: None, headers: Row { items: [Header { key: Blob { bytes: [104] }, value: None }, Header { key: Blob { bytes: [] }, value: Some(Blob { bytes: [118, 46, 49] }) }] } }, Rec { ts: 6, key: None, value: Some(Blob { bytes: [] }), headers: Row { items: [] } }] })",

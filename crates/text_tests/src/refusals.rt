@@ -4,7 +4,7 @@
 use crate::scripts::is_told;
 
 /// Scripts with a reading.
-static GOOD: [(&str, &str); 29] = [
+static GOOD: [(&str, &str); 30] = [
     ("", "no line"),
     ("\n", "an empty line"),
     (
@@ -94,10 +94,14 @@ static GOOD: [(&str, &str); 29] = [
         "0 0 0 offset at 0\n0 0 0 offset at 9223372036854775807\n",
         "offsets of the first time and of the last",
     ),
+    (
+        "brokers 8\n0 0 7 expire\n0 0 - pack 01\nlater 0 0 - pack 0\n",
+        "segments that are packed, and no more",
+    ),
 ];
 
 /// Scripts without one, and what is told of them.
-static BAD: [(&str, &str); 147] = [
+static BAD: [(&str, &str); 145] = [
     // bytes that no line has
     ("# \x7f\n", "line 1: NotText"),
     ("#\u{e9}\n", "line 1: NotText"),
@@ -270,16 +274,8 @@ static BAD: [(&str, &str); 147] = [
         "0 0 0 fetch 0 268435388\n0 0 0 append 0,-,:a\n",
         "line 2: FetchSum",
     ),
-    // forms that are not built
-    ("0 0 - pack 0\n", "line 1: Unbuilt"),
-    (
-        "brokers 8\n0 0 7 expire\n0 0 - pack 01\n0 0 7 offset at 1\n",
-        "line 3: Unbuilt",
-    ),
-    (
-        "later 0 0 0 up\nturn 0 1\nlater 0 0 - pack 1\n0 0 0 frob\n",
-        "line 3: Unbuilt",
-    ),
+    // a command of the partition that goes to a broker
+    ("0 0 0 pack 1\n", "line 1: Word"),
     // actors of two partitions
     (
         "partitions 2\n0 0 0 append 1000,-,:a\n1 1 0 append 1000,-,:b\n2 0 0 flush\n1 0 0 flush\n",

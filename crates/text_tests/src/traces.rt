@@ -37,7 +37,7 @@ fn event_in(alloc: Global, text: &[u8]) -> Result<(String, bool), AllocError> {
 }
 
 /// Lines, without their line feed, and what they say.
-static LINES: [(&str, &str); 76] = [
+static LINES: [(&str, &str); 77] = [
     ("7 3 0 = Ok", "Answers(Ok)"),
     ("7 3 0 = Down", "Answers(Down)"),
     ("7 3 0 = NotLeader", "Answers(NotLeader)"),
@@ -163,6 +163,10 @@ static LINES: [(&str, &str); 76] = [
     (
         "7 3 0 = Damaged 0/00000000-0000-0001-0000-000000000000.epochs 0",
         "Answers(Damaged(Key(ObjectKey { partition: PartitionId(0), id: SegmentId(00000000-0000-0001-0000-000000000000), part: Epochs }), 0))",
+    ),
+    (
+        "7 3 0 = Damaged 0/00000000-0000-0001-0000-000000000000.pack 17",
+        "Answers(Damaged(Key(ObjectKey { partition: PartitionId(0), id: SegmentId(00000000-0000-0001-0000-000000000000), part: Pack }), 17))",
     ),
     (
         "7 3 0 = Run remote 00000000-0000-0001-0000-000000000000 69 Piece 0fa0",

@@ -10,7 +10,7 @@ use Rattle.object_store.specs.Content.{Objects}
 use Rattle.remote_view.specs.Fold.{entry_of, state_of}
 use Rattle.tier_sweep.specs.Rest.{AreNamed, NoneIsLeft}
 use Rattle.tier_audit.specs.declared.verdict.Flaw.{Flaw}
-use Rattle.tier_audit.specs.declared.verdict.Flaw.TheVariants.{NoEntry, Left, Missing, Wrong}
+use Rattle.tier_audit.specs.declared.verdict.Flaw.TheVariants.{NoEntry, Left, Custom, Missing, Wrong}
 use Rattle.tier_audit.specs.Whole.{AreReadable, IsWhole}
 use Rattle.tier_audit.specs.Flaws.{is_stray, IsFirstStray, IsFirstOfCopies, IsFirstFlaw}
 use Rattle.tier_audit.specs.Strays.{goes, IsLeast, FindsStray}
@@ -39,6 +39,7 @@ module _ (objects : Objects) (entries : List Entry) (keys : List ObjectKey) (nam
   pub stray_is_first : (flaw : Flaw) → FindsStray entries keys (Some flaw) → IsFirstFlaw objects entries flaw
   stray_is_first (NoEntry key) found = (first_stray key found.0, found.1)
   stray_is_first (Left key) found = (first_stray key found.0, found.1)
+  stray_is_first (Custom id) found = absurd found
   stray_is_first (Missing key) found = absurd found
   stray_is_first (Wrong key at) found = absurd found
 
@@ -59,6 +60,7 @@ module _ (objects : Objects) (entries : List Entry) (keys : List ObjectKey) (nam
   pub copy_is_first : ((key : ObjectKey) → In key keys → goes entries key ≡ false) → (flaw : Flaw) → IsFirstUnreadable objects entries flaw → IsFirstFlaw objects entries flaw
   copy_is_first none (NoEntry key) u = absurd u.flaw_is
   copy_is_first none (Left key) u = absurd u.flaw_is
+  copy_is_first none (Custom id) u = of_copies none (Custom id) u
   copy_is_first none (Missing key) u = of_copies none (Missing key) u
   copy_is_first none (Wrong key at) u = of_copies none (Wrong key at) u
 

@@ -1,6 +1,6 @@
--- The four objects that a copy puts are right.
-use Rattle.std.proofs.Common.{◌≡◌, ◌⊎◌, ◌∙◌, ap, sym, refl, subst, inl, inr, ℕ, ◌+◌, ◌-◌, ◌^◌, ◌<◌, ◌≤◌, Bool, true, false, ◌&&◌, ℤ, List, [], ◌∷◌, ◌++◌, length, Some, arith, FitsSigned}
-use Rattle.std.specs.Prelude.{int_lt, pos, negsuc, ◌≤ℤ◌, ◌<ℤ◌, filter, nat_lt, nat_le}
+-- The parts that a copy puts are right.
+use Rattle.std.proofs.Common.{◌≡◌, ◌≢◌, ◌⊎◌, ◌∙◌, ap, sym, refl, subst, inl, inr, ℕ, ◌+◌, ◌-◌, ◌^◌, ◌<◌, ◌≤◌, Bool, true, false, ◌&&◌, ℤ, List, [], ◌∷◌, ◌++◌, length, Some, None, arith, FitsSigned}
+use Rattle.std.specs.Prelude.{int_lt, pos, negsuc, ◌≤ℤ◌, ◌<ℤ◌, filter, nat_lt, nat_le, slice_get}
 use Rattle.std.specs.Int.{w64}
 use Rattle.std.specs.List.{AllByRecursion}
 use Rattle.std.specs.Option.{ForSome}
@@ -8,7 +8,9 @@ use Rattle.std.proofs.lemmas.Bool.Decides.{nat_tests}
 use Rattle.std.proofs.lemmas.Int.{ints}
 use Rattle.std.proofs.lemmas.List.Elements.{filter_agree}
 use Rattle.tier_base.specs.declared.plain.Part.{Part}
-use Rattle.tier_base.specs.declared.plain.Part.TheVariants.{Log, Index, TimeIndex, Epochs}
+use Rattle.tier_base.specs.declared.plain.Part.TheVariants.{Log, Index, TimeIndex, Epochs, Pack}
+use Rattle.tier_base.specs.declared.object_key.ObjectKey.{ObjectKey}
+use Rattle.tier_base.proofs.Layouts.{layout_again}
 use Rattle.tier_base.specs.Told.{In}
 use Rattle.log_terms.specs.Batch.{last_of, max_ts_of}
 use Rattle.log_terms.specs.Line.{epoch_at}
@@ -26,11 +28,14 @@ use Rattle.segment_file.specs.Index.{Marks, placed_from, is_due, with_offset, wi
 use Rattle.segment_file.proofs.Joining.{consecutive_up}
 use Rattle.segment_file.proofs.Laying.{LastBelow, last_below, none_below}
 use Rattle.segment_file.proofs.Tracking.{Tops, tops_by, tops_first}
-use Rattle.segment_bundle.specs.Parts.{first_offset, parts_of, part_in}
+use Rattle.segment_bundle.specs.Parts.{Parts, first_offset, parts_of, part_in, layout_of}
+use Rattle.segment_bundle.proofs.Packing.{pack_fits}
 use Rattle.segment_meta.specs.declared.note.Entry.{Entry}
 use Rattle.object_store.specs.Content.{Objects}
-use Rattle.object_store.specs.Place.{key_of}
-use Rattle.tier_audit.specs.Whole.{Describes, marks_of, heights_of, AreOf, AreTimesOf, AreMarks, AreHeights, IsRight, Stands, IsReadable}
+use Rattle.object_store.specs.declared.placing.Spot.{Spot}
+use Rattle.object_store.specs.Place.{key_of, own_keys, whole, at_in, length_in, part_of, told_layout, all_of, short_of}
+use Rattle.object_store.proofs.Parts.{parts_stand, parts_whole, not_short}
+use Rattle.tier_audit.specs.Whole.{Describes, marks_of, heights_of, AreOf, AreTimesOf, AreMarks, AreHeights, IsRight, place_of, Stands, IsReadable, ArePut}
 use Rattle.tier_audit.proofs.Fronts.{each_up}
 use Rattle.tier_audit.proofs.Marks.{AreNear, IsNearOne, near_one, near_rest, placed_near}
 
@@ -245,19 +250,20 @@ module _ (entry : Entry) (batches : List (List ℕ)) (line : List (ℕ × ℕ)) 
       time_more entry.start interval all entry.max_ts fits marks.moments marks.top t.top t.tops.from_base t.tops.near t.tops.above t.are
 
   -- each part is right
-  pub part_right : (part : Part) → IsRight entry batches part (part_in (parts_of batches line interval) part)
-  part_right Log = refl
-  part_right Index = (
+  pub part_right : (part : Part) → part ≢ Pack → IsRight entry batches part (part_in (parts_of batches line interval) part)
+  part_right Pack own = absurd (own refl)
+  part_right Log own = refl
+  part_right Index own = (
     (index_of (first_offset batches) interval (placed_from 0 batches)).entries,
     subst (λ n. AreMarks entry.start batches (index_of n interval (placed_from 0 batches)).entries) (sym (first_is entry batches d)) index_right,
     refl,
   )
-  part_right TimeIndex = (
+  part_right TimeIndex own = (
     (time_index_of (first_offset batches) interval (placed_from 0 batches)).entries,
     subst (λ n. AreHeights entry.start batches (time_index_of n interval (placed_from 0 batches)).entries) (sym (first_is entry batches d)) times_right,
     refl,
   )
-  part_right Epochs =
+  part_right Epochs own =
       let end : end_from (first_offset batches) batches ≡ entry.end + 1 = ap (λ n. end_from n batches) (first_is entry batches d) ∙ sym d.last_is in (
         cut_end line (end_from (first_offset batches) batches),
         IsLine-filter (λ (e : ℕ × ℕ). nat_lt e.1 (end_from (first_offset batches) batches)) line rises,
@@ -267,8 +273,67 @@ module _ (entry : Entry) (batches : List (List ℕ)) (line : List (ℕ × ℕ)) 
 
 -- so a copy whose objects are these is readable
 pub copy_readable : (objects : Objects) (entry : Entry) (batches : List (List ℕ)) (line : List (ℕ × ℕ)) (interval : ℕ) → Describes entry batches → FitsSigned w64 entry.max_ts → IsLine line
-    → within line entry.start entry.end ≡ entry.map → ((part : Part) → objects (key_of entry.partition entry.id part) ≡ Some (part_in (parts_of batches line interval) part)) → IsReadable objects entry
-copy_readable objects entry batches line interval d fits rises map stand = λ finished. (batches, d, (one Log, (one Index, (one TimeIndex, (one Epochs, tt)))))
+    → within line entry.start entry.end ≡ entry.map → ArePut objects entry (parts_of batches line interval) → IsReadable objects entry
+copy_readable objects entry batches line interval d fits rises map put =
+    λ finished. (batches, d, (one Log (λ e. absurd (cc (e))), (one Index (λ e. absurd (cc (e))), (one TimeIndex (λ e. absurd (cc (e))), (one Epochs (λ e. absurd (cc (e))), tt)))))
   where
-    one : (part : Part) → Stands objects entry batches part
-    one part = record { bytes = part_in (parts_of batches line interval) part; there = stand part; right = part_right entry batches line interval d fits rises map part }
+    parts : Parts
+    parts = parts_of batches line interval
+
+    key : ObjectKey
+    key = key_of entry.partition entry.id Pack
+
+    at : (spot : Spot) (part : Part) → part ≢ Pack → (object : List ℕ) → place_of entry part ≡ Some spot → objects spot.key ≡ Some object → short_of spot (all_of spot object) ≡ None → all_of spot object ≡ part_in parts part → Stands objects entry batches part
+    at spot part other object place there whole is = record {
+      spot = spot;
+      place = place;
+      object = object;
+      there = there;
+      whole = whole;
+      right = subst (IsRight entry batches part) (sym is) (part_right entry batches line interval d fits rises map part other);
+    }
+
+    -- each has an object of its own
+    own : entry.packed ≡ false → (part : Part) → part ≢ Pack → Stands objects entry batches part
+    own is part other = at (whole (key_of entry.partition entry.id part)) part other (part_in parts part) (rw is refl) (by part other) refl refl
+      where
+        nth : (n : ℕ) (part : Part) → slice_get (own_keys entry.partition entry.id) n ≡ Some (key_of entry.partition entry.id part) → objects (key_of entry.partition entry.id part) ≡ Some (part_in parts part)
+        nth n part e = put.stand n (key_of entry.partition entry.id part) (rw is e)
+
+        by : (part : Part) → part ≢ Pack → objects (key_of entry.partition entry.id part) ≡ Some (part_in parts part)
+        by Log other = nth 0 Log refl
+        by Index other = nth 1 Index refl
+        by TimeIndex other = nth 2 TimeIndex refl
+        by Epochs other = nth 3 Epochs refl
+        by Pack other = absurd (other refl)
+
+    -- or all have one
+    pack : entry.packed ≡ true → (part : Part) → part ≢ Pack → Stands objects entry batches part
+    pack is part other = at (part_of key (layout_of parts) part) part other (part_in parts Pack) place there whole (bytes part other)
+      where
+        told : told_layout entry.custom ≡ Some (layout_of parts)
+        told = ap told_layout (put.custom is).0 ∙ layout_again (layout_of parts) (pack_fits parts (put.custom is).1)
+
+        place : place_of entry part ≡ Some (part_of key (layout_of parts) part)
+        place = rw (is, told) refl
+
+        there : objects key ≡ Some (part_in parts Pack)
+        there = put.stand 0 key (rw is refl)
+
+        bytes : (part : Part) → part ≢ Pack → all_of (part_of key (layout_of parts) part) (part_in parts Pack) ≡ part_in parts part
+        bytes Log other = parts_stand key parts.log parts.index parts.times parts.epochs Log
+        bytes Index other = parts_stand key parts.log parts.index parts.times parts.epochs Index
+        bytes TimeIndex other = parts_stand key parts.log parts.index parts.times parts.epochs TimeIndex
+        bytes Epochs other = parts_stand key parts.log parts.index parts.times parts.epochs Epochs
+        bytes Pack other = absurd (other refl)
+
+        whole : short_of (part_of key (layout_of parts) part) (all_of (part_of key (layout_of parts) part) (part_in parts Pack)) ≡ None
+        whole = not_short (at_in (layout_of parts) part) (Some (length_in (layout_of parts) part)) (all_of (part_of key (layout_of parts) part) (part_in parts Pack))
+            (subst (λ (bytes : List ℕ). length_in (layout_of parts) part ≡ length bytes) (sym (parts_stand key parts.log parts.index parts.times parts.epochs part)) (parts_whole key parts.log parts.index parts.times parts.epochs part))
+
+    one : (part : Part) → part ≢ Pack → Stands objects entry batches part
+    one part other = by entry.packed refl
+      where
+        by : (packed : Bool) → entry.packed ≡ packed → Stands objects entry batches part
+        by false is = own is part other
+        by true is = pack is part other

@@ -1,8 +1,8 @@
 -- Finished copies, part by part, as their objects are asked for.
-use Rattle.std.specs.Prelude.{◌≡◌, ℕ, List, ◌∷◌, ◌++◌, Option, Some, None}
+use Rattle.std.specs.Prelude.{◌≡◌, ℕ, ◌+◌, ◌≤◌, ◌==◌, if◌then◌else◌, List, ◌∷◌, ◌++◌, length, drop, Option, Some, None}
 use Rattle.std.specs.List.{concat}
 use Rattle.tier_base.specs.declared.plain.Part.{Part}
-use Rattle.tier_base.specs.declared.plain.Part.TheVariants.{Log, Index, TimeIndex, Epochs}
+use Rattle.tier_base.specs.declared.plain.Part.TheVariants.{Log, Index, TimeIndex, Epochs, Pack}
 use Rattle.tier_base.specs.declared.plain.State.TheVariants.{CopyFinished}
 use Rattle.log_terms.specs.Log.{joined}
 use Rattle.sparse_index.specs.Bytes.{bytes_of}
@@ -13,13 +13,17 @@ use Rattle.segment_file.specs.declared.placed.Placed.{Placed}
 use Rattle.segment_file.specs.Index.{placed_from}
 use Rattle.segment_meta.specs.declared.note.Entry.{Entry}
 use Rattle.object_store.specs.Content.{Objects}
-use Rattle.object_store.specs.Place.{key_of}
+use Rattle.object_store.specs.declared.placing.Spot.{Spot}
+use Rattle.object_store.specs.Place.{capped, all_of, short_of}
 use Rattle.tier_audit.specs.declared.verdict.Flaw.{Flaw}
-use Rattle.tier_audit.specs.declared.verdict.Flaw.TheVariants.{Missing, Wrong}
+use Rattle.tier_audit.specs.declared.verdict.Flaw.TheVariants.{Custom, Missing, Wrong}
 use Rattle.tier_audit.specs.declared.copies.LogFound.{LogFound}
 use Rattle.tier_audit.specs.declared.copies.LogFound.TheVariants as log_found
-use Rattle.tier_audit.specs.Whole.{AreMarks, AreHeights, IsRight, Stands, Hold, all_parts, IsReadable, AreReadable}
+use Rattle.tier_audit.specs.Whole.{AreMarks, AreHeights, IsRight, place_of, Stands, Hold, all_parts, IsReadable, AreReadable}
 use Rattle.tier_audit.specs.Entries.{ArePlaced}
+use Rattle.tier_audit.specs.Logs.{ReadsLog}
+use Rattle.tier_audit.specs.declared.log_part.LogPart.{LogPart}
+use Rattle.tier_audit.specs.declared.log_part.LogPart.TheVariants as log_part
 use Rattle.tier_audit.specs.Flaws.{IsFirstBad, MayBegin, IsEntryPlace, HasLog, IsCopyFlaw}
 
 -- the batches of a copy's log, as they stand in it
@@ -34,27 +38,52 @@ IsPlaceBeside entry batches Log bytes at = IsFirstBad joined (MayBegin entry) by
 IsPlaceBeside entry batches Index bytes at = IsEntryPlace 8 (bytes_of entry_bytes) (AreMarks entry.start batches) bytes at
 IsPlaceBeside entry batches TimeIndex bytes at = IsEntryPlace 12 (bytes_of moment_bytes) (AreHeights entry.start batches) bytes at
 IsPlaceBeside entry batches Epochs bytes at = IsFirstBad concat CanBegin bytes at
+IsPlaceBeside entry batches Pack bytes at = ⊥
 
 -- what is found of a part's bytes beside these batches: that they are right, or the place that is told
 abbrev pub ReadsPart : Entry → List (List ℕ) → Part → List ℕ → Option ℕ → Type 0
 ReadsPart entry batches part bytes None = IsRight entry batches part bytes
 ReadsPart entry batches part bytes (Some at) = (IsRight entry batches part bytes → ⊥) × IsPlaceBeside entry batches part bytes at
 
--- a part that stands and isn't right beside these batches
-pub record IsWrongBeside (objects : Objects) (entry : Entry) (batches : List (List ℕ)) (part : Part) (at : ℕ) : Type 0 where
-  pub bytes : List ℕ
-  pub there : objects (key_of entry.partition entry.id part) ≡ Some bytes
-  pub wrong : IsRight entry batches part bytes → ⊥
-  pub place : IsPlaceBeside entry batches part bytes at
+-- what is found of a part's bytes, by where the object ends before the part does
+abbrev pub ReadsSpot : Entry → List (List ℕ) → Part → Option ℕ → List ℕ → Option ℕ → Type 0
+ReadsSpot entry batches part (Some end) bytes found = found ≡ Some (length bytes)
+ReadsSpot entry batches part None bytes found = ReadsPart entry batches part bytes found
+
+-- what is found of a log's bytes, by the same
+abbrev pub ReadsLogSpot : Entry → Option ℕ → List ℕ → LogPart → Type 0
+ReadsLogSpot entry (Some end) bytes found = found ≡ log_part.Wrong (length bytes)
+ReadsLogSpot entry None bytes found = ReadsLog entry bytes found
+
+-- the place that is told of a log's bytes stands within them
+abbrev pub IsWithin : List ℕ → LogPart → Type 0
+IsWithin bytes (log_part.Right found) = Unit {0}
+IsWithin bytes (log_part.Wrong at) = at ≤ length bytes
+
+-- a place in a part, told as one in its object, of which these are the bytes from the part on: the part's end as the object's
+abbrev pub from_rest : Spot → List ℕ → ℕ → ℕ
+from_rest spot rest at = spot.at + (if at == length (capped spot.len rest) then length rest else at)
+
+-- the object of a part stands, and something is found of the part
+pub record IsWrongBeside (objects : Objects) (entry : Entry) (batches : List (List ℕ)) (part : Part) (spot : Spot) (at : ℕ) : Type 0 where
+  pub object : List ℕ
+  pub there : objects spot.key ≡ Some object
+  pub within : ℕ
+  pub reads : ReadsSpot entry batches part (short_of spot (all_of spot object)) (all_of spot object) (Some within)
+  pub at_is : at ≡ from_rest spot (drop spot.at object) within
+
+-- what is found of a part beside these batches, by where it stands
+abbrev pub FindsAt : Objects → Entry → List (List ℕ) → Part → Option Spot → Option Flaw → Type 0
+FindsAt objects entry batches part spot None = Stands objects entry batches part
+FindsAt objects entry batches part None (Some (Custom id)) = id ≡ entry.id
+FindsAt objects entry batches part (Some spot) (Some (Missing key)) = (key ≡ spot.key) × (objects key ≡ None)
+FindsAt objects entry batches part (Some spot) (Some (Wrong key at)) =
+    (key ≡ spot.key) × IsWrongBeside objects entry batches part spot at
+FindsAt objects entry batches part spot (Some flaw) = ⊥
 
 -- what is found of a part beside these batches
 abbrev pub FindsPart : Objects → Entry → List (List ℕ) → Part → Option Flaw → Type 0
-FindsPart objects entry batches part None = Stands objects entry batches part
-FindsPart objects entry batches part (Some (Missing key)) =
-    (key ≡ key_of entry.partition entry.id part) × (objects key ≡ None)
-FindsPart objects entry batches part (Some (Wrong key at)) =
-    (key ≡ key_of entry.partition entry.id part) × IsWrongBeside objects entry batches part at
-FindsPart objects entry batches part (Some flaw) = ⊥
+FindsPart objects entry batches part found = FindsAt objects entry batches part (place_of entry part) found
 
 -- what is found of a copy's log
 abbrev pub FindsLog : Objects → Entry → LogFound → Type 0

@@ -1,22 +1,23 @@
 -- The first flaw of a remote tier at rest, and what an audit says.
 --
--- Flaws have an order: first those of keys, by the keys' texts; then those of finished copies, in the order of their entries, and of
--- one copy's parts in theirs. In an object that isn't right the place is told of the first batch, index entry or text line that can't
--- stand: the front before it can, and with it no longer. Where no single one breaks it, or something lacks, that is the object's end;
--- so it is where an index isn't cut into whole entries.
+-- Flaws have an order: first those of keys, by the keys' texts; then those of finished copies, in the order of their entries. Of one
+-- copy the custom metadata comes first, and then its parts in their order. Of a part that isn't right the place in its object is told
+-- of the first batch, index entry or text line that can't stand: the front before it can, and with it no longer. Where no single one
+-- breaks it, or something lacks, that is the object's end; so it is where an index isn't cut into whole entries, and where the object
+-- ends before the part does.
 --
 --   form                                 says
 --   IsFirstBad spelled MayBegin b at     the first place in bytes at which an item can't stand
 --   IsWrong objects entry part at        a part stands and isn't right, and this place is told of it
 --   IsFirstFlaw objects entries flaw     the first flaw
 --   IsVerdict objects entries verdict    what an audit says
-use Rattle.std.specs.Prelude.{◌≡◌, ◌≢◌, ◌⊎◌, ℕ, ◌+◌, ◌≤◌, ◌%◌, Bool, true, false, ◌≤ℤ◌, List, [], ◌∷◌, ◌++◌, length, Option, Some, None, IsSome}
+use Rattle.std.specs.Prelude.{◌≡◌, ◌≢◌, ◌⊎◌, ℕ, ◌+◌, ◌≤◌, ◌%◌, ◌==◌, if◌then◌else◌, Bool, true, false, ◌≤ℤ◌, List, [], ◌∷◌, ◌++◌, length, Option, Some, None, IsSome}
 use Rattle.std.specs.List.{AllByRecursion, concat}
 use Rattle.std.specs.Ordering.{nat_cmp, is_gt}
 use Rattle.std.specs.Cmp.Lexicographic.{slice_cmp}
 use mathlib.Core.List.{IsPrefix}
 use Rattle.tier_base.specs.declared.plain.Part.{Part}
-use Rattle.tier_base.specs.declared.plain.Part.TheVariants.{Log, Index, TimeIndex, Epochs}
+use Rattle.tier_base.specs.declared.plain.Part.TheVariants.{Log, Index, TimeIndex, Epochs, Pack}
 use Rattle.tier_base.specs.declared.plain.State.{State}
 use Rattle.tier_base.specs.declared.plain.State.TheVariants.{CopyFinished, DeleteFinished}
 use Rattle.tier_base.specs.declared.object_key.ObjectKey.{ObjectKey}
@@ -32,14 +33,15 @@ use Rattle.epoch_line.specs.Text.{CanBegin}
 use Rattle.segment_file.specs.Segment.{IsSegment}
 use Rattle.segment_meta.specs.declared.note.Entry.{Entry}
 use Rattle.object_store.specs.Content.{Objects}
-use Rattle.object_store.specs.Place.{key_of}
+use Rattle.object_store.specs.declared.placing.Spot.{Spot}
+use Rattle.object_store.specs.Place.{told_layout, all_of, short_of}
 use Rattle.remote_view.specs.Fold.{entry_of, state_of}
 use Rattle.tier_sweep.specs.Rest.{AreNamed, NoneIsLeft}
 use Rattle.tier_audit.specs.declared.verdict.Flaw.{Flaw}
-use Rattle.tier_audit.specs.declared.verdict.Flaw.TheVariants.{NoEntry, Left, Missing, Wrong}
+use Rattle.tier_audit.specs.declared.verdict.Flaw.TheVariants.{NoEntry, Left, Custom, Missing, Wrong}
 use Rattle.tier_audit.specs.declared.verdict.Verdict.{Verdict}
 use Rattle.tier_audit.specs.declared.verdict.Verdict.TheVariants.{Sound, Unsound}
-use Rattle.tier_audit.specs.Whole.{Describes, AreMarks, AreHeights, Hold, AreReadable, IsWhole}
+use Rattle.tier_audit.specs.Whole.{Describes, AreMarks, AreHeights, place_of, Stands, Hold, AreReadable, IsWhole}
 
 -- the items before a place may begin bytes, and with one more that stands there they may not
 pub record IsFirstBad {X : Type 0} (spelled : List X → List ℕ) (MayBegin : List X → Type 0) (bytes : List ℕ) (at : ℕ) : Type 0 where
@@ -65,9 +67,9 @@ IsEntryPlace width spelled MayBegin bytes at =
 -- the batches of a copy's log, where that is right
 pub record HasLog (objects : Objects) (entry : Entry) (batches : List (List ℕ)) : Type 0 where
   pub describes : Describes entry batches
-  pub there : objects (key_of entry.partition entry.id Log) ≡ Some (joined batches)
+  pub log : Stands objects entry batches Log
 
--- the place that is told of a part
+-- the place that is told of a part's bytes
 abbrev pub IsPlace : Objects → Entry → Part → List ℕ → ℕ → Type 0
 IsPlace objects entry Log bytes at = IsFirstBad joined (MayBegin entry) bytes at
 IsPlace objects entry Index bytes at =
@@ -77,6 +79,16 @@ IsPlace objects entry TimeIndex bytes at =
     (batches : List (List ℕ)) → HasLog objects entry batches
     → IsEntryPlace 12 (bytes_of moment_bytes) (AreHeights entry.start batches) bytes at
 IsPlace objects entry Epochs bytes at = IsFirstBad concat CanBegin bytes at
+IsPlace objects entry Pack bytes at = ⊥
+
+-- the same, by where the object ends before the part does: then it is the bytes' end
+abbrev pub IsPlaceIn : Objects → Entry → Part → Option ℕ → List ℕ → ℕ → Type 0
+IsPlaceIn objects entry part (Some end) bytes at = at ≡ length bytes
+IsPlaceIn objects entry part None bytes at = IsPlace objects entry part bytes at
+
+-- a place in a part, told as one in its object: the part's end as the object's
+abbrev pub in_object : Spot → List ℕ → ℕ → ℕ
+in_object spot object at = if at == length (all_of spot object) then length object else spot.at + at
 
 -- the parts before one
 abbrev pub parts_before : Part → List Part
@@ -84,25 +96,34 @@ parts_before Log = []
 parts_before Index = Log ∷ []
 parts_before TimeIndex = Log ∷ Index ∷ []
 parts_before Epochs = Log ∷ Index ∷ TimeIndex ∷ []
+parts_before Pack = []
 
--- a part stands and isn't right, and this place is told of it
-pub record IsWrong (objects : Objects) (entry : Entry) (part : Part) (at : ℕ) : Type 0 where
-  pub bytes : List ℕ
-  pub there : objects (key_of entry.partition entry.id part) ≡ Some bytes
+-- the object of a part stands and the part isn't right, and this place in the object is told of it
+pub record IsWrong (objects : Objects) (entry : Entry) (part : Part) (spot : Spot) (at : ℕ) : Type 0 where
+  pub object : List ℕ
+  pub there : objects spot.key ≡ Some object
   pub wrong : Hold objects entry (parts_before part ++ part ∷ []) → ⊥
-  pub place : IsPlace objects entry part bytes at
+  pub within : ℕ
+  pub place : IsPlaceIn objects entry part (short_of spot (all_of spot object)) (all_of spot object) within
+  pub at_is : at ≡ in_object spot object within
 
--- the key is that of a part of the copy, and the parts before it are right
+-- the key is that of the object in which a part of the copy stands, and the parts before it are right
 pub record IsAtPart (objects : Objects) (entry : Entry) (key : ObjectKey) : Type 0 where
-  pub key_is : key ≡ key_of entry.partition entry.id key.part
-  pub before : Hold objects entry (parts_before key.part)
+  pub part : Part
+  pub own : part ≢ Pack
+  pub spot : Spot
+  pub place : place_of entry part ≡ Some spot
+  pub key_is : key ≡ spot.key
+  pub before : Hold objects entry (parts_before part)
 
 -- the first flaw of a finished copy
 abbrev pub IsCopyFlaw : Objects → Entry → Flaw → Type 0
 IsCopyFlaw objects entry (NoEntry key) = ⊥
 IsCopyFlaw objects entry (Left key) = ⊥
+IsCopyFlaw objects entry (Custom id) = (id ≡ entry.id) × (entry.packed ≡ true) × (told_layout entry.custom ≡ None)
 IsCopyFlaw objects entry (Missing key) = IsAtPart objects entry key × (objects key ≡ None)
-IsCopyFlaw objects entry (Wrong key at) = IsAtPart objects entry key × IsWrong objects entry key.part at
+IsCopyFlaw objects entry (Wrong key at) =
+    (here : IsAtPart objects entry key) × IsWrong objects entry here.part here.spot at
 
 -- an object of an id in this state, or without an entry, is to go
 abbrev pub is_stray : Option State → Bool

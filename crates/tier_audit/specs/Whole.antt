@@ -1,7 +1,7 @@
 -- What is right of a partition's remote tier at rest: the store holds exactly what the metadata log says, and each finished copy is
 -- readable and of one piece.
 --
---   part        its object holds
+--   part        it holds
 --   Log         the batches that the entry tells of, one after another
 --   Index       entries, each of them the mark of a batch: its last offset and where it begins
 --   TimeIndex   moments, each of them a batch's whose timestamp is above those of all batches before it
@@ -10,17 +10,21 @@
 --   form                           says
 --   Describes entry batches        a copy's entry tells of these batches
 --   IsRight entry batches p bytes  these bytes are a right part of the copy
---   Hold objects entry parts       these parts of a copy stand, and are right
+--   Hold objects entry parts       these parts of a copy stand whole, and are right
+--   ArePut objects entry parts     a copy's objects hold these parts
 --   IsWhole objects entries        all is right
 --
 -- Of how dense indexes are nothing is said: an interval isn't kept.
 --
--- Source: KIP-405, LogSegmentData. A copy's objects are those that segment_bundle makes.
-use Rattle.std.specs.Prelude.{◌≡◌, ◌≢◌, ℕ, ◌+◌, ◌-◌, ℤ, negsuc, int_lt, if◌then◌else◌, List, [], ◌∷◌, length, Some}
+-- Source: KIP-405, LogSegmentData. A copy's parts are those that segment_bundle makes. Each has an object of its own, or they have one
+-- together, as the module Place of object_store says.
+use Rattle.std.specs.Prelude.{◌≡◌, ◌≢◌, ℕ, ◌+◌, ◌-◌, ℤ, negsuc, int_lt, if◌then◌else◌, true, List, [], ◌∷◌, length, slice_get, Option, Some, None}
 use Rattle.std.specs.List.{AllByRecursion}
 use Rattle.tier_base.specs.declared.plain.Part.{Part}
-use Rattle.tier_base.specs.declared.plain.Part.TheVariants.{Log, Index, TimeIndex, Epochs}
+use Rattle.tier_base.specs.declared.plain.Part.TheVariants.{Log, Index, TimeIndex, Epochs, Pack}
 use Rattle.tier_base.specs.declared.plain.State.TheVariants.{CopyFinished}
+use Rattle.tier_base.specs.declared.object_key.ObjectKey.{ObjectKey}
+use Rattle.tier_base.specs.Layout.{layout_bytes}
 use Rattle.tier_base.specs.Told.{In}
 use Rattle.log_terms.specs.Line.{line_of}
 use Rattle.log_terms.specs.Log.{joined, end_from}
@@ -32,9 +36,11 @@ use Rattle.epoch_line.specs.Text.{text_of}
 use Rattle.segment_file.specs.declared.placed.Placed.{Placed}
 use Rattle.segment_file.specs.Segment.{IsSegment, greatest_ts}
 use Rattle.segment_file.specs.Index.{placed_from}
+use Rattle.segment_bundle.specs.Parts.{Parts, part_in, layout_of, can_pack}
 use Rattle.segment_meta.specs.declared.note.Entry.{Entry}
 use Rattle.object_store.specs.Content.{Objects}
-use Rattle.object_store.specs.Place.{key_of}
+use Rattle.object_store.specs.declared.placing.Spot.{Spot}
+use Rattle.object_store.specs.Place.{spot_of, keys_of, all_of, short_of}
 use Rattle.tier_sweep.specs.Rest.{AreNamed, NoneIsLeft}
 
 -- a copy's entry tells of these batches
@@ -83,14 +89,22 @@ IsRight entry batches TimeIndex bytes =
     (moments : List (ℤ × ℕ)) × AreHeights entry.start batches moments × (bytes ≡ bytes_of moment_bytes moments)
 IsRight entry batches Epochs bytes =
     (line : List (ℕ × ℕ)) × IsLine line × (bytes ≡ text_of line) × (within line entry.start entry.end ≡ entry.map)
+IsRight entry batches Pack bytes = ⊥
 
--- a part of a copy stands, and is right
+-- where a part of a copy stands
+abbrev pub place_of : Entry → Part → Option Spot
+place_of entry part = spot_of entry.partition entry.id entry.packed entry.custom part
+
+-- a part of a copy stands whole, and is right
 pub record Stands (objects : Objects) (entry : Entry) (batches : List (List ℕ)) (part : Part) : Type 0 where
-  pub bytes : List ℕ
-  pub there : objects (key_of entry.partition entry.id part) ≡ Some bytes
-  pub right : IsRight entry batches part bytes
+  pub spot : Spot
+  pub place : place_of entry part ≡ Some spot
+  pub object : List ℕ
+  pub there : objects spot.key ≡ Some object
+  pub whole : short_of spot (all_of spot object) ≡ None
+  pub right : IsRight entry batches part (all_of spot object)
 
--- these parts of a copy stand and are right, all of the same batches
+-- these parts of a copy stand whole and are right, all of the same batches
 abbrev pub Hold : Objects → Entry → List Part → Type 0
 Hold objects entry [] = Unit {0}
 Hold objects entry (part ∷ parts) =
@@ -103,6 +117,12 @@ all_parts = Log ∷ Index ∷ TimeIndex ∷ Epochs ∷ []
 -- a finished copy is readable
 abbrev pub IsReadable : Objects → Entry → Type 0
 IsReadable objects entry = entry.state ≡ CopyFinished → Hold objects entry all_parts
+
+-- the objects of a copy hold these parts, and of a packed one the custom metadata is their layout
+pub record ArePut (objects : Objects) (entry : Entry) (parts : Parts) : Type 0 where
+  pub stand : (n : ℕ) (key : ObjectKey) → slice_get (keys_of entry.partition entry.id entry.packed) n ≡ Some key
+      → objects key ≡ Some (part_in parts key.part)
+  pub custom : entry.packed ≡ true → (entry.custom ≡ Some (layout_bytes (layout_of parts))) × (can_pack parts ≡ true)
 
 -- each of them is
 abbrev pub AreReadable : Objects → List Entry → Type 0

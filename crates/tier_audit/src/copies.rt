@@ -1,15 +1,18 @@
-//! The first flaw of finished copies, whose objects the store is asked for one by one.
+//! The first flaw of finished copies, whose parts are read one by one.
+//!
+//! A part is read from where it stands to its object's end, so that this end can be told.
 
-ghost use Rattle.std.specs.Prelude.{◌≡◌, ◌≢◌, List, ℕ, IfOk, IsTrue};
-ghost use Rattle.tier_base.specs.declared.plain.Part.TheVariants.{Log};
+ghost use Rattle.std.specs.Prelude.{◌≡◌, ◌≢◌, ◌<◌, ◌≤◌, ◌^◌, List, ℕ, length, IfOk, IfSome, IsTrue};
+ghost use Rattle.tier_base.specs.declared.plain.Part.TheVariants.{Log, Pack};
 ghost use Rattle.tier_base.specs.Device.{fate_of};
-ghost use Rattle.object_store.specs.Place.{key_of};
+ghost use Rattle.object_store.specs.Place.{capped, short_of};
 ghost use Rattle.segment_file.specs.Index.{placed_from};
 ghost use Rattle.remote_view.specs.Fold.{IsKept, AreKept};
 ghost use Rattle.tier_audit.specs.Asking.{Asks};
-ghost use Rattle.tier_audit.specs.declared.verdict.Flaw.TheVariants.{Missing, Wrong};
+ghost use Rattle.tier_audit.specs.declared.verdict.Flaw.TheVariants.{Wrong};
 ghost use Rattle.tier_audit.specs.Entries.{ArePlaced};
-ghost use Rattle.tier_audit.specs.Copies.{HasPlaced, ReadsPart, FindsPart, PlacesLog, FindsLog, FindsParts, FindsCopy, FindsCopies};
+ghost use Rattle.tier_audit.specs.Whole.{place_of};
+ghost use Rattle.tier_audit.specs.Copies.{HasPlaced, ReadsPart, ReadsSpot, ReadsLogSpot, IsWithin, from_rest, FindsPart, PlacesLog, FindsLog, FindsParts, FindsCopy, FindsCopies};
 
 use crate::epochs_part::read_epochs;
 use crate::index_part::read_index;
@@ -17,7 +20,7 @@ use crate::log_part::{LogPart, read_log};
 use crate::time_part::read_times;
 use crate::verdict::Flaw;
 use bytes::Bytes;
-use object_store::{ObjectKey, Part, Store};
+use object_store::{Part, Spot, Store, place};
 use segment_file::Placed;
 use segment_meta::Entry;
 use std::alloc::{AllocError, Global};
@@ -93,12 +96,15 @@ fn check_log<S: Store>(alloc: Global, entry: &Entry, store: &mut S) -> Result<Lo
     ensures found { IsTrue (S.content store.old).tells
         → IfOk result (λ found. FindsLog (S.content store.old).objects entry.now found) }
 {
-    let Some(bytes) = fetch(entry, Part::Log, store)? else {
-        return Ok(LogFound::Flawed(missing(entry, Part::Log)));
+    let Some(spot) = place_of(entry, Part::Log) else {
+        return Ok(LogFound::Flawed(Flaw::Custom { id: entry.id }));
     };
-    match read_log(alloc, entry, bytes.as_slice())? {
+    let Some(rest) = store.get(&spot.key, spot.at)? else {
+        return Ok(LogFound::Flawed(Flaw::Missing { key: spot.key }));
+    };
+    match read_log_at(alloc, entry, &spot, rest.as_slice())? {
         LogPart::Right(batches) => Ok(LogFound::Right(batches)),
-        LogPart::Wrong { at } => Ok(LogFound::Flawed(wrong(entry, Part::Log, at))),
+        LogPart::Wrong { at } => Ok(LogFound::Flawed(wrong(&spot, rest.as_slice(), at))),
     }
 }
 
@@ -135,17 +141,67 @@ fn check_part<S: Store>(
     requires kept { IsKept entry.now }
     requires placed { ArePlaced entry.now.start batches.now }
     requires part { part ≢ Log }
+    requires own { part ≢ Pack }
     ensures asks { Asks S.content S.control (fate_of result) store.old store.new }
     ensures found { IsTrue (S.content store.old).tells → (log : List (List ℕ)) → batches.now ≡ placed_from 0 log
         → IfOk result (λ found. FindsPart (S.content store.old).objects entry.now log part found) }
 {
-    let Some(bytes) = fetch(entry, part, store)? else {
-        return Ok(Some(missing(entry, part)));
+    let Some(spot) = place_of(entry, part) else {
+        return Ok(Some(Flaw::Custom { id: entry.id }));
     };
-    match read_part(alloc, entry, batches, part, bytes.as_slice())? {
-        Some(at) => Ok(Some(wrong(entry, part, at))),
+    let Some(rest) = store.get(&spot.key, spot.at)? else {
+        return Ok(Some(Flaw::Missing { key: spot.key }));
+    };
+    match read_at(alloc, entry, batches, part, &spot, rest.as_slice())? {
+        Some(at) => Ok(Some(wrong(&spot, rest.as_slice(), at))),
         None => Ok(None),
     }
+}
+
+/// Reads a log, of whose object these are the bytes from there on.
+fn read_log_at(
+    alloc: Global,
+    entry: &Entry,
+    spot: &Spot,
+    rest: &[u8],
+) -> Result<LogPart, AllocError>
+    requires kept { IsKept entry.now }
+    requires low { spot.now.at < 2 ^ 34 }
+    ensures reads { IfOk result (λ found. ReadsLogSpot entry.now (short_of spot.now (capped spot.now.len rest.now))
+        (capped spot.now.len rest.now) found) }
+    ensures within { IfOk result (λ found. IsWithin (capped spot.now.len rest.now) found) }
+{
+    let bytes = capped(spot.len, rest);
+    if spot.short(bytes).is_some() {
+        return Ok(LogPart::Wrong { at: bytes.len() });
+    }
+    read_log(alloc, entry, bytes)
+}
+
+/// Reads a part behind the log, of whose object these are the bytes from there on: none where it is right, or the place in the part
+/// that is told.
+fn read_at(
+    alloc: Global,
+    entry: &Entry,
+    batches: &[Placed],
+    part: Part,
+    spot: &Spot,
+    rest: &[u8],
+) -> Result<Option<usize>, AllocError>
+    requires kept { IsKept entry.now }
+    requires placed { ArePlaced entry.now.start batches.now }
+    requires part { part ≢ Log }
+    requires own { part ≢ Pack }
+    requires low { spot.now.at < 2 ^ 34 }
+    ensures reads { (log : List (List ℕ)) → batches.now ≡ placed_from 0 log → IfOk result (λ found. ReadsSpot entry.now log part
+        (short_of spot.now (capped spot.now.len rest.now)) (capped spot.now.len rest.now) found) }
+    ensures within { IfOk result (λ found. IfSome found (λ at. at ≤ length (capped spot.now.len rest.now))) }
+{
+    let bytes = capped(spot.len, rest);
+    if spot.short(bytes).is_some() {
+        return Ok(Some(bytes.len()));
+    }
+    read_part(alloc, entry, batches, part, bytes)
 }
 
 /// Reads a part behind the log: none where it is right, or the place that is told.
@@ -159,52 +215,52 @@ fn read_part(
     requires kept { IsKept entry.now }
     requires placed { ArePlaced entry.now.start batches.now }
     requires part { part ≢ Log }
+    requires own { part ≢ Pack }
     ensures { (log : List (List ℕ)) → batches.now ≡ placed_from 0 log
         → IfOk result (λ found. ReadsPart entry.now log part bytes.now found) }
 {
     match part {
-        Part::Log => unreachable!(),
+        Part::Log | Part::Pack => unreachable!(),
         Part::Index => read_index(alloc, entry.start, batches, bytes),
         Part::TimeIndex => read_times(alloc, entry.start, batches, bytes),
         Part::Epochs => read_epochs(alloc, entry, bytes),
     }
 }
 
-/// Asks the store for a part of a copy.
-fn fetch<S: Store>(entry: &Entry, part: Part, store: &mut S) -> Result<Option<Bytes>, Trouble>
-    ensures asks { Asks S.content S.control (fate_of result) store.old store.new }
-    ensures bytes { IsTrue (S.content store.old).tells
-        → IfOk result (λ bytes. bytes ≡ (S.content store.old).objects (key_of entry.now.partition entry.now.id part)) }
+/// Where a part of a copy stands.
+fn place_of(entry: &Entry, part: Part) -> Option<Spot>
+    ensures spot { result ≡ place_of entry.now part }
+    ensures low { IfSome result (λ spot. spot.at < 2 ^ 34) }
 {
-    store.get(&key_of(entry, part), 0)
-}
-
-/// The key of a part of a copy.
-fn key_of(entry: &Entry, part: Part) -> ObjectKey
-    ensures { result ≡ key_of entry.now.partition entry.now.id part }
-{
-    ObjectKey {
-        partition: entry.partition,
-        id: entry.id,
+    place(
+        entry.partition,
+        entry.id,
+        entry.packed,
+        entry.custom.as_ref(),
         part,
+    )
+}
+
+/// At most so many of these bytes, or all.
+fn capped(len: Option<u64>, bytes: &[u8]) -> &[u8]
+    ensures { result.now ≡ capped len bytes.now }
+{
+    match len {
+        Some(len) if len < bytes.len() as u64 => &bytes[..len as usize],
+        _ => bytes,
     }
 }
 
-/// A part of a copy that doesn't stand.
-fn missing(entry: &Entry, part: Part) -> Flaw
-    ensures { result ≡ Missing (key_of entry.now.partition entry.now.id part) }
+/// A part that isn't right at this place in it, of whose object these are the bytes from there on.
+fn wrong(spot: &Spot, rest: &[u8], at: usize) -> Flaw
+    requires low { spot.now.at < 2 ^ 34 }
+    requires within { at ≤ length (capped spot.now.len rest.now) }
+    ensures { result ≡ Wrong spot.now.key (from_rest spot.now rest.now at) }
 {
-    Flaw::Missing {
-        key: key_of(entry, part),
-    }
-}
-
-/// A part of a copy that isn't right, and the place that is told.
-fn wrong(entry: &Entry, part: Part, at: usize) -> Flaw
-    ensures { result ≡ Wrong (key_of entry.now.partition entry.now.id part) at }
-{
+    let end = capped(spot.len, rest).len();
+    let within = if at == end { rest.len() } else { at };
     Flaw::Wrong {
-        key: key_of(entry, part),
-        at: at as u64,
+        key: spot.key,
+        at: spot.at + within as u64,
     }
 }

@@ -1,15 +1,13 @@
 //! Laws of an audit, each the contract of a function that does nothing.
 
-ghost use Rattle.std.specs.Prelude.{◌≡◌, ℕ, List, Some, FitsSigned};
+ghost use Rattle.std.specs.Prelude.{◌≡◌, ℕ, List, FitsSigned};
 ghost use Rattle.std.specs.Int.{w64};
-ghost use Rattle.tier_base.specs.declared.plain.Part.{Part};
 ghost use Rattle.epoch_line.specs.Line.{IsLine, within};
-ghost use Rattle.segment_bundle.specs.Parts.{parts_of, part_in};
+ghost use Rattle.segment_bundle.specs.Parts.{parts_of};
 ghost use Rattle.segment_meta.specs.declared.note.Entry.{Entry};
 ghost use Rattle.object_store.specs.Content.{Objects};
-ghost use Rattle.object_store.specs.Place.{key_of};
 ghost use Rattle.tier_audit.specs.declared.verdict.Flaw.{Flaw};
-ghost use Rattle.tier_audit.specs.Whole.{Describes, IsReadable, IsWhole};
+ghost use Rattle.tier_audit.specs.Whole.{Describes, ArePut, IsReadable, IsWhole};
 ghost use Rattle.tier_audit.specs.Flaws.{IsFirstFlaw};
 
 /// A tier that is whole has no flaw.
@@ -19,12 +17,12 @@ pub fn an_audit_says_one_thing()
         → IsFirstFlaw objects entries flaw → ⊥ }
 {}
 
-/// The four parts that a copy puts are right, at any interval of its indexes: of an entry that tells of the batches, and of a
-/// line that has the entry's map within the segment.
+/// The parts that a copy puts are right, at any interval of its indexes, with an object each or packed into one: of an entry that
+/// tells of the batches, and of a line that has the entry's map within the segment.
 pub fn what_a_copy_puts_is_sound()
     ensures { (objects : Objects) (entry : Entry) (batches : List (List ℕ)) (line : List (ℕ × ℕ)) (interval : ℕ)
         → Describes entry batches → FitsSigned w64 entry.max_ts → IsLine line
         → within line entry.start entry.end ≡ entry.map
-        → ((part : Part) → objects (key_of entry.partition entry.id part) ≡ Some (part_in (parts_of batches line interval) part))
+        → ArePut objects entry (parts_of batches line interval)
         → IsReadable objects entry }
 {}

@@ -11,7 +11,7 @@
 -- As text:
 --
 --   id  = 8 digits "-" 4 digits "-" 4 digits "-" 4 digits "-" 12 digits    of 0 to 9 and a to f
---   key = partition "/" id ( ".log" / ".index" / ".timeindex" / ".epochs" )
+--   key = partition "/" id ( ".log" / ".index" / ".timeindex" / ".epochs" / ".pack" )
 --
 -- The partition is decimal, without a leading zero.
 use Rattle.std.specs.Prelude.{◌≡◌, ◌≢◌, ℕ, ◌<◌, ◌^◌, List, ◌++◌, length, All, codes, decimal, Option, Some, None}
@@ -19,7 +19,7 @@ use Rattle.std.specs.Int.{w16, w32, w64, to_be_bytes}
 use Rattle.uuid.specs.Text.{hyphenated_text, lower}
 use Rattle.tier_base.specs.declared.names.SegmentId.{SegmentId}
 use Rattle.tier_base.specs.declared.plain.Part.{Part}
-use Rattle.tier_base.specs.declared.plain.Part.TheVariants.{Log, Index, TimeIndex, Epochs}
+use Rattle.tier_base.specs.declared.plain.Part.TheVariants.{Log, Index, TimeIndex, Epochs, Pack}
 use Rattle.tier_base.specs.declared.object_key.ObjectKey.{ObjectKey}
 
 -- the bytes of an id
@@ -52,6 +52,7 @@ part_text Log = codes ".log"
 part_text Index = codes ".index"
 part_text TimeIndex = codes ".timeindex"
 part_text Epochs = codes ".epochs"
+part_text Pack = codes ".pack"
 
 -- the text of a key
 unfoldable pub key_text : ObjectKey → List ℕ

@@ -2,6 +2,7 @@ pub mod Counts
 pub mod Device
 pub mod Faults
 pub mod Key
+pub mod Layout
 pub mod Nexts
 pub mod Number
 pub mod Roll

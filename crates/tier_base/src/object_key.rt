@@ -26,6 +26,7 @@ fn suffix(part: Part) -> &'static str
         Part::Index => ".index",
         Part::TimeIndex => ".timeindex",
         Part::Epochs => ".epochs",
+        Part::Pack => ".pack",
     }
 }
 
@@ -44,6 +45,9 @@ fn part_of(text: &[u8]) -> Option<Part>
     }
     if text == b".epochs".as_slice() {
         return Some(Part::Epochs);
+    }
+    if text == b".pack".as_slice() {
+        return Some(Part::Pack);
     }
     None
 }

@@ -73,6 +73,8 @@ pub enum Part {
     TimeIndex,
     /// The leader epochs up to the segment's end.
     Epochs,
+    /// The four others, one behind another, where the segment has one object.
+    Pack,
 }
 
 /// A file of a broker's partition.

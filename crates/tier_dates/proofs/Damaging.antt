@@ -1,5 +1,5 @@
 -- A search among the remote segments tells of damage where it reads a segment's log alone.
-use Rattle.std.proofs.Common.{◌≡◌, inl, inr, ◌∙◌, sym, ap, subst, refl, ℕ, ◌<◌, ◌≤◌, List, drop, Option, Some, None, Ok, Err, arith}
+use Rattle.std.proofs.Common.{◌≡◌, inl, inr, ◌∙◌, sym, ap, subst, refl, ℕ, ◌<◌, ◌≤◌, List, Option, Some, None, Ok, Err, arith}
 use Rattle.std.specs.declared.result.Result.{Result}
 use Rattle.std.specs.declared.alloc.AllocError.{AllocError}
 use Rattle.tier_base.specs.declared.fault.Trouble.{Trouble}
@@ -15,7 +15,9 @@ use Rattle.segment_file.specs.Index.{placed_from, time_index_of}
 use Rattle.segment_meta.specs.declared.note.Entry.{Entry}
 use Rattle.object_store.specs.Call as store_call
 use Rattle.object_store.specs.Content as store
-use Rattle.object_store.specs.Place.{key_of}
+use Rattle.object_store.specs.Calls.{Gets}
+use Rattle.object_store.specs.Place.{key_of, all_of, short_of}
+use Rattle.object_store.proofs.Parts.{not_short}
 use Rattle.object_store.specs.declared.placing.Spot.{Spot}
 use Rattle.meta_log.specs.Call as meta_call
 use Rattle.meta_log.specs.Content as meta
@@ -34,7 +36,7 @@ use Rattle.tier_fetch.specs.declared.turn.Span.{Span}
 use Rattle.tier_fetch.specs.declared.turn.Next.TheVariants as fetch
 use Rattle.tier_fetch.specs.declared.turn.FetchTurn.{FetchTurn}
 use Rattle.tier_fetch.specs.declared.turn.FetchTurn.TheVariants as fetching
-use Rattle.tier_fetch.specs.Turns.{spot_in, Gets, Tiers, FetchRow}
+use Rattle.tier_fetch.specs.Turns.{spot_in, Tiers, FetchRow}
 use Rattle.tier_safe.specs.Scene.{Site, Free, Scene}
 use Rattle.tier_safe.specs.May.{IsChanged}
 use Rattle.tier_safe.specs.Turns.{after_turn}
@@ -44,14 +46,14 @@ use Rattle.tier_safe.proofs.Rules.{seen_kept}
 use Rattle.tier_safe.proofs.Turning.{set_get, sees_all}
 use Rattle.tier_serves.specs.Seeking.{IsAtTurn}
 use Rattle.tier_serves.specs.Damage.{IsOfLog as IsOfFetched}
-use Rattle.tier_serves.proofs.Damaging.{kept_safe, placed, gives, damage_is_of_logs}
-use Rattle.tier_serves.proofs.Reading.{first_is}
+use Rattle.tier_serves.proofs.Damaging.{kept_safe, damage_is_of_logs}
+use Rattle.tier_serves.proofs.Reading.{copy_of, at_spot, gives, first_is}
 use Rattle.tier_serves.proofs.Turning.{shown}
 use Rattle.time_find.specs.declared.turn.Asked.{Asked}
 use Rattle.time_find.specs.declared.turn.Next.TheVariants.{Seek, Times, Index, Log}
 use Rattle.time_find.specs.declared.turn.TimeTurn.TheVariants.{Goes, Ends}
 use Rattle.time_find.specs.Passing.{Passes, Stays, Over, SeeksNothing, Seeks}
-use Rattle.time_find.specs.Turns.{Times as Timed, wanted_at, Indexes, Searches, SeekRow, TimesRow, IndexRow, LogRow}
+use Rattle.time_find.specs.Turns.{TimesBytes, Times as Timed, wanted_at, Indexes, Searches, SeekRow, TimesRow, IndexRow, LogRow}
 use Rattle.tier_dates.specs.Searching.{IsAtSearch}
 use Rattle.tier_dates.specs.Answers.{IsOfLog, SearchDamageIsOfLogs}
 use Rattle.tier_dates.proofs.Timing.{times_rise}
@@ -106,23 +108,26 @@ module _ {S M : Type 0} (objects : S → store.Content) (calls : S → Control s
   reads_damage : (c : Scene) (p : Plain) (a b : ℕ) (site : Site) (x : Broker) (stops epoch : ℕ) (asked : Asked) (line : List (ℕ × ℕ)) (cursor : ℕ) (piece : Piece) (ns : meta.Content) (view : Seen)
       (cache : Cache) (old new : S) (spot : ℕ × Spot) (place : Place) (at : ℕ) (answer : Result (Option (List ℕ)) Trouble)
       → IsAtTurn c p a b site x stops epoch (wanted_at asked cursor) line (fetch.Index piece) (objects old) ns view cache
-      → spot_in asked.partition piece.id part.TimeIndex (entry_of piece.id view.entries) ≡ Some spot → Gets objects calls spot.1.key (drop spot.1.at) answer old new
+      → spot_in asked.partition piece.id part.TimeIndex (entry_of piece.id view.entries) ≡ Some spot → Gets objects calls spot.1.key (all_of spot.1) answer old new
       → Timed asked cursor piece spot.0 spot.1 answer (Ok (Ends (Damaged place at))) → ⊥
   reads_damage c p a b site x stops epoch asked line cursor piece ns view cache old new spot place at (Err Failed) h stood got k = cc (k)
   reads_damage c p a b site x stops epoch asked line cursor piece ns view cache old new spot place at (Err NoMemory) h stood got k = cc (k)
   reads_damage c p a b site x stops epoch asked line cursor piece ns view cache old new spot place at (Ok None) h stood got k =
-      let g = gives objects calls notes notings c p a b site x stops epoch (wanted_at asked cursor) line (fetch.Index piece) ns view cache old new piece part.TimeIndex spot (λ q. drop q.at) None h refl stood
-      (got.bytes h.shows.store_tells) in
-      cc (g.1)
+      let r = copy_of c p a b site x stops epoch (wanted_at asked cursor) line (fetch.Index piece) (objects old) ns view cache piece h refl in
+      let g = gives c p a b site x stops epoch (wanted_at asked cursor) line (fetch.Index piece) (objects old) ns view cache piece part.TimeIndex spot (λ b. b) None
+      tt h refl stood (got.bytes h.shows.store_tells) r in
+      cc (g.given_is)
   reads_damage c p a b site x stops epoch asked line cursor piece ns view cache old new spot place at (Ok (Some bytes)) h stood got k =
-      let g = gives objects calls notes notings c p a b site x stops epoch (wanted_at asked cursor) line (fetch.Index piece) ns view cache old new piece part.TimeIndex spot (λ q. drop q.at) (Some bytes) h refl
-      stood (got.bytes h.shows.store_tells) in
-      let r = g.0 in
+      let r = copy_of c p a b site x stops epoch (wanted_at asked cursor) line (fetch.Index piece) (objects old) ns view cache piece h refl in
+      let g = gives c p a b site x stops epoch (wanted_at asked cursor) line (fetch.Index piece) (objects old) ns view cache piece part.TimeIndex spot (λ b. b) (Some bytes)
+      tt h refl stood (got.bytes h.shows.store_tells) r in
       let d = r.held.describes in
+      let times = part_in (parts_of r.held.batches r.held.line r.held.interval) part.TimeIndex in
       let first : first_offset r.held.batches ≡ r.entry.start = first_is r.entry.start r.held.batches d.some d.is.consecutive in
-      let same : bytes ≡ part_in (parts_of r.held.batches r.held.line r.held.interval) part.TimeIndex =
-      one_some (Some bytes) bytes (part_in (parts_of r.held.batches r.held.line r.held.interval) part.TimeIndex) refl g.1 in
-      k.1 (time_index_of r.entry.start r.held.interval (placed_from 0 r.held.batches)).entries (times_rise r.entry.start r.held.interval r.held.batches d.is)
+      let same : bytes ≡ times = one_some (Some bytes) bytes times refl g.given_is in
+      let all : short_of spot.1 bytes ≡ None = ap (short_of spot.1) same ∙ not_short spot.1.at spot.1.len times g.whole in
+      let none = subst (λ (end : Option ℕ). TimesBytes end asked cursor piece spot.0 spot.1 bytes (Ok (Ends (Damaged place at)))) all k in
+      none.1 (time_index_of r.entry.start r.held.interval (placed_from 0 r.held.batches)).entries (times_rise r.entry.start r.held.interval r.held.batches d.is)
       (same ∙ ap (λ (m : ℕ). bytes_of moment_bytes (time_index_of m r.held.interval (placed_from 0 r.held.batches)).entries) first)
 
   times_damage : (c : Scene) (p : Plain) (a b : ℕ) (site : Site) (x : Broker) (stops epoch : ℕ) (asked : Asked) (line : List (ℕ × ℕ)) (cursor : ℕ) (piece : Piece) (ns : meta.Content) (view : Seen)
@@ -130,8 +135,9 @@ module _ {S M : Type 0} (objects : S → store.Content) (calls : S → Control s
       → IsAtTurn c p a b site x stops epoch (wanted_at asked cursor) line (fetch.Index piece) (objects old) ns view cache
       → spot_in asked.partition piece.id part.TimeIndex (entry_of piece.id view.entries) ≡ spot → TimesRow objects calls asked cursor piece view spot (Ok (Ends (Damaged place at))) old new → ⊥
   times_damage c p a b site x stops epoch asked line cursor piece ns view cache old new None place at h stood row =
-      let k = placed c p a b site x stops epoch (wanted_at asked cursor) line (fetch.Index piece) (objects old) ns view cache piece part.TimeIndex h refl in
-      let there = sym stood ∙ k.1 in
+      let r = copy_of c p a b site x stops epoch (wanted_at asked cursor) line (fetch.Index piece) (objects old) ns view cache piece h refl in
+      let k = at_spot c p a b site x stops epoch (wanted_at asked cursor) line (fetch.Index piece) (objects old) ns view cache piece part.TimeIndex tt h refl r in
+      let there = sym stood ∙ k.is in
       cc (there)
   times_damage c p a b site x stops epoch asked line cursor piece ns view cache old new (Some spot) place at h stood row =
       reads_damage c p a b site x stops epoch asked line cursor piece ns view cache old new spot place at row.answer h stood row.gets row.times
@@ -183,7 +189,7 @@ module _ {S M : Type 0} (objects : S → store.Content) (calls : S → Control s
       let k = searches_damage asked line from piece span place at row.1.0 old new c p a b site x stops epoch row.1.1 row.1.2 h in
       let is = k.next_is in
       let same : k.piece ≡ piece = cc (is) in
-      record { piece = piece; from = from; span = span; next_is = refl; place_is = k.place_is ∙ ap (λ (q : Piece). Key (key_of asked.partition q.id part.Log)) same }
+      record { piece = piece; from = from; span = span; next_is = refl; home = k.home; place_is = k.place_is ∙ ap (λ (q : Piece). Key (key_of asked.partition q.id k.home)) same }
 
   pub search_damage : SearchDamageIsOfLogs objects calls notes notings
   search_damage asked line cursor at Seek place old new c p a b site x stops epoch row below set h =

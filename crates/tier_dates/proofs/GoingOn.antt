@@ -1,6 +1,6 @@
 -- Where a search goes on, all before its cursor is too early, and the offset that it answers is the log's.
-use Rattle.std.proofs.Common.{◌≡◌, inl, inr, ◌∙◌, sym, ap, subst, refl, ℕ, ◌+◌, ◌<◌, ◌≤◌, min, max, Bool, true, false, cond, nat_lt, List, drop, Some, None, Option, Ok, Err, arith}
-use Rattle.std.specs.Prelude.{ℤ, option_map}
+use Rattle.std.proofs.Common.{◌≡◌, inl, inr, ◌∙◌, sym, ap, subst, refl, ℕ, ◌+◌, ◌<◌, ◌≤◌, min, max, Bool, true, false, cond, nat_lt, List, Some, None, Option, Ok, Err, arith}
+use Rattle.std.specs.Prelude.{ℤ}
 use Rattle.std.specs.declared.result.Result.{Result}
 use Rattle.std.specs.declared.alloc.AllocError.{AllocError}
 use Rattle.std.proofs.lemmas.Bool.{ltb-true, ltb-false}
@@ -19,7 +19,8 @@ use Rattle.segment_bundle.specs.Parts.{first_offset, parts_of, part_in}
 use Rattle.segment_file.specs.Index.{placed_from, time_index_of}
 use Rattle.object_store.specs.Call as store_call
 use Rattle.object_store.specs.Content as store
-use Rattle.object_store.specs.Place.{key_of}
+use Rattle.object_store.specs.Calls.{Gets}
+use Rattle.object_store.specs.Place.{all_of, short_of, short_in}
 use Rattle.object_store.specs.declared.placing.Spot.{Spot}
 use Rattle.meta_log.specs.Call as meta_call
 use Rattle.meta_log.specs.Content as meta
@@ -39,7 +40,7 @@ use Rattle.tier_fetch.specs.declared.turn.FetchTurn.{FetchTurn}
 use Rattle.tier_fetch.specs.declared.turn.FetchTurn.TheVariants as fetch
 use Rattle.tier_fetch.specs.declared.turn.Next.{Next as FetchNext}
 use Rattle.tier_fetch.specs.declared.turn.Next.TheVariants as fetching
-use Rattle.tier_fetch.specs.Turns.{Tiers, FetchRow, Gets, spot_in, Loads, LoadRow, Cuts}
+use Rattle.tier_fetch.specs.Turns.{Tiers, FetchRow, spot_in, LoadsBytes, Loads, LoadRow, CutsBytes, Cuts}
 use Rattle.tier_fetch.specs.Turns as rows
 use Rattle.tier_safe.specs.Scene.{Site, Free, Seeks, Scene}
 use Rattle.tier_safe.specs.Views.{IsViewOf}
@@ -50,7 +51,7 @@ use Rattle.tier_safe.proofs.Rules.{seen_kept}
 use Rattle.tier_safe.proofs.Serving.{FetchReads}
 use Rattle.tier_safe.proofs.Turning.{sees_all}
 use Rattle.tier_serves.specs.Seeking.{sought_of, IsAtTurn}
-use Rattle.tier_serves.proofs.Reading.{spot_is, copy_of, stands, seen_start, first_is}
+use Rattle.tier_serves.proofs.Reading.{copy_of, gives, first_is}
 use Rattle.tier_serves.proofs.Running.{ServesChecked, runs_are_checked}
 use Rattle.tier_serves.proofs.Turning.{shown as own_view}
 use Rattle.time_find.specs.declared.turn.Asked.{Asked}
@@ -58,7 +59,7 @@ use Rattle.time_find.specs.declared.turn.Next.{Next}
 use Rattle.time_find.specs.declared.turn.Next.TheVariants.{Seek, Times as ReadsTimes, Index, Log}
 use Rattle.time_find.specs.declared.turn.TimeTurn.TheVariants.{Goes, Ends}
 use Rattle.time_find.specs.Passing.{top_of, Passes, Seeks as SeeksIn}
-use Rattle.time_find.specs.Turns.{IsSet, IsSearched, from_of, shown, Times, wanted_at, Indexes, Searches, TimesRow, IndexRow, LogRow}
+use Rattle.time_find.specs.Turns.{IsSet, IsSearched, from_of, shown, IsTimed, TimesBytes, Times, wanted_at, Indexes, Searches, TimesRow, IndexRow, LogRow}
 use Rattle.tier_dates.specs.Passed.{HasPassed, IsDatedTo, read_from}
 use Rattle.tier_dates.specs.Searching.{IsAtSearch}
 use Rattle.tier_dates.specs.Answers.{SearchesGoOn, SearchesAreRight}
@@ -251,6 +252,12 @@ module _ {S M : Type 0} (objects : S → store.Content) (calls : S → Control s
 
   -- time indexes
 
+  -- where a search goes on, none of the bytes are lacking
+  none_lack : (end : Option ℕ) (asked : Asked) (cursor at : ℕ) (piece : Piece) (base : ℕ) (spot : Spot) (bytes : List ℕ) (then : Next)
+      → TimesBytes end asked cursor piece base spot bytes (Ok (Goes at then)) → IsTimed asked cursor piece base bytes (Goes at then)
+  none_lack (Some end) asked cursor at piece base spot bytes then k = absurd (cc (k))
+  none_lack None asked cursor at piece base spot bytes then k = k
+
   times_on : (c : Scene) (p : Plain) (a b : ℕ) (site : Site) (x : Broker) (stops epoch : ℕ) (asked : Asked) (line : List (ℕ × ℕ)) (cursor at : ℕ) (piece : Piece) (then : Next) (ns : meta.Content)
       (view : Seen) (cache : Cache) (old new : S) (place : Option (ℕ × Spot)) → IsAtSearch c p a b site x stops epoch asked line cursor (ReadsTimes piece) (objects old) ns view cache
       → cursor < piece.to → spot_in asked.partition piece.id part.TimeIndex (entry_of piece.id view.entries) ≡ place
@@ -258,32 +265,25 @@ module _ {S M : Type 0} (objects : S → store.Content) (calls : S → Control s
   times_on c p a b site x stops epoch asked line cursor at piece then ns view cache old new None h set there row = absurd (cc (row.0))
   times_on c p a b site x stops epoch asked line cursor at piece then ns view cache old new (Some place) h set there row = by row.answer row.gets row.times
     where
-      by : (answer : Result (Option (List ℕ)) Trouble) → Gets objects calls place.1.key (drop place.1.at) answer old new
+      by : (answer : Result (Option (List ℕ)) Trouble) → Gets objects calls place.1.key (all_of place.1) answer old new
           → Times asked cursor piece place.0 place.1 answer (Ok (Goes at then)) → Dated p x asked cursor at then
       by (Err Failed) gets k = absurd (cc (k))
       by (Err NoMemory) gets k = absurd (cc (k))
       by (Ok None) gets k = absurd (cc (k))
       by (Ok (Some bytes)) gets k =
+          let t = none_lack (short_of place.1 bytes) asked cursor at piece place.0 place.1 bytes then k in
           let turn = at_turn c p a b site x stops epoch asked line cursor (ReadsTimes piece) (objects old) ns view cache cursor (fetching.Index piece) h h.shows (omega arith) in
           let r = copy_of c p a b site x stops epoch (wanted_at asked cursor) line (fetching.Index piece) (objects old) ns view cache piece turn refl in
-          let spot = spot_is asked.partition piece.id part.TimeIndex (entry_of piece.id view.entries) place there in
-          let of : r.entry.partition ≡ asked.partition = h.safe.tier.partition.told piece.id r.entry r.there ∙ sym h.partition in
-          let stand = stands c p x piece asked.partition (objects old) part.TimeIndex r h.shows.objects_are of in
-          let given : Some bytes ≡ option_map (drop place.1.at) ((objects old).objects place.1.key) = gets.bytes h.shows.store_tells in
-          let read : Some bytes ≡ option_map (drop 0) ((objects old).objects (key_of asked.partition piece.id part.TimeIndex)) =
-          subst (λ (q : ℕ × Spot). Some bytes ≡ option_map (drop q.1.at) ((objects old).objects q.1.key)) spot.is given in
-          let whole : Some bytes ≡ Some (part_in (parts_of r.held.batches r.held.line r.held.interval) part.TimeIndex) = read ∙ ap (option_map (drop 0)) stand in
+          let g = gives c p a b site x stops epoch (wanted_at asked cursor) line (fetching.Index piece) (objects old) ns view cache piece part.TimeIndex place (λ b. b) (Some bytes)
+          tt turn refl there (gets.bytes h.shows.store_tells) r in
           let spelled : bytes ≡ part_in (parts_of r.held.batches r.held.line r.held.interval) part.TimeIndex =
-          one_some (Some bytes) bytes (part_in (parts_of r.held.batches r.held.line r.held.interval) part.TimeIndex) refl whole in
+          one_some (Some bytes) bytes (part_in (parts_of r.held.batches r.held.line r.held.interval) part.TimeIndex) refl g.given_is in
           let first : first_offset r.held.batches ≡ r.entry.start = first_is r.entry.start r.held.batches r.held.describes.some r.held.describes.is.consecutive in
-          let same : bytes_of moment_bytes k.index.entries ≡ bytes_of moment_bytes (time_index_of r.entry.start r.held.interval (placed_from 0 r.held.batches)).entries =
-          sym k.bytes_are ∙ spelled ∙ ap (λ (n : ℕ). bytes_of moment_bytes (time_index_of n r.held.interval (placed_from 0 r.held.batches)).entries) first in
-          let base : k.index.base ≡ r.entry.start =
-          k.base_is ∙ ap (λ (q : ℕ × Spot). q.0) spot.is
-          ∙ seen_start c p a b site x stops epoch (wanted_at asked cursor) line (fetching.Index piece) (objects old) ns view cache piece spot.entry turn r spot.there in
-          let index = times_read k.index r.entry.start r.held.interval r.held.batches r.held.describes.is base k.rises same in
+          let same : bytes_of moment_bytes t.index.entries ≡ bytes_of moment_bytes (time_index_of r.entry.start r.held.interval (placed_from 0 r.held.batches)).entries =
+          sym t.bytes_are ∙ spelled ∙ ap (λ (n : ℕ). bytes_of moment_bytes (time_index_of n r.held.interval (placed_from 0 r.held.batches)).entries) first in
+          let index = times_read t.index r.entry.start r.held.interval r.held.batches r.held.describes.is (t.base_is ∙ g.start_is) t.rises same in
           let stood = (h.safe.tier.fetches a (sought_of b stops epoch cursor (fetching.Index piece)) site x turn.shows.seat turn.shows.site_is turn.broker_is).piece piece refl turn.leads turn.past in
-          timed c p a b site x stops epoch asked line cursor at piece then (objects old) ns view cache k.index h set r stood.holds.0 index k.turn_is
+          timed c p a b site x stops epoch asked line cursor at piece then (objects old) ns view cache t.index h set r stood.holds.0 index t.turn_is
 
   -- offset indexes
 
@@ -349,7 +349,11 @@ module _ {S M : Type 0} (objects : S → store.Content) (calls : S → Control s
   no_offset_loaded wanted piece base n spot (Err Failed) cache cache' k = cc (k.0)
   no_offset_loaded wanted piece base n spot (Err NoMemory) cache cache' k = cc (k.0)
   no_offset_loaded wanted piece base n spot (Ok None) cache cache' k = cc (k.0)
-  no_offset_loaded wanted piece base n spot (Ok (Some given)) cache cache' k = cc (k.0)
+  no_offset_loaded wanted piece base n spot (Ok (Some given)) cache cache' k = by (short_of spot given) k
+    where
+      by : (end : Option ℕ) → LoadsBytes end wanted piece base spot given (Ok (fetch.Ends (Offset n))) cache cache' → ⊥
+      by (Some end) k = cc (k.0)
+      by None k = cc (k.0)
 
   no_offset_read : (wanted : Wanted) (piece : Piece) (n : ℕ) (view : Seen) (place : Option (ℕ × Spot)) (cache cache' : Cache) (old new : S)
       → LoadRow objects calls wanted piece view place (Ok (fetch.Ends (Offset n))) cache cache' old new → ⊥
@@ -366,7 +370,11 @@ module _ {S M : Type 0} (objects : S → store.Content) (calls : S → Control s
   no_offset_cut wanted piece n spot span (Err Failed) k = cc (k)
   no_offset_cut wanted piece n spot span (Err NoMemory) k = cc (k)
   no_offset_cut wanted piece n spot span (Ok None) k = cc (k)
-  no_offset_cut wanted piece n spot span (Ok (Some given)) k = k
+  no_offset_cut wanted piece n spot span (Ok (Some given)) k = by (short_in spot span.from span.most given) k
+    where
+      by : (end : Option ℕ) → CutsBytes end wanted piece spot span given (Ok (fetch.Ends (Offset n))) → ⊥
+      by (Some end) k = cc (k)
+      by None k = k
 
   no_offset_run : (wanted : Wanted) (piece : Piece) (n : ℕ) (span : Span) (view : Seen) (place : Option (ℕ × Spot)) (old new : S)
       → rows.LogRow objects calls wanted piece span view place (Ok (fetch.Ends (Offset n))) old new → ⊥
@@ -378,11 +386,15 @@ module _ {S M : Type 0} (objects : S → store.Content) (calls : S → Control s
   no_offset_timed asked cursor n piece view None old new row = cc (row.0)
   no_offset_timed asked cursor n piece view (Some place) old new row = by row.answer row.times
     where
+      lacks : (bytes : List ℕ) (end : Option ℕ) → TimesBytes end asked cursor piece place.0 place.1 bytes (Ok (Ends (Offset n))) → ⊥
+      lacks bytes (Some end) k = cc (k)
+      lacks bytes None k = cc (k.0)
+
       by : (answer : Result (Option (List ℕ)) Trouble) → Times asked cursor piece place.0 place.1 answer (Ok (Ends (Offset n))) → ⊥
       by (Err Failed) k = cc (k)
       by (Err NoMemory) k = cc (k)
       by (Ok None) k = cc (k)
-      by (Ok (Some bytes)) k = cc (k.0)
+      by (Ok (Some bytes)) k = lacks bytes (short_of place.1 bytes) k
 
   index_at : (asked : Asked) (line : List (ℕ × ℕ)) (cursor at : ℕ) (piece : Piece) (from : ℕ) (old new : Tiers S M)
       → IndexRow objects calls notes notings asked line cursor piece from (Ok (Ends (Offset at))) old new → ⊥

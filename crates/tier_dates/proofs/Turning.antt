@@ -13,6 +13,7 @@ use Rattle.sparse_index.specs.Times.{below_time}
 use Rattle.index_cache.specs.Cache.{Cache}
 use Rattle.object_store.specs.Call as store_call
 use Rattle.object_store.specs.Content as store
+use Rattle.object_store.specs.Place.{short_of}
 use Rattle.object_store.specs.declared.placing.Spot.{Spot}
 use Rattle.meta_log.specs.Call as meta_call
 use Rattle.meta_log.specs.Content as meta
@@ -47,7 +48,7 @@ use Rattle.time_find.specs.declared.turn.Next.TheVariants.{Seek, Times, Index, L
 use Rattle.time_find.specs.declared.turn.TimeTurn.{TimeTurn}
 use Rattle.time_find.specs.declared.turn.TimeTurn.TheVariants.{Goes, Ends}
 use Rattle.time_find.specs.Passing.{top_in, top_of, SeeksPiece, Seeks}
-use Rattle.time_find.specs.Turns.{from_of, shown, Times as Timed, wanted_at, Indexes, Searches, SeekRow, TimesRow, IndexRow, LogRow}
+use Rattle.time_find.specs.Turns.{from_of, shown, TimesBytes, Times as Timed, wanted_at, Indexes, Searches, SeekRow, TimesRow, IndexRow, LogRow}
 use Rattle.tier_dates.specs.Searching.{search_of, search_work, search_after, IsAtSearch}
 use Rattle.tier_dates.specs.Turns.{SearchTurnsChange}
 
@@ -252,6 +253,26 @@ module _ {S M : Type 0} (objects : S → store.Content) (calls : S → Control s
       (sym free ∙ ap (search_after b stops epoch cursor (Times piece)) (sym is)) refl refl refl refl
       (ends c p a b site x stops epoch asked line cursor piece ns view cache old new h same)
 
+  -- by where bytes are lacking
+  bytes_turn : (end : Option ℕ) (c : Scene) (p : Plain) (a b : ℕ) (site : Site) (x : Broker) (stops epoch : ℕ) (asked : Asked) (line : List (ℕ × ℕ)) (cursor : ℕ) (piece : Piece)
+      (result : Result TimeTurn AllocError) (ns : meta.Content) (view : Seen) (cache : Cache) (old new : S) (base : ℕ) (spot : Spot) (bytes : List ℕ)
+      → IsAtSearch c p a b site x stops epoch asked line cursor (Times piece) (objects old) ns view cache → (objects new).objects ≡ (objects old).objects
+      → TimesBytes end asked cursor piece base spot bytes result
+      → IsChanged c p (after_fetch c a b site (search_after b stops epoch cursor (Times piece) result) (objects new).objects ns.notes view cache)
+  bytes_turn (Some end) c p a b site x stops epoch asked line cursor piece result ns view cache old new base spot bytes h same k =
+      ends_as c p a b site x stops epoch asked line cursor piece result (Ends (Damaged (Key spot.key) end)) ns view cache old new h same refl k
+  bytes_turn None c p a b site x stops epoch asked line cursor piece (Ok (Goes at next)) ns view cache old new base spot bytes h same k =
+      let from = from_of cursor (below_time k.index asked.ts) in
+      quiet c p a b site (Fetches (sought_of b stops epoch cursor (fetch.Index piece))) (search_work b stops epoch (Goes at next)) (objects old) ns view cache (objects new).objects ns.notes view cache
+      h.shows h.cache_is
+      (subst (λ (turn : TimeTurn). IsChanged c p (after_turn c a b site (search_work b stops epoch turn) c.objects c.notes site.view)) (sym k.turn_is)
+      (shows_on c p a b site x stops epoch asked line cursor piece (objects old) ns view cache from h (from_up cursor (below_time k.index asked.ts))))
+      same refl refl refl
+  bytes_turn None c p a b site x stops epoch asked line cursor piece (Ok (Ends answer)) ns view cache old new base spot bytes h same k =
+      ends c p a b site x stops epoch asked line cursor piece ns view cache old new h same
+  bytes_turn None c p a b site x stops epoch asked line cursor piece (Err e) ns view cache old new base spot bytes h same k =
+      halts c p a b site x stops epoch asked line cursor piece ns view cache old new h same
+
   read_turn : (c : Scene) (p : Plain) (a b : ℕ) (site : Site) (x : Broker) (stops epoch : ℕ) (asked : Asked) (line : List (ℕ × ℕ)) (cursor : ℕ) (piece : Piece) (result : Result TimeTurn AllocError)
       (ns : meta.Content) (view : Seen) (cache : Cache) (old new : S) (base : ℕ) (spot : Spot) (answer : Result (Option (List ℕ)) Trouble)
       → IsAtSearch c p a b site x stops epoch asked line cursor (Times piece) (objects old) ns view cache → (objects new).objects ≡ (objects old).objects
@@ -264,17 +285,8 @@ module _ {S M : Type 0} (objects : S → store.Content) (calls : S → Control s
       halts c p a b site x stops epoch asked line cursor piece ns view cache old new h same
   read_turn c p a b site x stops epoch asked line cursor piece result ns view cache old new base spot (Ok None) h same k =
       ends_as c p a b site x stops epoch asked line cursor piece result (Ends (Damaged (Key spot.key) 0)) ns view cache old new h same refl k
-  read_turn c p a b site x stops epoch asked line cursor piece (Ok (Goes at next)) ns view cache old new base spot (Ok (Some bytes)) h same k =
-      let from = from_of cursor (below_time k.index asked.ts) in
-      quiet c p a b site (Fetches (sought_of b stops epoch cursor (fetch.Index piece))) (search_work b stops epoch (Goes at next)) (objects old) ns view cache (objects new).objects ns.notes view cache
-      h.shows h.cache_is
-      (subst (λ (turn : TimeTurn). IsChanged c p (after_turn c a b site (search_work b stops epoch turn) c.objects c.notes site.view)) (sym k.turn_is)
-      (shows_on c p a b site x stops epoch asked line cursor piece (objects old) ns view cache from h (from_up cursor (below_time k.index asked.ts))))
-      same refl refl refl
-  read_turn c p a b site x stops epoch asked line cursor piece (Ok (Ends answer)) ns view cache old new base spot (Ok (Some bytes)) h same k =
-      ends c p a b site x stops epoch asked line cursor piece ns view cache old new h same
-  read_turn c p a b site x stops epoch asked line cursor piece (Err e) ns view cache old new base spot (Ok (Some bytes)) h same k =
-      halts c p a b site x stops epoch asked line cursor piece ns view cache old new h same
+  read_turn c p a b site x stops epoch asked line cursor piece result ns view cache old new base spot (Ok (Some bytes)) h same k =
+      bytes_turn (short_of spot bytes) c p a b site x stops epoch asked line cursor piece result ns view cache old new base spot bytes h same k
 
   times_turn : (c : Scene) (p : Plain) (a b : ℕ) (site : Site) (x : Broker) (stops epoch : ℕ) (asked : Asked) (line : List (ℕ × ℕ)) (cursor : ℕ) (piece : Piece) (result : Result TimeTurn AllocError)
       (ns : meta.Content) (view : Seen) (cache : Cache) (old new : S) (place : Option (ℕ × Spot))

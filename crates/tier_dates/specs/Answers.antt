@@ -4,7 +4,7 @@
 -- time index shows there is none. A piece's batches are the log's, as far as it goes. So where the cursor comes to, all before it are
 -- too early, and the first batch of a run that isn't is the log's first.
 use Rattle.std.specs.Prelude.{◌≡◌, ℕ, ◌<◌, ◌≤◌, List, Some, Ok}
-use Rattle.tier_base.specs.declared.plain.Part.TheVariants as part
+use Rattle.tier_base.specs.declared.plain.Part.{Part}
 use Rattle.tier_base.specs.declared.plain.Stop.{Stop}
 use Rattle.tier_base.specs.Device.{Control}
 use Rattle.log_terms.specs.Log.{IsConsecutive, joined, up_to, from_offset}
@@ -41,13 +41,14 @@ RunsAreSearched = (asked : Asked) (offset at limit : ℕ) (log run : List (List 
     → (IsSearched asked offset (joined run) (Ends (Offset at)) → first_at asked.ts asked.start (from_offset asked.start (up_to asked.mark log)) ≡ Some at)
     × (IsSearched asked offset (joined run) (Goes at Seek) → HasPassed asked.ts asked.start log at × (offset < at))
 
--- damage of the log of the segment that was to be read
+-- damage of the log of the segment that was to be read: it is told of the object that has it
 pub record IsOfLog (asked : Asked) (next : Next) (place : Place) : Type 0 where
   pub piece : Piece
   pub from : ℕ
   pub span : Span
   pub next_is : next ≡ Log piece from span
-  pub place_is : place ≡ Key (key_of asked.partition piece.id part.Log)
+  pub home : Part
+  pub place_is : place ≡ Key (key_of asked.partition piece.id home)
 
 module _ {S M : Type 0} (objects : S → store.Content) (calls : S → Control store_call.call_code)
     (notes : M → meta.Content) (notings : M → Control meta_call.call_code) where

@@ -1,2 +1,3 @@
+mod Loading
 pub mod Kept
 pub mod Past

@@ -5,25 +5,23 @@
 --   Index      has the piece's index of the cache, or else reads it     StoreFault, Damaged
 --   Log        reads the part of the log that the index shows           Run, StoreFault, Damaged
 --
--- The piece is the one that holds the offset in the line of the broker's own log. A view without one, or that tells of a packed
--- segment, is damage of the metadata log. An object that isn't there is damaged at 0, an index without a reading where it begins,
--- and a segment's log at the first place where no batch follows before the run has ended.
+-- The piece is the one that holds the offset in the line of the broker's own log. A view without one, or whose entry of it places
+-- no part, is damage of the metadata log. An object that isn't there is damaged at 0, one that lacks bytes of what is read behind
+-- those that it has, an index without a reading where it begins, and a segment's log at the first place where no batch follows
+-- before the run has ended.
 --
 -- Source: KIP-405, fetches below the local log start offset, and RemoteIndexCache.
-use Rattle.std.specs.Prelude.{◌≡◌, ℕ, ◌+◌, ◌<◌, min, List, length, take, drop, slice_range, option_map, Option, Some, None}
-use Rattle.std.specs.Prelude.{Ok, Err, IsErr, IfOk, IsTrue}
+use Rattle.std.specs.Prelude.{◌≡◌, ℕ, ◌+◌, ◌<◌, min, List, length, slice_range, option_map, Option, Some, None, Ok, Err, IsErr}
 use Rattle.std.specs.declared.result.Result.{Result}
 use Rattle.std.specs.declared.alloc.AllocError.{AllocError}
 use Rattle.tier_base.specs.declared.fault.Trouble.{Trouble}
 use Rattle.tier_base.specs.declared.fault.Trouble.TheVariants.{Failed, NoMemory}
 use Rattle.tier_base.specs.declared.names.PartitionId.{PartitionId}
 use Rattle.tier_base.specs.declared.names.SegmentId.{SegmentId}
-use Rattle.tier_base.specs.declared.object_key.ObjectKey.{ObjectKey}
 use Rattle.tier_base.specs.declared.plain.Part.{Part}
 use Rattle.tier_base.specs.declared.plain.Part.TheVariants as part
 use Rattle.tier_base.specs.declared.plain.Stop.{Stop}
-use Rattle.tier_base.specs.Device.{Control, Ran, fate_of}
-use Rattle.tier_base.specs.Told.{handed_after}
+use Rattle.tier_base.specs.Device.{Control}
 use Rattle.sparse_index.specs.Bytes.{bytes_of, IsUnread}
 use Rattle.sparse_index.specs.Offsets.{OffsetTable, AreOffsets, entry_bytes}
 use Rattle.index_cache.specs.Cache.{Cache, found, brought_front, kept}
@@ -31,10 +29,10 @@ use Rattle.segment_file.specs.declared.taking.Cutout.{Cutout}
 use Rattle.segment_file.specs.Run.{IsRun, IsBadAt}
 use Rattle.segment_meta.specs.declared.note.Entry.{Entry}
 use Rattle.object_store.specs.declared.placing.Spot.{Spot}
-use Rattle.object_store.specs.declared.call.StoreCall.TheVariants.{Get}
 use Rattle.object_store.specs.Call as store_call
 use Rattle.object_store.specs.Content as store
-use Rattle.object_store.specs.Place.{spot_of}
+use Rattle.object_store.specs.Calls.{Gets}
+use Rattle.object_store.specs.Place.{spot_of, all_of, some_of, short_of, short_in}
 use Rattle.meta_log.specs.Call as meta_call
 use Rattle.meta_log.specs.Content as meta
 use Rattle.remote_view.specs.Fold.{Seen, entry_of}
@@ -90,16 +88,22 @@ pub record IsLoaded (wanted : Wanted) (piece : Piece) (base : ℕ) (bytes : List
   pub kept_is : new ≡ kept old piece.id.0 index
   pub turn_is : turn ≡ reads_by wanted piece index
 
--- what becomes of a fetch by what the store answered, of its index: of a segment with this base offset
+-- what becomes of a fetch by bytes of its index, of a segment with this base offset, and by where more of them are lacking
+abbrev pub LoadsBytes : Option ℕ → Wanted → Piece → ℕ → Spot → List ℕ → Result FetchTurn AllocError → Cache → Cache → Type 0
+LoadsBytes (Some end) wanted piece base spot bytes result old new =
+    (result ≡ Ok (Ends (Damaged (Key spot.key) end))) × (new ≡ old)
+LoadsBytes None wanted piece base spot bytes (Ok (Goes next)) old new = IsLoaded wanted piece base bytes (Goes next) old new
+LoadsBytes None wanted piece base spot bytes (Ok (Ends answer)) old new =
+    (answer ≡ Damaged (Key spot.key) spot.at) × IsUnread AreOffsets entry_bytes bytes × (new ≡ old)
+LoadsBytes None wanted piece base spot bytes (Err e) old new = new ≡ old
+
+-- by what the store answered of it
 abbrev pub Loads : Wanted → Piece → ℕ → Spot → Result (Option (List ℕ)) Trouble → Result FetchTurn AllocError → Cache → Cache
     → Type 0
 Loads wanted piece base spot (Err Failed) result old new = (result ≡ Ok (Ends StoreFault)) × (new ≡ old)
 Loads wanted piece base spot (Err NoMemory) result old new = IsErr result × (new ≡ old)
 Loads wanted piece base spot (Ok None) result old new = (result ≡ Ok (Ends (Damaged (Key spot.key) 0))) × (new ≡ old)
-Loads wanted piece base spot (Ok (Some bytes)) (Ok (Goes next)) old new = IsLoaded wanted piece base bytes (Goes next) old new
-Loads wanted piece base spot (Ok (Some bytes)) (Ok (Ends answer)) old new =
-    (answer ≡ Damaged (Key spot.key) spot.at) × IsUnread AreOffsets entry_bytes bytes × (new ≡ old)
-Loads wanted piece base spot (Ok (Some bytes)) (Err e) old new = new ≡ old
+Loads wanted piece base spot (Ok (Some bytes)) result old new = LoadsBytes (short_of spot bytes) wanted piece base spot bytes result old new
 
 -- the run that is cut out of bytes, clipped by the piece
 pub record IsRunOf (wanted : Wanted) (piece : Piece) (bytes : List ℕ) (tier : Tier) (size : ℕ) (stop : Stop) (run : List ℕ)
@@ -119,15 +123,21 @@ pub record HasNoRun (wanted : Wanted) (piece : Piece) (spot : Spot) (span : Span
   pub place_is : place ≡ Key spot.key
   pub at_is : at ≡ spot.at + span.from + found
 
--- what becomes of it by what the store answered of the segment's log
+-- what becomes of it by bytes of the segment's log, and by where more of them are lacking
+abbrev pub CutsBytes : Option ℕ → Wanted → Piece → Spot → Span → List ℕ → Result FetchTurn AllocError → Type 0
+CutsBytes (Some end) wanted piece spot span bytes result = result ≡ Ok (Ends (Damaged (Key spot.key) end))
+CutsBytes None wanted piece spot span bytes (Ok (Ends (Run tier size stop run))) = IsRunOf wanted piece bytes tier size stop run
+CutsBytes None wanted piece spot span bytes (Ok (Ends (Damaged place at))) = HasNoRun wanted piece spot span bytes place at
+CutsBytes None wanted piece spot span bytes (Ok turn) = ⊥
+CutsBytes None wanted piece spot span bytes (Err e) = Unit {0}
+
+-- by what the store answered of it
 abbrev pub Cuts : Wanted → Piece → Spot → Span → Result (Option (List ℕ)) Trouble → Result FetchTurn AllocError → Type 0
 Cuts wanted piece spot span (Err Failed) result = result ≡ Ok (Ends StoreFault)
 Cuts wanted piece spot span (Err NoMemory) result = IsErr result
 Cuts wanted piece spot span (Ok None) result = result ≡ Ok (Ends (Damaged (Key spot.key) 0))
-Cuts wanted piece spot span (Ok (Some bytes)) (Ok (Ends (Run tier size stop run))) = IsRunOf wanted piece bytes tier size stop run
-Cuts wanted piece spot span (Ok (Some bytes)) (Ok (Ends (Damaged place at))) = HasNoRun wanted piece spot span bytes place at
-Cuts wanted piece spot span (Ok (Some bytes)) (Ok turn) = ⊥
-Cuts wanted piece spot span (Ok (Some bytes)) (Err e) = Unit {0}
+Cuts wanted piece spot span (Ok (Some bytes)) result =
+    CutsBytes (short_in spot span.from span.most bytes) wanted piece spot span bytes result
 
 module _ {M : Type 0} (notes : M → meta.Content) (calls : M → Control meta_call.call_code) where
   -- the piece is chosen
@@ -139,19 +149,11 @@ module _ {M : Type 0} (notes : M → meta.Content) (calls : M → Control meta_c
   RefreshRow wanted line (Err e) before after old new = Halted notes calls before after old new
 
 module _ {S : Type 0} (objects : S → store.Content) (calls : S → Control store_call.call_code) where
-  -- a read of an object was answered so, by this part of it where it goes well
-  pub record Gets (key : ObjectKey) (part : List ℕ → List ℕ) (answer : Result (Option (List ℕ)) Trouble) (old new : S)
-      : Type 0 where
-    pub control : Ran Get (fate_of answer) (calls old) (calls new)
-    pub handed : (calls new).handed ≡ handed_after answer (calls old).handed
-    pub content : store.Keeps (objects old) (objects new)
-    pub bytes : IsTrue (objects old).tells → IfOk answer (λ given. given ≡ option_map part ((objects old).objects key))
-
   -- one read of a segment's index, which is kept
   pub record ReadsIndex (wanted : Wanted) (piece : Piece) (place : ℕ × Spot) (result : Result FetchTurn AllocError)
       (cache cache' : Cache) (old new : S) : Type 0 where
     pub answer : Result (Option (List ℕ)) Trouble
-    pub gets : Gets place.1.key (drop place.1.at) answer old new
+    pub gets : Gets objects calls place.1.key (all_of place.1) answer old new
     pub loads : Loads wanted piece place.0 place.1 answer result cache cache'
 
   -- the index isn't in the cache: it is read where it stands
@@ -172,7 +174,7 @@ module _ {S : Type 0} (objects : S → store.Content) (calls : S → Control sto
   pub record ReadsLog (wanted : Wanted) (piece : Piece) (spot : Spot) (span : Span) (result : Result FetchTurn AllocError)
       (old new : S) : Type 0 where
     pub answer : Result (Option (List ℕ)) Trouble
-    pub gets : Gets spot.key (λ object. take span.most (drop (spot.at + span.from) object)) answer old new
+    pub gets : Gets objects calls spot.key (some_of spot span.from span.most) answer old new
     pub cuts : Cuts wanted piece spot span answer result
 
   -- the run is read where the segment's log stands

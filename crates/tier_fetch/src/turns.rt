@@ -17,7 +17,7 @@ use bytes::Bytes;
 use epoch_line::Line;
 use index_cache::IndexCache;
 use meta_log::MetaLog;
-use object_store::{Spot, Store, place};
+use object_store::{Spot, Store, get_in_spot, get_spot, place};
 use plain_log::{Answer, Place, Tier};
 use remote_find::{Piece, find};
 use remote_view::View;
@@ -145,8 +145,7 @@ fn load<S: Store>(
     let Some((base, spot)) = spot_in(wanted, piece, view, Part::Index) else {
         return Ok(lost(view));
     };
-    let answer = store.get(&spot.key, spot.at);
-    match answer {
+    match get_spot(store, &spot) {
         Ok(given) => keep(alloc, wanted, piece, base, &spot, given, cache),
         Err(Trouble::Failed) => Ok(FetchTurn::Ends(Answer::StoreFault)),
         Err(Trouble::NoMemory) => Err(AllocError),
@@ -157,7 +156,7 @@ fn load<S: Store>(
 fn spot_in(wanted: &Wanted, piece: &Piece, view: &View, part: Part) -> Option<(u64, Spot)>
     ensures spot { result ≡ spot_in wanted.now.partition piece.now.id part (entry_of piece.now.id view.now.entries) }
     ensures low { IfSome result (λ found. found.0 ≤ 2 ^ 62) }
-    ensures whole { IfSome result (λ found. found.1.at ≡ 0) }
+    ensures near { IfSome result (λ found. found.1.at < 2 ^ 34) }
 {
     let _entries = view.entries();
     let Some(entry) = view.entry(piece.id) else {
@@ -187,12 +186,16 @@ fn keep(
 ) -> Result<FetchTurn, AllocError>
     requires holds { wanted.now.offset < piece.now.to }
     requires low { base ≤ 2 ^ 62 }
+    requires near { spot.now.at < 2 ^ 34 }
     ensures row { Loads wanted.now piece.now base spot.now (Ok given) result cache.old cache.new }
     ensures goes { IfOk result (GoesFor wanted.now.offset) }
 {
     let Some(bytes) = given else {
         return Ok(damaged(spot, 0));
     };
+    if let Some(end) = spot.short(bytes.as_slice()) {
+        return Ok(damaged(spot, end));
+    }
     match OffsetIndex::from_bytes(alloc, base, bytes.as_slice()) {
         Ok(index) => {
             let span = span_of(&index, wanted.offset, wanted.limit, piece.to);
@@ -230,8 +233,7 @@ fn log<S: Store>(
     let Some((_, spot)) = spot_in(wanted, piece, view, Part::Log) else {
         return Ok(lost(view));
     };
-    let answer = store.get_part(&spot.key, spot.at + span.from as u64, span.most);
-    match answer {
+    match get_in_spot(store, &spot, span.from as u64, span.most) {
         Ok(given) => cut_out(wanted, piece, &spot, span, given),
         Err(Trouble::Failed) => Ok(FetchTurn::Ends(Answer::StoreFault)),
         Err(Trouble::NoMemory) => Err(AllocError),
@@ -248,13 +250,16 @@ fn cut_out(
 ) -> Result<FetchTurn, AllocError>
     requires below { wanted.now.offset < wanted.now.mark }
     requires holds { wanted.now.offset < piece.now.to }
-    requires whole { spot.now.at ≡ 0 }
+    requires near { spot.now.at < 2 ^ 34 }
     ensures row { Cuts wanted.now piece.now spot.now span (Ok given) result }
     ensures goes { IfOk result (GoesFor wanted.now.offset) }
 {
     let Some(bytes) = given else {
         return Ok(damaged(spot, 0));
     };
+    if let Some(end) = spot.short_in(span.from as u64, span.most, bytes.as_slice()) {
+        return Ok(damaged(spot, end));
+    }
     match take_run(
         bytes.as_slice(),
         wanted.offset,

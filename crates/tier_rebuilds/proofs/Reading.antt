@@ -1,7 +1,8 @@
 -- What a rebuild reads is of the path that its follower has joined.
-use Rattle.std.proofs.Common.{◌≡◌, ◌∙◌, inl, sym, ap, subst, refl, ℕ, ◌+◌, ◌-◌, ◌^◌, ◌<◌, ◌≤◌, true, List, drop, Option, Some, None, Ok, Err, slice_get, arith}
-use Rattle.std.specs.Prelude.{nat_le, option_map, IfOk}
+use Rattle.std.proofs.Common.{◌≡◌, ◌≢◌, ◌∙◌, inl, sym, ap, subst, refl, ℕ, ◌+◌, ◌-◌, ◌^◌, ◌<◌, ◌≤◌, true, List, Option, Some, None, Ok, Err, slice_get, arith}
+use Rattle.std.specs.Prelude.{nat_le, option_map}
 use Rattle.std.specs.declared.result.Result.{Result}
+use Rattle.std.specs.declared.alloc.AllocError.{AllocError}
 use Rattle.std.proofs.lemmas.Bool.{le-leb, eq-eqb}
 use mathlib.Core.List.{IsPrefix}
 use Rattle.tier_base.specs.declared.fault.Trouble.{Trouble}
@@ -9,17 +10,19 @@ use Rattle.tier_base.specs.declared.fault.Trouble.TheVariants.{Failed, NoMemory}
 use Rattle.tier_base.specs.declared.names.PartitionId.{PartitionId}
 use Rattle.tier_base.specs.declared.names.SegmentId.{SegmentId}
 use Rattle.tier_base.specs.declared.plain.Part.TheVariants.{Epochs as EpochsPart}
+use Rattle.tier_base.specs.declared.plain.State.TheVariants.{CopyStarted}
 use Rattle.tier_base.specs.Device.{Control}
 use Rattle.log_terms.specs.Line.{line_of, epoch_at, epoch_holding}
 use Rattle.log_terms.specs.Log.{end_of, end_from, up_to, IsConsecutive}
 use Rattle.log_terms.proofs.Logs.{up_to_is}
 use Rattle.epoch_line.specs.Line.{IsLine, cut_end}
 use Rattle.epoch_line.specs.Text.{text_of}
-use Rattle.segment_bundle.specs.Parts.{parts_of, part_in}
 use Rattle.segment_meta.specs.declared.note.Entry.{Entry}
 use Rattle.object_store.specs.Call as store_call
 use Rattle.object_store.specs.Content as store
-use Rattle.object_store.specs.Place.{key_of, whole, spot_of}
+use Rattle.object_store.specs.Calls.{Gets}
+use Rattle.object_store.specs.Place.{spot_of, all_of, short_of}
+use Rattle.object_store.proofs.Parts.{not_short}
 use Rattle.object_store.specs.declared.placing.Spot.{Spot}
 use Rattle.plain_log.specs.declared.state.State.{State as Plain}
 use Rattle.plain_log.specs.declared.answer.Answer.TheVariants.{Damaged}
@@ -37,19 +40,19 @@ use Rattle.rebuild_task.specs.declared.turn.Wanted.{Wanted}
 use Rattle.rebuild_task.specs.declared.turn.Next.TheVariants.{Restart}
 use Rattle.rebuild_task.specs.declared.turn.RebuildTurn.{RebuildTurn}
 use Rattle.rebuild_task.specs.declared.turn.RebuildTurn.TheVariants.{Goes, Ends}
-use Rattle.rebuild_task.specs.Turns.{spot_in, epochs_of, Takes, ReadsEpochs, EpochsRow, RebuildRow}
-use Rattle.tier_fetch.specs.Turns.{spot_in as fetch_spot}
+use Rattle.rebuild_task.specs.Turns.{spot_in, epochs_of, TakesBytes, Takes, ReadsEpochs, EpochsRow, RebuildRow}
 use Rattle.tier_safe.specs.Scene.{Site, Rebuild, Rebuilds, Scene}
 use Rattle.tier_safe.specs.Safe.{TierSafe}
 use Rattle.tier_safe.specs.Kept.{whole_of}
 use Rattle.tier_safe.specs.Reads.{RebuildReads}
 use Rattle.tier_safe.proofs.Agreeing.{has_safe, map_at}
 use Rattle.tier_safe.proofs.Basics.{one_some}
-use Rattle.tier_safe.proofs.Covering.{covers_is}
+use Rattle.tier_safe.proofs.Covering.{readable, covers_is}
+use Rattle.tier_safe.proofs.Entries.{Follows, prefix_goes}
 use Rattle.tier_safe.proofs.Lookups.{wanted_is_found}
+use Rattle.tier_safe.proofs.Placed.{IsPlaced, held_placed}
 use Rattle.tier_safe.proofs.Rules.{seen_kept}
 use Rattle.tier_safe.proofs.Serving.{rebuilds_served}
-use Rattle.tier_serves.proofs.Packing.{has_place}
 use Rattle.tier_rebuilds.specs.Reading.{IsToRead}
 use Rattle.tier_rebuilds.specs.Laws.{LinesArePaths, NothingIsDamaged}
 use Rattle.tier_rebuilds.proofs.Lines.{one_text, safe_rises, whole_rises, epochs_are}
@@ -95,22 +98,22 @@ covers_so e o entry done low high at =
     let here : is_epoch e (epoch_at entry.map o) ≡ true = ap (is_epoch e) at ∙ eq-eqb e e refl in
     rw (done, le-leb entry.start o low, le-leb o entry.end high) here
 
--- the rebuild's piece is found in its broker's view, has a place there, and is of a copy that reads so
+-- the rebuild's piece is found in its broker's view, and is of a copy that reads so, whose epochs stand where the view places them
 pub record Found (c : Scene) (p : Plain) (rebuild : Rebuild) (wanted : Wanted) (line : List (ℕ × ℕ)) (view : Seen) (front : List (List ℕ)) : Type 0 where
   pub piece : Piece
   pub there : piece_at view.entries line wanted.offset (wanted.offset - 1) ≡ Some piece
-  pub place : epochs_of wanted.partition view.entries (Some piece) ≡ Some (whole (key_of wanted.partition piece.id EpochsPart))
   pub reads : RebuildReads c p front rebuild.wanted piece.id
+  pub spot : Spot
+  pub place : epochs_of wanted.partition view.entries (Some piece) ≡ Some spot
+  pub placed : IsPlaced c.objects spot (text_of (line_of (whole_of reads.held)))
 
--- the place of a part, said without its segment's base offset
-place_alone : (partition : PartitionId) (id : SegmentId) (found : Option Entry) (n : ℕ) (spot : Spot) → fetch_spot partition id EpochsPart found ≡ Some (n, spot)
-    → spot_in partition id found ≡ Some spot
-place_alone partition id None n spot is = absurd (cc (is))
-place_alone partition id (Some entry) n spot is = by (spot_of partition id entry.packed entry.custom EpochsPart) is
-  where
-    by : (o : Option Spot) → option_map {U = ℕ × Spot} (λ (s : Spot). (entry.start, s)) o ≡ Some (n, spot) → o ≡ Some spot
-    by None k = absurd (cc (k))
-    by (Some s) k = (let pair : (entry.start, s) ≡ (n, spot) = cc (k) in ap (λ (q : ℕ × Spot). Some q.1) pair)
+-- the view's entry of a copy that isn't under way places its epochs as its entry does
+seen_spot : (partition : PartitionId) (id : SegmentId) (seen entry : Entry) (spot : Spot) → Follows seen entry → seen.state ≢ CopyStarted → entry.partition ≡ partition → entry.id ≡ id
+    → spot_of entry.partition entry.id entry.packed entry.custom EpochsPart ≡ Some spot → spot_of partition id seen.packed seen.custom EpochsPart ≡ Some spot
+seen_spot partition id seen entry spot f done of is at =
+    let packed : seen.packed ≡ entry.packed = sym f.packed in
+    let custom : seen.custom ≡ entry.custom = sym (f.custom done) in
+    rw (packed, custom, ← of, ← is) at
 
 -- the wanted offset is at most 2^62: a finished copy has the one before
 wanted_low : (c : Scene) (p : Plain) (a : ℕ) (rebuild : Rebuild) (site : Site) (wanted : Wanted) (line : List (ℕ × ℕ)) (objects : store.Content) (view : Seen)
@@ -142,60 +145,73 @@ found c p a rebuild site wanted line objects view h =
     let of = lies.2 in
     let last = rebuild.wanted - 1 in
     let here = covers_so e last entry of.readable (omega (arith, of.within.0, of.holds.0)) (omega (arith, of.within.1, of.holds.1)) (of.of_copy last of.holds.0 of.holds.1) in
-    let at = has_place c.notes site.view wanted.partition f.0.id EpochsPart entry tier.notes.right v of.copy in
-    let place = place_alone wanted.partition f.0.id (entry_of f.0.id site.view.entries) entry.start (whole (key_of wanted.partition f.0.id EpochsPart)) at in
+    let reads = rebuilds_served c p a rebuild site f.0.id entry e h.safe h.seat h.site_is h.below of.copy here (sym g.last ∙ of.of_line last of.holds.0 of.holds.1) in
+    let own = reads.entry in
+    let y = prefix_goes v.before c.notes f.0.id entry v.begins (subst (λ (w : Seen). entry_of f.0.id w.entries ≡ Some entry) v.is of.copy) in
+    let one : y.0 ≡ own = one_some (entry_of f.0.id (fold c.notes)) y.0 own y.1 reads.there in
+    let done = readable entry.state of.readable in
+    let has = held_placed c.objects p.paths own EpochsPart tt reads.held in
+    let at : spot_of wanted.partition f.0.id entry.packed entry.custom EpochsPart ≡ Some has.spot =
+    seen_spot wanted.partition f.0.id entry own has.spot (subst (Follows entry) one y.2) (λ begun. absurd (cc (done, begun))) (reads.partition ∙ sym h.partition) (found_id f.0.id (fold c.notes) own reads.there) has.is in
     record {
       piece = f.0;
       there = subst (λ (n : ℕ). piece_at view.entries line n (n - 1) ≡ Some f.0) (sym h.offset) (subst (λ (w : Seen). piece_at w.entries line rebuild.wanted last ≡ Some f.0) h.view_is f.1);
-      place = subst (λ (w : Seen). epochs_of wanted.partition w.entries (Some f.0) ≡ Some (whole (key_of wanted.partition f.0.id EpochsPart))) h.view_is place;
-      reads = rebuilds_served c p a rebuild site f.0.id entry e h.safe h.seat h.site_is h.below of.copy here (sym g.last ∙ of.of_line last of.holds.0 of.holds.1);
+      reads = reads;
+      spot = has.spot;
+      place = subst (λ (w : Seen). epochs_of wanted.partition w.entries (Some f.0) ≡ Some has.spot) h.view_is (ap (spot_in wanted.partition f.0.id) of.copy ∙ at);
+      placed = subst (IsPlaced c.objects has.spot) (epochs_are c.objects p own reads.held) has.placed;
     }
 
--- its epochs stand
+-- its epochs
 
-stood : (c : Scene) (p : Plain) (a : ℕ) (rebuild : Rebuild) (site : Site) (wanted : Wanted) (line : List (ℕ × ℕ)) (s : store.Content) (view : Seen) (front : List (List ℕ))
-    → IsToRead c p a rebuild site wanted line s view → (f : Found c p rebuild wanted line view front)
-    → s.objects (key_of wanted.partition f.piece.id EpochsPart) ≡ Some (text_of (line_of (whole_of f.reads.held)))
-stood c p a rebuild site wanted line s view front h f =
-    let r = f.reads in
-    let id : r.entry.id ≡ f.piece.id = found_id f.piece.id (fold c.notes) r.entry r.there in
-    ap (λ (o : store.Objects). o (key_of wanted.partition f.piece.id EpochsPart)) (sym h.objects_are)
-    ∙ ap (λ (k : PartitionId). c.objects (key_of k f.piece.id EpochsPart)) (h.partition ∙ sym r.partition)
-    ∙ ap (λ (k : SegmentId). c.objects (key_of r.entry.partition k EpochsPart)) (sym id)
-    ∙ r.held.stand EpochsPart
-    ∙ ap (λ (bytes : List ℕ). Some bytes) (epochs_are c.objects p r.entry r.held)
+-- what is given of them is their text
+given_text : (objects : store.Objects) (spot : Spot) (text : List ℕ) (given : Option (List ℕ)) → given ≡ option_map (all_of spot) (objects spot.key) → IsPlaced objects spot text → given ≡ Some text
+given_text objects spot text given is k = is ∙ (ap (option_map (all_of spot)) k.there ∙ ap (λ (bytes : List ℕ). Some bytes) k.all)
 
--- what was given is their text
-given_text : (s : store.Content) (spot : Spot) (bytes text : List ℕ) → Some bytes ≡ option_map (drop 0) (s.objects spot.key) → s.objects spot.key ≡ Some text → bytes ≡ text
-given_text s spot bytes text given stands = one_some (Some bytes) bytes text refl (given ∙ ap (option_map (drop 0)) stands)
+-- and nothing of it is lacking
+none_lacks : (objects : store.Objects) (spot : Spot) (text bytes : List ℕ) → bytes ≡ text → IsPlaced objects spot text → short_of spot bytes ≡ None
+none_lacks objects spot text bytes is k = ap (short_of spot) is ∙ not_short spot.at spot.len text k.whole
 
 module _ {S : Type 0} (objects : S → store.Content) (calls : S → Control store_call.call_code) where
   -- the row, of the place where they stand
   at_place : (c : Scene) (p : Plain) (rebuild : Rebuild) (wanted : Wanted) (line : List (ℕ × ℕ)) (view : Seen) (front : List (List ℕ)) (turn : RebuildTurn) (old new : S)
-      → (f : Found c p rebuild wanted line view front) → RebuildRow objects calls wanted line view (Ok turn) old new
-      → ReadsEpochs objects calls wanted.offset (whole (key_of wanted.partition f.piece.id EpochsPart)) (Ok turn) old new
+      → (f : Found c p rebuild wanted line view front) → RebuildRow objects calls wanted line view (Ok turn) old new → ReadsEpochs objects calls wanted.offset f.spot (Ok turn) old new
   at_place c p rebuild wanted line view front turn old new f row =
       subst (λ (o : Option Spot). EpochsRow objects calls wanted.offset view o (Ok turn) old new) (ap (epochs_of wanted.partition view.entries) f.there ∙ f.place) row
+
+  -- what a store gives of them
+  text_given : (c : Scene) (p : Plain) (a : ℕ) (rebuild : Rebuild) (site : Site) (wanted : Wanted) (line : List (ℕ × ℕ)) (view : Seen) (front : List (List ℕ)) (given : Option (List ℕ)) (old new : S)
+      → IsToRead c p a rebuild site wanted line (objects old) view → (f : Found c p rebuild wanted line view front) → Gets objects calls f.spot.key (all_of f.spot) (Ok given) old new
+      → given ≡ Some (text_of (line_of (whole_of f.reads.held)))
+  text_given c p a rebuild site wanted line view front given old new h f gets =
+      let text = text_of (line_of (whole_of f.reads.held)) in
+      given_text (objects old).objects f.spot text given (gets.bytes h.tells) (subst (λ (o : store.Objects). IsPlaced o f.spot text) h.objects_are f.placed)
+
+  -- of bytes that are given none are lacking
+  taken : (c : Scene) (p : Plain) (rebuild : Rebuild) (wanted : Wanted) (line : List (ℕ × ℕ)) (view : Seen) (front : List (List ℕ)) (given : List ℕ) (result : Result RebuildTurn AllocError)
+      → (f : Found c p rebuild wanted line view front) → given ≡ text_of (line_of (whole_of f.reads.held)) → Takes wanted.offset f.spot (Ok (Some given)) result
+      → TakesBytes None wanted.offset f.spot given result
+  taken c p rebuild wanted line view front given result f is k =
+      subst (λ (end : Option ℕ). TakesBytes end wanted.offset f.spot given result) (none_lacks c.objects f.spot (text_of (line_of (whole_of f.reads.held))) given is f.placed) k
 
   -- what is taken of it
   reads_path : (c : Scene) (p : Plain) (a : ℕ) (rebuild : Rebuild) (site : Site) (wanted : Wanted) (line read : List (ℕ × ℕ)) (view : Seen) (old new : S)
       → (h : IsToRead c p a rebuild site wanted line (objects old) view) → (f : Found c p rebuild wanted line view (h.safe.tier.rebuilds a rebuild h.seat).front)
-      → (answer : Result (Option (List ℕ)) Trouble)
-      → IfOk answer (λ (given : Option (List ℕ)). given ≡ option_map (drop 0) ((objects old).objects (key_of wanted.partition f.piece.id EpochsPart)))
-      → Takes wanted.offset (whole (key_of wanted.partition f.piece.id EpochsPart)) answer (Ok (Goes (Restart read))) → read ≡ line
-  reads_path c p a rebuild site wanted line read view old new h f (Err Failed) bytes k = absurd (cc (k))
-  reads_path c p a rebuild site wanted line read view old new h f (Err NoMemory) bytes k = absurd (cc (k))
-  reads_path c p a rebuild site wanted line read view old new h f (Ok None) bytes k = absurd (cc (k))
-  reads_path c p a rebuild site wanted line read view old new h f (Ok (Some given)) bytes k =
+      → (answer : Result (Option (List ℕ)) Trouble) → Gets objects calls f.spot.key (all_of f.spot) answer old new → Takes wanted.offset f.spot answer (Ok (Goes (Restart read))) → read ≡ line
+  reads_path c p a rebuild site wanted line read view old new h f (Err Failed) gets k = absurd (cc (k))
+  reads_path c p a rebuild site wanted line read view old new h f (Err NoMemory) gets k = absurd (cc (k))
+  reads_path c p a rebuild site wanted line read view old new h f (Ok None) gets k = absurd (cc (k))
+  reads_path c p a rebuild site wanted line read view old new h f (Ok (Some given)) gets k =
       let front = (h.safe.tier.rebuilds a rebuild h.seat).front in
       let r = f.reads in
       let all = whole_of r.held in
       let safe = has_safe p r.held.describes.part.epoch all h.safe.plain r.held.describes.part.begins in
       let g = going c p a rebuild site wanted line (objects old) view h in
-      let spot = whole (key_of wanted.partition f.piece.id EpochsPart) in
-      let text = given_text (objects old) spot given (text_of (line_of all)) bytes (stood c p a rebuild site wanted line (objects old) view front h f) in
-      let is : k.whole ≡ line_of all = one_text k.whole (line_of all) k.rises (whole_rises c.objects p r.entry h.safe.plain r.held) (sym k.bytes_are ∙ text) in
-      k.line_is
+      let text : given ≡ text_of (line_of all) =
+      one_some (Some given) given (text_of (line_of all)) refl (text_given c p a rebuild site wanted line view front (Some given) old new h f gets) in
+      let t = taken c p rebuild wanted line view front given (Ok (Goes (Restart read))) f text k in
+      let is : t.whole ≡ line_of all = one_text t.whole (line_of all) t.rises (whole_rises c.objects p r.entry h.safe.plain r.held) (sym t.bytes_are ∙ text) in
+      t.line_is
       ∙ ap (λ (l : List (ℕ × ℕ)). cut_end l wanted.offset) is
       ∙ ap (cut_end (line_of all)) (h.offset ∙ sym g.ends)
       ∙ cut_line (line_of all) front all safe.consecutive (inl refl) r.begins
@@ -205,29 +221,28 @@ module _ {S : Type 0} (objects : S → store.Content) (calls : S → Control sto
   lines_are_paths wanted line read view old new c p a rebuild site row h =
       let f = found c p a rebuild site wanted line (objects old) view h in
       let reads = at_place c p rebuild wanted line view (h.safe.tier.rebuilds a rebuild h.seat).front (Goes (Restart read)) old new f row in
-      reads_path c p a rebuild site wanted line read view old new h f reads.answer (reads.bytes h.tells) reads.takes
+      reads_path c p a rebuild site wanted line read view old new h f reads.answer reads.gets reads.takes
 
   -- what has no reading isn't it
   no_damage : (c : Scene) (p : Plain) (a : ℕ) (rebuild : Rebuild) (site : Site) (wanted : Wanted) (line : List (ℕ × ℕ)) (view : Seen) (place : Place) (at : ℕ) (old new : S)
       → (h : IsToRead c p a rebuild site wanted line (objects old) view) → (f : Found c p rebuild wanted line view (h.safe.tier.rebuilds a rebuild h.seat).front)
-      → (answer : Result (Option (List ℕ)) Trouble)
-      → IfOk answer (λ (given : Option (List ℕ)). given ≡ option_map (drop 0) ((objects old).objects (key_of wanted.partition f.piece.id EpochsPart)))
-      → Takes wanted.offset (whole (key_of wanted.partition f.piece.id EpochsPart)) answer (Ok (Ends (Damaged place at))) → ⊥
-  no_damage c p a rebuild site wanted line view place at old new h f (Err Failed) bytes k = absurd (cc (k))
-  no_damage c p a rebuild site wanted line view place at old new h f (Err NoMemory) bytes k = absurd (cc (k))
-  no_damage c p a rebuild site wanted line view place at old new h f (Ok None) bytes k =
+      → (answer : Result (Option (List ℕ)) Trouble) → Gets objects calls f.spot.key (all_of f.spot) answer old new → Takes wanted.offset f.spot answer (Ok (Ends (Damaged place at))) → ⊥
+  no_damage c p a rebuild site wanted line view place at old new h f (Err Failed) gets k = absurd (cc (k))
+  no_damage c p a rebuild site wanted line view place at old new h f (Err NoMemory) gets k = absurd (cc (k))
+  no_damage c p a rebuild site wanted line view place at old new h f (Ok None) gets k =
       let front = (h.safe.tier.rebuilds a rebuild h.seat).front in
-      let none : None ≡ Some (text_of (line_of (whole_of f.reads.held))) = bytes ∙ ap (option_map (drop 0)) (stood c p a rebuild site wanted line (objects old) view front h f) in
+      let none = text_given c p a rebuild site wanted line view front None old new h f gets in
       absurd (cc (none))
-  no_damage c p a rebuild site wanted line view place at old new h f (Ok (Some given)) bytes k =
+  no_damage c p a rebuild site wanted line view place at old new h f (Ok (Some given)) gets k =
       let front = (h.safe.tier.rebuilds a rebuild h.seat).front in
       let all = whole_of f.reads.held in
-      let spot = whole (key_of wanted.partition f.piece.id EpochsPart) in
-      let text = given_text (objects old) spot given (text_of (line_of all)) bytes (stood c p a rebuild site wanted line (objects old) view front h f) in
-      k.1 (line_of all) (whole_rises c.objects p f.reads.entry h.safe.plain f.reads.held) text
+      let text : given ≡ text_of (line_of all) =
+      one_some (Some given) given (text_of (line_of all)) refl (text_given c p a rebuild site wanted line view front (Some given) old new h f gets) in
+      let t = taken c p rebuild wanted line view front given (Ok (Ends (Damaged place at))) f text k in
+      t.1 (line_of all) (whole_rises c.objects p f.reads.entry h.safe.plain f.reads.held) text
 
   pub nothing_is_damaged : NothingIsDamaged objects calls
   nothing_is_damaged wanted line view place at old new c p a rebuild site row h =
       let f = found c p a rebuild site wanted line (objects old) view h in
       let reads = at_place c p rebuild wanted line view (h.safe.tier.rebuilds a rebuild h.seat).front (Ends (Damaged place at)) old new f row in
-      no_damage c p a rebuild site wanted line view place at old new h f reads.answer (reads.bytes h.tells) reads.takes
+      no_damage c p a rebuild site wanted line view place at old new h f reads.answer reads.gets reads.takes

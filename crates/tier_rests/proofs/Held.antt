@@ -6,8 +6,8 @@ use Rattle.std.specs.Str.{bytes_eq}
 use Rattle.std.specs.List.{AllByRecursion}
 use Rattle.std.proofs.lemmas.Int.{ints}
 use Rattle.tier_base.specs.declared.names.SegmentId.{SegmentId}
-use Rattle.tier_base.specs.declared.plain.Part.{Part}
-use Rattle.tier_base.specs.declared.plain.Part.TheVariants.{Log, Index, TimeIndex, Epochs}
+use Rattle.tier_base.specs.declared.plain.Part.TheVariants.{Epochs}
+use Rattle.tier_base.specs.declared.object_key.ObjectKey.{ObjectKey}
 use Rattle.log_terms.specs.Batch.{field_at, max_ts_of}
 use Rattle.log_terms.specs.Line.{line_of}
 use Rattle.log_terms.specs.Log.{end_of, end_from}
@@ -16,10 +16,9 @@ use Rattle.log_terms.proofs.Logs.{end_append}
 use Rattle.epoch_line.specs.Line.{cut_end, within}
 use Rattle.epoch_line.specs.Text.{text_of}
 use Rattle.segment_file.specs.Segment.{greatest_from, greatest_ts}
-use Rattle.segment_bundle.specs.Parts.{first_offset, parts_of, part_in}
+use Rattle.segment_bundle.specs.Parts.{Parts, first_offset, parts_of, part_in}
 use Rattle.segment_meta.specs.declared.note.Entry.{Entry}
 use Rattle.object_store.specs.Content.{Objects}
-use Rattle.object_store.specs.Place.{key_of}
 use Rattle.plain_log.specs.declared.state.State.{State as Plain}
 use Rattle.plain_log.specs.Safe.{PlainSafe}
 use Rattle.partition_seen.proofs.Lines.{cut_line}
@@ -28,9 +27,10 @@ use Rattle.remote_view.proofs.Ids.{same_id, bytes_self}
 use Rattle.tier_safe.specs.Lineage.{IsHeld}
 use Rattle.tier_safe.specs.Kept.{whole_of}
 use Rattle.tier_safe.proofs.Agreeing.{has_safe}
+use Rattle.tier_safe.proofs.Basics.{key_is}
 use Rattle.tier_serves.proofs.Reading.{first_is}
 use Rattle.tier_rebuilds.proofs.Lines.{whole_rises, epochs_are}
-use Rattle.tier_audit.specs.Whole.{Describes, IsReadable}
+use Rattle.tier_audit.specs.Whole.{Describes, IsReadable, ArePut}
 use Rattle.tier_audit.proofs.Putting.{copy_readable}
 use Rattle.tier_rests.proofs.Within.{within_whole}
 
@@ -62,7 +62,7 @@ greatest_fits (batch ∷ batches) = from_fits (max_ts_of batch) batches (max_fit
 -- what a finished copy holds
 
 module _ (objects kept : Objects) (p : Plain) (entry : Entry) (s : PlainSafe p) (h : IsHeld kept p.paths entry)
-    (same : (part : Part) → objects (key_of entry.partition entry.id part) ≡ kept (key_of entry.partition entry.id part)) where
+    (same : (key : ObjectKey) → key.id ≡ entry.id → objects key ≡ kept key) where
   described : Describes entry h.batches
   described =
       let d = h.describes in
@@ -72,7 +72,11 @@ module _ (objects kept : Objects) (p : Plain) (entry : Entry) (s : PlainSafe p) 
   abbrev line : List (ℕ × ℕ)
   line = line_of (whole_of h)
 
-  epochs_same : part_in (parts_of h.batches h.line h.interval) Epochs ≡ part_in (parts_of h.batches line h.interval) Epochs
+  -- the parts that it has
+  abbrev own : Parts
+  own = parts_of h.batches h.line h.interval
+
+  epochs_same : part_in own Epochs ≡ part_in (parts_of h.batches line h.interval) Epochs
   epochs_same =
       let d = h.describes in
       let all = whole_of h in
@@ -83,11 +87,16 @@ module _ (objects kept : Objects) (p : Plain) (entry : Entry) (s : PlainSafe p) 
       ap (cut_end line) (sym end) ∙ cut_line line all all safe.consecutive (inl refl) (prefix_self all) in
       epochs_are kept p entry h ∙ ap text_of (sym cut)
 
-  puts : (part : Part) → part_in (parts_of h.batches h.line h.interval) part ≡ part_in (parts_of h.batches line h.interval) part
-  puts Log = refl
-  puts Index = refl
-  puts TimeIndex = refl
-  puts Epochs = epochs_same
+  -- and so are all its parts
+  parts_same : own ≡ parts_of h.batches line h.interval
+  parts_same = ap (λ (bytes : List ℕ). (let parts : Parts = record own { epochs = bytes } in parts)) epochs_same
+
+  -- its objects hold them
+  put : ArePut objects entry own
+  put = record {
+    stand = λ n key at. same key (ap (λ (k : ObjectKey). k.id) (key_is entry.partition entry.id entry.packed n key at)) ∙ h.stand n key at;
+    custom = λ packed. (let told = h.custom packed in (told.is, told.fits));
+  }
 
   map_within : within line entry.start entry.end ≡ entry.map
   map_within =
@@ -101,7 +110,7 @@ module _ (objects kept : Objects) (p : Plain) (entry : Entry) (s : PlainSafe p) 
       copy_readable objects entry h.batches line h.interval described
       (subst (λ (ts : ℤ). FitsSigned w64 ts) (sym h.describes.max_ts_is) (greatest_fits h.batches))
       (whole_rises kept p entry s h) map_within
-      (λ part. same part ∙ (h.stand part ∙ ap (λ (bytes : List ℕ). Some bytes) (puts part)))
+      (subst (ArePut objects entry) parts_same put)
 
 -- what holds of each entry that an id has holds of all
 pub each_has : (P : Entry → Type 0) (entries : List Entry) → AreDistinct entries

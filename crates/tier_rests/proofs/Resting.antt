@@ -4,13 +4,12 @@ use Rattle.std.specs.Prelude.{option_map}
 use Rattle.std.specs.List.{AllByRecursion}
 use Rattle.std.proofs.lemmas.List.Elements.{All-from_recursion}
 use Rattle.tier_base.specs.declared.names.SegmentId.{SegmentId}
-use Rattle.tier_base.specs.declared.plain.Part.{Part}
+use Rattle.tier_base.specs.declared.object_key.ObjectKey.{ObjectKey}
 use Rattle.tier_base.specs.declared.plain.State.TheVariants.{CopyFinished, DeleteFinished}
 use Rattle.log_terms.proofs.Lists.{prefix_self}
 use Rattle.segment_meta.specs.declared.note.Entry.{Entry}
 use Rattle.segment_meta.specs.declared.note.Note.{Note}
 use Rattle.segment_meta.specs.Rules.{IsNote}
-use Rattle.object_store.specs.Place.{key_of}
 use Rattle.meta_log.specs.Content.{AreNotes}
 use Rattle.plain_log.specs.declared.state.State.{State as Plain}
 use Rattle.remote_view.specs.Fold.{entry_of, state_of, fold, AreDistinct}
@@ -22,7 +21,7 @@ use Rattle.tier_safe.proofs.Rules.{seen_kept}
 use Rattle.tier_sweep.specs.Rest.{AreNamed, NoneIsLeft, is_under_way}
 use Rattle.tier_sweep.specs.Sweeping.{Tier, IsSwept, rested}
 use Rattle.tier_sweep.proofs.Sweeps.{swept_entries, swept_rests, swept_keeps}
-use Rattle.tier_audit.specs.declared.verdict.Flaw.TheVariants.{NoEntry, Left, Missing, Wrong}
+use Rattle.tier_audit.specs.declared.verdict.Flaw.TheVariants.{NoEntry, Left, Custom, Missing, Wrong}
 use Rattle.tier_audit.specs.Whole.{IsReadable, AreReadable, IsWhole}
 use Rattle.tier_audit.proofs.Saying.{one_thing}
 use Rattle.tier_rests.specs.Laws.{tier_in, SafeIsReadable, SafeHasLeftAtMost, SweptIsWhole}
@@ -53,7 +52,7 @@ pub safe_readable : SafeIsReadable
 safe_readable c p s = (
   named c p s,
   each_has (IsReadable c.objects) (fold c.notes) (apart c p s)
-      (λ id entry there finished. held_readable c.objects c.objects p entry s.plain (s.tier.finished id entry there finished) (λ part. refl) finished),
+      (λ id entry there finished. held_readable c.objects c.objects p entry s.plain (s.tier.finished id entry there finished) (λ key is. refl) finished),
 )
 
 -- its first flaw
@@ -69,6 +68,7 @@ safe_left c p (NoEntry key) s f = absurd (nothing (entry_of key.id (fold c.notes
     nothing : (o : Option Entry) → IsSome o → o ≡ None → ⊥
     nothing None some is = cc (some)
     nothing (Some entry) some is = cc (is)
+safe_left c p (Custom id) s f = absurd (one_thing c.objects (fold c.notes) (Custom id) (whole_but c p s f.none_left) f)
 safe_left c p (Missing key) s f = absurd (one_thing c.objects (fold c.notes) (Missing key) (whole_but c p s f.none_left) f)
 safe_left c p (Wrong key at) s f = absurd (one_thing c.objects (fold c.notes) (Wrong key at) (whole_but c p s f.none_left) f)
 
@@ -82,10 +82,10 @@ all_made P make (e ∷ es) h = (h.0, all_made P make es h.1)
 module _ (c : Scene) (p : Plain) (new : Tier) (n : ℕ) (s : BothSafe c p) (swept : IsSwept (tier_in c) new n) where
   -- the objects of a finished copy are those that they were
   kept_at : (id : SegmentId) (entry : Entry) → entry_of id (fold c.notes) ≡ Some entry → entry.state ≡ CopyFinished
-      → (part : Part) → new.objects (key_of entry.partition entry.id part) ≡ c.objects (key_of entry.partition entry.id part)
-  kept_at id entry there finished part =
+      → (key : ObjectKey) → key.id ≡ entry.id → new.objects key ≡ c.objects key
+  kept_at id entry there finished key is =
       let state : state_of id (fold c.notes) ≡ Some CopyFinished = ap (option_map (λ (e : Entry). e.state)) there ∙ ap (λ k. Some k) finished in
-      (swept_keeps (tier_in c) new n id (are_notes c p s) swept state).1 (key_of entry.partition entry.id part) (found_id id (fold c.notes) entry there)
+      (swept_keeps (tier_in c) new n id (are_notes c p s) swept state).1 key (is ∙ found_id id (fold c.notes) entry there)
 
   -- an entry as the sweep leaves it is of a readable copy
   rested_readable : (id : SegmentId) (entry : Entry) → entry_of id (fold c.notes) ≡ Some entry → IsReadable new.objects (rested entry)

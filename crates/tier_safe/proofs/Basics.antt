@@ -1,16 +1,17 @@
 -- Ids, keys and states told apart, and seats of the desk.
-use Rattle.std.proofs.Common.{◌≡◌, ◌≢◌, ◌⊎◌, inl, inr, ◌∙◌, ap, refl, subst, ℕ, zero, suc, ◌≤◌, ◌==◌, Bool, true, false, List, [], ◌∷◌, Option, Some, None, slice_get, arith}
+use Rattle.std.proofs.Common.{◌≡◌, ◌≢◌, ◌⊎◌, inl, inr, ◌∙◌, ap, refl, subst, ℕ, zero, suc, ◌<◌, ◌≤◌, ◌==◌, Bool, true, false, List, [], ◌∷◌, length, Option, Some, None, slice_get, arith}
 use Rattle.std.specs.Str.{bytes_eq}
 use Rattle.std.proofs.lemmas.Bool.Decides.{nat_tests}
 use Rattle.tier_base.specs.declared.names.SegmentId.{SegmentId}
 use Rattle.tier_base.specs.declared.names.PartitionId.{PartitionId}
 use Rattle.tier_base.specs.declared.plain.Part.{Part}
-use Rattle.tier_base.specs.declared.plain.Part.TheVariants.{Log, Index, TimeIndex, Epochs}
+use Rattle.tier_base.specs.declared.plain.Part.TheVariants.{Log, Index, TimeIndex, Epochs, Pack}
 use Rattle.tier_base.specs.declared.plain.State.{State}
 use Rattle.tier_base.specs.declared.plain.State.TheVariants.{CopyStarted, CopyFinished, DeleteStarted, DeleteFinished}
 use Rattle.tier_base.specs.declared.object_key.ObjectKey.{ObjectKey}
+use Rattle.log_terms.proofs.Lists.{within}
 use Rattle.object_store.specs.Content.{Objects, MadeAt}
-use Rattle.object_store.specs.Place.{key_of, own_keys, keys_of}
+use Rattle.object_store.specs.Place.{key_of, keys_of}
 use Rattle.segment_meta.specs.Spelling.{state_code}
 use Rattle.remote_view.proofs.Ids.{same_id, bytes_self}
 use Rattle.tier_safe.specs.Copies.{is_deleted}
@@ -34,6 +35,7 @@ part_cases Log Log = inl refl
 part_cases Index Index = inl refl
 part_cases TimeIndex TimeIndex = inl refl
 part_cases Epochs Epochs = inl refl
+part_cases Pack Pack = inl refl
 part_cases a b = inr (λ e. absurd (cc (e)))
 
 pub key_cases : (a b : ObjectKey) → (a ≡ b) ⊎ (a ≢ b)
@@ -76,9 +78,26 @@ own_at partition id [] n key own at = absurd cc
 own_at partition id (k ∷ keys) zero key own at = let same : k ≡ key = cc (at) in subst (λ (j : ObjectKey). j ≡ key_of partition id j.part) same own.0
 own_at partition id (k ∷ keys) (suc n) key own at = own_at partition id keys n key own.1 at
 
-pub key_is : (partition : PartitionId) (id : SegmentId) (n : ℕ) (key : ObjectKey) → slice_get (keys_of partition id false) n ≡ Some key
+pub key_is : (partition : PartitionId) (id : SegmentId) (packed : Bool) (n : ℕ) (key : ObjectKey) → slice_get (keys_of partition id packed) n ≡ Some key
     → key ≡ key_of partition id key.part
-key_is partition id n key at = own_at partition id (own_keys partition id) n key (refl, (refl, (refl, (refl, tt)))) at
+key_is partition id false n key at = own_at partition id (keys_of partition id false) n key (refl, (refl, (refl, (refl, tt)))) at
+key_is partition id true n key at = own_at partition id (keys_of partition id true) n key (refl, tt) at
+
+-- a segment has a key
+pub some_keys : (partition : PartitionId) (id : SegmentId) (packed : Bool) → 0 < length (keys_of partition id packed)
+some_keys partition id false = omega arith
+some_keys partition id true = omega arith
+
+-- and four at most
+few_keys : (partition : PartitionId) (id : SegmentId) (packed : Bool) → length (keys_of partition id packed) ≤ 4
+few_keys partition id false = omega arith
+few_keys partition id true = omega arith
+
+pub key_low : (partition : PartitionId) (id : SegmentId) (packed : Bool) (n : ℕ) (key : ObjectKey) → slice_get (keys_of partition id packed) n ≡ Some key → n < 4
+key_low partition id packed n key at =
+    let low = within (keys_of partition id packed) n key at in
+    let few = few_keys partition id packed in
+    omega (arith, low, few)
 
 -- states
 

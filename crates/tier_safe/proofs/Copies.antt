@@ -2,19 +2,21 @@
 use Rattle.std.proofs.Common.{◌≡◌, ◌≢◌, ◌⊎◌, inl, inr, ◌∙◌, sym, ap, subst, refl, ℕ, ◌+◌, ◌<◌, Bool, true, false, cond, List, Option, Some, None, slice_get, slice_set, arith}
 use Rattle.std.specs.Prelude.{ℤ, is_some}
 use Rattle.std.proofs.lemmas.Bool.{cases_lt}
+use Rattle.tier_base.specs.declared.blob.Blob.{Blob}
 use Rattle.tier_base.specs.declared.names.BrokerId.{BrokerId}
 use Rattle.tier_base.specs.declared.names.SegmentId.{SegmentId}
 use Rattle.tier_base.specs.declared.plain.State.{State}
 use Rattle.tier_base.specs.declared.plain.State.TheVariants.{CopyStarted, CopyFinished, DeleteStarted, DeleteFinished}
 use Rattle.tier_base.specs.declared.object_key.ObjectKey.{ObjectKey}
 use Rattle.segment_meta.specs.declared.note.Entry.{Entry}
+use Rattle.segment_meta.specs.Rules.{bare_custom}
 use Rattle.segment_meta.specs.Steps.{next_state}
 use Rattle.object_store.specs.Content.{Objects}
 use Rattle.meta_log.specs.declared.teller.Teller.{Teller}
 use Rattle.log_terms.proofs.Lists.{get-set, look, within}
 use Rattle.plain_log.specs.declared.state.Path.{Path}
 use Rattle.plain_log.specs.declared.state.State.{State as Plain}
-use Rattle.copy_task.specs.Copying.{Copied, keys, entry_of as copied_entry}
+use Rattle.copy_task.specs.Copying.{Copied, keys, entry_of as copied_entry, custom_of}
 use Rattle.copy_task.specs.Turns.{put_at}
 use Rattle.copy_task.specs.declared.turn.Next.{Next as CopyNext}
 use Rattle.copy_task.specs.declared.turn.Next.TheVariants as copying
@@ -34,7 +36,7 @@ use Rattle.tier_safe.specs.May.{MayAlter, MayStore, MayTell}
 use Rattle.tier_safe.proofs.Entries.{Follows}
 use Rattle.tier_safe.proofs.Steps.{StepGoes}
 use Rattle.tier_safe.proofs.Entries.{id_in, told, told_follows, told_entry, add_entry, other_entry, fold_push, prefix_goes}
-use Rattle.tier_safe.proofs.Basics.{id_cases, nat_cases, key_cases, key_is, one_some, some_or_none, not_finished, not_started, not_started_rises, deleted_rises}
+use Rattle.tier_safe.proofs.Basics.{id_cases, nat_cases, key_cases, key_is, some_keys, one_some, some_or_none, not_finished, not_started, not_started_rises, deleted_rises}
 use Rattle.tier_safe.proofs.Lineage.{source_grows}
 
 -- an entry that goes on is still the copy's
@@ -46,6 +48,7 @@ entry_for_follows copy x y f e = record {
   map = f.map ∙ e.map;
   size = f.size ∙ e.size;
   max_ts = f.max_ts ∙ e.max_ts;
+  packed = f.packed ∙ e.packed;
 }
 
 -- the same entry
@@ -182,7 +185,7 @@ overtaken a copy c p m h =
         is = subst (λ (e : Entry). IsEntryFor copy e) same s.at.is;
         state = deleted_rises x.0.state y.0.state y.2.state (ap is_deleted x.2 ∙ m.deleted);
       };
-      key = omega arith;
+      key = some_keys copy.partition copy.id copy.packed;
     }
 
 moved_works : (a : ℕ) (move : Move) (c : Scene) (p : Plain) → MayMove a move c p → TierSafe c p
@@ -210,18 +213,18 @@ next_unused c p id partition b site h at up is used =
 
 -- notes
 
-told_gone : (broker : BrokerId) (event_ts : ℤ) (state : State) (x : Entry) → is_deleted state ≡ true
-    → (told broker event_ts state x ≡ x) ⊎ (is_deleted (told broker event_ts state x).state ≡ true)
-told_gone broker event_ts state x d = by (is_some (next_state (Some x.state) state))
+told_gone : (broker : BrokerId) (event_ts : ℤ) (state : State) (custom : Option Blob) (x : Entry) → is_deleted state ≡ true
+    → (told broker event_ts state custom x ≡ x) ⊎ (is_deleted (told broker event_ts state custom x).state ≡ true)
+told_gone broker event_ts state custom x d = by (is_some (next_state (Some x.state) state))
   where
-    by : (t : Bool) → (cond t (updated broker event_ts state x) x ≡ x) ⊎ (is_deleted (cond t (updated broker event_ts state x) x).state ≡ true)
+    by : (t : Bool) → (cond t (updated broker event_ts state custom x) x ≡ x) ⊎ (is_deleted (cond t (updated broker event_ts state custom x) x).state ≡ true)
     by true = inr d
     by false = inl refl
 
-told_ends : (broker : BrokerId) (event_ts : ℤ) (x : Entry) → (told broker event_ts CopyFinished x).state ≢ CopyStarted
-told_ends broker event_ts x = by x.state
+told_ends : (broker : BrokerId) (event_ts : ℤ) (custom : Option Blob) (x : Entry) → (told broker event_ts CopyFinished custom x).state ≢ CopyStarted
+told_ends broker event_ts custom x = by x.state
   where
-    by : (s : State) → (cond (is_some (next_state (Some s) CopyFinished)) (updated broker event_ts CopyFinished x) (record x { state = s })).state ≢ CopyStarted
+    by : (s : State) → (cond (is_some (next_state (Some s) CopyFinished)) (updated broker event_ts CopyFinished custom x) (record x { state = s })).state ≢ CopyStarted
     by CopyStarted e = absurd (cc (e))
     by CopyFinished e = absurd (cc (e))
     by DeleteStarted e = absurd (cc (e))
@@ -236,20 +239,20 @@ own_told (CopyStarts copy) a teller c p m h =
       at = record {
         entry = copied_entry copy teller;
         there = add_entry (fold c.notes) (copied_entry copy teller) refl s.at;
-        is = record { partition = refl; start = refl; end = refl; map = refl; size = refl; max_ts = refl };
+        is = record { partition = refl; start = refl; end = refl; map = refl; size = refl; max_ts = refl; packed = refl };
         state = (λ e. absurd (cc (e)), λ e i key at low. absurd (omega (arith, low)));
       };
-      key = omega arith;
+      key = some_keys copy.partition copy.id copy.packed;
     }
 own_told (CopyEnds copy) a teller c p m h =
     let s = h.copies.each a copy _ m.seat in
     record {
       source = s.source;
       at = record {
-        entry = told teller.broker teller.now CopyFinished s.at.entry;
-        there = told_entry (fold c.notes) copy.id teller.broker teller.now CopyFinished None s.at.entry s.at.there;
-        is = entry_for_follows copy s.at.entry (told teller.broker teller.now CopyFinished s.at.entry) (told_follows teller.broker teller.now CopyFinished s.at.entry) s.at.is;
-        state = told_ends teller.broker teller.now s.at.entry;
+        entry = told teller.broker teller.now CopyFinished (custom_of copy) s.at.entry;
+        there = told_entry (fold c.notes) copy.id teller.broker teller.now CopyFinished (custom_of copy) s.at.entry s.at.there;
+        is = entry_for_follows copy s.at.entry (told teller.broker teller.now CopyFinished (custom_of copy) s.at.entry) (told_follows teller.broker teller.now CopyFinished (custom_of copy) s.at.entry) s.at.is;
+        state = told_ends teller.broker teller.now (custom_of copy) s.at.entry;
       };
       key = tt;
     }
@@ -268,11 +271,11 @@ expiry_told : (doomed : Doomed) (state : State) (a : ℕ) (was : ExpiryNext) (te
     → CopyAt c.objects (noted (fold c.notes) (note_of doomed teller state)) copy next
 expiry_told doomed state a was teller c p copy next d seat h same at =
     let e = h.deletions.each a doomed was seat in
-    let new = told_entry (fold c.notes) doomed.id teller.broker teller.now state None e.entry e.there in
-    at_deleted c.objects (fold c.notes) (noted (fold c.notes) (note_of doomed teller state)) copy next e.entry (told teller.broker teller.now state e.entry)
+    let new = told_entry (fold c.notes) doomed.id teller.broker teller.now state (bare_custom doomed.packed) e.entry e.there in
+    at_deleted c.objects (fold c.notes) (noted (fold c.notes) (note_of doomed teller state)) copy next e.entry (told teller.broker teller.now state (bare_custom doomed.packed) e.entry)
     (subst (λ (i : SegmentId). entry_of i (fold c.notes) ≡ Some e.entry) same e.there)
-    (subst (λ (i : SegmentId). entry_of i (noted (fold c.notes) (note_of doomed teller state)) ≡ Some (told teller.broker teller.now state e.entry)) same new)
-    (told_follows teller.broker teller.now state e.entry) (told_gone teller.broker teller.now state e.entry d) at
+    (subst (λ (i : SegmentId). entry_of i (noted (fold c.notes) (note_of doomed teller state)) ≡ Some (told teller.broker teller.now state (bare_custom doomed.packed) e.entry)) same new)
+    (told_follows teller.broker teller.now state (bare_custom doomed.packed) e.entry) (told_gone teller.broker teller.now state (bare_custom doomed.packed) e.entry d) at
 
 same_told : (telling : Telling) (a : ℕ) (teller : Teller) (c : Scene) (p : Plain) (k : ℕ) (copy : Copied) (next : CopyNext) → MayTell a telling c → TierSafe c p
     → k ≢ a → slice_get c.desk k ≡ Some (Copies copy next) → id_in (note_for telling teller) ≡ copy.id
@@ -363,12 +366,12 @@ own_stored (Deletes doomed n key) a objects c p m h = (tt, tt)
 same_stored : (storing : Storing) (a : ℕ) (objects : Objects) (c : Scene) (p : Plain) (k : ℕ) (copy : Copied) (next : CopyNext) → MayStore a storing objects c → TierSafe c p
     → k ≢ a → slice_get c.desk k ≡ Some (Copies copy next) → (key_for storing).id ≡ copy.id → CopyAt objects (fold c.notes) copy next
 same_stored (Puts own n key) a objects c p k copy next m h ne at same =
-    absurd (alone_seat c p a own _ h m.seat k copy next ne at (sym (ap (λ (j : ObjectKey). j.id) (key_is own.partition own.id n key m.key)) ∙ same))
+    absurd (alone_seat c p a own _ h m.seat k copy next ne at (sym (ap (λ (j : ObjectKey). j.id) (key_is own.partition own.id own.packed n key m.key)) ∙ same))
 same_stored (Undoes own n key) a objects c p k copy next m h ne at same =
-    absurd (alone_seat c p a own _ h m.seat k copy next ne at (sym (ap (λ (j : ObjectKey). j.id) (key_is own.partition own.id n key m.key)) ∙ same))
+    absurd (alone_seat c p a own _ h m.seat k copy next ne at (sym (ap (λ (j : ObjectKey). j.id) (key_is own.partition own.id own.packed n key m.key)) ∙ same))
 same_stored (Deletes doomed n key) a objects c p k copy next m h ne at same =
     let e = h.deletions.each a doomed _ m.seat in
-    let id : doomed.id ≡ copy.id = sym (ap (λ (j : ObjectKey). j.id) (key_is doomed.partition doomed.id n key m.key)) ∙ same in
+    let id : doomed.id ≡ copy.id = sym (ap (λ (j : ObjectKey). j.id) (key_is doomed.partition doomed.id doomed.packed n key m.key)) ∙ same in
     at_gone c.objects objects (fold c.notes) copy next e.entry (subst (λ (i : SegmentId). entry_of i (fold c.notes) ≡ Some e.entry) id e.there) e.begun (h.copies.each k copy next at).at
 
 pub copies_kept : (change : Change) (c : Scene) (p : Plain) → MayAlter change c p → TierSafe c p
@@ -400,7 +403,7 @@ copies_kept (Stores a storing objects) c p m h =
       at = elim (id_cases (key_for storing).id copy.id) [
         | inl same ↦ same_stored storing a objects c p k copy next m h ne at same
         | inr other ↦ at_objects c.objects objects (fold c.notes) copy next
-            (λ i key is. m.made.others key (λ e. other (ap (λ (j : ObjectKey). j.id) (sym e ∙ key_is copy.partition copy.id i key is)))) (h.copies.each k copy next at).at
+            (λ i key is. m.made.others key (λ e. other (ap (λ (j : ObjectKey). j.id) (sym e ∙ key_is copy.partition copy.id copy.packed i key is)))) (h.copies.each k copy next at).at
       ];
       key = (h.copies.each k copy next at).key;
     })

@@ -2,6 +2,7 @@
 use Rattle.std.proofs.Common.{◌≡◌, ◌≢◌, ◌⊎◌, inl, inr, ◌∙◌, sym, ap, subst, refl, ℕ, ◌+◌, ◌<◌, ◌≤◌, true, cond, not, List, [], ◌∷◌, ◌++◌, Option, Some, None, slice_get, slice_set, arith}
 use Rattle.std.specs.Prelude.{ℤ, is_some, nat_lt}
 use Rattle.std.proofs.lemmas.Bool.Decides.{nat_tests}
+use Rattle.tier_base.specs.declared.blob.Blob.{Blob}
 use Rattle.tier_base.specs.declared.names.BrokerId.{BrokerId}
 use Rattle.tier_base.specs.declared.names.SegmentId.{SegmentId}
 use Rattle.tier_base.specs.declared.plain.State.{State}
@@ -9,6 +10,7 @@ use Rattle.tier_base.specs.declared.plain.State.TheVariants.{CopyStarted, CopyFi
 use Rattle.tier_base.specs.declared.object_key.ObjectKey.{ObjectKey}
 use Rattle.segment_meta.specs.declared.note.Entry.{Entry}
 use Rattle.segment_meta.specs.declared.note.Note.{Note}
+use Rattle.segment_meta.specs.Rules.{bare_custom}
 use Rattle.segment_meta.specs.Spelling.{state_code}
 use Rattle.segment_meta.specs.Steps.{next_state}
 use Rattle.object_store.specs.Content.{Objects}
@@ -33,7 +35,7 @@ use Rattle.tier_safe.specs.Moves.{MayMove, MayDoom}
 use Rattle.tier_safe.specs.May.{MayAlter, MayStore, MayTell}
 use Rattle.tier_safe.proofs.Steps.{StepGoes}
 use Rattle.tier_safe.proofs.Entries.{id_in, told, told_entry, told_follows, entry_goes, prefix_goes, other_entry, fold_push}
-use Rattle.tier_safe.proofs.Basics.{id_cases, one_some, deleted_rises}
+use Rattle.tier_safe.proofs.Basics.{id_cases, some_keys, one_some, deleted_rises}
 
 pub finished_or : (s : State) → (s ≡ CopyFinished) ⊎ (s ≢ CopyFinished)
 finished_or CopyFinished = inl refl
@@ -129,10 +131,10 @@ moved_expiry a (Finds sought piece) c p m h = tt
 moved_expiry a (Skips sought offset) c p m h = tt
 moved_expiry a (Reads sought from) c p m h = tt
 
-told_begun : (broker : BrokerId) (event_ts : ℤ) (x : Entry) → is_deleted (told broker event_ts DeleteStarted x).state ≡ true
-told_begun broker event_ts x = by x.state
+told_begun : (broker : BrokerId) (event_ts : ℤ) (custom : Option Blob) (x : Entry) → is_deleted (told broker event_ts DeleteStarted custom x).state ≡ true
+told_begun broker event_ts custom x = by x.state
   where
-    by : (s : State) → is_deleted (cond (is_some (next_state (Some s) DeleteStarted)) (updated broker event_ts DeleteStarted x) (record x { state = s })).state ≡ true
+    by : (s : State) → is_deleted (cond (is_some (next_state (Some s) DeleteStarted)) (updated broker event_ts DeleteStarted custom x) (record x { state = s })).state ≡ true
     by CopyStarted = refl
     by CopyFinished = refl
     by DeleteStarted = refl
@@ -145,11 +147,11 @@ told_expiry (CopyEnds copy) a teller c p m h = tt
 told_expiry (ExpiryStarts doomed) a teller c p m h =
     let s = h.deletions.each a doomed _ m.seat in
     record {
-      entry = told teller.broker teller.now DeleteStarted s.entry;
-      there = told_entry (fold c.notes) doomed.id teller.broker teller.now DeleteStarted None s.entry s.there;
-      below = rw (told_follows teller.broker teller.now DeleteStarted s.entry).end s.below;
-      begun = told_begun teller.broker teller.now s.entry;
-      key = omega arith;
+      entry = told teller.broker teller.now DeleteStarted (bare_custom doomed.packed) s.entry;
+      there = told_entry (fold c.notes) doomed.id teller.broker teller.now DeleteStarted (bare_custom doomed.packed) s.entry s.there;
+      below = rw (told_follows teller.broker teller.now DeleteStarted (bare_custom doomed.packed) s.entry).end s.below;
+      begun = told_begun teller.broker teller.now (bare_custom doomed.packed) s.entry;
+      key = some_keys doomed.partition doomed.id doomed.packed;
     }
 told_expiry (ExpiryEnds doomed) a teller c p m h = tt
 

@@ -13,10 +13,10 @@ use Rattle.segment_meta.specs.declared.note.Note.{Note}
 use Rattle.segment_meta.specs.declared.note.Note.TheVariants.{Add, Update}
 use Rattle.segment_meta.specs.Spelling.{state_code}
 use Rattle.segment_meta.specs.Steps.{next_state}
-use Rattle.remote_view.specs.Fold.{entry_of, state_of, changed, updated, noted, folded_from, fold}
+use Rattle.remote_view.specs.Fold.{entry_of, state_of, changed, updated, custom_after, noted, folded_from, fold}
 use Rattle.remote_view.proofs.Ids.{same_id, bytes_self, other_bytes}
 
--- an entry later: of the same segment, in no earlier state
+-- an entry later: of the same segment, in no earlier state; once its copy isn't under way, its custom metadata stays
 pub record Follows (old new : Entry) : Type 0 where
   pub id : new.id ≡ old.id
   pub partition : new.partition ≡ old.partition
@@ -25,6 +25,8 @@ pub record Follows (old new : Entry) : Type 0 where
   pub max_ts : new.max_ts ≡ old.max_ts
   pub size : new.size ≡ old.size
   pub map : new.map ≡ old.map
+  pub packed : new.packed ≡ old.packed
+  pub custom : old.state ≢ CopyStarted → new.custom ≡ old.custom
   pub state : state_code old.state ≤ state_code new.state
 
 -- the id that a note speaks of
@@ -33,9 +35,9 @@ id_in (Add entry) = entry.id
 id_in (Update id broker event_ts state custom) = id
 
 -- an entry after an update of its id
-abbrev pub told : BrokerId → ℤ → State → Entry → Entry
-told broker event_ts state entry =
-    if is_some (next_state (Some entry.state) state) then updated broker event_ts state entry else entry
+abbrev pub told : BrokerId → ℤ → State → Option Blob → Entry → Entry
+told broker event_ts state custom entry =
+    if is_some (next_state (Some entry.state) state) then updated broker event_ts state custom entry else entry
 
 -- one entry more at the end
 push_other : (es : List Entry) (e : Entry) (id : SegmentId) → bytes_eq e.id.0 id.0 ≡ false → entry_of id (es ++ e ∷ []) ≡ entry_of id es
@@ -106,8 +108,8 @@ other_entry es (Add e) id ne = by (is_some (next_state (state_of e.id es) e.stat
     by false = refl
 other_entry es (Update own broker event_ts state custom) id ne = by (is_some (next_state (state_of own es) state))
   where
-    by : (t : Bool) → entry_of id (cond t (changed own (updated broker event_ts state) es) es) ≡ entry_of id es
-    by true = change_other own id (updated broker event_ts state) es (λ e. refl) (other_bytes own id ne)
+    by : (t : Bool) → entry_of id (cond t (changed own (updated broker event_ts state custom) es) es) ≡ entry_of id es
+    by true = change_other own id (updated broker event_ts state custom) es (λ e. refl) (other_bytes own id ne)
     by false = refl
 
 -- a note that adds an entry of an unknown id
@@ -120,15 +122,25 @@ add_entry es e started none = by (is_some (next_state (state_of e.id es) e.state
 
 -- an update of a known id
 pub told_entry : (es : List Entry) (id : SegmentId) (broker : BrokerId) (event_ts : ℤ) (state : State) (custom : Option Blob) (x : Entry) → entry_of id es ≡ Some x
-    → entry_of id (noted es (Update id broker event_ts state custom)) ≡ Some (told broker event_ts state x)
+    → entry_of id (noted es (Update id broker event_ts state custom)) ≡ Some (told broker event_ts state custom x)
 told_entry es id broker event_ts state custom x h = rw h (by (is_some (next_state (Some x.state) state)))
   where
-    by : (t : Bool) → entry_of id (cond t (changed id (updated broker event_ts state) es) es) ≡ Some (cond t (updated broker event_ts state x) x)
-    by true = change_own id (updated broker event_ts state) es x (λ e. refl) h
+    by : (t : Bool) → entry_of id (cond t (changed id (updated broker event_ts state custom) es) es) ≡ Some (cond t (updated broker event_ts state custom x) x)
+    by true = change_own id (updated broker event_ts state custom) es x (λ e. refl) h
     by false = h
 
 pub follows_self : (x : Entry) → Follows x x
-follows_self x = record { id = refl; partition = refl; start = refl; end = refl; max_ts = refl; size = refl; map = refl; state = omega arith }
+follows_self x = record { id = refl; partition = refl; start = refl; end = refl; max_ts = refl; size = refl; map = refl; packed = refl; custom = λ ne. refl; state = omega arith }
+
+-- a copy that isn't under way never is again
+pub not_begun : (old new : State) → state_code old ≤ state_code new → old ≢ CopyStarted → new ≢ CopyStarted
+not_begun CopyStarted new h ne e = ne refl
+not_begun CopyFinished CopyStarted h ne e = absurd (omega (arith, h))
+not_begun DeleteStarted CopyStarted h ne e = absurd (omega (arith, h))
+not_begun DeleteFinished CopyStarted h ne e = absurd (omega (arith, h))
+not_begun old CopyFinished h ne e = absurd (cc (e))
+not_begun old DeleteStarted h ne e = absurd (cc (e))
+not_begun old DeleteFinished h ne e = absurd (cc (e))
 
 pub follows_trans : (x y z : Entry) → Follows x y → Follows y z → Follows x z
 follows_trans x y z h k = record {
@@ -139,6 +151,8 @@ follows_trans x y z h k = record {
   max_ts = k.max_ts ∙ h.max_ts;
   size = k.size ∙ h.size;
   map = k.map ∙ h.map;
+  packed = k.packed ∙ h.packed;
+  custom = λ ne. k.custom (not_begun x.state y.state h.state ne) ∙ h.custom ne;
   state = omega (arith, h.state, k.state);
 }
 
@@ -149,11 +163,21 @@ step_rises CopyFinished DeleteStarted h = omega arith
 step_rises DeleteStarted DeleteFinished h = omega arith
 step_rises old new h = absurd (cc)
 
-pub told_follows : (broker : BrokerId) (event_ts : ℤ) (state : State) (x : Entry) → Follows x (told broker event_ts state x)
-told_follows broker event_ts state x = by (is_some (next_state (Some x.state) state)) refl
+-- only a copy under way is finished, so no other step changes custom metadata
+step_keeps : (old new : State) (told custom : Option Blob) → is_some (next_state (Some old) new) ≡ true → old ≢ CopyStarted → custom_after new told custom ≡ custom
+step_keeps CopyStarted new told custom h ne = absurd (ne refl)
+step_keeps CopyFinished CopyFinished told custom h ne = absurd (cc (h))
+step_keeps DeleteStarted CopyFinished told custom h ne = absurd (cc (h))
+step_keeps DeleteFinished CopyFinished told custom h ne = absurd (cc (h))
+step_keeps old CopyStarted told custom h ne = refl
+step_keeps old DeleteStarted told custom h ne = refl
+step_keeps old DeleteFinished told custom h ne = refl
+
+pub told_follows : (broker : BrokerId) (event_ts : ℤ) (state : State) (custom : Option Blob) (x : Entry) → Follows x (told broker event_ts state custom x)
+told_follows broker event_ts state custom x = by (is_some (next_state (Some x.state) state)) refl
   where
-    by : (t : Bool) → is_some (next_state (Some x.state) state) ≡ t → Follows x (cond t (updated broker event_ts state x) x)
-    by true is = record { id = refl; partition = refl; start = refl; end = refl; max_ts = refl; size = refl; map = refl; state = step_rises x.state state is }
+    by : (t : Bool) → is_some (next_state (Some x.state) state) ≡ t → Follows x (cond t (updated broker event_ts state custom x) x)
+    by true is = record { id = refl; partition = refl; start = refl; end = refl; max_ts = refl; size = refl; map = refl; packed = refl; custom = λ ne. step_keeps x.state state custom x.custom is ne; state = step_rises x.state state is }
     by false is = follows_self x
 
 both : {t : Bool} → t ≡ true → t ≡ false → ⊥
@@ -172,10 +196,10 @@ entry_goes es (Update own broker event_ts state custom) id x h = by (bytes_eq ow
     by : (t : Bool) → bytes_eq own.0 id.0 ≡ t → (y : Entry) × (entry_of id (noted es (Update own broker event_ts state custom)) ≡ Some y) × Follows x y
     by true is =
         let one : own ≡ id = same_id own id is in (
-          told broker event_ts state x,
-          subst (λ (i : SegmentId). entry_of id (noted es (Update i broker event_ts state custom)) ≡ Some (told broker event_ts state x)) (sym one)
+          told broker event_ts state custom x,
+          subst (λ (i : SegmentId). entry_of id (noted es (Update i broker event_ts state custom)) ≡ Some (told broker event_ts state custom x)) (sym one)
               (told_entry es id broker event_ts state custom x h),
-          told_follows broker event_ts state x,
+          told_follows broker event_ts state custom x,
         )
     by false is = (x, other_entry es (Update own broker event_ts state custom) id (λ same. both (ap (λ (i : SegmentId). bytes_eq i.0 id.0) same ∙ bytes_self id.0) is) ∙ h, follows_self x)
 

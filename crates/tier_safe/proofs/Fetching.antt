@@ -26,11 +26,11 @@ use Rattle.tier_safe.specs.Changes.{Move, Leaves, Overtakes, Dooms, Wants, Refre
 use Rattle.tier_safe.specs.Lineage.{IsPart, Describes}
 use Rattle.plain_log.specs.Grows.{BrokerGrows}
 use Rattle.tier_safe.specs.Starts.{DeletedEnd}
-use Rattle.tier_safe.specs.Fetches.{StillLeads, PieceStands, IsIndexOf, PositionStands, FetchStands, FetchesStand}
+use Rattle.tier_safe.specs.Fetches.{SeesCopy, StillLeads, PieceStands, IsIndexOf, PositionStands, FetchStands, FetchesStand}
 use Rattle.tier_safe.specs.Safe.{TierSafe}
 use Rattle.tier_safe.specs.Moves.{MayMove, MayAsk, MayFind, MaySkip, MayRead}
 use Rattle.tier_safe.specs.May.{MayAlter}
-use Rattle.tier_safe.proofs.Entries.{Follows}
+use Rattle.tier_safe.proofs.Entries.{Follows, not_begun}
 use Rattle.tier_safe.proofs.Steps.{StepGoes}
 use Rattle.tier_safe.proofs.Entries.{prefix_goes}
 use Rattle.tier_safe.proofs.Basics.{one_some}
@@ -78,7 +78,7 @@ found a sought piece c p m h site x is bx =
       taken = f.taken;
       below = λ none leads. absurd (cc (none));
       seen = λ other has. (let same : other ≡ piece = cc (has) in
-          subst (λ (q : Piece). (entry : Entry) × (entry_of q.id site.view.entries ≡ Some entry)) (sym same) (m.seen site is));
+          subst (λ (q : Piece). SeesCopy site.view.entries q.id) (sym same) (m.seen site is));
       piece = λ other has leads low. (let same : other ≡ piece = cc (has) in
           subst (λ (q : Piece). PieceStands c.notes x.log sought.offset q) (sym same) (m.gives x bx (record { stops = leads.stops; role = leads.role }) low));
       from = λ other from has read. absurd (cc (read, m.unread));
@@ -194,15 +194,15 @@ stored_fetch paths notes start sites brokers (Puts copy n key) = tt
 stored_fetch paths notes start sites brokers (Undoes copy n key) = undone_fetch paths notes start sites brokers copy (n + 1) (slice_get (copy_keys copy) (n + 1))
 stored_fetch paths notes start sites brokers (Deletes doomed n key) = tt
 
--- an entry that the one site's view has the other's has too
+-- a copy that the one site's view sees the other's sees too
 abbrev SeesOn : Site → Site → Type 0
-SeesOn old new = (id : SegmentId) (x : Entry) → entry_of id old.view.entries ≡ Some x → (y : Entry) × (entry_of id new.view.entries ≡ Some y)
+SeesOn old new = (id : SegmentId) → SeesCopy old.view.entries id → SeesCopy new.view.entries id
 
 -- a view of more notes
 sees_more : (old new : Site) (before more : List Note) → old.view ≡ view_of before → new.view ≡ view_of more → IsPrefix before more → SeesOn old new
-sees_more old new before more was is pre id x there =
-    let y = prefix_goes before more id x pre (subst (λ (v : Seen). entry_of id v.entries ≡ Some x) was there) in
-    (y.0, subst (λ (v : Seen). entry_of id v.entries ≡ Some y.0) (sym is) y.1)
+sees_more old new before more was is pre id k =
+    let y = prefix_goes before more id k.0 pre (subst (λ (v : Seen). entry_of id v.entries ≡ Some k.0) was k.1) in
+    (y.0, subst (λ (v : Seen). entry_of id v.entries ≡ Some y.0) (sym is) y.1, not_begun k.0.state y.0.state y.2.state k.2)
 
 -- a site whose local start doesn't fall, and whose view has the entries that it had
 fetches_site : (paths : List Path) (notes : List Note) (start : ℕ) (sites : List Site) (brokers : List Broker) (desk : List Work) (b : ℕ) (old new : Site) → slice_get sites b ≡ Some old
@@ -214,7 +214,7 @@ fetches_site paths notes start sites brokers desk b old new at rises on h = λ a
         stops = f.stops;
         taken = f.taken;
         below = λ none leads. (let low = f.below none leads in subst (λ (s : Site). sought.offset < s.start) (sym here.1) (omega (arith, low, rises)));
-        seen = λ piece has. (let k = f.seen piece has in subst (λ (s : Site). (entry : Entry) × (entry_of piece.id s.view.entries ≡ Some entry)) (sym here.1) (on piece.id k.0 k.1));
+        seen = λ piece has. subst (λ (s : Site). SeesCopy s.view.entries piece.id) (sym here.1) (on piece.id (f.seen piece has));
         piece = f.piece;
         from = f.from;
       }
@@ -227,7 +227,7 @@ fetches_kept (Steps sites) c p m h = absurd m
 fetches_kept (Moves a move) c p m h = fetches_set p.paths c.notes p.registry.start c.sites p.brokers c.desk a (moved move) (moved_fetch a move c p m h) h.fetches
 fetches_kept (Chooses a b site copy) c p m h =
     fetches_set p.paths c.notes p.registry.start (slice_set c.sites b (record site { next = site.next + 1 })) p.brokers c.desk a (Copies copy copying.Start) tt
-    (fetches_site p.paths c.notes p.registry.start c.sites p.brokers c.desk b site (record site { next = site.next + 1 }) m.site_is (omega arith) (λ id x there. (x, there)) h.fetches)
+    (fetches_site p.paths c.notes p.registry.start c.sites p.brokers c.desk b site (record site { next = site.next + 1 }) m.site_is (omega arith) (λ id k. k) h.fetches)
 fetches_kept (Tells a telling teller) c p m h =
     let notes = c.notes ++ note_for telling teller ∷ [] in
     let first = prefix_more c.notes c.notes (note_for telling teller ∷ []) (prefix_self c.notes) in
@@ -239,9 +239,9 @@ fetches_kept (Sees b site view) c p m h =
     fetches_site p.paths c.notes p.registry.start c.sites p.brokers c.desk b site (record site { view = view }) m.site_is (omega arith)
     (sees_more site (record site { view = view }) m.before m.more m.old m.new m.grows) h.fetches
 fetches_kept (Caches b site cache) c p m h =
-    fetches_site p.paths c.notes p.registry.start c.sites p.brokers c.desk b site (record site { cache = cache }) m.site_is (omega arith) (λ id x there. (x, there)) h.fetches
+    fetches_site p.paths c.notes p.registry.start c.sites p.brokers c.desk b site (record site { cache = cache }) m.site_is (omega arith) (λ id k. k) h.fetches
 fetches_kept (Drops b site start dropping) c p m h =
-    fetches_site p.paths c.notes p.registry.start c.sites p.brokers c.desk b site (record site { start = start }) m.site_is m.rises (λ id x there. (x, there)) h.fetches
+    fetches_site p.paths c.notes p.registry.start c.sites p.brokers c.desk b site (record site { start = start }) m.site_is m.rises (λ id k. k) h.fetches
 
 -- a step
 
@@ -283,7 +283,7 @@ fetches_stepped sites c p q m h = λ a sought site y seat is by.
           let low = f.below none b.0 in
           let start = s.goes.leads sought.epoch b.2 b.3 leads.role in
           omega (arith, low, start));
-      seen = λ piece has. (let k = f.seen piece has in (k.0, subst (λ (v : Seen). entry_of piece.id v.entries ≡ Some k.0) (sym s.goes.view) k.1));
+      seen = λ piece has. subst (λ (v : Seen). SeesCopy v.entries piece.id) (sym s.goes.view) (f.seen piece has);
       piece = λ piece has leads low. (let b = led_before p.paths sought s.x s.y g f.stops f.taken leads in
           let q = f.piece piece has b.0 (omega (arith, low, m.grows.start)) in
           record {

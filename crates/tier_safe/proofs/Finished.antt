@@ -1,24 +1,25 @@
 -- Each change leaves the objects of finished copies.
-use Rattle.std.proofs.Common.{◌≡◌, ◌≢◌, inl, inr, ◌∙◌, sym, ap, subst, refl, ℕ, Bool, true, false, cond, List, length, Some, None, slice_get}
+use Rattle.std.proofs.Common.{◌≡◌, ◌≢◌, inl, inr, ◌∙◌, sym, ap, subst, refl, ℕ, Bool, true, false, cond, List, length, Option, Some, slice_get}
 use Rattle.std.specs.Prelude.{ℤ, is_some}
+use Rattle.tier_base.specs.declared.blob.Blob.{Blob}
 use Rattle.tier_base.specs.declared.names.BrokerId.{BrokerId}
 use Rattle.tier_base.specs.declared.names.PartitionId.{PartitionId}
 use Rattle.tier_base.specs.declared.names.SegmentId.{SegmentId}
-use Rattle.tier_base.specs.declared.plain.Part.{Part}
-use Rattle.tier_base.specs.declared.plain.Part.TheVariants.{Log, Index, TimeIndex, Epochs}
 use Rattle.tier_base.specs.declared.plain.State.{State}
 use Rattle.tier_base.specs.declared.plain.State.TheVariants.{CopyStarted, CopyFinished, DeleteStarted, DeleteFinished}
 use Rattle.tier_base.specs.declared.object_key.ObjectKey.{ObjectKey}
 use Rattle.segment_meta.specs.declared.note.Entry.{Entry}
+use Rattle.segment_meta.specs.Rules.{bare_custom}
 use Rattle.segment_meta.specs.Steps.{next_state}
 use Rattle.segment_file.specs.Segment.{IsSegment}
-use Rattle.segment_bundle.specs.Parts.{part_in}
+use Rattle.tier_base.specs.Layout.{layout_bytes}
+use Rattle.segment_bundle.specs.Parts.{Parts, part_in, layout_of}
 use Rattle.object_store.specs.Content.{Objects}
-use Rattle.object_store.specs.Place.{key_of, keys_of}
+use Rattle.object_store.specs.Place.{keys_of}
 use Rattle.meta_log.specs.declared.teller.Teller.{Teller}
 use Rattle.plain_log.specs.declared.state.Path.{Path}
 use Rattle.plain_log.specs.declared.state.State.{State as Plain}
-use Rattle.copy_task.specs.Copying.{Copied, entry_of as copied_entry, start_note, finish_note}
+use Rattle.copy_task.specs.Copying.{Copied, entry_of as copied_entry, custom_of, start_note, finish_note}
 use Rattle.expiry_task.specs.declared.turn.Doomed.{Doomed}
 use Rattle.expiry_task.specs.declared.turn.Next.{Next as ExpiryNext}
 use Rattle.expiry_task.specs.Turns.{note_of}
@@ -26,7 +27,7 @@ use Rattle.remote_view.specs.Fold.{entry_of, noted, updated, fold}
 use Rattle.remote_view.proofs.Changes.{found_id}
 use Rattle.tier_safe.specs.Scene.{Scene, Site, Expires}
 use Rattle.tier_safe.specs.Changes.{Telling, CopyStarts, CopyEnds, ExpiryStarts, ExpiryEnds, note_for, Storing, Puts, Undoes, Deletes, key_for, Change, Steps, Moves, Chooses, Tells, Stores, Sees, Caches, Drops, effect}
-use Rattle.tier_safe.specs.Lineage.{IsPart, IsHeld, IsSource}
+use Rattle.tier_safe.specs.Lineage.{IsPart, TellsParts, IsHeld, IsSource}
 use Rattle.tier_safe.specs.Copies.{FinishedStand, IsEntryFor, HasPutAll}
 use Rattle.tier_safe.specs.Safe.{TierSafe}
 use Rattle.tier_safe.specs.May.{MayAlter, MayStore, MayTell}
@@ -35,10 +36,14 @@ use Rattle.tier_safe.proofs.Entries.{id_in, told, told_follows, told_entry, add_
 use Rattle.tier_safe.proofs.Basics.{id_cases, one_some, not_finished, key_is}
 use Rattle.tier_safe.proofs.Lineage.{held_grows, held_same}
 
+-- the custom metadata of a packed copy
+custom_packed : (copy : Copied) → copy.packed ≡ true → custom_of copy ≡ Some (layout_bytes (layout_of copy.parts))
+custom_packed copy packed = rw packed refl
+
 -- a copy whose objects all stand, with its entry
 pub copied_held : (objects : Objects) (paths : List Path) (copy : Copied) (entry : Entry) → IsSource paths copy → IsEntryFor copy entry → entry.id ≡ copy.id
-    → HasPutAll objects copy → IsHeld objects paths entry
-copied_held objects paths copy entry s e id put = record {
+    → entry.custom ≡ custom_of copy → HasPutAll objects copy → IsHeld objects paths entry
+copied_held objects paths copy entry s e id told put = record {
   batches = s.copied.batches;
   line = copy.line;
   interval = copy.interval;
@@ -51,33 +56,36 @@ copied_held objects paths copy entry s e id put = record {
     max_ts_is = e.max_ts ∙ s.copied.max_ts_is;
     size_is = e.size ∙ ap length s.copied.bytes_are;
   };
-  stand = λ part. rw (e.partition, id, ← s.copied.parts_are) (each part);
+  stand = λ n key at.
+      put n key (rw (← e.partition, ← id, ← e.packed) at)
+      ∙ ap (λ (parts : Parts). Some (part_in parts key.part)) s.copied.parts_are;
+  custom = λ packed.
+      (let one : copy.packed ≡ true = sym e.packed ∙ packed in
+      subst (TellsParts entry.custom) s.copied.parts_are (record { fits = s.copied.packs one; is = told ∙ custom_packed copy one }));
 }
-  where
-    each : (part : Part) → objects (key_of copy.partition copy.id part) ≡ Some (part_in copy.parts part)
-    each Log = put 0 (key_of copy.partition copy.id Log) refl
-    each Index = put 1 (key_of copy.partition copy.id Index) refl
-    each TimeIndex = put 2 (key_of copy.partition copy.id TimeIndex) refl
-    each Epochs = put 3 (key_of copy.partition copy.id Epochs) refl
 
 -- an update to another state that leaves an entry finished has left it as it was
-pub told_finished : (broker : BrokerId) (event_ts : ℤ) (state : State) (x : Entry) → state ≢ CopyFinished → (told broker event_ts state x).state ≡ CopyFinished
-    → told broker event_ts state x ≡ x
-told_finished broker event_ts state x ne = by (is_some (next_state (Some x.state) state))
+pub told_finished : (broker : BrokerId) (event_ts : ℤ) (state : State) (custom : Option Blob) (x : Entry) → state ≢ CopyFinished → (told broker event_ts state custom x).state ≡ CopyFinished
+    → told broker event_ts state custom x ≡ x
+told_finished broker event_ts state custom x ne = by (is_some (next_state (Some x.state) state))
   where
-    by : (t : Bool) → (cond t (updated broker event_ts state x) x).state ≡ CopyFinished → cond t (updated broker event_ts state x) x ≡ x
+    by : (t : Bool) → (cond t (updated broker event_ts state custom x) x).state ≡ CopyFinished → cond t (updated broker event_ts state custom x) x ≡ x
     by true is = absurd (ne is)
     by false is = refl
 
 -- a copy's end that leaves an entry finished which wasn't found it started
-pub told_copied : (broker : BrokerId) (event_ts : ℤ) (x : Entry) → x.state ≢ CopyFinished → (told broker event_ts CopyFinished x).state ≡ CopyFinished → x.state ≡ CopyStarted
-told_copied broker event_ts x = by x.state
+pub told_copied : (broker : BrokerId) (event_ts : ℤ) (custom : Option Blob) (x : Entry) → x.state ≢ CopyFinished → (told broker event_ts CopyFinished custom x).state ≡ CopyFinished → x.state ≡ CopyStarted
+told_copied broker event_ts custom x = by x.state
   where
-    by : (s : State) → s ≢ CopyFinished → (cond (is_some (next_state (Some s) CopyFinished)) (updated broker event_ts CopyFinished x) (record x { state = s })).state ≡ CopyFinished → s ≡ CopyStarted
+    by : (s : State) → s ≢ CopyFinished → (cond (is_some (next_state (Some s) CopyFinished)) (updated broker event_ts CopyFinished custom x) (record x { state = s })).state ≡ CopyFinished → s ≡ CopyStarted
     by CopyStarted ne is = refl
     by CopyFinished ne is = absurd (ne refl)
     by DeleteStarted ne is = absurd (cc)
     by DeleteFinished ne is = absurd (cc)
+
+-- a copy under way that is told as finished has the custom metadata that is told
+told_custom : (broker : BrokerId) (event_ts : ℤ) (custom : Option Blob) (x : Entry) → x.state ≡ CopyStarted → (told broker event_ts CopyFinished custom x).custom ≡ custom
+told_custom broker event_ts custom x started = rw started refl
 
 -- after a note of an expiry an entry of its id that is finished was so
 expired_held : (doomed : Doomed) (teller : Teller) (state : State) (a : ℕ) (next : ExpiryNext) (c : Scene) (p : Plain) (entry : Entry) → state ≢ CopyFinished
@@ -85,9 +93,9 @@ expired_held : (doomed : Doomed) (teller : Teller) (state : State) (a : ℕ) (ne
     → entry_of doomed.id (noted (fold c.notes) (note_of doomed teller state)) ≡ Some entry → entry.state ≡ CopyFinished → IsHeld c.objects p.paths entry
 expired_held doomed teller state a next c p entry ne seat h is done =
     let s = h.deletions.each a doomed next seat in
-    let new = told_entry (fold c.notes) doomed.id teller.broker teller.now state None s.entry s.there in
-    let one = one_some (entry_of doomed.id (noted (fold c.notes) (note_of doomed teller state))) entry (told teller.broker teller.now state s.entry) is new in
-    let same = told_finished teller.broker teller.now state s.entry ne (subst (λ (y : Entry). y.state ≡ CopyFinished) one done) in
+    let new = told_entry (fold c.notes) doomed.id teller.broker teller.now state (bare_custom doomed.packed) s.entry s.there in
+    let one = one_some (entry_of doomed.id (noted (fold c.notes) (note_of doomed teller state))) entry (told teller.broker teller.now state (bare_custom doomed.packed) s.entry) is new in
+    let same = told_finished teller.broker teller.now state (bare_custom doomed.packed) s.entry ne (subst (λ (y : Entry). y.state ≡ CopyFinished) one done) in
     let was : entry ≡ s.entry = one ∙ same in
     h.finished doomed.id entry (subst (λ (y : Entry). entry_of doomed.id (fold c.notes) ≡ Some y) (sym was) s.there) done
 
@@ -102,41 +110,42 @@ told_held (CopyStarts copy) a teller c p entry m h is done =
 told_held (CopyEnds copy) a teller c p entry m h is done =
     let s = h.copies.each a copy _ m.seat in
     let x = s.at.entry in
-    let new = told_entry (fold c.notes) copy.id teller.broker teller.now CopyFinished None x s.at.there in
-    let one = one_some (entry_of copy.id (noted (fold c.notes) (finish_note copy teller))) entry (told teller.broker teller.now CopyFinished x) is new in
-    let f = told_follows teller.broker teller.now CopyFinished x in
-    let started = told_copied teller.broker teller.now x s.at.state.0 (subst (λ (y : Entry). y.state ≡ CopyFinished) one done) in
+    let new = told_entry (fold c.notes) copy.id teller.broker teller.now CopyFinished (custom_of copy) x s.at.there in
+    let one = one_some (entry_of copy.id (noted (fold c.notes) (finish_note copy teller))) entry (told teller.broker teller.now CopyFinished (custom_of copy) x) is new in
+    let f = told_follows teller.broker teller.now CopyFinished (custom_of copy) x in
+    let started = told_copied teller.broker teller.now (custom_of copy) x s.at.state.0 (subst (λ (y : Entry). y.state ≡ CopyFinished) one done) in
     subst (λ (y : Entry). IsHeld c.objects p.paths y) (sym one)
-    (copied_held c.objects p.paths copy (told teller.broker teller.now CopyFinished x) s.source (record {
+    (copied_held c.objects p.paths copy (told teller.broker teller.now CopyFinished (custom_of copy) x) s.source (record {
       partition = f.partition ∙ s.at.is.partition;
       start = f.start ∙ s.at.is.start;
       end = f.end ∙ s.at.is.end;
       map = f.map ∙ s.at.is.map;
       size = f.size ∙ s.at.is.size;
       max_ts = f.max_ts ∙ s.at.is.max_ts;
-    }) (f.id ∙ found_id copy.id (fold c.notes) x s.at.there) (s.at.state.1 started))
+      packed = f.packed ∙ s.at.is.packed;
+    }) (f.id ∙ found_id copy.id (fold c.notes) x s.at.there) (told_custom teller.broker teller.now (custom_of copy) x started) (s.at.state.1 started))
 told_held (ExpiryStarts doomed) a teller c p entry m h is done =
     expired_held doomed teller DeleteStarted a _ c p entry (λ e. absurd (cc (e))) m.seat h is done
 told_held (ExpiryEnds doomed) a teller c p entry m h is done =
     expired_held doomed teller DeleteFinished a _ c p entry (λ e. absurd (cc (e))) m.seat h is done
 
 -- the entry of a segment, by one of its keys
-under : (partition : PartitionId) (id : SegmentId) (n : ℕ) (key : ObjectKey) (es : List Entry) (x : Entry) → slice_get (keys_of partition id false) n ≡ Some key
+under : (partition : PartitionId) (id : SegmentId) (packed : Bool) (n : ℕ) (key : ObjectKey) (es : List Entry) (x : Entry) → slice_get (keys_of partition id packed) n ≡ Some key
     → entry_of id es ≡ Some x → entry_of key.id es ≡ Some x
-under partition id n key es x at there = ap (λ (k : ObjectKey). entry_of k.id es) (key_is partition id n key at) ∙ there
+under partition id packed n key es x at there = ap (λ (k : ObjectKey). entry_of k.id es) (key_is partition id packed n key at) ∙ there
 
 -- what a command puts or takes away isn't a finished copy's
 pub stored_unfinished : (storing : Storing) (a : ℕ) (objects : Objects) (c : Scene) (p : Plain) → MayStore a storing objects c → TierSafe c p
     → (x : Entry) × (entry_of (key_for storing).id (fold c.notes) ≡ Some x) × (x.state ≢ CopyFinished)
 stored_unfinished (Puts copy n key) a objects c p m h =
     let e = (h.copies.each a copy _ m.seat).at in
-    (e.entry, under copy.partition copy.id n key (fold c.notes) e.entry m.key e.there, e.state.0)
+    (e.entry, under copy.partition copy.id copy.packed n key (fold c.notes) e.entry m.key e.there, e.state.0)
 stored_unfinished (Undoes copy n key) a objects c p m h =
     let e = (h.copies.each a copy _ m.seat).at in
-    (e.entry, under copy.partition copy.id n key (fold c.notes) e.entry m.key e.there, not_finished e.entry.state e.state)
+    (e.entry, under copy.partition copy.id copy.packed n key (fold c.notes) e.entry m.key e.there, not_finished e.entry.state e.state)
 stored_unfinished (Deletes doomed n key) a objects c p m h =
     let e = h.deletions.each a doomed _ m.seat in
-    (e.entry, under doomed.partition doomed.id n key (fold c.notes) e.entry m.key e.there, not_finished e.entry.state e.begun)
+    (e.entry, under doomed.partition doomed.id doomed.packed n key (fold c.notes) e.entry m.key e.there, not_finished e.entry.state e.begun)
 
 pub finished_kept : (change : Change) (c : Scene) (p : Plain) → MayAlter change c p → TierSafe c p
     → FinishedStand (effect change c).objects p.paths (fold (effect change c).notes)
@@ -154,7 +163,8 @@ finished_kept (Stores a storing objects) c p m h = λ id entry is done.
     let id_is = found_id id (fold c.notes) entry is in
     let apart : (key_for storing).id ≢ entry.id =
     λ e. x.2 (ap (λ (y : Entry). y.state) (one_some (entry_of id (fold c.notes)) x.0 entry (ap (λ (i : SegmentId). entry_of i (fold c.notes)) (sym (e ∙ id_is)) ∙ x.1) is) ∙ done) in
-    held_same c.objects objects p.paths entry (λ part. m.made.others (key_of entry.partition entry.id part) (λ e. apart (sym (ap (λ (k : ObjectKey). k.id) e))))
+    held_same c.objects objects p.paths entry
+    (λ n key at. m.made.others key (λ e. apart (sym (ap (λ (k : ObjectKey). k.id) e) ∙ ap (λ (k : ObjectKey). k.id) (key_is entry.partition entry.id entry.packed n key at))))
     (h.finished id entry is done)
 finished_kept (Sees b site view) c p m h = h.finished
 finished_kept (Caches b site cache) c p m h = h.finished

@@ -5,6 +5,7 @@ pub mod Lineage
 pub mod Rules
 pub mod SitesLaw
 pub mod Partition
+pub mod Placed
 pub mod IdsLaw
 pub mod Named
 pub mod Finished

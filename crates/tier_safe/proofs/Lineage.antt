@@ -1,9 +1,9 @@
 -- Parts of paths, entries and copies, over paths that grow.
-use Rattle.std.proofs.Common.{◌≡◌, ◌∙◌, ℕ, List, ◌++◌}
-use Rattle.tier_base.specs.declared.plain.Part.{Part}
+use Rattle.std.proofs.Common.{◌≡◌, ◌∙◌, ℕ, List, ◌++◌, Some, slice_get}
+use Rattle.tier_base.specs.declared.object_key.ObjectKey.{ObjectKey}
 use Rattle.segment_meta.specs.declared.note.Entry.{Entry}
 use Rattle.object_store.specs.Content.{Objects}
-use Rattle.object_store.specs.Place.{key_of}
+use Rattle.object_store.specs.Place.{keys_of}
 use Rattle.plain_log.specs.declared.state.Path.{Path}
 use Rattle.plain_log.proofs.Wider.{has_wider}
 use Rattle.sparse_index.specs.Offsets.{OffsetTable}
@@ -39,6 +39,7 @@ held_grows objects ps qs entry w h = record {
   interval = h.interval;
   describes = describes_grows ps qs entry h.batches h.line w h.describes;
   stand = h.stand;
+  custom = h.custom;
 }
 
 pub source_grows : (ps qs : List Path) (copy : Copied) → PathsGrow ps qs → IsSource ps copy → IsSource qs copy
@@ -57,12 +58,13 @@ index_grows ps qs entry index w h = record {
 }
 
 -- the objects of an entry stand where those under its keys do
-pub held_same : (old new : Objects) (paths : List Path) (entry : Entry) → ((part : Part) → new (key_of entry.partition entry.id part) ≡ old (key_of entry.partition entry.id part))
+pub held_same : (old new : Objects) (paths : List Path) (entry : Entry) → ((n : ℕ) (key : ObjectKey) → slice_get (keys_of entry.partition entry.id entry.packed) n ≡ Some key → new key ≡ old key)
     → IsHeld old paths entry → IsHeld new paths entry
 held_same old new paths entry same h = record {
   batches = h.batches;
   line = h.line;
   interval = h.interval;
   describes = h.describes;
-  stand = λ part. same part ∙ h.stand part;
+  stand = λ n key at. same n key at ∙ h.stand n key at;
+  custom = h.custom;
 }

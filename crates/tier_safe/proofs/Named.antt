@@ -26,7 +26,7 @@ stored_named : (storing : Storing) (a : ℕ) (objects : Objects) (c : Scene) (p 
     → made_by storing (c.objects (key_for storing)) ≡ Some bytes → IsNamed (fold c.notes) (key_for storing).id
 stored_named (Puts copy n key) a objects c p bytes m h is =
     let e = (h.copies.each a copy _ m.seat).at in
-    let own = ap (λ (k : ObjectKey). k.id) (key_is copy.partition copy.id n key m.key) in
+    let own = ap (λ (k : ObjectKey). k.id) (key_is copy.partition copy.id copy.packed n key m.key) in
     (e.entry, ap (λ (i : SegmentId). entry_of i (fold c.notes)) own ∙ e.there)
 stored_named (Undoes copy n key) a objects c p bytes m h is = absurd (cc)
 stored_named (Deletes doomed n key) a objects c p bytes m h is = absurd (cc)

@@ -55,7 +55,7 @@ told_of telling a teller c p m h id y is = elim (some_or_none (entry_of id (fold
 
 stored_of : (storing : Storing) (a : ℕ) (objects : Objects) (c : Scene) (p : Plain) (bytes : List ℕ) → MayStore a storing objects c → TierSafe c p
     → made_by storing (c.objects (key_for storing)) ≡ Some bytes → (key_for storing).partition ≡ c.partition
-stored_of (Puts copy n key) a objects c p bytes m h is = ap (λ (k : ObjectKey). k.partition) (key_is copy.partition copy.id n key m.key) ∙ h.partition.copied a copy _ m.seat
+stored_of (Puts copy n key) a objects c p bytes m h is = ap (λ (k : ObjectKey). k.partition) (key_is copy.partition copy.id copy.packed n key m.key) ∙ h.partition.copied a copy _ m.seat
 stored_of (Undoes copy n key) a objects c p bytes m h is = absurd (cc)
 stored_of (Deletes doomed n key) a objects c p bytes m h is = absurd (cc)
 

@@ -4,6 +4,8 @@ use Rattle.std.specs.Prelude.{is_some}
 use Rattle.std.specs.List.{AllByRecursion}
 use Rattle.std.proofs.lemmas.Bool.Decides.{nat_tests}
 use mathlib.Core.List.{IsPrefix}
+use Rattle.tier_base.specs.declared.plain.State.{State}
+use Rattle.tier_base.specs.declared.plain.State.TheVariants.{DeleteStarted, DeleteFinished}
 use Rattle.tier_base.specs.Key.{IsId}
 use Rattle.log_terms.specs.Batch.{base_of, last_of, epoch_of}
 use Rattle.log_terms.specs.Line.{line_of, line_after}
@@ -16,7 +18,7 @@ use Rattle.tier_base.specs.declared.object_key.ObjectKey.{ObjectKey}
 use Rattle.segment_meta.specs.declared.note.Note.{Note}
 use Rattle.segment_meta.specs.declared.note.Note.TheVariants.{Add, Update}
 use Rattle.segment_meta.specs.declared.note.Entry.{Entry}
-use Rattle.segment_meta.specs.Rules.{IsNote}
+use Rattle.segment_meta.specs.Rules.{IsNote, MayTell as MayTellCustom, bare_custom}
 use Rattle.segment_meta.specs.Steps.{next_state}
 use Rattle.object_store.specs.Content.{Objects}
 use Rattle.meta_log.specs.declared.teller.Teller.{Teller}
@@ -33,6 +35,7 @@ use Rattle.tier_safe.specs.Safe.{TierSafe}
 use Rattle.tier_safe.specs.Moves.{MayMove}
 use Rattle.tier_safe.specs.May.{MayTell, MayStore, MayAlter}
 use Rattle.copy_task.proofs.Mapping.{ordered, bounded, is_map}
+use Rattle.copy_task.proofs.Telling.{custom_may}
 
 -- the line of batches whose epochs never fall is a line
 rising : (e s n : ℕ) (bs : List (List ℕ)) → e < 2 ^ 31 → s < n → IsConsecutive n bs → EpochsRise e bs → end_from n bs ≤ 2 ^ 62 → IsLine ((e, s) ∷ line_after e bs)
@@ -60,17 +63,22 @@ pub started_right : (copy : Copied) (teller : Teller) → IsCopied copy → IsId
 started_right copy teller is id =
     let line : IsLine copy.segment.epochs = subst IsLine (sym is.epochs_are) (line_rises copy.segment.base is.batches is.is.consecutive is.is.epochs is.is.low) in
     record {
-      is = record { started = refl; ordered = ordered copy is; bounded = bounded copy is; map = is_map copy is line; apart = refl; bare = refl };
+      is = record { started = refl; ordered = ordered copy is; bounded = bounded copy is; map = is_map copy is line; bare = refl };
       id = id;
     }
+
+-- a bare custom metadata may stand in any note
+bare_right : (state : State) (packed : Bool) → MayTellCustom state (bare_custom packed)
+bare_right state false = tt
+bare_right state true = record { few = omega arith; bare = λ ne. refl }
 
 -- so do a command's notes
 told_right : (telling : Telling) (a : ℕ) (teller : Teller) (c : Scene) (p : Plain) → MayTell a telling c → TierSafe c p → NotesStand c.notes c.desk
     → IsRight (note_for telling teller)
 told_right (CopyStarts copy) a teller c p m h n = started_right copy teller (h.copies.each a copy _ m.seat).source.copied (n.ids a copy _ m.seat)
-told_right (CopyEnds copy) a teller c p m h n = record { is = (λ e. absurd (cc (e)), refl); id = tt }
-told_right (ExpiryStarts doomed) a teller c p m h n = record { is = (λ e. absurd (cc (e)), refl); id = tt }
-told_right (ExpiryEnds doomed) a teller c p m h n = record { is = (λ e. absurd (cc (e)), refl); id = tt }
+told_right (CopyEnds copy) a teller c p m h n = record { is = (λ e. absurd (cc (e)), custom_may copy); id = tt }
+told_right (ExpiryStarts doomed) a teller c p m h n = record { is = (λ e. absurd (cc (e)), bare_right DeleteStarted doomed.packed); id = tt }
+told_right (ExpiryEnds doomed) a teller c p m h n = record { is = (λ e. absurd (cc (e)), bare_right DeleteFinished doomed.packed); id = tt }
 
 -- the entries of such notes
 
@@ -97,8 +105,8 @@ noted_kept es (Add e) k h = by (is_some (next_state (state_of e.id es) e.state))
     by false = h
 noted_kept es (Update id broker event_ts state custom) k h = by (is_some (next_state (state_of id es) state))
   where
-    by : (t : Bool) → AreKept (cond t (changed id (updated broker event_ts state) es) es)
-    by true = change_keeps id broker event_ts state es h
+    by : (t : Bool) → AreKept (cond t (changed id (updated broker event_ts state custom) es) es)
+    by true = change_keeps id broker event_ts state custom es h
     by false = h
 
 folded_kept : (es : List Entry) (notes : List Note) → AllByRecursion IsRight notes → AreKept es → AreKept (folded_from es notes)

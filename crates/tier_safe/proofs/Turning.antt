@@ -424,7 +424,8 @@ module _ {S M : Type 0} (objects : S → store.Content) (calls : S → Control s
   put_dry : (copied : Copied) (n : ℕ) (o : Option ObjectKey) (e : AllocError) (old new : S) → IsTrue (objects old).tells → PutRow objects calls copied n o (Err e) old new
       → (objects new).objects ≡ (objects old).objects
   put_dry copied n None e old new t row = ap (λ (s : S). (objects s).objects) row.1
-  put_dry copied n (Some key) e old new t row = dry_objects key (part_in copied.parts row.part) old new t row.puts
+  put_dry copied n (Some key) e old new t (inl same) = ap (λ (s : S). (objects s).objects) same
+  put_dry copied n (Some key) e old new t (inr row) = dry_objects key (part_in copied.parts row.part) old new t row.puts
 
   -- a view that is fed is that of more notes
   fed_view : (before more : List Note) → fed_all (view_of before) more ≡ view_of (before ++ more)
@@ -447,11 +448,10 @@ module _ {S M : Type 0} (objects : S → store.Content) (calls : S → Control s
       (scene_same _ _ refl refl refl refl (sym (set-same c.desk a work h.seat)))
       (one_change c p (Sees b site view) (refl, record { site_is = h.site_is; before = v.before; old = v.is; more = v.before ++ r.notes; new = new; grows = (r.notes, refl); begins = (r.rest, whole) }))
 
-  start_dry : (c : Scene) (p : Plain) (a b : ℕ) (site : Site) (copied : Copied) (teller : Teller) (work : Work) (s : store.Content) (old new : M) → Shows c a b site work s (notes old) site.view
-      → (new ≡ old) ⊎ Appends notes notings (start_note copied teller) Dry old new → IsChanged c p (after_turn c a b site work s.objects (notes new).notes site.view)
-  start_dry c p a b site copied teller work s old new h (inl same) = stays c p a b site work s (notes old) s.objects (notes new).notes h refl (ap (λ (m : M). (notes m).notes) same)
-  start_dry c p a b site copied teller work s old new h (inr k) =
-      stays c p a b site work s (notes old) s.objects (notes new).notes h refl (dry_notes (start_note copied teller) old new h.meta_tells k)
+  note_dry : (note : Note) (c : Scene) (p : Plain) (a b : ℕ) (site : Site) (work : Work) (s : store.Content) (old new : M) → Shows c a b site work s (notes old) site.view
+      → (new ≡ old) ⊎ Appends notes notings note Dry old new → IsChanged c p (after_turn c a b site work s.objects (notes new).notes site.view)
+  note_dry note c p a b site work s old new h (inl same) = stays c p a b site work s (notes old) s.objects (notes new).notes h refl (ap (λ (m : M). (notes m).notes) same)
+  note_dry note c p a b site work s old new h (inr k) = stays c p a b site work s (notes old) s.objects (notes new).notes h refl (dry_notes note old new h.meta_tells k)
 
   -- whatever a seat keeps
   pub copy_dry : (copied : Copied) (teller : Teller) (next : CopyNext) (e : AllocError) (old new : CopyTiers S M) (c : Scene) (p : Plain) (a b : ℕ) (site : Site) (work : Work)
@@ -461,7 +461,7 @@ module _ {S M : Type 0} (objects : S → store.Content) (calls : S → Control s
   copy_dry copied teller copying.Start e old new c p a b site work row h few safe =
       copied_rest c p a b site work (objects old.store).objects (notes new.meta).notes site.view new
       (ap (λ (t : CopyTiers S M). (objects t.store).objects) (sym row.0)) refl (h.view_is ∙ ap (λ (t : CopyTiers S M). t.view) (sym row.0))
-      (start_dry c p a b site copied teller work (objects old.store) old.meta new.meta (shown c a b site _ _ _ old.view h) row.1)
+      (note_dry (start_note copied teller) c p a b site work (objects old.store) old.meta new.meta (shown c a b site _ _ _ old.view h) row.1)
   copy_dry copied teller (copying.Put n) e old new c p a b site work row h few safe =
       copied_rest c p a b site work (objects new.store).objects (notes old.meta).notes site.view new
       refl (ap (λ (t : CopyTiers S M). (notes t.meta).notes) (sym row.0)) (h.view_is ∙ ap (λ (t : CopyTiers S M). t.view) (sym row.0))
@@ -470,8 +470,7 @@ module _ {S M : Type 0} (objects : S → store.Content) (calls : S → Control s
   copy_dry copied teller copying.Finish e old new c p a b site work row h few safe =
       copied_rest c p a b site work (objects old.store).objects (notes new.meta).notes site.view new
       (ap (λ (t : CopyTiers S M). (objects t.store).objects) (sym row.0)) refl (h.view_is ∙ ap (λ (t : CopyTiers S M). t.view) (sym row.0))
-      (stays c p a b site _ (objects old.store) (notes old.meta) (objects old.store).objects (notes new.meta).notes (shown c a b site _ _ _ old.view h) refl
-      (dry_notes (finish_note copied teller) old.meta new.meta h.meta_tells row.1))
+      (note_dry (finish_note copied teller) c p a b site work (objects old.store) old.meta new.meta (shown c a b site _ _ _ old.view h) row.1)
   copy_dry copied teller copying.Check e old new c p a b site work row h few safe =
       renamed c p a b site _ _ c.objects _ c.notes _ new.view new.view refl (h.objects_are ∙ ap (λ (t : S). (objects t).objects) (sym row.0)) (h.notes_are ∙ sym row.1.content.notes) refl
       (sees_some c p a b site work (objects old.store) old.meta new.view (shown c a b site _ _ _ old.view h) few (safe.views b site h.site_is)

@@ -48,6 +48,7 @@ pub record IsEntryFor (copy : Copied) (entry : Entry) : Type 0 where
   pub map : entry.map ≡ copy.segment.epochs
   pub size : entry.size ≡ length copy.segment.bytes
   pub max_ts : entry.max_ts ≡ copy.segment.max_ts
+  pub packed : entry.packed ≡ copy.packed
 
 -- the part under a key stands in the store
 abbrev pub HasPut : Objects → Copied → ObjectKey → Type 0

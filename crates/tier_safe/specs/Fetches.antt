@@ -7,9 +7,9 @@
 -- long as its broker leads on and the log start isn't above its offset. Otherwise it is answered without it.
 --
 -- Source: KIP-405: fetches below the local log start offset, and RemoteIndexCache.
-use Rattle.std.specs.Prelude.{◌≡◌, ℕ, ◌+◌, ◌<◌, ◌≤◌, List, Some, None, slice_get}
+use Rattle.std.specs.Prelude.{◌≡◌, ◌≢◌, ℕ, ◌+◌, ◌<◌, ◌≤◌, List, Some, None, slice_get}
 use mathlib.Core.List.{IsPrefix}
-use Rattle.tier_base.specs.declared.plain.State.TheVariants.{CopyFinished}
+use Rattle.tier_base.specs.declared.plain.State.TheVariants.{CopyStarted, CopyFinished}
 use Rattle.tier_base.specs.declared.names.SegmentId.{SegmentId}
 use Rattle.tier_base.specs.Told.{In}
 use Rattle.log_terms.specs.Line.{epoch_at, epoch_holding}
@@ -59,6 +59,10 @@ abbrev pub PositionStands : List Path → List Entry → SegmentId → ℕ → �
 PositionStands paths entries id offset from = (entry : Entry) → entry_of id entries ≡ Some entry → entry.state ≡ CopyFinished
     → (index : OffsetTable) × IsIndexOf paths entry index × (from ≡ (find index offset).1)
 
+-- the entries have one of this id, whose copy isn't under way any more
+abbrev pub SeesCopy : List Entry → SegmentId → Type 0
+SeesCopy entries id = (entry : Entry) × (entry_of id entries ≡ Some entry) × (entry.state ≢ CopyStarted)
+
 -- fetches
 
 -- the fetch's broker leads the epoch that it led, and hasn't stopped since
@@ -66,15 +70,15 @@ pub record StillLeads (sought : Sought) (x : Broker) : Type 0 where
   pub stops : x.stops ≡ sought.stops
   pub role : x.role ≡ Leads sought.epoch
 
--- a fetch on the desk: its broker's view has the entry of its piece; while that broker leads as it did, its offset is below the
--- local start until it has found a piece, and what it has found stands
+-- a fetch on the desk: its broker's view has the entry of its piece, whose copy isn't under way any more; while that broker
+-- leads as it did, its offset is below the local start until it has found a piece, and what it has found stands
 pub record FetchStands (paths : List Path) (notes : List Note) (start : ℕ) (site : Site) (x : Broker) (sought : Sought)
     : Type 0 where
   pub stops : sought.stops ≤ x.stops
   pub taken : (log : List (List ℕ)) × (path_of paths sought.epoch ≡ Some log)
   pub below : sought.piece ≡ None → StillLeads sought x → sought.offset < site.start
   pub seen : (piece : Piece) → sought.piece ≡ Some piece
-      → (entry : Entry) × (entry_of piece.id site.view.entries ≡ Some entry)
+      → SeesCopy site.view.entries piece.id
   pub piece : (piece : Piece) → sought.piece ≡ Some piece → StillLeads sought x → start ≤ sought.offset
       → PieceStands notes x.log sought.offset piece
   pub from : (piece : Piece) (from : ℕ) → sought.piece ≡ Some piece → sought.from ≡ Some from

@@ -4,19 +4,20 @@
 -- with each log that has its last batch, since logs match.
 --
 -- Source: KIP-405, whose remote segments carry the leader epochs of their offsets, and KIP-101, by which logs are told apart.
-use Rattle.std.specs.Prelude.{◌≡◌, ◌≢◌, ℕ, ◌+◌, List, [], ◌++◌, length, Some, true}
-use Rattle.tier_base.specs.declared.plain.Part.{Part}
+use Rattle.std.specs.Prelude.{◌≡◌, ◌≢◌, ℕ, ◌+◌, List, [], ◌++◌, length, slice_get, Option, Some, true}
 use Rattle.tier_base.specs.declared.names.SegmentId.{SegmentId}
+use Rattle.tier_base.specs.declared.object_key.ObjectKey.{ObjectKey}
+use Rattle.tier_base.specs.Layout.{layout_bytes}
 use Rattle.log_terms.specs.Line.{line_of, epoch_holding}
 use Rattle.log_terms.specs.Log.{joined, end_of, end_from}
 use Rattle.epoch_line.specs.Line.{cut_end}
 use Rattle.plain_log.specs.declared.state.Path.{Path}
 use Rattle.plain_log.specs.Safe.{Has}
 use Rattle.segment_file.specs.Segment.{IsSegment, greatest_ts}
-use Rattle.segment_bundle.specs.Parts.{parts_of, part_in}
+use Rattle.segment_bundle.specs.Parts.{Parts, parts_of, part_in, layout_of, can_pack}
 use Rattle.segment_meta.specs.declared.note.Entry.{Entry}
 use Rattle.object_store.specs.Content.{Objects}
-use Rattle.object_store.specs.Place.{key_of}
+use Rattle.object_store.specs.Place.{keys_of}
 use Rattle.remote_view.specs.Fold.{entry_of}
 use Rattle.remote_view.specs.Lookup.{covers}
 use Rattle.copy_task.specs.Copying.{Copied, IsCopied}
@@ -39,14 +40,24 @@ pub record Describes (paths : List Path) (entry : Entry) (batches : List (List �
   pub max_ts_is : entry.max_ts ≡ greatest_ts batches
   pub size_is : entry.size ≡ length (joined batches)
 
--- the four objects of a remote segment stand, and are the parts of the batches that its entry tells of
+-- under each of these keys its part stands
+abbrev pub Stand : Objects → List ObjectKey → Parts → Type 0
+Stand objects keys parts =
+    (n : ℕ) (key : ObjectKey) → slice_get keys n ≡ Some key → objects key ≡ Some (part_in parts key.part)
+
+-- custom metadata tells where the parts stand in a packed segment's object
+pub record TellsParts (custom : Option (List ℕ)) (parts : Parts) : Type 0 where
+  pub fits : can_pack parts ≡ true
+  pub is : custom ≡ Some (layout_bytes (layout_of parts))
+
+-- the objects of a remote segment stand, and are the parts of the batches that its entry tells of
 pub record IsHeld (objects : Objects) (paths : List Path) (entry : Entry) : Type 0 where
   pub batches : List (List ℕ)
   pub line : List (ℕ × ℕ)
   pub interval : ℕ
   pub describes : Describes paths entry batches line
-  pub stand : (part : Part)
-      → objects (key_of entry.partition entry.id part) ≡ Some (part_in (parts_of batches line interval) part)
+  pub stand : Stand objects (keys_of entry.partition entry.id entry.packed) (parts_of batches line interval)
+  pub custom : entry.packed ≡ true → TellsParts entry.custom (parts_of batches line interval)
 
 -- what is copied is a closed segment of a path
 pub record IsSource (paths : List Path) (copy : Copied) : Type 0 where

@@ -21,7 +21,7 @@ use Rattle.expiry_task.specs.declared.turn.Doomed.{Doomed}
 use Rattle.tier_safe.specs.Scene.{Site, Rebuild, Sought, Free, Copies, Rebuilds, Seeks, Scene}
 use Rattle.tier_safe.specs.Changes.{Move, Leaves, Overtakes, Dooms, Wants, Refreshes, Lines, Asks, Finds, Skips, Reads}
 use Rattle.tier_safe.specs.Copies.{is_deleted}
-use Rattle.tier_safe.specs.Fetches.{StillLeads, PieceStands, PositionStands}
+use Rattle.tier_safe.specs.Fetches.{SeesCopy, StillLeads, PieceStands, PositionStands}
 
 -- a broker's view shows the copy's entry deleted
 pub record MayOvertake (a : ℕ) (copy : Copied) (c : Scene) : Type 0 where
@@ -83,12 +83,12 @@ pub record MayAsk (a : ℕ) (sought : Sought) (c : Scene) (p : Plain) : Type 0 w
   pub path : path_of p.paths sought.epoch ≡ Some x.log
   pub below : sought.offset < site.start
 
--- the piece has an entry in the broker's view, is of a finished copy, and one with the log
+-- the piece has an entry in the broker's view, of a copy that isn't under way there, is of a finished copy, and one with the log
 pub record MayFind (a : ℕ) (sought : Sought) (piece : Piece) (c : Scene) (p : Plain) : Type 0 where
   pub seat : slice_get c.desk a ≡ Some (Seeks sought)
   pub unread : sought.from ≡ None
   pub seen : (site : Site) → slice_get c.sites sought.broker ≡ Some site
-      → (entry : Entry) × (entry_of piece.id site.view.entries ≡ Some entry)
+      → SeesCopy site.view.entries piece.id
   pub gives : (x : Broker) → slice_get p.brokers sought.broker ≡ Some x → StillLeads sought x
       → p.registry.start ≤ sought.offset → PieceStands c.notes x.log sought.offset piece
 

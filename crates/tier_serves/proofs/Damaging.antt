@@ -1,6 +1,5 @@
 -- A fetch tells of damage in its last turn alone.
-use Rattle.std.proofs.Common.{◌≡◌, ◌∙◌, sym, ap, subst, refl, ℕ, ◌+◌, List, take, drop, Option, Some, None, Result, Ok, Err}
-use Rattle.std.specs.Prelude.{option_map}
+use Rattle.std.proofs.Common.{◌≡◌, ◌∙◌, sym, ap, subst, refl, ℕ, List, take, drop, Option, Some, None, Result, Ok, Err}
 use Rattle.tier_base.specs.declared.fault.Trouble.{Trouble}
 use Rattle.tier_base.specs.declared.fault.Trouble.TheVariants.{Failed, NoMemory}
 use Rattle.tier_base.specs.declared.plain.Part.{Part}
@@ -11,10 +10,11 @@ use Rattle.sparse_index.specs.Offsets.{OffsetTable, entry_bytes}
 use Rattle.index_cache.specs.Cache.{Cache, found}
 use Rattle.segment_bundle.specs.Parts.{parts_of, part_in, first_offset}
 use Rattle.segment_file.specs.Index.{placed_from, index_of}
-use Rattle.segment_meta.specs.declared.note.Entry.{Entry}
 use Rattle.object_store.specs.Call as store_call
 use Rattle.object_store.specs.Content as store
-use Rattle.object_store.specs.Place.{key_of, whole}
+use Rattle.object_store.specs.Calls.{Gets}
+use Rattle.object_store.specs.Place.{key_of, all_of, some_of, short_of, short_in}
+use Rattle.object_store.proofs.Parts.{not_short}
 use Rattle.object_store.specs.declared.placing.Spot.{Spot}
 use Rattle.meta_log.specs.Call as meta_call
 use Rattle.meta_log.specs.Content as meta
@@ -29,10 +29,9 @@ use Rattle.remote_find.specs.declared.piece.Piece.{Piece}
 use Rattle.remote_find.specs.Pieces.{piece_at}
 use Rattle.tier_fetch.specs.declared.turn.Wanted.{Wanted}
 use Rattle.tier_fetch.specs.declared.turn.Span.{Span}
-use Rattle.tier_fetch.specs.declared.turn.Next.{Next}
 use Rattle.tier_fetch.specs.declared.turn.Next.TheVariants.{Refresh, Index, Log}
 use Rattle.tier_fetch.specs.declared.turn.FetchTurn.TheVariants.{Ends}
-use Rattle.tier_fetch.specs.Turns.{spot_in, chosen, Loads, Cuts, Gets, RefreshRow, LoadRow, IndexRow, LogRow}
+use Rattle.tier_fetch.specs.Turns.{spot_in, chosen, LoadsBytes, Loads, CutsBytes, Cuts, RefreshRow, LoadRow, IndexRow, LogRow}
 use Rattle.tier_safe.specs.Scene.{Site, Seeks, Scene}
 use Rattle.tier_safe.specs.Safe.{BothSafe}
 use Rattle.tier_safe.specs.May.{IsChanged}
@@ -40,32 +39,16 @@ use Rattle.tier_safe.specs.Turns.{after_turn}
 use Rattle.tier_safe.proofs.Basics.{one_some}
 use Rattle.tier_safe.proofs.Kept.{all_kept}
 use Rattle.tier_safe.proofs.Lookups.{asked_is_found}
-use Rattle.tier_safe.proofs.Serving.{FetchReads}
 use Rattle.tier_safe.proofs.Turning.{set_get, sees_all}
-use Rattle.tier_serves.specs.Seeking.{piece_of, sought_of, IsAtTurn}
+use Rattle.tier_serves.specs.Seeking.{sought_of, IsAtTurn}
 use Rattle.tier_serves.specs.Damage.{IsOfLog, DamageIsOfLogs}
 use Rattle.tier_serves.proofs.Entries.{index_rises}
-use Rattle.tier_serves.proofs.Packing.{has_place}
-use Rattle.tier_serves.proofs.Reading.{spot_is, copy_of, stands, first_is}
+use Rattle.tier_serves.proofs.Reading.{copy_of, at_spot, gives, first_is}
 use Rattle.tier_serves.proofs.Turning.{shown}
 
 -- a scene that changes lead to is safe
 pub kept_safe : (c d : Scene) (p : Plain) → IsChanged c p d → BothSafe c p → BothSafe d p
 kept_safe c d p h safe = subst (λ (e : Scene). BothSafe e p) h.is (all_kept h.changes c p p h.may safe)
-
--- what a fetch has found has its place in the view
-pub placed : (c : Scene) (p : Plain) (a b : ℕ) (site : Site) (x : Broker) (stops epoch : ℕ) (wanted : Wanted) (line : List (ℕ × ℕ)) (next : Next) (s : store.Content) (n : meta.Content) (view : Seen)
-    (cache : Cache) (piece : Piece) (kind : Part) → IsAtTurn c p a b site x stops epoch wanted line next s n view cache → piece_of next ≡ Some piece
-    → (entry : Entry) × (spot_in wanted.partition piece.id kind (entry_of piece.id view.entries) ≡ Some (entry.start, whole (key_of wanted.partition piece.id kind)))
-placed c p a b site x stops epoch wanted line next s n view cache piece kind h is =
-    let f = h.safe.tier.fetches a (sought_of b stops epoch wanted.offset next) site x h.shows.seat h.shows.site_is h.broker_is in
-    let k = f.seen piece is in
-    let at = has_place c.notes site.view wanted.partition piece.id kind k.0 h.safe.tier.notes.right (h.safe.tier.views b site h.shows.site_is) k.1 in
-    (k.0, subst (λ (v : Seen). spot_in wanted.partition piece.id kind (entry_of piece.id v.entries) ≡ Some (k.0.start, whole (key_of wanted.partition piece.id kind))) h.shows.view_is at)
-
--- an object that stands is given
-given_whole : (given : Option (List ℕ)) (part_of : List ℕ → List ℕ) (object : Option (List ℕ)) (bytes : List ℕ) → given ≡ option_map part_of object → object ≡ Some bytes → given ≡ Some (part_of bytes)
-given_whole given part_of object bytes is stand = is ∙ ap (option_map part_of) stand
 
 -- the piece is found in a view of all notes
 piece_there : (c : Scene) (p : Plain) (a b : ℕ) (site : Site) (x : Broker) (stops epoch : ℕ) (wanted : Wanted) (line : List (ℕ × ℕ)) (s : store.Content) (n : meta.Content) (view : Seen) (cache : Cache)
@@ -97,46 +80,36 @@ module _ {S M : Type 0} (objects : S → store.Content) (calls : S → Control s
       let k = piece_there c p a b site x stops epoch wanted line s (notes old) view cache after h all.0 all.1 in
       chosen_damage place at after.notes (piece_at after.entries line wanted.log_end wanted.offset) k.0 k.1 row.0
 
-  -- the object of a part is given, whole or in part
-  pub gives : (c : Scene) (p : Plain) (a b : ℕ) (site : Site) (x : Broker) (stops epoch : ℕ) (wanted : Wanted) (line : List (ℕ × ℕ)) (next : Next) (ns : meta.Content) (view : Seen) (cache : Cache)
-      (old new : S) (piece : Piece) (kind : Part) (place : ℕ × Spot) (part_of : Spot → List ℕ → List ℕ) (given : Option (List ℕ))
-      → (h : IsAtTurn c p a b site x stops epoch wanted line next (objects old) ns view cache) → (is : piece_of next ≡ Some piece)
-      → spot_in wanted.partition piece.id kind (entry_of piece.id view.entries) ≡ Some place → given ≡ option_map (part_of place.1) ((objects old).objects place.1.key)
-      → (r : FetchReads c p x piece)
-      × (given ≡ Some (part_of (whole (key_of wanted.partition piece.id kind)) (part_in (parts_of r.held.batches r.held.line r.held.interval) kind)))
-  gives c p a b site x stops epoch wanted line next ns view cache old new piece kind place part_of given h is at given_is =
-      let r = copy_of c p a b site x stops epoch wanted line next (objects old) ns view cache piece h is in
-      let spot = spot_is wanted.partition piece.id kind (entry_of piece.id view.entries) place at in
-      let of : r.entry.partition ≡ wanted.partition = h.safe.tier.partition.told piece.id r.entry r.there ∙ sym h.partition in
-      let read : given ≡ option_map (part_of (whole (key_of wanted.partition piece.id kind))) ((objects old).objects (key_of wanted.partition piece.id kind)) =
-      subst (λ (q : ℕ × Spot). given ≡ option_map (part_of q.1) ((objects old).objects q.1.key)) spot.is given_is in
-      (r, read ∙ ap (option_map (part_of (whole (key_of wanted.partition piece.id kind)))) (stands c p x piece wanted.partition (objects old) kind r h.shows.objects_are of))
-
   loads_damage : (c : Scene) (p : Plain) (a b : ℕ) (site : Site) (x : Broker) (stops epoch : ℕ) (wanted : Wanted) (line : List (ℕ × ℕ)) (piece : Piece) (ns : meta.Content) (view : Seen)
       (cache cache' : Cache) (old new : S) (spot : ℕ × Spot) (place : Place) (at : ℕ) (answer : Result (Option (List ℕ)) Trouble)
       → IsAtTurn c p a b site x stops epoch wanted line (Index piece) (objects old) ns view cache
-      → spot_in wanted.partition piece.id part.Index (entry_of piece.id view.entries) ≡ Some spot → Gets objects calls spot.1.key (drop spot.1.at) answer old new
+      → spot_in wanted.partition piece.id part.Index (entry_of piece.id view.entries) ≡ Some spot → Gets objects calls spot.1.key (all_of spot.1) answer old new
       → Loads wanted piece spot.0 spot.1 answer (Ok (Ends (Damaged place at))) cache cache' → ⊥
   loads_damage c p a b site x stops epoch wanted line piece ns view cache cache' old new spot place at (Err Failed) h stood gets k = cc (k.0)
   loads_damage c p a b site x stops epoch wanted line piece ns view cache cache' old new spot place at (Err NoMemory) h stood gets k = cc (k.0)
   loads_damage c p a b site x stops epoch wanted line piece ns view cache cache' old new spot place at (Ok None) h stood gets k =
-      let g = gives c p a b site x stops epoch wanted line (Index piece) ns view cache old new piece part.Index spot (λ q. drop q.at) None h refl stood (gets.bytes h.shows.store_tells) in
-      cc (g.1)
+      let r = copy_of c p a b site x stops epoch wanted line (Index piece) (objects old) ns view cache piece h refl in
+      let g = gives c p a b site x stops epoch wanted line (Index piece) (objects old) ns view cache piece part.Index spot (λ b. b) None tt h refl stood (gets.bytes h.shows.store_tells) r in
+      cc (g.given_is)
   loads_damage c p a b site x stops epoch wanted line piece ns view cache cache' old new spot place at (Ok (Some bytes)) h stood gets k =
-      let g = gives c p a b site x stops epoch wanted line (Index piece) ns view cache old new piece part.Index spot (λ q. drop q.at) (Some bytes) h refl stood (gets.bytes h.shows.store_tells) in
-      let r = g.0 in
+      let r = copy_of c p a b site x stops epoch wanted line (Index piece) (objects old) ns view cache piece h refl in
+      let g = gives c p a b site x stops epoch wanted line (Index piece) (objects old) ns view cache piece part.Index spot (λ b. b) (Some bytes) tt h refl stood (gets.bytes h.shows.store_tells) r in
       let d = r.held.describes in
+      let index = part_in (parts_of r.held.batches r.held.line r.held.interval) part.Index in
       let first : first_offset r.held.batches ≡ r.entry.start = first_is r.entry.start r.held.batches d.some d.is.consecutive in
-      let same : bytes ≡ part_in (parts_of r.held.batches r.held.line r.held.interval) part.Index = one_some (Some bytes) bytes (part_in (parts_of r.held.batches r.held.line r.held.interval) part.Index) refl g.1 in
-      k.1 (index_of r.entry.start r.held.interval (placed_from 0 r.held.batches)).entries (index_rises r.entry.start r.held.interval r.held.batches d.is)
+      let same : bytes ≡ index = one_some (Some bytes) bytes index refl g.given_is in
+      let all : short_of spot.1 bytes ≡ None = ap (short_of spot.1) same ∙ not_short spot.1.at spot.1.len index g.whole in
+      let none = subst (λ (end : Option ℕ). LoadsBytes end wanted piece spot.0 spot.1 bytes (Ok (Ends (Damaged place at))) cache cache') all k in
+      none.1 (index_of r.entry.start r.held.interval (placed_from 0 r.held.batches)).entries (index_rises r.entry.start r.held.interval r.held.batches d.is)
       (same ∙ ap (λ (m : ℕ). bytes_of entry_bytes (index_of m r.held.interval (placed_from 0 r.held.batches)).entries) first)
 
   load_damage : (c : Scene) (p : Plain) (a b : ℕ) (site : Site) (x : Broker) (stops epoch : ℕ) (wanted : Wanted) (line : List (ℕ × ℕ)) (piece : Piece) (ns : meta.Content) (view : Seen)
       (cache cache' : Cache) (old new : S) (spot : Option (ℕ × Spot)) (place : Place) (at : ℕ) → IsAtTurn c p a b site x stops epoch wanted line (Index piece) (objects old) ns view cache
       → spot_in wanted.partition piece.id part.Index (entry_of piece.id view.entries) ≡ spot → LoadRow objects calls wanted piece view spot (Ok (Ends (Damaged place at))) cache cache' old new → ⊥
   load_damage c p a b site x stops epoch wanted line piece ns view cache cache' old new None place at h stood row =
-      let k = placed c p a b site x stops epoch wanted line (Index piece) (objects old) ns view cache piece part.Index h refl in
-      let there = sym stood ∙ k.1 in
+      let r = copy_of c p a b site x stops epoch wanted line (Index piece) (objects old) ns view cache piece h refl in
+      let k = at_spot c p a b site x stops epoch wanted line (Index piece) (objects old) ns view cache piece part.Index tt h refl r in
+      let there = sym stood ∙ k.is in
       cc (there)
   load_damage c p a b site x stops epoch wanted line piece ns view cache cache' old new (Some spot) place at h stood row =
       loads_damage c p a b site x stops epoch wanted line piece ns view cache cache' old new spot place at row.answer h stood row.gets row.loads
@@ -152,25 +125,39 @@ module _ {S M : Type 0} (objects : S → store.Content) (calls : S → Control s
       (cache : Cache) (old new : S) (spot : ℕ × Spot) (place : Place) (at : ℕ) (answer : Result (Option (List ℕ)) Trouble)
       → IsAtTurn c p a b site x stops epoch wanted line (Log piece span) (objects old) ns view cache
       → spot_in wanted.partition piece.id part.Log (entry_of piece.id view.entries) ≡ Some spot
-      → Gets objects calls spot.1.key (λ object. take span.most (drop (spot.1.at + span.from) object)) answer old new
+      → Gets objects calls spot.1.key (some_of spot.1 span.from span.most) answer old new
       → Cuts wanted piece spot.1 span answer (Ok (Ends (Damaged place at))) → IsOfLog wanted (Log piece span) place
   cuts_damage c p a b site x stops epoch wanted line piece span ns view cache old new spot place at (Err Failed) h stood gets k = absurd (cc (k))
   cuts_damage c p a b site x stops epoch wanted line piece span ns view cache old new spot place at (Err NoMemory) h stood gets k = absurd (cc (k))
   cuts_damage c p a b site x stops epoch wanted line piece span ns view cache old new spot place at (Ok None) h stood gets k =
-      let g = gives c p a b site x stops epoch wanted line (Log piece span) ns view cache old new piece part.Log spot (λ q object. take span.most (drop (q.at + span.from) object)) None h refl stood
-      (gets.bytes h.shows.store_tells) in
-      absurd (cc (g.1))
+      let r = copy_of c p a b site x stops epoch wanted line (Log piece span) (objects old) ns view cache piece h refl in
+      let g = gives c p a b site x stops epoch wanted line (Log piece span) (objects old) ns view cache piece part.Log spot (λ b. take span.most (drop span.from b)) None
+      tt h refl stood (gets.bytes h.shows.store_tells) r in
+      absurd (cc (g.given_is))
   cuts_damage c p a b site x stops epoch wanted line piece span ns view cache old new spot place at (Ok (Some bytes)) h stood gets k =
-      let is = spot_is wanted.partition piece.id part.Log (entry_of piece.id view.entries) spot stood in
-      record { piece = piece; span = span; next_is = refl; place_is = k.place_is ∙ ap (λ (q : ℕ × Spot). Key q.1.key) is.is }
+      let r = copy_of c p a b site x stops epoch wanted line (Log piece span) (objects old) ns view cache piece h refl in
+      let s = at_spot c p a b site x stops epoch wanted line (Log piece span) (objects old) ns view cache piece part.Log tt h refl r in
+      let same : spot ≡ (r.entry.start, s.spot) =
+      one_some (spot_in wanted.partition piece.id part.Log (entry_of piece.id view.entries)) spot (r.entry.start, s.spot) stood s.is in
+      let key : spot.1.key ≡ key_of wanted.partition piece.id s.home = ap (λ (q : ℕ × Spot). q.1.key) same ∙ s.home_is in
+      by (short_in spot.1 span.from span.most bytes) s.home key k
+    where
+      by : (end : Option ℕ) (home : Part) → spot.1.key ≡ key_of wanted.partition piece.id home → CutsBytes end wanted piece spot.1 span bytes (Ok (Ends (Damaged place at)))
+          → IsOfLog wanted (Log piece span) place
+      by (Some end) home key k =
+          let told : Damaged (Key spot.1.key) end ≡ Damaged place at = cc (k) in
+          let is : Key spot.1.key ≡ place = cc (told) in
+          record { piece = piece; span = span; next_is = refl; home = home; place_is = sym is ∙ ap Key key }
+      by None home key k = record { piece = piece; span = span; next_is = refl; home = home; place_is = k.place_is ∙ ap Key key }
 
   log_damage : (c : Scene) (p : Plain) (a b : ℕ) (site : Site) (x : Broker) (stops epoch : ℕ) (wanted : Wanted) (line : List (ℕ × ℕ)) (piece : Piece) (span : Span) (ns : meta.Content) (view : Seen)
       (cache : Cache) (old new : S) (spot : Option (ℕ × Spot)) (place : Place) (at : ℕ) → IsAtTurn c p a b site x stops epoch wanted line (Log piece span) (objects old) ns view cache
       → spot_in wanted.partition piece.id part.Log (entry_of piece.id view.entries) ≡ spot → LogRow objects calls wanted piece span view spot (Ok (Ends (Damaged place at))) old new
       → IsOfLog wanted (Log piece span) place
   log_damage c p a b site x stops epoch wanted line piece span ns view cache old new None place at h stood row =
-      let k = placed c p a b site x stops epoch wanted line (Log piece span) (objects old) ns view cache piece part.Log h refl in
-      let there = sym stood ∙ k.1 in
+      let r = copy_of c p a b site x stops epoch wanted line (Log piece span) (objects old) ns view cache piece h refl in
+      let k = at_spot c p a b site x stops epoch wanted line (Log piece span) (objects old) ns view cache piece part.Log tt h refl r in
+      let there = sym stood ∙ k.is in
       absurd (cc (there))
   log_damage c p a b site x stops epoch wanted line piece span ns view cache old new (Some spot) place at h stood row =
       cuts_damage c p a b site x stops epoch wanted line piece span ns view cache old new spot place at row.answer h stood row.gets row.cuts

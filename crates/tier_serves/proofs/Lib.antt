@@ -5,7 +5,6 @@ pub mod Reading
 pub mod Turning
 pub mod Cutting
 pub mod Running
-pub mod Packing
 pub mod Damaging
 pub mod Places
 pub mod Spanning

@@ -1,5 +1,5 @@
 -- What a fetch reads in the store is what its copy's entry tells of: the index of its batches, and their bytes.
-use Rattle.std.proofs.Common.{◌≡◌, ◌≢◌, ◌∙◌, sym, ap, subst, refl, ℕ, Bool, true, false, List, [], ◌∷◌, Option, Some, None}
+use Rattle.std.proofs.Common.{◌≡◌, ◌≢◌, ◌∙◌, sym, ap, subst, refl, ℕ, List, [], ◌∷◌, Option, Some}
 use Rattle.std.specs.Prelude.{option_map}
 use Rattle.tier_base.specs.declared.names.PartitionId.{PartitionId}
 use Rattle.tier_base.specs.declared.names.SegmentId.{SegmentId}
@@ -13,7 +13,8 @@ use Rattle.segment_file.specs.Index.{placed_from, index_of}
 use Rattle.segment_meta.specs.declared.note.Entry.{Entry}
 use Rattle.segment_bundle.specs.Parts.{first_offset, parts_of, part_in}
 use Rattle.object_store.specs.Content as store
-use Rattle.object_store.specs.Place.{key_of, whole, spot_of}
+use Rattle.object_store.specs.Place.{key_of, spot_of, all_of}
+use Rattle.object_store.proofs.Parts.{AreAll}
 use Rattle.object_store.specs.declared.placing.Spot.{Spot}
 use Rattle.meta_log.specs.Content as meta
 use Rattle.index_cache.specs.Cache.{Cache}
@@ -29,25 +30,10 @@ use Rattle.tier_safe.specs.Scene.{Site, Scene}
 use Rattle.tier_safe.specs.Fetches.{IsIndexOf, CachedStands}
 use Rattle.tier_safe.proofs.Basics.{one_some}
 use Rattle.tier_safe.proofs.Entries.{prefix_goes}
+use Rattle.tier_safe.proofs.Placed.{IsRead, IsPlaced, held_placed}
 use Rattle.tier_safe.proofs.Serving.{FetchReads, fetch_reads}
 use Rattle.tier_serves.specs.Seeking.{piece_of, sought_of, IsAtTurn}
 use Rattle.tier_serves.proofs.Entries.{entries_same, index_rises}
-
--- where a part stands
-
--- a part that has a place has an entry in the view, and stands under its key
-pub record IsSpot (partition : PartitionId) (id : SegmentId) (kind : Part) (found : Option Entry) (place : ℕ × Spot) : Type 0 where
-  pub entry : Entry
-  pub there : found ≡ Some entry
-  pub is : place ≡ (entry.start, whole (key_of partition id kind))
-
-pub spot_is : (partition : PartitionId) (id : SegmentId) (kind : Part) (found : Option Entry) (place : ℕ × Spot) → spot_in partition id kind found ≡ Some place → IsSpot partition id kind found place
-spot_is partition id kind None place is = absurd (cc (is))
-spot_is partition id kind (Some entry) place is = by entry.packed entry.custom is
-  where
-    by : (packed : Bool) (custom : Option (List ℕ)) → option_map (λ (spot : Spot). (entry.start, spot)) (spot_of partition id packed custom kind) ≡ Some place → IsSpot partition id kind (Some entry) place
-    by false custom is = record { entry = entry; there = refl; is = sym (one_some (Some (entry.start, whole (key_of partition id kind))) _ place refl is) }
-    by true custom is = absurd (cc (is))
 
 -- what stands there
 
@@ -61,25 +47,67 @@ pub copy_of : (c : Scene) (p : Plain) (a b : ℕ) (site : Site) (x : Broker) (st
 copy_of c p a b site x stops epoch wanted line next s n view cache piece h is =
     fetch_reads a (sought_of b stops epoch wanted.offset next) piece c p site x h.safe.plain h.safe.tier h.shows.seat h.shows.site_is h.broker_is is h.leads h.past
 
--- its object of a part
-pub stands : (c : Scene) (p : Plain) (x : Broker) (piece : Piece) (partition : PartitionId) (s : store.Content) (kind : Part) → (r : FetchReads c p x piece) → c.objects ≡ s.objects
-    → r.entry.partition ≡ partition → s.objects (key_of partition piece.id kind) ≡ Some (part_in (parts_of r.held.batches r.held.line r.held.interval) kind)
-stands c p x piece partition s kind r same of =
-    let id : r.entry.id ≡ piece.id = found_id piece.id (fold c.notes) r.entry r.there in
-    ap (λ (o : store.Objects). o (key_of partition piece.id kind)) (sym same)
-    ∙ ap (λ (k : PartitionId). c.objects (key_of k piece.id kind)) (sym of)
-    ∙ ap (λ (k : SegmentId). c.objects (key_of r.entry.partition k kind)) (sym id)
-    ∙ r.held.stand kind
+-- where a part of it stands, as the broker's view says
+pub record IsAtSpot (partition : PartitionId) (id : SegmentId) (kind : Part) (found : Option Entry) (start : ℕ) (objects : store.Objects) (bytes : List ℕ) : Type 0 where
+  pub spot : Spot
+  pub is : spot_in partition id kind found ≡ Some (start, spot)
+  pub home : Part
+  pub home_is : spot.key ≡ key_of partition id home
+  pub placed : IsPlaced objects spot bytes
 
--- the view's entry of it has its base offset
-pub seen_start : (c : Scene) (p : Plain) (a b : ℕ) (site : Site) (x : Broker) (stops epoch : ℕ) (wanted : Wanted) (line : List (ℕ × ℕ)) (next : Next) (s : store.Content) (n : meta.Content) (view : Seen)
-    (cache : Cache) (piece : Piece) (entry : Entry) → IsAtTurn c p a b site x stops epoch wanted line next s n view cache → (r : FetchReads c p x piece)
-    → entry_of piece.id view.entries ≡ Some entry → entry.start ≡ r.entry.start
-seen_start c p a b site x stops epoch wanted line next s n view cache piece entry h r seen =
+-- the view's entry of it places its parts as its entry does
+pub at_spot : (c : Scene) (p : Plain) (a b : ℕ) (site : Site) (x : Broker) (stops epoch : ℕ) (wanted : Wanted) (line : List (ℕ × ℕ)) (next : Next) (s : store.Content) (n : meta.Content) (view : Seen)
+    (cache : Cache) (piece : Piece) (kind : Part) → IsRead kind → IsAtTurn c p a b site x stops epoch wanted line next s n view cache → piece_of next ≡ Some piece → (r : FetchReads c p x piece)
+    → IsAtSpot wanted.partition piece.id kind (entry_of piece.id view.entries) r.entry.start s.objects (part_in (parts_of r.held.batches r.held.line r.held.interval) kind)
+at_spot c p a b site x stops epoch wanted line next s n view cache piece kind read h is r =
+    let k = (h.safe.tier.fetches a (sought_of b stops epoch wanted.offset next) site x h.shows.seat h.shows.site_is h.broker_is).seen piece is in
     let v = h.safe.tier.views b site h.shows.site_is in
-    let there : entry_of piece.id (fold v.before) ≡ Some entry = subst (λ (w : Seen). entry_of piece.id w.entries ≡ Some entry) (sym h.shows.view_is ∙ v.is) seen in
-    let y = prefix_goes v.before c.notes piece.id entry v.begins there in
-    sym y.2.start ∙ ap (λ (e : Entry). e.start) (one_some (entry_of piece.id (fold c.notes)) y.0 r.entry y.1 r.there)
+    let y = prefix_goes v.before c.notes piece.id k.0 v.begins (subst (λ (w : Seen). entry_of piece.id w.entries ≡ Some k.0) v.is k.1) in
+    let same : y.0 ≡ r.entry = one_some (entry_of piece.id (fold c.notes)) y.0 r.entry y.1 r.there in
+    let packed : k.0.packed ≡ r.entry.packed = sym y.2.packed ∙ ap (λ (e : Entry). e.packed) same in
+    let custom : k.0.custom ≡ r.entry.custom = sym (y.2.custom k.2) ∙ ap (λ (e : Entry). e.custom) same in
+    let start : k.0.start ≡ r.entry.start = sym y.2.start ∙ ap (λ (e : Entry). e.start) same in
+    let of : r.entry.partition ≡ wanted.partition = h.safe.tier.partition.told piece.id r.entry r.there ∙ sym h.partition in
+    let id : r.entry.id ≡ piece.id = found_id piece.id (fold c.notes) r.entry r.there in
+    let has = held_placed c.objects p.paths r.entry kind read r.held in
+    let placed : spot_of wanted.partition piece.id k.0.packed k.0.custom kind ≡ Some has.spot = rw (packed, custom, ← of, ← id) has.is in
+    let there : entry_of piece.id view.entries ≡ Some k.0 = subst (λ (w : Seen). entry_of piece.id w.entries ≡ Some k.0) h.shows.view_is k.1 in
+    record {
+      spot = has.spot;
+      is = ap (spot_in wanted.partition piece.id kind) there ∙ (ap (option_map (λ (spot : Spot). (k.0.start, spot))) placed ∙ ap (λ (m : ℕ). Some (m, has.spot)) start);
+      home = has.home;
+      home_is = rw (← of, ← id) has.home_is;
+      placed = subst (λ (o : store.Objects). IsPlaced o has.spot (part_in (parts_of r.held.batches r.held.line r.held.interval) kind)) h.shows.objects_are has.placed;
+    }
+
+-- what a store gives of a part, all of it or some
+pub record IsGiven (place : ℕ × Spot) (start : ℕ) (bytes : List ℕ) (some : List ℕ → List ℕ) (given : Option (List ℕ)) : Type 0 where
+  pub start_is : place.0 ≡ start
+  pub given_is : given ≡ Some (some bytes)
+  pub whole : AreAll place.1.len bytes
+
+placed_given : (objects : store.Objects) (spot : Spot) (bytes : List ℕ) (some : List ℕ → List ℕ) → (k : IsPlaced objects spot bytes)
+    → option_map (λ (object : List ℕ). some (all_of spot object)) (objects spot.key) ≡ Some (some bytes)
+placed_given objects spot bytes some k = ap (option_map (λ (object : List ℕ). some (all_of spot object))) k.there ∙ ap (λ (b : List ℕ). Some (some b)) k.all
+
+-- it is of the part
+pub gives : (c : Scene) (p : Plain) (a b : ℕ) (site : Site) (x : Broker) (stops epoch : ℕ) (wanted : Wanted) (line : List (ℕ × ℕ)) (next : Next) (s : store.Content) (n : meta.Content) (view : Seen)
+    (cache : Cache) (piece : Piece) (kind : Part) (place : ℕ × Spot) (some : List ℕ → List ℕ) (given : Option (List ℕ)) → IsRead kind
+    → IsAtTurn c p a b site x stops epoch wanted line next s n view cache → piece_of next ≡ Some piece
+    → spot_in wanted.partition piece.id kind (entry_of piece.id view.entries) ≡ Some place → given ≡ option_map (λ (object : List ℕ). some (all_of place.1 object)) (s.objects place.1.key)
+    → (r : FetchReads c p x piece) → IsGiven place r.entry.start (part_in (parts_of r.held.batches r.held.line r.held.interval) kind) some given
+gives c p a b site x stops epoch wanted line next s n view cache piece kind place some given read h is at given_is r =
+    let k = at_spot c p a b site x stops epoch wanted line next s n view cache piece kind read h is r in
+    let bytes = part_in (parts_of r.held.batches r.held.line r.held.interval) kind in
+    let same : place ≡ (r.entry.start, k.spot) =
+    one_some (spot_in wanted.partition piece.id kind (entry_of piece.id view.entries)) place (r.entry.start, k.spot) at k.is in
+    record {
+      start_is = ap (λ (q : ℕ × Spot). q.0) same;
+      given_is = given_is
+          ∙ (ap (λ (q : ℕ × Spot). option_map (λ (object : List ℕ). some (all_of q.1 object)) (s.objects q.1.key)) same
+          ∙ placed_given s.objects k.spot bytes some k.placed);
+      whole = subst (λ (q : ℕ × Spot). AreAll q.1.len bytes) (sym same) k.placed.whole;
+    }
 
 -- the bytes of its index are read as that index
 pub index_read : (c : Scene) (p : Plain) (x : Broker) (piece : Piece) (index : OffsetTable) (bytes : List ℕ) → (r : FetchReads c p x piece)

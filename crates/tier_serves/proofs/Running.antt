@@ -1,6 +1,5 @@
 -- A run that is cut out of a copy's log is the log's own run.
 use Rattle.std.proofs.Common.{◌≡◌, ◌∙◌, sym, ap, subst, refl, ℕ, ◌+◌, ◌<◌, ◌≤◌, min, Bool, true, false, cond, nat_lt, List, [], ◌∷◌, ◌++◌, length, take, drop, Option, Some, None, Result, Ok, Err, IsOk, arith, append_assoc}
-use Rattle.std.specs.Prelude.{option_map}
 use Rattle.std.specs.List.{AllByRecursion}
 use Rattle.std.proofs.Math.Nat.{min-le_left, min-le_right}
 use Rattle.std.proofs.lemmas.List.Elements.{All-from_recursion}
@@ -21,7 +20,8 @@ use Rattle.segment_file.specs.Run as cutting
 use Rattle.segment_file.proofs.Joining.{consecutive_parts}
 use Rattle.object_store.specs.Call as store_call
 use Rattle.object_store.specs.Content as store
-use Rattle.object_store.specs.Place.{key_of}
+use Rattle.object_store.specs.Calls.{Gets}
+use Rattle.object_store.specs.Place.{some_of, short_of, short_in}
 use Rattle.object_store.specs.declared.placing.Spot.{Spot}
 use Rattle.meta_log.specs.Call as meta_call
 use Rattle.meta_log.specs.Content as meta
@@ -43,7 +43,7 @@ use Rattle.tier_fetch.specs.declared.turn.Span.{Span}
 use Rattle.tier_fetch.specs.declared.turn.Next.{Next}
 use Rattle.tier_fetch.specs.declared.turn.Next.TheVariants.{Refresh, Index, Log}
 use Rattle.tier_fetch.specs.declared.turn.FetchTurn.TheVariants.{Ends}
-use Rattle.tier_fetch.specs.Turns.{spot_in, chosen, Loads, Cuts, LoadRow, IndexRow, LogRow, Gets}
+use Rattle.tier_fetch.specs.Turns.{spot_in, chosen, LoadsBytes, Loads, CutsBytes, Cuts, LoadRow, IndexRow, LogRow}
 use Rattle.tier_fetch.specs.Turns as fetch
 use Rattle.tier_safe.specs.Scene.{Site, Scene}
 use Rattle.tier_safe.proofs.Agreeing.{back_at}
@@ -52,7 +52,7 @@ use Rattle.tier_safe.proofs.Serving.{FetchReads, fetch_from, fetch_runs, fetch_n
 use Rattle.tier_serves.specs.Seeking.{sought_of, IsAtTurn}
 use Rattle.tier_serves.specs.Runs.{IsLogRun, ServesRun, FetchRunsAreLogs}
 use Rattle.tier_serves.proofs.Cutting.{parted, past_first, cut_run}
-use Rattle.tier_serves.proofs.Reading.{spot_is, copy_of, stands}
+use Rattle.tier_serves.proofs.Reading.{copy_of, gives}
 
 -- what is seen of a run
 
@@ -196,24 +196,15 @@ module _ {S M : Type 0} (objects : S → store.Content) (calls : S → Control s
   log_run c p a b site x stops epoch wanted line piece span ns view cache old new tier size stop bytes None h at row = absurd (cc (row.0))
   log_run c p a b site x stops epoch wanted line piece span ns view cache old new tier size stop bytes (Some place) h at row = by row.answer row.gets row.cuts
     where
-      by : (answer : Result (Option (List ℕ)) Trouble) → Gets objects calls place.1.key (λ object. take span.most (drop (place.1.at + span.from) object)) answer old new
-          → Cuts wanted piece place.1 span answer (Ok (Ends (Run tier size stop bytes))) → ServesChecked x.log wanted (Log piece span) tier size stop bytes
-      by (Err Failed) gets cuts = absurd (cc (cuts))
-      by (Err NoMemory) gets cuts = absurd (cc (cuts))
-      by (Ok None) gets cuts = absurd (cc (cuts))
-      by (Ok (Some given)) gets cuts =
+      cut : (end : Option ℕ) (given : List ℕ) → Gets objects calls place.1.key (some_of place.1 span.from span.most) (Ok (Some given)) old new
+          → CutsBytes end wanted piece place.1 span given (Ok (Ends (Run tier size stop bytes))) → ServesChecked x.log wanted (Log piece span) tier size stop bytes
+      cut (Some end) given gets cuts = absurd (cc (cuts))
+      cut None given gets cuts =
           let r = copy_of c p a b site x stops epoch wanted line (Log piece span) (objects old) ns view cache piece h refl in
-          let spot = spot_is wanted.partition piece.id part.Log (entry_of piece.id view.entries) place at in
-          let of : r.entry.partition ≡ wanted.partition = h.safe.tier.partition.told piece.id r.entry r.there ∙ sym h.partition in
-          let stand = stands c p x piece wanted.partition (objects old) part.Log r h.shows.objects_are of in
-          let given_is : Some given ≡ option_map (λ (object : List ℕ). take span.most (drop (place.1.at + span.from) object)) ((objects old).objects place.1.key) = gets.bytes h.shows.store_tells in
-          let read : Some given ≡ option_map (λ (object : List ℕ). take span.most (drop (0 + span.from) object)) ((objects old).objects (key_of wanted.partition piece.id part.Log)) =
-          subst (λ (q : ℕ × Spot). Some given ≡ option_map (λ (object : List ℕ). take span.most (drop (q.1.at + span.from) object)) ((objects old).objects q.1.key)) spot.is given_is in
-          let whole : Some given ≡ Some (take span.most (drop (0 + span.from) (joined r.held.batches))) =
-          read ∙ ap (option_map (λ (object : List ℕ). take span.most (drop (0 + span.from) object))) stand in
-          let sum : 0 + span.from ≡ span.from = omega arith in
-          let same : given ≡ take span.most (drop span.from (joined r.held.batches)) =
-          one_some (Some given) given (take span.most (drop (0 + span.from) (joined r.held.batches))) refl whole ∙ ap (λ (n : ℕ). take span.most (drop n (joined r.held.batches))) sum in (
+          let piece_bytes = take span.most (drop span.from (joined r.held.batches)) in
+          let g = gives c p a b site x stops epoch wanted line (Log piece span) (objects old) ns view cache piece part.Log place (λ b. take span.most (drop span.from b)) (Some given)
+          tt h refl at (gets.bytes h.shows.store_tells) r in
+          let same : given ≡ piece_bytes = one_some (Some given) given piece_bytes refl g.given_is in (
             record {
               piece = piece;
               found = refl;
@@ -222,6 +213,13 @@ module _ {S M : Type 0} (objects : S → store.Content) (calls : S → Control s
             },
             run_checked wanted.offset cuts.is,
           )
+
+      by : (answer : Result (Option (List ℕ)) Trouble) → Gets objects calls place.1.key (some_of place.1 span.from span.most) answer old new
+          → Cuts wanted piece place.1 span answer (Ok (Ends (Run tier size stop bytes))) → ServesChecked x.log wanted (Log piece span) tier size stop bytes
+      by (Err Failed) gets cuts = absurd (cc (cuts))
+      by (Err NoMemory) gets cuts = absurd (cc (cuts))
+      by (Ok None) gets cuts = absurd (cc (cuts))
+      by (Ok (Some given)) gets cuts = cut (short_in place.1 span.from span.most given) given gets cuts
 
   -- no other turn answers a run
 
@@ -234,7 +232,11 @@ module _ {S M : Type 0} (objects : S → store.Content) (calls : S → Control s
   loads_run wanted piece base spot (Err Failed) cache cache' tier size stop bytes k = cc (k.0)
   loads_run wanted piece base spot (Err NoMemory) cache cache' tier size stop bytes k = cc (k.0)
   loads_run wanted piece base spot (Ok None) cache cache' tier size stop bytes k = cc (k.0)
-  loads_run wanted piece base spot (Ok (Some given)) cache cache' tier size stop bytes k = cc (k.0)
+  loads_run wanted piece base spot (Ok (Some given)) cache cache' tier size stop bytes k = by (short_of spot given) k
+    where
+      by : (end : Option ℕ) → LoadsBytes end wanted piece base spot given (Ok (Ends (Run tier size stop bytes))) cache cache' → ⊥
+      by (Some end) k = cc (k.0)
+      by None k = cc (k.0)
 
   load_run : (wanted : Wanted) (piece : Piece) (view : Seen) (place : Option (ℕ × Spot)) (cache cache' : Cache) (old new : S) (tier : Tier) (size : ℕ) (stop : Stop) (bytes : List ℕ)
       → LoadRow objects calls wanted piece view place (Ok (Ends (Run tier size stop bytes))) cache cache' old new → ⊥

@@ -1,6 +1,5 @@
 -- The turns of a fetch as changes.
-use Rattle.std.proofs.Common.{◌≡◌, ◌⊎◌, inl, inr, ◌∙◌, sym, ap, subst, refl, ℕ, List, [], drop, Option, Some, None, Ok, Err, slice_get, slice_set}
-use Rattle.std.specs.Prelude.{option_map}
+use Rattle.std.proofs.Common.{◌≡◌, ◌⊎◌, inl, inr, ◌∙◌, sym, ap, subst, refl, ℕ, List, [], Option, Some, None, Ok, Err, slice_get, slice_set}
 use Rattle.std.specs.declared.result.Result.{Result}
 use Rattle.std.specs.declared.alloc.AllocError.{AllocError}
 use mathlib.Core.Path.{fun_ext}
@@ -17,7 +16,8 @@ use Rattle.index_cache.specs.Cache.{Cache, found, kept}
 use Rattle.segment_meta.specs.declared.note.Note.{Note}
 use Rattle.object_store.specs.Call as store_call
 use Rattle.object_store.specs.Content as store
-use Rattle.object_store.specs.Place.{key_of}
+use Rattle.object_store.specs.Calls.{Gets}
+use Rattle.object_store.specs.Place.{all_of, short_of, short_in}
 use Rattle.object_store.specs.declared.placing.Spot.{Spot}
 use Rattle.meta_log.specs.Call as meta_call
 use Rattle.meta_log.specs.Content as meta
@@ -35,7 +35,7 @@ use Rattle.tier_fetch.specs.declared.turn.Next.{Next}
 use Rattle.tier_fetch.specs.declared.turn.Next.TheVariants.{Refresh, Index, Log}
 use Rattle.tier_fetch.specs.declared.turn.FetchTurn.{FetchTurn}
 use Rattle.tier_fetch.specs.declared.turn.FetchTurn.TheVariants.{Goes, Ends}
-use Rattle.tier_fetch.specs.Turns.{chosen, spot_in, reads_by, IsLoaded, Loads, Cuts, Gets, RefreshRow, LoadRow, IndexRow, LogRow, Tiers}
+use Rattle.tier_fetch.specs.Turns.{chosen, spot_in, reads_by, IsLoaded, LoadsBytes, Loads, CutsBytes, Cuts, RefreshRow, LoadRow, IndexRow, LogRow, Tiers}
 use Rattle.tier_safe.specs.Scene.{Site, Work, Free, Seeks, Scene}
 use Rattle.tier_safe.specs.Changes.{Moves, Finds, Reads, Caches, effect}
 use Rattle.tier_safe.specs.Views.{IsViewOf}
@@ -46,13 +46,14 @@ use Rattle.tier_safe.specs.Reads.{TellsEpochs, IsRightView}
 use Rattle.tier_safe.specs.Safe.{TierSafe}
 use Rattle.tier_safe.specs.Turns.{Shows, after_turn}
 use Rattle.tier_safe.proofs.Basics.{one_some}
+use Rattle.tier_safe.proofs.Covering.{readable}
 use Rattle.tier_safe.proofs.Lookups.{found_stands}
 use Rattle.tier_safe.proofs.Rules.{seen_kept}
 use Rattle.tier_safe.proofs.Turning.{set_set, set_get, scene_same, goes_on, one_change, as_scene, leaves, left, renamed, sees_all, sees_some}
 use Rattle.tier_serves.specs.Seeking.{sought_of, fetch_work, fetch_after, indexes_in, IsAtTurn, after_fetch}
 use Rattle.tier_serves.specs.Turns.{FetchTurnsChange}
 use Rattle.tier_serves.proofs.Pairs.{found_in, brought_in, kept_in}
-use Rattle.tier_serves.proofs.Reading.{spot_is, copy_of, stands, seen_start, index_read, index_cached}
+use Rattle.tier_serves.proofs.Reading.{copy_of, gives, index_read, index_cached}
 
 -- scenes
 
@@ -115,7 +116,8 @@ may_find c p a b site x stops epoch offset log_end line before after piece safe 
       let kept = seen_kept c.notes c.notes c.desk safe.notes (prefix_self c.notes) in
       let k = piece_lies after.entries line log_end offset piece (subst (λ (v : Seen). AreKept v.entries) (sym all) kept.0) (subst (λ (v : Seen). AreDistinct v.entries) (sym all) kept.1)
       tells.rises made in
-      (k.1, subst (λ (t : Site). entry_of piece.id t.view.entries ≡ Some k.1) same k.2.copy));
+      let done = readable k.1.state k.2.readable in
+      (k.1, subst (λ (t : Site). entry_of piece.id t.view.entries ≡ Some k.1) same k.2.copy, λ e. absurd (cc (done, e))));
   gives = λ y y_is leads past.
       (let same = one_some (slice_get p.brokers b) x y x_is y_is in
       let kept = seen_kept c.notes c.notes c.desk safe.notes (prefix_self c.notes) in
@@ -242,20 +244,13 @@ module _ {S M : Type 0} (objects : S → store.Content) (calls : S → Control s
   -- it was read
   loaded_turn : (c : Scene) (p : Plain) (a b : ℕ) (site : Site) (x : Broker) (stops epoch : ℕ) (wanted : Wanted) (line : List (ℕ × ℕ)) (piece : Piece) (next : Next) (ns : meta.Content) (view : Seen)
       (cache cache' : Cache) (old new : S) (place : ℕ × Spot) (bytes : List ℕ) → IsAtTurn c p a b site x stops epoch wanted line (Index piece) (objects old) ns view cache
-      → spot_in wanted.partition piece.id part.Index (entry_of piece.id view.entries) ≡ Some place → Gets objects calls place.1.key (drop place.1.at) (Ok (Some bytes)) old new
+      → spot_in wanted.partition piece.id part.Index (entry_of piece.id view.entries) ≡ Some place → Gets objects calls place.1.key (all_of place.1) (Ok (Some bytes)) old new
       → IsLoaded wanted piece place.0 bytes (Goes next) cache cache'
       → IsChanged c p (after_fetch c a b site (fetch_work b stops epoch wanted.offset (Goes next)) (objects new).objects ns.notes view cache')
   loaded_turn c p a b site x stops epoch wanted line piece next ns view cache cache' old new place bytes h at gets k =
       let r = copy_of c p a b site x stops epoch wanted line (Index piece) (objects old) ns view cache piece h refl in
-      let spot = spot_is wanted.partition piece.id part.Index (entry_of piece.id view.entries) place at in
-      let of : r.entry.partition ≡ wanted.partition = h.safe.tier.partition.told piece.id r.entry r.there ∙ sym h.partition in
-      let stand = stands c p x piece wanted.partition (objects old) part.Index r h.shows.objects_are of in
-      let given : Some bytes ≡ option_map (drop place.1.at) ((objects old).objects place.1.key) = gets.bytes h.shows.store_tells in
-      let read : Some bytes ≡ option_map (drop 0) ((objects old).objects (key_of wanted.partition piece.id part.Index)) =
-      subst (λ (q : ℕ × Spot). Some bytes ≡ option_map (drop q.1.at) ((objects old).objects q.1.key)) spot.is given in
-      let start : k.index.base ≡ r.entry.start =
-      k.base_is ∙ ap (λ (q : ℕ × Spot). q.0) spot.is ∙ seen_start c p a b site x stops epoch wanted line (Index piece) (objects old) ns view cache piece spot.entry h r spot.there in
-      let is = index_read c p x piece k.index bytes r start k.rises k.bytes_are (read ∙ ap (option_map (drop 0)) stand) in
+      let g = gives c p a b site x stops epoch wanted line (Index piece) (objects old) ns view cache piece part.Index place (λ b. b) (Some bytes) tt h refl at (gets.bytes h.shows.store_tells) r in
+      let is = index_read c p x piece k.index bytes r (k.base_is ∙ g.start_is) k.rises k.bytes_are g.given_is in
       let cached = index_cached c p x piece k.index r is in
       went c p a b site x stops epoch wanted line piece ns view cache cache' old new (Goes next) k.index h (fun_ext gets.content.objects) k.turn_is
       (λ id t has. elim (kept_in piece.id k.index cache (id, t) (subst (λ (m : Cache). In (id, t) (indexes_in m)) k.kept_is has)) [
@@ -263,10 +258,27 @@ module _ {S M : Type 0} (objects : S → store.Content) (calls : S → Control s
         | inr own ↦ inr (subst (λ (q : SegmentId × OffsetTable). CachedStands p.paths c.notes q.0 q.1) (sym own) cached)
       ]) cached.is
 
+  -- by where bytes are lacking
+  bytes_turn : (end : Option ℕ) (c : Scene) (p : Plain) (a b : ℕ) (site : Site) (x : Broker) (stops epoch : ℕ) (wanted : Wanted) (line : List (ℕ × ℕ)) (piece : Piece)
+      (result : Result FetchTurn AllocError) (ns : meta.Content) (view : Seen) (cache cache' : Cache) (old new : S) (place : ℕ × Spot) (bytes : List ℕ)
+      → IsAtTurn c p a b site x stops epoch wanted line (Index piece) (objects old) ns view cache
+      → spot_in wanted.partition piece.id part.Index (entry_of piece.id view.entries) ≡ Some place → Gets objects calls place.1.key (all_of place.1) (Ok (Some bytes)) old new
+      → LoadsBytes end wanted piece place.0 place.1 bytes result cache cache'
+      → IsChanged c p (after_fetch c a b site (fetch_after b stops epoch wanted.offset (Index piece) result) (objects new).objects ns.notes view cache')
+  bytes_turn (Some end) c p a b site x stops epoch wanted line piece result ns view cache cache' old new place bytes h at gets k =
+      named c p a b site _ _ (objects new).objects (objects new).objects ns.notes ns.notes view view cache' cache' (ap (fetch_after b stops epoch wanted.offset (Index piece)) (sym k.0)) refl refl refl refl
+      (ended c p a b site x stops epoch wanted line (Index piece) ns view cache cache' old new h (fun_ext gets.content.objects) k.1)
+  bytes_turn None c p a b site x stops epoch wanted line piece (Ok (Goes next)) ns view cache cache' old new place bytes h at gets k =
+      loaded_turn c p a b site x stops epoch wanted line piece next ns view cache cache' old new place bytes h at gets k
+  bytes_turn None c p a b site x stops epoch wanted line piece (Ok (Ends answer)) ns view cache cache' old new place bytes h at gets k =
+      ended c p a b site x stops epoch wanted line (Index piece) ns view cache cache' old new h (fun_ext gets.content.objects) k.2
+  bytes_turn None c p a b site x stops epoch wanted line piece (Err e) ns view cache cache' old new place bytes h at gets k =
+      halted c p a b site x stops epoch wanted line (Index piece) ns view cache cache' old new h (fun_ext gets.content.objects) k
+
   read_turn : (c : Scene) (p : Plain) (a b : ℕ) (site : Site) (x : Broker) (stops epoch : ℕ) (wanted : Wanted) (line : List (ℕ × ℕ)) (piece : Piece) (result : Result FetchTurn AllocError) (ns : meta.Content)
       (view : Seen) (cache cache' : Cache) (old new : S) (place : ℕ × Spot) (answer : Result (Option (List ℕ)) Trouble)
       → IsAtTurn c p a b site x stops epoch wanted line (Index piece) (objects old) ns view cache
-      → spot_in wanted.partition piece.id part.Index (entry_of piece.id view.entries) ≡ Some place → Gets objects calls place.1.key (drop place.1.at) answer old new
+      → spot_in wanted.partition piece.id part.Index (entry_of piece.id view.entries) ≡ Some place → Gets objects calls place.1.key (all_of place.1) answer old new
       → Loads wanted piece place.0 place.1 answer result cache cache'
       → IsChanged c p (after_fetch c a b site (fetch_after b stops epoch wanted.offset (Index piece) result) (objects new).objects ns.notes view cache')
   read_turn c p a b site x stops epoch wanted line piece result ns view cache cache' old new place (Err Failed) h at gets k =
@@ -278,12 +290,8 @@ module _ {S M : Type 0} (objects : S → store.Content) (calls : S → Control s
   read_turn c p a b site x stops epoch wanted line piece result ns view cache cache' old new place (Ok None) h at gets k =
       named c p a b site _ _ (objects new).objects (objects new).objects ns.notes ns.notes view view cache' cache' (ap (fetch_after b stops epoch wanted.offset (Index piece)) (sym k.0)) refl refl refl refl
       (ended c p a b site x stops epoch wanted line (Index piece) ns view cache cache' old new h (fun_ext gets.content.objects) k.1)
-  read_turn c p a b site x stops epoch wanted line piece (Ok (Goes next)) ns view cache cache' old new place (Ok (Some bytes)) h at gets k =
-      loaded_turn c p a b site x stops epoch wanted line piece next ns view cache cache' old new place bytes h at gets k
-  read_turn c p a b site x stops epoch wanted line piece (Ok (Ends answer)) ns view cache cache' old new place (Ok (Some bytes)) h at gets k =
-      ended c p a b site x stops epoch wanted line (Index piece) ns view cache cache' old new h (fun_ext gets.content.objects) k.2
-  read_turn c p a b site x stops epoch wanted line piece (Err e) ns view cache cache' old new place (Ok (Some bytes)) h at gets k =
-      halted c p a b site x stops epoch wanted line (Index piece) ns view cache cache' old new h (fun_ext gets.content.objects) k
+  read_turn c p a b site x stops epoch wanted line piece result ns view cache cache' old new place (Ok (Some bytes)) h at gets k =
+      bytes_turn (short_of place.1 bytes) c p a b site x stops epoch wanted line piece result ns view cache cache' old new place bytes h at gets k
 
   load_turn : (c : Scene) (p : Plain) (a b : ℕ) (site : Site) (x : Broker) (stops epoch : ℕ) (wanted : Wanted) (line : List (ℕ × ℕ)) (piece : Piece) (result : Result FetchTurn AllocError) (ns : meta.Content)
       (view : Seen) (cache cache' : Cache) (old new : S) (place : Option (ℕ × Spot)) → IsAtTurn c p a b site x stops epoch wanted line (Index piece) (objects old) ns view cache
@@ -315,7 +323,11 @@ module _ {S M : Type 0} (objects : S → store.Content) (calls : S → Control s
   cuts_end wanted piece spot span (Err Failed) next k = cc (k)
   cuts_end wanted piece spot span (Err NoMemory) next k = cc (k)
   cuts_end wanted piece spot span (Ok None) next k = cc (k)
-  cuts_end wanted piece spot span (Ok (Some bytes)) next k = k
+  cuts_end wanted piece spot span (Ok (Some bytes)) next k = by (short_in spot span.from span.most bytes) k
+    where
+      by : (end : Option ℕ) → CutsBytes end wanted piece spot span bytes (Ok (Goes next)) → ⊥
+      by (Some end) k = cc (k)
+      by None k = k
 
   log_ends : (wanted : Wanted) (piece : Piece) (span : Span) (view : Seen) (place : Option (ℕ × Spot)) (next : Next) (old new : S)
       → LogRow objects calls wanted piece span view place (Ok (Goes next)) old new → ⊥

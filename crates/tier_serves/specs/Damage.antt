@@ -3,7 +3,7 @@
 -- Its broker's view has the piece, and the entry of its segment; the segment's index and its log stand, and the index has a
 -- reading. What is left is that the part of the log which was read has no run.
 use Rattle.std.specs.Prelude.{◌≡◌, ℕ, List, Ok}
-use Rattle.tier_base.specs.declared.plain.Part.TheVariants as part
+use Rattle.tier_base.specs.declared.plain.Part.{Part}
 use Rattle.tier_base.specs.Device.{Control}
 use Rattle.object_store.specs.Call as store_call
 use Rattle.object_store.specs.Content as store
@@ -25,12 +25,13 @@ use Rattle.tier_fetch.specs.Turns.{Tiers, FetchRow}
 use Rattle.tier_safe.specs.Scene.{Site, Scene}
 use Rattle.tier_serves.specs.Seeking.{IsAtTurn}
 
--- damage of the log of the segment whose piece was found, which the turn was to read
+-- damage of the log of the segment whose piece was found, which the turn was to read: it is told of the object that has it
 pub record IsOfLog (wanted : Wanted) (next : Next) (place : Place) : Type 0 where
   pub piece : Piece
   pub span : Span
   pub next_is : next ≡ Log piece span
-  pub place_is : place ≡ Key (key_of wanted.partition piece.id part.Log)
+  pub home : Part
+  pub place_is : place ≡ Key (key_of wanted.partition piece.id home)
 
 module _ {S M : Type 0} (objects : S → store.Content) (calls : S → Control store_call.call_code)
     (notes : M → meta.Content) (notings : M → Control meta_call.call_code) where

@@ -1,5 +1,5 @@
 -- A sweep that is refused: whatever of its notes is told, and of its objects taken, the same is left to a further one.
-use Rattle.std.proofs.Common.{◌≡◌, ◌≢◌, ◌⊎◌, inl, inr, ◌∙◌, refl, sym, ap, subst, ℤ, Bool, true, false, cond, List, [], ◌∷◌, ◌++◌, map, Some, None, is_some, append_assoc}
+use Rattle.std.proofs.Common.{◌≡◌, ◌≢◌, ◌⊎◌, inl, inr, ◌∙◌, refl, sym, ap, subst, ℕ, ℤ, Bool, true, false, cond, List, [], ◌∷◌, ◌++◌, map, Option, Some, None, is_some, append_assoc, arith}
 use Rattle.std.specs.Prelude.{filter, option_map}
 use Rattle.std.specs.List.{AllByRecursion}
 use Rattle.std.specs.Str.{bytes_eq}
@@ -9,7 +9,7 @@ use Rattle.tier_base.specs.declared.plain.State.TheVariants.{CopyStarted, CopyFi
 use Rattle.segment_meta.specs.declared.note.Entry.{Entry}
 use Rattle.segment_meta.specs.declared.note.Note.{Note}
 use Rattle.segment_meta.specs.Steps.{next_state}
-use Rattle.segment_meta.specs.Rules.{IsNote}
+use Rattle.segment_meta.specs.Rules.{IsNote, MayTell, bare_custom}
 use Rattle.remote_view.specs.Fold.{entry_of, state_of, changed, updated, noted, folded_from, fold, AreDistinct}
 use Rattle.remote_view.proofs.Ids.{same_id, bytes_self}
 use Rattle.remote_view.proofs.Folding.{fold_distinct}
@@ -93,10 +93,14 @@ going_starts_none CopyFinished is = absurd (cc (is))
 going_starts_none DeleteStarted is = λ e. absurd (cc (e))
 going_starts_none DeleteFinished is = λ e. absurd (cc (e))
 
+bare_told : (t : State) → is_going t ≡ true → (packed : Bool) → MayTell t (bare_custom packed)
+bare_told t is false = tt
+bare_told t is true = record { few = omega arith; bare = λ e. refl }
+
 are_notes : (es : List Entry) (notes : List Note) → AllByRecursion (IsOf es) notes → AllByRecursion IsNote notes
 are_notes es [] h = tt
 are_notes es (note ∷ notes) h =
-    (subst IsNote (sym h.0.is) (going_starts_none h.0.state h.0.going, refl), are_notes es notes h.1)
+    (subst IsNote (sym h.0.is) (going_starts_none h.0.state h.0.going, bare_told h.0.state h.0.going h.0.entry.packed), are_notes es notes h.1)
 
 -- the entry that it changes rests as before
 broker_rested : (e : Entry) → (rested e).broker ≡ e.broker
@@ -128,13 +132,21 @@ going_rests x CopyFinished is = absurd (cc (is))
 going_rests x DeleteStarted is = refl
 going_rests x DeleteFinished is = refl
 
-change_rests : (e x : Entry) (t : State) → is_under_way e.state ≡ true → is_going t ≡ true → rested x ≡ rested e → rested (updated e.broker e.event_ts t x) ≡ rested x
+-- its note keeps the custom metadata
+going_kept : (x : Entry) (t : State) (told : Option (List ℕ)) → is_going t ≡ true → rested (updated x.broker x.event_ts t told x) ≡ rested (record x { state = t })
+going_kept x CopyStarted told is = absurd (cc (is))
+going_kept x CopyFinished told is = absurd (cc (is))
+going_kept x DeleteStarted told is = refl
+going_kept x DeleteFinished told is = refl
+
+change_rests : (e x : Entry) (t : State) → is_under_way e.state ≡ true → is_going t ≡ true → rested x ≡ rested e → rested (updated e.broker e.event_ts t (bare_custom e.packed) x) ≡ rested x
 change_rests e x t under going same =
     let broker : e.broker ≡ x.broker = sym (broker_rested e) ∙ (ap (λ (y : Entry). y.broker) (sym same) ∙ broker_rested x) in
     let time : e.event_ts ≡ x.event_ts = sym (time_rested e) ∙ (ap (λ (y : Entry). y.event_ts) (sym same) ∙ time_rested x) in
     let ended : (rested e).state ≡ DeleteFinished = rw under refl in
     let finished = as_finished x (ap (λ (y : Entry). y.state) same ∙ ended) in
-    ap (λ b. rested (updated b e.event_ts t x)) broker ∙ (ap (λ (at : ℤ). rested (updated x.broker at t x)) time ∙ (going_rests x t going ∙ sym finished))
+    ap (λ b. rested (updated b e.event_ts t (bare_custom e.packed) x)) broker
+    ∙ (ap (λ (at : ℤ). rested (updated x.broker at t (bare_custom e.packed) x)) time ∙ (going_kept x t (bare_custom e.packed) going ∙ (going_rests x t going ∙ sym finished)))
 
 change_all : (q : SegmentId) (change : Entry → Entry) (xs : List Entry) → ((x : Entry) → entry_of q xs ≡ Some x → rested (change x) ≡ rested x)
     → map rested (changed q change xs) ≡ map rested xs
@@ -158,8 +170,8 @@ note_rests es xs note h same = subst (λ (n : Note). map rested (noted xs n) ≡
     found x here = some_same (rested x) (rested h.entry)
         (ap (option_map rested) (sym here) ∙ (sym (entry_rested h.entry.id xs) ∙ (ap (entry_of h.entry.id) same ∙ (entry_rested h.entry.id es ∙ ap (option_map rested) h.there))))
 
-    by : (t : Bool) → map rested (cond t (changed h.entry.id (updated h.entry.broker h.entry.event_ts h.state) xs) xs) ≡ map rested es
-    by true = change_all h.entry.id (updated h.entry.broker h.entry.event_ts h.state) xs (λ x here. change_rests h.entry x h.state h.under h.going (found x here)) ∙ same
+    by : (t : Bool) → map rested (cond t (changed h.entry.id (updated h.entry.broker h.entry.event_ts h.state (bare_custom h.entry.packed)) xs) xs) ≡ map rested es
+    by true = change_all h.entry.id (updated h.entry.broker h.entry.event_ts h.state (bare_custom h.entry.packed)) xs (λ x here. change_rests h.entry x h.state h.under h.going (found x here)) ∙ same
     by false = same
 
 notes_rest : (es xs : List Entry) (notes : List Note) → AllByRecursion (IsOf es) notes → map rested xs ≡ map rested es → map rested (folded_from xs notes) ≡ map rested es

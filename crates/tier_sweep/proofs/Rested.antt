@@ -9,7 +9,7 @@ use Rattle.tier_base.specs.declared.plain.State.TheVariants.{CopyStarted, CopyFi
 use Rattle.segment_meta.specs.declared.note.Entry.{Entry}
 use Rattle.segment_meta.specs.declared.note.Note.{Note}
 use Rattle.segment_meta.specs.Steps.{next_state}
-use Rattle.segment_meta.specs.Rules.{IsNote}
+use Rattle.segment_meta.specs.Rules.{IsNote, bare_custom}
 use Rattle.meta_log.specs.Content.{AreNotes}
 use Rattle.remote_view.specs.Fold.{entry_of, state_of, changed, updated, noted, folded_from, fold, AreDistinct}
 use Rattle.remote_view.proofs.Ids.{same_id, bytes_self}
@@ -37,7 +37,7 @@ misses_first q e es none = by (bytes_eq e.id.0 q.0) none
 noted_behind : (x r : Entry) (xs : List Entry) (s : State) → bytes_eq x.id.0 r.id.0 ≡ false → noted (x ∷ xs) (note_of s r) ≡ x ∷ noted xs (note_of s r)
 noted_behind x r xs s other = rw other (by (is_some (next_state (state_of r.id xs) s)))
   where
-    by : (t : Bool) → cond t (x ∷ changed r.id (updated r.broker r.event_ts s) xs) (x ∷ xs) ≡ x ∷ cond t (changed r.id (updated r.broker r.event_ts s) xs) xs
+    by : (t : Bool) → cond t (x ∷ changed r.id (updated r.broker r.event_ts s (bare_custom r.packed)) xs) (x ∷ xs) ≡ x ∷ cond t (changed r.id (updated r.broker r.event_ts s (bare_custom r.packed)) xs) xs
     by true = refl
     by false = refl
 
@@ -58,7 +58,7 @@ module _ (passes : State → Bool) (s : State) where
       by false one more over = over
 
   module _ (before after : Entry → Entry) (ids : (e : Entry) → (before e).id ≡ e.id)
-      (steps : (e : Entry) → passes e.state ≡ true → (is_some (next_state (Some (before e).state) s) ≡ true) × (updated e.broker e.event_ts s (before e) ≡ after e))
+      (steps : (e : Entry) → passes e.state ≡ true → (is_some (next_state (Some (before e).state) s) ≡ true) × (updated e.broker e.event_ts s (bare_custom e.packed) (before e) ≡ after e))
       (rests : (e : Entry) → passes e.state ≡ false → before e ≡ after e) where
     -- the first entry's note
     first_step : (e : Entry) (xs : List Entry) → passes e.state ≡ true → noted (before e ∷ xs) (note_of s e) ≡ after e ∷ xs
@@ -108,13 +108,13 @@ not_copying CopyFinished is = refl
 not_copying DeleteStarted is = refl
 not_copying DeleteFinished is = refl
 
-start_steps : (e : Entry) → is_copying e.state ≡ true → (is_some (next_state (Some e.state) DeleteStarted) ≡ true) × (updated e.broker e.event_ts DeleteStarted e ≡ started e)
+start_steps : (e : Entry) → is_copying e.state ≡ true → (is_some (next_state (Some e.state) DeleteStarted) ≡ true) × (updated e.broker e.event_ts DeleteStarted (bare_custom e.packed) e ≡ started e)
 start_steps e is = (copying_steps e.state is, rw is refl)
 
-end_steps : (e : Entry) → is_under_way e.state ≡ true → (is_some (next_state (Some (started e).state) DeleteFinished) ≡ true) × (updated e.broker e.event_ts DeleteFinished (started e) ≡ rested e)
+end_steps : (e : Entry) → is_under_way e.state ≡ true → (is_some (next_state (Some (started e).state) DeleteFinished) ≡ true) × (updated e.broker e.event_ts DeleteFinished (bare_custom e.packed) (started e) ≡ rested e)
 end_steps e is = by e.state refl is
   where
-    by : (t : State) → e.state ≡ t → is_under_way t ≡ true → (is_some (next_state (Some (started e).state) DeleteFinished) ≡ true) × (updated e.broker e.event_ts DeleteFinished (started e) ≡ rested e)
+    by : (t : State) → e.state ≡ t → is_under_way t ≡ true → (is_some (next_state (Some (started e).state) DeleteFinished) ≡ true) × (updated e.broker e.event_ts DeleteFinished (bare_custom e.packed) (started e) ≡ rested e)
     by CopyStarted here under = let copying : is_copying e.state ≡ true = ap is_copying here in (rw copying refl, rw (copying, is) refl)
     by CopyFinished here under = absurd (cc (under))
     by DeleteStarted here under = let other : is_copying e.state ≡ false = ap is_copying here in (rw (other, here) refl, rw (other, is) refl)

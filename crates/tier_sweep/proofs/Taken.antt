@@ -7,7 +7,7 @@ use Rattle.std.proofs.lemmas.List.{take_more}
 use Rattle.tier_base.specs.declared.names.SegmentId.{SegmentId}
 use Rattle.tier_base.specs.declared.names.PartitionId.{PartitionId}
 use Rattle.tier_base.specs.declared.plain.Part.{Part}
-use Rattle.tier_base.specs.declared.plain.Part.TheVariants.{Log, Index, TimeIndex, Epochs}
+use Rattle.tier_base.specs.declared.plain.Part.TheVariants.{Log, Index, TimeIndex, Epochs, Pack}
 use Rattle.tier_base.specs.declared.object_key.ObjectKey.{ObjectKey}
 use Rattle.tier_base.specs.Told.{In, removed}
 use Rattle.object_store.specs.Content.{Objects, made_if}
@@ -37,6 +37,7 @@ part_cases Log Log = inl refl
 part_cases Index Index = inl refl
 part_cases TimeIndex TimeIndex = inl refl
 part_cases Epochs Epochs = inl refl
+part_cases Pack Pack = inl refl
 part_cases a b = inr (λ e. absurd (cc (e)))
 
 -- two keys are one or not

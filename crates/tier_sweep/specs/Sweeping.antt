@@ -20,6 +20,7 @@ use Rattle.tier_base.specs.Told.{Names}
 use Rattle.segment_meta.specs.declared.note.Entry.{Entry}
 use Rattle.segment_meta.specs.declared.note.Note.{Note}
 use Rattle.segment_meta.specs.declared.note.Note.TheVariants.{Update}
+use Rattle.segment_meta.specs.Rules.{bare_custom}
 use Rattle.object_store.specs.Content as store
 use Rattle.meta_log.specs.Content as meta
 use Rattle.remote_view.specs.Fold.{fold}
@@ -34,7 +35,7 @@ is_copying state = false
 
 -- the note that an entry's segment has another state
 abbrev pub note_of : State → Entry → Note
-note_of state entry = Update entry.id entry.broker entry.event_ts state None
+note_of state entry = Update entry.id entry.broker entry.event_ts state (bare_custom entry.packed)
 
 -- the notes of another state, for the entries whose own state passes, in order
 abbrev pub notes_of : (State → Bool) → State → List Entry → List Note

@@ -46,9 +46,9 @@ pub fn sweep<S: Store, M: MetaLog>(
 {
     let view = read_view(alloc, meta)?;
     let keys = list(store)?;
-    tell_starts(meta, view.entries())?;
+    tell_starts(alloc, meta, view.entries())?;
     let swept = take_all(store, &view, keys.as_slice())?;
-    tell_ends(meta, view.entries())?;
+    tell_ends(alloc, meta, view.entries())?;
     Ok(swept)
 }
 

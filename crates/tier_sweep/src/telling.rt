@@ -10,11 +10,16 @@ ghost use Rattle.tier_sweep.specs.Parts.{MetaRuns, Tells};
 
 use crate::refusal::SweepRefusal;
 use meta_log::MetaLog;
-use segment_meta::{Entry, Note};
+use segment_meta::{Entry, Note, bare_custom};
+use std::alloc::Global;
 use tier_base::{State, Trouble};
 
 /// Tells that deletions start, of the copies under way.
-pub(crate) fn tell_starts<M: MetaLog>(meta: &mut M, entries: &[Entry]) -> Result<(), SweepRefusal>
+pub(crate) fn tell_starts<M: MetaLog>(
+    alloc: Global,
+    meta: &mut M,
+    entries: &[Entry],
+) -> Result<(), SweepRefusal>
     ensures tells { (M.content meta.new).tells ≡ (M.content meta.old).tells }
     ensures notes { IsTrue (M.content meta.old).tells
         → Tells (starts_of entries.now) result (M.content meta.old).notes (M.content meta.new).notes }
@@ -22,14 +27,18 @@ pub(crate) fn tell_starts<M: MetaLog>(meta: &mut M, entries: &[Entry]) -> Result
 {
     for entry in entries {
         if is_copying(entry.state) {
-            tell(meta, State::DeleteStarted, entry)?;
+            tell(alloc, meta, State::DeleteStarted, entry)?;
         }
     }
     Ok(())
 }
 
 /// Tells that deletions are finished, of the copies and deletions under way.
-pub(crate) fn tell_ends<M: MetaLog>(meta: &mut M, entries: &[Entry]) -> Result<(), SweepRefusal>
+pub(crate) fn tell_ends<M: MetaLog>(
+    alloc: Global,
+    meta: &mut M,
+    entries: &[Entry],
+) -> Result<(), SweepRefusal>
     ensures tells { (M.content meta.new).tells ≡ (M.content meta.old).tells }
     ensures notes { IsTrue (M.content meta.old).tells
         → Tells (ends_of entries.now) result (M.content meta.old).notes (M.content meta.new).notes }
@@ -37,21 +46,26 @@ pub(crate) fn tell_ends<M: MetaLog>(meta: &mut M, entries: &[Entry]) -> Result<(
 {
     for entry in entries {
         if is_under_way(entry.state) {
-            tell(meta, State::DeleteFinished, entry)?;
+            tell(alloc, meta, State::DeleteFinished, entry)?;
         }
     }
     Ok(())
 }
 
 /// Tells that an entry's segment has another state.
-fn tell<M: MetaLog>(meta: &mut M, state: State, entry: &Entry) -> Result<(), SweepRefusal>
+fn tell<M: MetaLog>(
+    alloc: Global,
+    meta: &mut M,
+    state: State,
+    entry: &Entry,
+) -> Result<(), SweepRefusal>
     requires { state ≢ CopyStarted }
     ensures tells { (M.content meta.new).tells ≡ (M.content meta.old).tells }
     ensures notes { IsTrue (M.content meta.old).tells
         → Tells (note_of state entry.now ∷ []) result (M.content meta.old).notes (M.content meta.new).notes }
     ensures calls { MetaRuns result (M.control meta.old) (M.control meta.new) }
 {
-    match meta.append(&note_of(state, entry)) {
+    match meta.append(&note_of(alloc, state, entry)) {
         Ok(_) => Ok(()),
         Err(Trouble::Failed) => Err(SweepRefusal::MetaFault),
         Err(Trouble::NoMemory) => Err(SweepRefusal::NoMemory),
@@ -59,7 +73,7 @@ fn tell<M: MetaLog>(meta: &mut M, state: State, entry: &Entry) -> Result<(), Swe
 }
 
 /// That an entry's segment has another state.
-fn note_of(state: State, entry: &Entry) -> Note
+fn note_of(alloc: Global, state: State, entry: &Entry) -> Note
     ensures { result ≡ note_of state entry.now }
 {
     Note::Update {
@@ -67,7 +81,7 @@ fn note_of(state: State, entry: &Entry) -> Note
         broker: entry.broker,
         event_ts: entry.event_ts,
         state,
-        custom: None,
+        custom: bare_custom(alloc, entry.packed),
     }
 }
 

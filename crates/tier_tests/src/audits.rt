@@ -3,7 +3,8 @@
 //! No test holds a device: each row says how one object stands, and what the audit comes to then.
 
 use crate::given::{
-    FINISHED, STATE, batches, failing_log, failing_store, id, key, puts, tells, tells_with,
+    CUSTOM, FINISHED, PACKED_FINISHED, PACKED_STARTED, STATE, batches, failing_log, failing_store,
+    id, key, puts, tells, tells_with,
 };
 use meta_log::{MemoryLog, MetaCall, MetaLog};
 use object_store::{MemoryStore, ObjectKey, Store, StoreCall};
@@ -43,6 +44,8 @@ enum How {
     Gone,
     /// With another byte at a place.
     Changed(usize),
+    /// Up to a place.
+    Cut(usize),
     These(&'static [u8]),
 }
 
@@ -52,6 +55,7 @@ enum Came {
     Sound(u64, u64),
     NoEntry(Part),
     Left(Part),
+    Custom,
     Missing(Part),
     Wrong(Part, u64),
     StoreFault,
@@ -67,8 +71,8 @@ struct Row {
 }
 
 /// Of index entries: one for each batch; then the second one's position isn't where its batch begins. Of moments: the second
-/// batch is no later than the first.
-static ROWS: [Row; 17] = [
+/// batch is no later than the first. Of a packed copy the one object has its time index at 138, and its epochs at 150.
+static ROWS: [Row; 24] = [
     Row {
         part: Part::Log,
         how: How::Right,
@@ -156,6 +160,42 @@ static ROWS: [Row; 17] = [
         how: How::These(b"0\n2\n0 0\n1 2\n"),
         came: Came::Sound(1, 4),
     },
+    Row {
+        part: Part::Pack,
+        how: How::Right,
+        came: Came::Sound(1, 1),
+    },
+    Row {
+        part: Part::Pack,
+        how: How::Gone,
+        came: Came::Missing(Part::Pack),
+    },
+    Row {
+        part: Part::Pack,
+        how: How::Changed(134),
+        came: Came::Wrong(Part::Pack, 69),
+    },
+    Row {
+        part: Part::Pack,
+        how: How::Changed(145),
+        came: Came::Wrong(Part::Pack, 138),
+    },
+    // Another epoch, and an object that ends within its log and within its time index.
+    Row {
+        part: Part::Pack,
+        how: How::Changed(154),
+        came: Came::Wrong(Part::Pack, 158),
+    },
+    Row {
+        part: Part::Pack,
+        how: How::Cut(137),
+        came: Came::Wrong(Part::Pack, 137),
+    },
+    Row {
+        part: Part::Pack,
+        how: How::Cut(140),
+        came: Came::Wrong(Part::Pack, 140),
+    },
 ];
 
 /// The bytes of a part.
@@ -165,7 +205,23 @@ fn right(alloc: Global, part: Part) -> Result<Vec<u8>, AllocError> {
         Part::Index => Ok(Vec::new(alloc)),
         Part::TimeIndex => Vec::from_slice(alloc, TIMES.as_slice()),
         Part::Epochs => Vec::from_slice(alloc, EPOCHS.as_bytes()),
+        Part::Pack => pack(alloc),
     }
+}
+
+/// The parts that aren't empty, one behind another.
+fn pack(alloc: Global) -> Result<Vec<u8>, AllocError> {
+    let mut bytes = batches(alloc, 2)?;
+    bytes.extend_from_slice(TIMES.as_slice())?;
+    bytes.extend_from_slice(EPOCHS.as_bytes())?;
+    Ok(bytes)
+}
+
+/// The bytes of a part up to a place.
+fn cut(alloc: Global, part: Part, at: usize) -> Result<Vec<u8>, AllocError> {
+    let mut bytes = right(alloc, part)?;
+    bytes.truncate(at);
+    Ok(bytes)
 }
 
 /// The same with another byte at a place.
@@ -197,6 +253,7 @@ fn stands(alloc: Global, store: &mut MemoryStore, part: Part, how: How) -> bool 
         How::Right => takes(alloc, store, &key(part), right(alloc, part)),
         How::Gone => true,
         How::Changed(at) => takes(alloc, store, &key(part), changed(alloc, part, at)),
+        How::Cut(at) => takes(alloc, store, &key(part), cut(alloc, part, at)),
         How::These(bytes) => puts(alloc, store, &key(part), bytes),
     }
 }
@@ -219,11 +276,19 @@ fn told(alloc: Global, meta: &mut MemoryLog) -> bool {
     started & finished
 }
 
+/// Whether it is told of the finished copy as packed, with another first byte of its custom metadata.
+fn told_packed(alloc: Global, meta: &mut MemoryLog, version: u8) -> bool {
+    let started = tells(alloc, meta, PACKED_STARTED.as_slice());
+    let finished = tells_with(alloc, meta, PACKED_FINISHED.as_slice(), 0, CUSTOM, version);
+    started & finished
+}
+
 /// A flaw, in short.
 fn flaw_in_short(flaw: Flaw) -> Came {
     match flaw {
         Flaw::NoEntry { key } => Came::NoEntry(key.part),
         Flaw::Left { key } => Came::Left(key.part),
+        Flaw::Custom { .. } => Came::Custom,
         Flaw::Missing { key } => Came::Missing(key.part),
         Flaw::Wrong { key, at } => Came::Wrong(key.part, at),
     }
@@ -242,10 +307,31 @@ fn audited(alloc: Global, store: &mut MemoryStore, meta: &mut MemoryLog) -> Came
 
 /// What the audit of a copy comes to of which one object stands so.
 fn row_of(alloc: Global, store: &mut MemoryStore, meta: &mut MemoryLog, row: &Row) -> Came {
-    if told(alloc, meta) && holds(alloc, store, row.part, row.how) {
+    let stands = match row.part {
+        Part::Pack => told_packed(alloc, meta, 1) && stands(alloc, store, row.part, row.how),
+        _ => told(alloc, meta) && holds(alloc, store, row.part, row.how),
+    };
+    if stands {
         audited(alloc, store, meta)
     } else {
         Came::Other
+    }
+}
+
+/// What an audit comes to of a packed copy whose custom metadata is no layout.
+fn astray(alloc: Global) -> Came {
+    match (
+        failing_store(alloc, None, false),
+        failing_log(alloc, None, false),
+    ) {
+        (Ok(mut store), Ok(mut meta)) => {
+            if told_packed(alloc, &mut meta, 2) {
+                audited(alloc, &mut store, &mut meta)
+            } else {
+                Came::Other
+            }
+        }
+        _ => Came::Other,
     }
 }
 
@@ -332,6 +418,11 @@ fn one_object_at_a_time(rt: HostRuntime) {
     for (i, one) in ROWS.iter().enumerate() {
         assert_eq!(rt; came_of(rt.alloc(), one), one.came, "row {i}");
     }
+}
+
+#[test]
+fn custom_metadata_that_is_no_layout(rt: HostRuntime) {
+    assert_eq!(rt; astray(rt.alloc()), Came::Custom);
 }
 
 #[test]

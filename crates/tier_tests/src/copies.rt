@@ -4,13 +4,14 @@ ghost use Rattle.segment_meta.specs.Rules.{IsNote};
 ghost use Rattle.meta_log.specs.Content.{AreNotes};
 
 use crate::given::{
-    FINISHED, PARTITION, STATE, batches, failing_log, failing_store, grows, id, tells_with,
+    FINISHED, PACKED_FINISHED, PACKED_STARTED, PARTITION, STATE, batches, failing_log,
+    failing_store, grows, id, key, tells_with,
 };
 use bytes::Bytes;
 use copy_task::{CopyTurn, Copying, Next, candidate, copy_turn};
 use epoch_line::Line;
 use meta_log::{MemoryLog, MetaCall, MetaLog, Teller};
-use object_store::{MemoryStore, Store, StoreCall, place};
+use object_store::{MemoryStore, ObjectKey, Store, StoreCall, place};
 use plain_log::{Answer, Place};
 use remote_view::View;
 use segment_file::{Closed, Growing};
@@ -63,15 +64,15 @@ fn segment(alloc: Global) -> Result<Closed, AllocError> {
 }
 
 /// The copy of a segment, by its log's line.
-fn copying_by(alloc: Global, line: &Line) -> Result<Copying, AllocError> {
+fn copying_by(alloc: Global, line: &Line, packed: bool) -> Result<Copying, AllocError> {
     let segment = segment(alloc)?;
-    Copying::of(alloc, PARTITION, id(0), segment, line, 4096)
+    Copying::of(alloc, PARTITION, id(0), segment, line, 4096, packed)
 }
 
 /// The copy of the segment.
-fn copying(alloc: Global) -> Result<Copying, AllocError> {
+fn copying(alloc: Global, packed: bool) -> Result<Copying, AllocError> {
     match Line::from_text(alloc, b"0\n2\n0 0\n1 2\n".as_slice()) {
-        Ok(line) => copying_by(alloc, &line),
+        Ok(line) => copying_by(alloc, &line, packed),
         Err(_) => Err(AllocError),
     }
 }
@@ -189,12 +190,17 @@ impl Trial {
         (Came::Other, 10)
     }
 
-    /// Whether an object has these bytes.
+    /// Whether the object of a part that stands by itself has these bytes.
     fn holds(&mut self, part: Part, bytes: &[u8]) -> bool {
-        let Some(spot) = place(PARTITION, id(0), false, None, part) else {
-            return false;
-        };
-        match self.store.get(&spot.key, spot.at) {
+        match place(PARTITION, id(0), false, None, part) {
+            Some(spot) => self.has(&spot.key, bytes),
+            None => false,
+        }
+    }
+
+    /// Whether an object has these bytes.
+    fn has(&mut self, key: &ObjectKey, bytes: &[u8]) -> bool {
+        match self.store.get(key, 0) {
             Ok(Some(held)) => held.as_slice() == bytes,
             _ => false,
         }
@@ -249,6 +255,14 @@ static TIMES: [u8; 12] = [0, 0, 0, 0, 0, 0, 0x03, 0xe8, 0, 0, 0, 0];
 /// The line of its leader epochs.
 static EPOCHS: &str = "0\n1\n0 0\n";
 
+/// The parts that aren't empty, one behind another.
+fn pack(alloc: Global) -> Result<Vec<u8>, AllocError> {
+    let mut bytes = batches(alloc, 2)?;
+    bytes.extend_from_slice(TIMES.as_slice())?;
+    bytes.extend_from_slice(EPOCHS.as_bytes())?;
+    Ok(bytes)
+}
+
 /// What is done to a copy, and what it should come to.
 #[derive(Clone, Copy)]
 enum Step {
@@ -262,10 +276,14 @@ enum Step {
     IsIn(State),
     /// The metadata log has the two notes of a whole copy.
     HasNotes,
+    /// It has those of a packed one.
+    HasPackedNotes,
     /// The store has the segment's bytes as the copy's log.
     HasLog,
     /// It has the copy's indexes, of which the first is empty, and its line.
     HasOthers,
+    /// It has all parts as one object, 158 bytes long.
+    HasPack,
     /// The store has so many.
     Counts(usize),
     /// Another broker tells that it deletes the segment, or that its objects are gone.
@@ -291,6 +309,21 @@ impl Trial {
         index & times & epochs
     }
 
+    /// Whether it has all parts as one object.
+    fn has_pack(&mut self) -> bool {
+        match pack(self.alloc) {
+            Ok(bytes) => bytes.len() == 158 && self.has(&key(Part::Pack), bytes.as_slice()),
+            Err(_) => false,
+        }
+    }
+
+    /// Whether the metadata log has the two notes of a whole copy that is packed.
+    fn has_packed_notes(&mut self) -> bool {
+        let started = self.noted(0, PACKED_STARTED.as_slice());
+        let finished = self.noted(1, PACKED_FINISHED.as_slice());
+        started & finished
+    }
+
     /// Whether the metadata log has the two notes of a whole copy.
     fn has_notes(&mut self) -> bool {
         let started = self.noted(0, STARTED.as_slice());
@@ -306,8 +339,10 @@ impl Trial {
             Step::Runs(from, end, came, turns) => self.run(from, end) == (came, turns),
             Step::IsIn(state) => self.state() == Some(state),
             Step::HasNotes => self.has_notes(),
+            Step::HasPackedNotes => self.has_packed_notes(),
             Step::HasLog => self.has_log(),
             Step::HasOthers => self.has_others(),
+            Step::HasPack => self.has_pack(),
             Step::Counts(objects) => self.counts(objects),
             Step::Overtaken(gone) => self.overtake(gone),
             Step::Looks => self.look(),
@@ -340,6 +375,7 @@ fn go_over(
 /// How many steps of a story go well at first, over empty devices, of which these calls fail, done or not.
 fn told(
     alloc: Global,
+    packed: bool,
     put: Option<(StoreCall, u32)>,
     note: Option<(MetaCall, u32)>,
     after: bool,
@@ -347,14 +383,15 @@ fn told(
 ) -> Result<usize, AllocError> {
     let store = failing_store(alloc, put, after)?;
     let meta = failing_log(alloc, note, after)?;
-    let copying = copying(alloc)?;
+    let copying = copying(alloc, packed)?;
     Ok(go_over(alloc, copying, store, meta, steps))
 }
 
-/// What is told of a copy.
-static STORIES: [(&str, &[Step]); 5] = [
+/// What is told of a copy that is packed or not.
+static STORIES: [(&str, bool, &[Step]); 7] = [
     (
         "a copy is answered after its last turn, and stands between two notes",
+        false,
         &[
             Step::Spans(0, 1),
             Step::Runs(Next::Start, Next::Start, Came::Copied(0, 1), 7),
@@ -367,6 +404,7 @@ static STORIES: [(&str, &[Step]); 5] = [
     ),
     (
         "a copy that was overtaken takes its objects away",
+        false,
         &[
             Step::Runs(Next::Start, Next::Finish, Came::Goes(Next::Finish), 5),
             Step::Counts(4),
@@ -382,6 +420,7 @@ static STORIES: [(&str, &[Step]); 5] = [
     ),
     (
         "an overtaken copy tells the state of its last turn",
+        false,
         &[
             Step::Runs(Next::Start, Next::Finish, Came::Goes(Next::Finish), 5),
             Step::Overtaken(false),
@@ -399,6 +438,7 @@ static STORIES: [(&str, &[Step]); 5] = [
     ),
     (
         "behind the last key no call is made",
+        false,
         &[
             Step::Turns(Next::Put(4), Came::Goes(Next::Finish)),
             Step::Turns(Next::Delete(4), Came::Damaged(0)),
@@ -407,19 +447,46 @@ static STORIES: [(&str, &[Step]); 5] = [
     ),
     (
         "an entry that is missing is damage",
+        false,
         &[
             Step::Turns(Next::Check, Came::Damaged(0)),
             Step::Turns(Next::Start, Came::Goes(Next::Put(0))),
             Step::Turns(Next::Check, Came::Damaged(1)),
         ],
     ),
+    (
+        "a packed copy puts one object",
+        true,
+        &[
+            Step::Runs(Next::Start, Next::Start, Came::Copied(0, 1), 4),
+            Step::HasPackedNotes,
+            Step::HasPack,
+            Step::Counts(1),
+        ],
+    ),
+    (
+        "a packed copy that was overtaken takes it away",
+        true,
+        &[
+            Step::Runs(Next::Start, Next::Finish, Came::Goes(Next::Finish), 2),
+            Step::Counts(1),
+            Step::Overtaken(false),
+            Step::Runs(
+                Next::Finish,
+                Next::Start,
+                Came::Overtaken(State::DeleteStarted),
+                3,
+            ),
+            Step::Counts(0),
+        ],
+    ),
 ];
 
 #[test]
 fn copies_go_as_they_are_told(rt: HostRuntime) {
-    for (story, steps) in &STORIES {
+    for (story, packed, steps) in &STORIES {
         assert_eq!(rt;
-            told(rt.alloc(), None, None, false, steps),
+            told(rt.alloc(), *packed, None, None, false, steps),
             Ok(steps.len()),
             "{story}"
         );
@@ -446,7 +513,7 @@ fn failed(
     (came, turns): (Came, u32),
 ) -> bool {
     let ends = Step::Runs(Next::Start, Next::Start, came, turns);
-    told(alloc, put, note, after, &[ends]) == Ok(1)
+    told(alloc, false, put, note, after, &[ends]) == Ok(1)
 }
 
 #[test]

@@ -17,7 +17,7 @@ use segment_file::Growing;
 use segment_meta::Note;
 use std::alloc::{AllocError, Global};
 use std::marker::Model;
-use tier_base::{BrokerId, Keep, State};
+use tier_base::{Blob, BrokerId, Keep, State};
 
 /// A copy of offsets 0 and 1 starts, of epoch 0: 138 bytes, the latest of them at 1000 milliseconds.
 static STARTED: [u8; 75] = [
@@ -43,10 +43,11 @@ const TELLER: Teller = Teller {
 };
 
 /// The segment that is to go.
-fn doomed() -> Doomed {
+fn doomed(packed: bool) -> Doomed {
     Doomed {
         partition: PARTITION,
         id: id(0),
+        packed,
     }
 }
 
@@ -78,23 +79,32 @@ fn came_to(turn: &ExpiryTurn) -> Came {
     }
 }
 
+/// Whether custom metadata is told as a segment wants it that is packed or not: empty, or none.
+fn is_bare(custom: &Option<Blob>, packed: bool) -> bool {
+    match custom {
+        Some(custom) => packed && custom.is_empty(),
+        None => !packed,
+    }
+}
+
 /// Whether a note tells of this state.
-fn is_told(note: &Note, wanted: State) -> bool {
+fn is_told(note: &Note, wanted: State, packed: bool) -> bool {
     match note {
         Note::Update {
             broker,
             event_ts,
             state,
+            custom,
             ..
-        } => (*broker, *event_ts, *state) == (BrokerId(1), 9, wanted),
+        } => { (*broker, *event_ts, *state) == (BrokerId(1), 9, wanted) && is_bare(custom, packed) }
         Note::Add(_) => false,
     }
 }
 
 /// Whether notes tell of these states, one after another.
-fn are_told(notes: &[Note], states: &[State]) -> bool {
+fn are_told(notes: &[Note], states: &[State], packed: bool) -> bool {
     for (note, state) in notes.iter().zip(states) {
-        if !is_told(note, *state) {
+        if !is_told(note, *state, packed) {
             return false;
         }
     }
@@ -102,20 +112,22 @@ fn are_told(notes: &[Note], states: &[State]) -> bool {
 }
 
 /// Whether keys are those of an attempt's objects.
-fn are_keys(found: &[ObjectKey], attempt: u64) -> bool {
-    let keys = keys_of(PARTITION, id(attempt), false);
+fn are_keys(found: &[ObjectKey], attempt: u64, packed: bool) -> bool {
+    let keys = keys_of(PARTITION, id(attempt), packed);
     for n in 0..keys.count() {
         match found.get(n as usize) {
             Some(key) if *key == keys.get(n) => {}
             _ => return false,
         }
     }
-    (keys.count(), found.len()) == (4, 4)
+    let count = if packed { 1 } else { 4 };
+    found.len() == count && keys.count() as usize == count
 }
 
 /// What an expiry changes. A test knows nothing of it but what it is told.
 #[derive(Drop)]
 struct Tiers {
+    packed: bool,
     store: MemoryStore,
     meta: MemoryLog,
 }
@@ -132,7 +144,7 @@ impl Model for Tiers {
 impl Tiers {
     /// Whether the store is given the objects of an attempt.
     fn puts(&mut self, alloc: Global, attempt: u64) -> bool {
-        let keys = keys_of(PARTITION, id(attempt), false);
+        let keys = keys_of(PARTITION, id(attempt), self.packed);
         for n in 0..keys.count() {
             if !puts(alloc, &mut self.store, &keys.get(n), b"bytes") {
                 return false;
@@ -147,18 +159,19 @@ impl Tiers {
     }
 
     /// Takes a turn.
-    fn turn(&mut self, next: Next) -> Came {
-        match expiry_turn(doomed(), next, TELLER, &mut self.store, &mut self.meta) {
+    fn turn(&mut self, alloc: Global, next: Next) -> Came {
+        let doomed = doomed(self.packed);
+        match expiry_turn(alloc, doomed, next, TELLER, &mut self.store, &mut self.meta) {
             Ok(turn) => came_to(&turn),
             Err(_) => Came::Other,
         }
     }
 
     /// Takes turns until the expiry is answered, ten at most, and counts them.
-    fn run(&mut self) -> (Came, u32) {
+    fn run(&mut self, alloc: Global) -> (Came, u32) {
         let mut next = Next::Start;
         for turns in 1..11 {
-            match self.turn(next) {
+            match self.turn(alloc, next) {
                 Came::Goes(later) => next = later,
                 came => return (came, turns),
             }
@@ -169,7 +182,7 @@ impl Tiers {
     /// Whether the metadata log tells of these states, one after another.
     fn tells(&mut self, states: &[State]) -> bool {
         match self.meta.read(0) {
-            Ok(notes) => are_told(notes.as_slice(), states),
+            Ok(notes) => are_told(notes.as_slice(), states, self.packed),
             Err(_) => false,
         }
     }
@@ -177,7 +190,7 @@ impl Tiers {
     /// Whether the objects of an attempt are left alone.
     fn leaves(&mut self, attempt: u64) -> bool {
         match self.store.keys() {
-            Ok(keys) => are_keys(keys.as_slice(), attempt),
+            Ok(keys) => are_keys(keys.as_slice(), attempt, self.packed),
             Err(_) => false,
         }
     }
@@ -191,34 +204,47 @@ impl Tiers {
             return (Came::Other, 0, false, false);
         }
         self.arm();
-        let (came, turns) = self.run();
+        let (came, turns) = self.run(alloc);
         let told = self.tells(&[State::DeleteStarted, State::DeleteFinished]);
         let left = self.leaves(1);
         (came, turns, told, left)
     }
 }
 
-/// What an expiry comes to over these devices.
-fn expired_over(alloc: Global, store: MemoryStore, meta: MemoryLog) -> (Came, u32, bool, bool) {
-    let mut tiers = Tiers { store, meta };
+/// What an expiry comes to over these devices, of a segment that is packed or not.
+fn expired_over(
+    alloc: Global,
+    packed: bool,
+    store: MemoryStore,
+    meta: MemoryLog,
+) -> (Came, u32, bool, bool) {
+    let mut tiers = Tiers {
+        packed,
+        store,
+        meta,
+    };
     tiers.expire(alloc)
 }
 
 /// What an expiry comes to over devices of which a call fails, done or not.
 fn expired(
     alloc: Global,
+    packed: bool,
     put: Option<(StoreCall, u32)>,
     note: Option<(MetaCall, u32)>,
     after: bool,
 ) -> Result<(Came, u32, bool, bool), AllocError> {
     let store = failing_store(alloc, put, after)?;
     let meta = failing_log(alloc, note, after)?;
-    Ok(expired_over(alloc, store, meta))
+    Ok(expired_over(alloc, packed, store, meta))
 }
 
 #[test]
-fn an_expiry_takes_four_objects_away_between_two_notes(rt: HostRuntime) {
-    assert!(rt; expired(rt.alloc(), None, None, false) == Ok((Came::Deleted, 6, true, true)));
+fn an_expiry_takes_all_objects_away_between_two_notes(rt: HostRuntime) {
+    let four = expired(rt.alloc(), false, None, None, false);
+    assert!(rt; four == Ok((Came::Deleted, 6, true, true)));
+    let one = expired(rt.alloc(), true, None, None, false);
+    assert!(rt; one == Ok((Came::Deleted, 3, true, true)));
 }
 
 /// Whether an expiry of which a call fails, done or not, ends so after so many turns.
@@ -229,7 +255,7 @@ fn failed(
     after: bool,
     end: (Came, u32),
 ) -> bool {
-    match expired(alloc, put, note, after) {
+    match expired(alloc, false, put, note, after) {
         Ok((came, turns, _, _)) => (came, turns) == end,
         Err(_) => false,
     }

@@ -25,6 +25,36 @@ pub(crate) static FINISHED: [u8; 29] = [
     1, // state
 ];
 
+/// A packed copy of a first attempt starts: offsets 0 and 1, of epoch 0, 138 bytes.
+pub(crate) static PACKED_STARTED: [u8; 77] = [
+    1, 0, // version, kind
+    0, 0, 0, 0, 0, 0, 0, 1, 0, 0, 0, 0, 0, 0, 0, 0, // id
+    0, 0, // partition
+    0, 0, 0, 0, 0, 0, 0, 0, // start
+    0, 0, 0, 0, 0, 0, 0, 1, // end
+    0, 0, 0, 0, 0, 0, 3, 0xe8, // max_ts
+    0, 0, // broker
+    0, 0, 0, 0, 0, 0, 0, 5, // event_ts
+    0, 0, 0, 0x8a, // size
+    0, // state
+    0, 0, 0, 1, // count
+    0, 0, 0, 0, // epoch
+    0, 0, 0, 0, 0, 0, 0, 0, // its start
+    0, 0, // length of the custom metadata
+];
+
+/// It is whole: parts of 138, 0, 12 and 8 bytes.
+pub(crate) static PACKED_FINISHED: [u8; 48] = [
+    1, 1, // version, kind
+    0, 0, 0, 0, 0, 0, 0, 1, 0, 0, 0, 0, 0, 0, 0, 0, // id
+    0, 0, // broker
+    0, 0, 0, 0, 0, 0, 0, 5, // event_ts
+    1, // state
+    0, 17, // length of the custom metadata
+    1, // layout
+    0, 0, 0, 0x8a, 0, 0, 0, 0, 0, 0, 0, 12, 0, 0, 0, 8, // lengths
+];
+
 /// A copy starts: offsets 0 to 19, epoch 0 up to offset 9 and epoch 1 from offset 10 on.
 pub(crate) static TWO_EPOCHS: [u8; 87] = [
     0, 0, // version, kind
@@ -76,6 +106,9 @@ const ATTEMPT: usize = 17;
 pub(crate) const STATE: usize = 28;
 
 pub(crate) const END: usize = 35;
+
+/// Where the custom metadata begins in an update.
+pub(crate) const CUSTOM: usize = 31;
 
 /// The bytes of a note, of an attempt, with a byte of its own at a place.
 pub(crate) fn with(

@@ -1,7 +1,8 @@
 //! A sweep of a tier at rest. Values worked by hand.
 
 use crate::given::{
-    END, ONE_EPOCH, PARTITION, STATE, UPDATE, failing_log, failing_store, id, puts, tells_with,
+    END, ONE_EPOCH, PACKED_STARTED, PARTITION, STATE, UPDATE, failing_log, failing_store, id, puts,
+    tells_with,
 };
 use meta_log::MemoryLog;
 use object_store::{MemoryStore, ObjectKey};
@@ -14,6 +15,8 @@ use tier_sweep::sweep;
 enum Left {
     /// The copy of this attempt started.
     Started(u8),
+    /// It started, packed.
+    Packed(u8),
     /// It came to a state.
     Came(u8, u8),
     /// An object of it stands.
@@ -24,6 +27,7 @@ enum Left {
 fn is_left(alloc: Global, store: &mut MemoryStore, meta: &mut MemoryLog, left: Left) -> bool {
     match left {
         Left::Started(attempt) => tells_with(alloc, meta, &ONE_EPOCH, attempt, END, 14),
+        Left::Packed(attempt) => tells_with(alloc, meta, &PACKED_STARTED, attempt, END, 1),
         Left::Came(attempt, state) => tells_with(alloc, meta, &UPDATE, attempt, STATE, state),
         Left::Stands(attempt, part) => {
             let key = ObjectKey {
@@ -64,8 +68,9 @@ fn swept_twice(
     Ok((left, first, second))
 }
 
-/// A finished copy, a copy under way with two objects, a deletion under way with one, and an object without an entry.
-static LEFT: [Left; 14] = [
+/// A finished copy, a copy under way with two objects, a deletion under way with one, an object without an entry, and a packed copy
+/// under way with its object.
+static LEFT: [Left; 16] = [
     Left::Started(0),
     Left::Came(0, 1),
     Left::Stands(0, Part::Log),
@@ -80,9 +85,11 @@ static LEFT: [Left; 14] = [
     Left::Came(2, 2),
     Left::Stands(2, Part::Epochs),
     Left::Stands(3, Part::TimeIndex),
+    Left::Packed(4),
+    Left::Stands(4, Part::Pack),
 ];
 
 #[test]
 fn a_sweep_takes_away_what_was_never_finished(rt: HostRuntime) {
-    assert!(rt; swept_twice(rt.alloc(), &LEFT) == Ok((true, Some(4), Some(0))));
+    assert!(rt; swept_twice(rt.alloc(), &LEFT) == Ok((true, Some(5), Some(0))));
 }

@@ -12,7 +12,7 @@
 -- has no batch that isn't too early, the cursor comes to its end.
 --
 -- Source: KIP-405, whose remote segments have time indexes, and Kafka's ListOffsets.
-use Rattle.std.specs.Prelude.{◌≡◌, ◌⊎◌, ℕ, ◌+◌, ◌<◌, ◌≤◌, ◌^◌, ◌-◌, max, nat_lt, if◌then◌else◌, ℤ, List, drop, Option, Some, None, Ok, Err, IsErr}
+use Rattle.std.specs.Prelude.{◌≡◌, ◌⊎◌, ℕ, ◌+◌, ◌<◌, ◌≤◌, ◌^◌, ◌-◌, max, nat_lt, if◌then◌else◌, ℤ, List, Option, Some, None, Ok, Err, IsErr}
 use Rattle.std.specs.declared.result.Result.{Result}
 use Rattle.std.specs.declared.alloc.AllocError.{AllocError}
 use Rattle.tier_base.specs.declared.fault.Trouble.{Trouble}
@@ -25,6 +25,8 @@ use Rattle.sparse_index.specs.Times.{TimeTable, AreMoments, moment_bytes, below_
 use Rattle.object_store.specs.declared.placing.Spot.{Spot}
 use Rattle.object_store.specs.Call as store_call
 use Rattle.object_store.specs.Content as store
+use Rattle.object_store.specs.Calls.{Gets}
+use Rattle.object_store.specs.Place.{all_of, short_of}
 use Rattle.meta_log.specs.Call as meta_call
 use Rattle.meta_log.specs.Content as meta
 use Rattle.disk_model.specs.Call as disk_call
@@ -43,7 +45,7 @@ use Rattle.tier_fetch.specs.declared.turn.Span.{Span}
 use Rattle.tier_fetch.specs.declared.turn.FetchTurn.{FetchTurn}
 use Rattle.tier_fetch.specs.declared.turn.FetchTurn.TheVariants as fetch
 use Rattle.tier_fetch.specs.declared.turn.Next.TheVariants as fetching
-use Rattle.tier_fetch.specs.Turns.{Tiers, FetchRow, Gets, spot_in}
+use Rattle.tier_fetch.specs.Turns.{Tiers, FetchRow, spot_in}
 use Rattle.time_find.specs.declared.turn.Asked.{Asked}
 use Rattle.time_find.specs.declared.turn.Next.{Next}
 use Rattle.time_find.specs.declared.turn.Next.TheVariants.{Seek, Times as ReadsTimes, Index, Log}
@@ -101,15 +103,21 @@ pub record IsTimed (asked : Asked) (cursor : ℕ) (piece : Piece) (base : ℕ) (
   pub bytes_are : bytes ≡ bytes_of moment_bytes index.entries
   pub turn_is : turn ≡ shown asked cursor piece (from_of cursor (below_time index asked.ts))
 
--- what becomes of a search by what the store answered, of the time index of a segment with this base offset
+-- what becomes of a search by bytes of the time index of a segment with this base offset, and by where more of them are lacking
+abbrev pub TimesBytes : Option ℕ → Asked → ℕ → Piece → ℕ → Spot → List ℕ → Result TimeTurn AllocError → Type 0
+TimesBytes (Some end) asked cursor piece base spot bytes result = result ≡ Ok (Ends (Damaged (Key spot.key) end))
+TimesBytes None asked cursor piece base spot bytes (Ok (Goes at next)) = IsTimed asked cursor piece base bytes (Goes at next)
+TimesBytes None asked cursor piece base spot bytes (Ok (Ends answer)) =
+    (answer ≡ Damaged (Key spot.key) spot.at) × IsUnread AreMoments moment_bytes bytes
+TimesBytes None asked cursor piece base spot bytes (Err e) = Unit {0}
+
+-- by what the store answered of it
 abbrev pub Times : Asked → ℕ → Piece → ℕ → Spot → Result (Option (List ℕ)) Trouble → Result TimeTurn AllocError → Type 0
 Times asked cursor piece base spot (Err Failed) result = result ≡ Ok (Ends StoreFault)
 Times asked cursor piece base spot (Err NoMemory) result = IsErr result
 Times asked cursor piece base spot (Ok None) result = result ≡ Ok (Ends (Damaged (Key spot.key) 0))
-Times asked cursor piece base spot (Ok (Some bytes)) (Ok (Goes at next)) = IsTimed asked cursor piece base bytes (Goes at next)
-Times asked cursor piece base spot (Ok (Some bytes)) (Ok (Ends answer)) =
-    (answer ≡ Damaged (Key spot.key) spot.at) × IsUnread AreMoments moment_bytes bytes
-Times asked cursor piece base spot (Ok (Some bytes)) (Err e) = Unit {0}
+Times asked cursor piece base spot (Ok (Some bytes)) result =
+    TimesBytes (short_of spot bytes) asked cursor piece base spot bytes result
 
 -- what a fetch would ask for at an offset that a search reads from
 abbrev pub wanted_at : Asked → ℕ → Wanted
@@ -150,7 +158,7 @@ module _ {S : Type 0} (objects : S → store.Content) (calls : S → Control sto
   pub record ReadsIndex (asked : Asked) (cursor : ℕ) (piece : Piece) (place : ℕ × Spot) (result : Result TimeTurn AllocError)
       (old new : S) : Type 0 where
     pub answer : Result (Option (List ℕ)) Trouble
-    pub gets : Gets objects calls place.1.key (drop place.1.at) answer old new
+    pub gets : Gets objects calls place.1.key (all_of place.1) answer old new
     pub times : Times asked cursor piece place.0 place.1 answer result
 
   -- the time index is read where it stands

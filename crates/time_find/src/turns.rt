@@ -16,7 +16,7 @@ use bytes::Bytes;
 use epoch_line::Line;
 use index_cache::IndexCache;
 use meta_log::MetaLog;
-use object_store::{Spot, Store, place};
+use object_store::{Spot, Store, get_spot, place};
 use plain_log::{Answer, Place};
 use remote_find::Piece;
 use remote_view::View;
@@ -97,6 +97,7 @@ fn damaged(spot: &Spot, at: u64) -> TimeTurn
 fn spot_of(asked: &Asked, piece: &Piece, view: &View) -> Option<(u64, Spot)>
     ensures spot { result ≡ spot_in asked.now.partition piece.now.id part.TimeIndex (entry_of piece.now.id view.now.entries) }
     ensures low { IfSome result (λ found. found.0 ≤ 2 ^ 62) }
+    ensures near { IfSome result (λ found. found.1.at < 2 ^ 34) }
 {
     let _entries = view.entries();
     let Some(entry) = view.entry(piece.id) else {
@@ -133,7 +134,7 @@ fn times<S: Store>(
     let Some((base, spot)) = spot_of(asked, piece, view) else {
         return Ok(lost(view));
     };
-    match store.get(&spot.key, spot.at) {
+    match get_spot(store, &spot) {
         Ok(given) => read_times(alloc, asked, cursor, piece, base, &spot, given),
         Err(Trouble::Failed) => Ok(TimeTurn::Ends(Answer::StoreFault)),
         Err(Trouble::NoMemory) => Err(AllocError),
@@ -151,6 +152,7 @@ fn read_times(
     given: Option<Bytes>,
 ) -> Result<TimeTurn, AllocError>
     requires low { base ≤ 2 ^ 62 }
+    requires near { spot.now.at < 2 ^ 34 }
     requires mark { cursor < asked.now.mark }
     requires holds { cursor < piece.now.to }
     ensures row { Times asked.now cursor piece.now base spot.now (Ok given) result }
@@ -159,6 +161,9 @@ fn read_times(
     let Some(bytes) = given else {
         return Ok(damaged(spot, 0));
     };
+    if let Some(end) = spot.short(bytes.as_slice()) {
+        return Ok(damaged(spot, end));
+    }
     match TimeIndex::from_bytes(alloc, base, bytes.as_slice()) {
         Ok(index) => {
             let from = match index.below(asked.ts) {

@@ -98,12 +98,14 @@ part-in part.Log = refl
 part-in part.Index = refl
 part-in part.TimeIndex = refl
 part-in part.Epochs = refl
+part-in part.Pack = refl
 
 part-lacks : (p : Part) → Lacks 47 (part_text p)
 part-lacks part.Log = lacks-test 47 (codes ".log") refl
 part-lacks part.Index = lacks-test 47 (codes ".index") refl
 part-lacks part.TimeIndex = lacks-test 47 (codes ".timeindex") refl
 part-lacks part.Epochs = lacks-test 47 (codes ".epochs") refl
+part-lacks part.Pack = lacks-test 47 (codes ".pack") refl
 
 -- keys
 key-rest-lacks : (key : ObjectKey) → Lacks 47 (id_text key.id ++ part_text key.part)
@@ -136,7 +138,7 @@ key-parts-sound (p ∷ rest ∷ []) word key joined h =
     let ending = bind-some (named part_text (drop 36 rest) all_parts) _ key id.2 in
     let number = (numbers 65535 (omega arith)).sound p partition.0 partition.1 in
     let is = ids.sound (take 36 rest) id.0 id.1 in
-    let found = named-some (λ x. Unit {0}) part_text (drop 36 rest) all_parts ending.0 (tt, (tt, (tt, (tt, tt)))) ending.1 in
+    let found = named-some (λ x. Unit {0}) part_text (drop 36 rest) all_parts ending.0 (tt, (tt, (tt, (tt, (tt, tt))))) ending.1 in
     let same : ◌≡◌ {A = ObjectKey} (record { partition = record { 0 = partition.0 }; id = id.0; part = ending.0 }) key = cc ending.2 in
     let small : partition.0 < 2 ^ 16 = omega (arith, number.0) in
     let text : decimal partition.0 ++ (codes "/" ++ (id_text id.0 ++ part_text ending.0)) ≡ word

@@ -59,7 +59,7 @@ id_in word = parsed word >>= λ bytes. if is_id_of word bytes then Some (record 
 
 -- how keys end
 abbrev pub all_parts : List Part
-all_parts = part.Log ∷ part.Index ∷ part.TimeIndex ∷ part.Epochs ∷ []
+all_parts = part.Log ∷ part.Index ∷ part.TimeIndex ∷ part.Epochs ∷ part.Pack ∷ []
 
 -- what stands before and behind a key's slash
 abbrev pub key_parts_in : List (List ℕ) → Option ObjectKey

@@ -58,6 +58,7 @@ pub fn part_ending(part: Part) -> &'static str
         Part::Index => ".index",
         Part::TimeIndex => ".timeindex",
         Part::Epochs => ".epochs",
+        Part::Pack => ".pack",
     }
 }
 

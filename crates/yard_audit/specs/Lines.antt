@@ -2,21 +2,22 @@
 --
 -- line    = partition SP ( verdict / "swept" SP count ) LF
 -- verdict = "sound" SP entries SP objects / "unsound" SP flaw
--- flaw    = ( "NoEntry" / "Left" / "Missing" ) SP key / "Wrong" SP key SP at
+-- flaw    = ( "NoEntry" / "Left" / "Missing" ) SP key / "Custom" SP id / "Wrong" SP key SP at
 --
--- Numbers are decimal. A key is spelled as tier_base's module Key has it.
+-- Numbers are decimal. A key is spelled as tier_base's module Key has it, and so is an id.
 use Rattle.std.specs.Prelude.{ℕ, List, [], ◌∷◌, ◌++◌, codes, decimal, Option, Some, None}
 use Rattle.tier_base.specs.declared.names.PartitionId.{PartitionId}
-use Rattle.tier_base.specs.Key.{key_text}
+use Rattle.tier_base.specs.Key.{id_text, key_text}
 use Rattle.tier_audit.specs.declared.verdict.Flaw.{Flaw}
-use Rattle.tier_audit.specs.declared.verdict.Flaw.TheVariants.{NoEntry, Left, Missing, Wrong}
+use Rattle.tier_audit.specs.declared.verdict.Flaw.TheVariants.{NoEntry, Left, Custom, Missing, Wrong}
 use Rattle.tier_audit.specs.declared.verdict.Verdict.{Verdict}
 use Rattle.tier_audit.specs.declared.verdict.Verdict.TheVariants.{Sound, Unsound}
 
--- a flaw's name and key, and where its object is wrong
+-- a flaw's name, its key or id, and where its object is wrong
 abbrev pub flaw_text : Flaw → List ℕ
 flaw_text (NoEntry key) = codes "NoEntry " ++ key_text key
 flaw_text (Left key) = codes "Left " ++ key_text key
+flaw_text (Custom id) = codes "Custom " ++ id_text id
 flaw_text (Missing key) = codes "Missing " ++ key_text key
 flaw_text (Wrong key at) = codes "Wrong " ++ (key_text key ++ (codes " " ++ decimal at))
 

@@ -1,5 +1,5 @@
 -- What a round over the partitions of a yard finds, and what it leaves.
-use Rattle.std.specs.Prelude.{◌↔◌, ℕ, List, map, IsTrue}
+use Rattle.std.specs.Prelude.{ℕ, List, map, IsTrue}
 use Rattle.std.specs.List.{AllByRecursion}
 use Rattle.tier_base.specs.declared.names.PartitionId.{PartitionId}
 use Rattle.tier_base.specs.Told.{In}
@@ -7,7 +7,7 @@ use Rattle.disk_model.specs.Content as disk
 use Rattle.object_store.specs.Content as store
 use Rattle.meta_log.specs.Content as log
 use Rattle.remote_view.specs.Fold.{fold}
-use Rattle.device_yard.specs.Held.{Held, IsUsed, Rise}
+use Rattle.device_yard.specs.Held.{Held, AreUsed, Rise}
 use Rattle.tier_audit.specs.declared.verdict.Verdict.{Verdict}
 use Rattle.tier_audit.specs.Flaws.{IsVerdict}
 use Rattle.tier_sweep.specs.Sweeping.{Tier, IsSwept, IsUnderSweep}
@@ -44,7 +44,7 @@ module _ {D S M : Type 0} (files : D → disk.Content) (objects : S → store.Co
   -- these are the partitions of which something stands, in rising order
   pub record AreAll (held : Held D S M) (list : List PartitionId) : Type 0 where
     pub rise : Rise list
-    pub used : IsTrue held.tells → (p : PartitionId) → IsUsed files objects notes held p ↔ In p list
+    pub used : IsTrue held.tells → AreUsed files objects notes held list
 
   -- each partition has its verdict, and each verdict is right
   pub record AreAudited (held : Held D S M) (found : List (PartitionId × Verdict)) : Type 0 where

@@ -6,7 +6,7 @@ ghost use Rattle.yard_audit.specs.Lines.{flaw_text, verdict_text, swept_text, li
 
 use std::alloc::{AllocError, Global};
 use tier_audit::{Flaw, Verdict};
-use tier_base::{ObjectKey, PartitionId};
+use tier_base::{ObjectKey, PartitionId, SegmentId};
 
 /// A partition's line of what its audit found.
 pub fn verdict_line(
@@ -54,6 +54,7 @@ fn unsound_line(alloc: Global, partition: PartitionId, flaw: Flaw) -> Result<Vec
     match flaw {
         Flaw::NoEntry { key } => key_line(alloc, partition, "NoEntry", key),
         Flaw::Left { key } => key_line(alloc, partition, "Left", key),
+        Flaw::Custom { id } => custom_line(alloc, partition, id),
         Flaw::Missing { key } => key_line(alloc, partition, "Missing", key),
         Flaw::Wrong { key, at } => wrong_line(alloc, partition, key, at),
     }
@@ -89,6 +90,18 @@ fn key_line(
     let mut line = flaw_front(alloc, partition, name, key)?;
     line.push(b'\n')?;
     Ok(line)
+}
+
+/// The line of a packed segment whose custom metadata is no layout.
+fn custom_line(alloc: Global, partition: PartitionId, id: SegmentId) -> Result<Vec<u8>, AllocError>
+    ensures { IfOk result (λ line. line.items ≡ line_of partition (verdict_text (Verdict.Unsound (Flaw.Custom id)))) }
+{
+    let partition = partition.0;
+    let mut buffer = [0u8; 36];
+    let id = id.write_text(&mut buffer);
+    let mut line = String::new(alloc);
+    write!(line, "{partition} unsound Custom {id}\n")?;
+    Ok(line.into_bytes())
 }
 
 /// The line of an object that is wrong at a place.

@@ -46,8 +46,8 @@ fn sweep_one<Y: Yard>(
 pub fn sweep_all<Y: Yard>(alloc: Global, yard: &mut Y) -> Result<Vec<u8>, RoundRefusal>
     ensures told { IfOk result (λ text. TellsSweep Y.D.content Y.S.content Y.M.content
         (Y.held yard.old) (Y.held yard.new) text.items) }
-    ensures under { IsTrue (Y.held yard.old).tells → OnErr result ((p : Partition)
-        → IsUnderSweepIn Y.S.content Y.M.content (Y.held yard.old) (Y.held yard.new) p) }
+    ensures under { IsTrue (Y.held yard.old).tells → (p : Partition)
+        → IsUnderSweepIn Y.S.content Y.M.content (Y.held yard.old) (Y.held yard.new) p }
     ensures disks { IsTrue (Y.held yard.old).tells → DisksRest Y.D.content (Y.held yard.old) (Y.held yard.new) }
     ensures tells { (Y.held yard.new).tells ≡ (Y.held yard.old).tells }
     ensures back { IsBack (Y.control yard.old) (Y.control yard.new) }

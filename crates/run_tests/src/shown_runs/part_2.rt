@@ -181,6 +181,32 @@ turn 1 8
 0 0 9 = Level
 `# docs/SCRIPT.md, script 28
 segment_bytes 200
+0 0 0 append 1000,-,:a
+0 0 0 append 1000,-,:b
+0 0 0 append 1000,-,:c
+0 0 0 append 1000,-,:d
+0 0 0 roll
+0 0 0 flush
+0 0 0 ack
+0 0 - pack 1
+0 0 0 copy
+0 0 - pack 0
+0 0 0 copy
+`0 0 0 = Ok 0 0 0
+0 0 1 = Ok 1 1 0
+0 0 2 = Ok 2 2 0
+0 0 3 = Ok 3 3 0
+0 0 4 = Ok 4
+0 0 5 = Ok 4
+0 0 6 = Ok 4
+0 0 7 = Ok
+0 0 8 begin
+0 0 8 = Copied 00000000-0000-0001-0000-000000000000 0 1
+0 0 9 = Ok
+0 0 10 begin
+0 0 10 = Copied 00000000-0000-0001-0000-000000000001 2 3
+`# docs/SCRIPT.md, script 29
+segment_bytes 200
 local_retention_bytes 0
 fault 0 meta read 4 before
 fault 0 disk 0 replace 3 before
@@ -243,7 +269,7 @@ turn 1 1
 0 0 19 = Dropped 2 3
 0 0 20 begin
 0 0 20 = Run remote 00000000-0000-0001-0000-000000000001 138 Piece 0000000000000002000000390000000002ccb4b8a500000000000000000000000003e800000000000003e8ffffffffffffffffffffffffffff000000010e000000010263000000000000000003000000390000000002b6d971e000000000000000000000000003e800000000000003e8ffffffffffffffffffffffffffff000000010e00000001026400
-`# docs/SCRIPT.md, script 29
+`# docs/SCRIPT.md, script 30
 segment_bytes 200
 retention_ms -1
 0 0 0 append 1000,-,:a
@@ -266,7 +292,7 @@ retention_ms -1
 0 0 7 = Ok 2
 0 0 8 begin
 0 0 8 = Dropped 0 1
-`# docs/SCRIPT.md, script 30
+`# docs/SCRIPT.md, script 31
 segment_bytes 200
 retention_ms 1000
 fault 0 store delete 3 before
@@ -323,7 +349,7 @@ fault 0 store delete 3 before
 0 0 18 = Deleted 00000000-0000-0001-0000-000000000001
 0 0 19 begin
 0 0 19 = Kept
-`# docs/SCRIPT.md, script 31
+`# docs/SCRIPT.md, script 32
 segment_bytes 200
 retention_bytes 138
 retention_ms -1
@@ -356,7 +382,7 @@ retention_ms -1
 0 0 10 = Kept
 0 0 11 begin
 0 0 11 = Dropped 0 1
-`# docs/SCRIPT.md, script 32
+`# docs/SCRIPT.md, script 33
 brokers 2
 segment_bytes 200
 retention_bytes 100
@@ -405,7 +431,7 @@ turn 2 1
 0 2 0 begin
 0 1 6 = Ok
 0 2 0 = LostLead
-`# docs/SCRIPT.md, script 33
+`# docs/SCRIPT.md, script 34
 segment_bytes 200
 0 0 0 append 1000,-,:a
 0 0 0 append 1000,-,:b
@@ -430,7 +456,7 @@ turn 1 6
 0 0 6 = Deleted 00000000-0000-0001-0000-000000000000
 0 1 0 = Overtaken DeleteFinished
 0 0 7 = OutOfRange 2 3
-`# docs/SCRIPT.md, script 34
+`# docs/SCRIPT.md, script 35
 brokers 2
 1 0 1 shrink
 0 0 0 append 1000,-,:a 1000,-,:b
@@ -458,10 +484,10 @@ brokers 2
 0 0 8 = StaleEpoch 1
 0 0 9 = Ok
 0 0 10 = Down
-`# docs/SCRIPT.md, script 35
+`# docs/SCRIPT.md, script 36
 0 0 - clock 86400000
 `0 0 0 = Ok
-`# docs/SCRIPT.md, script 36
+`# docs/SCRIPT.md, script 37
 brokers 2
 segment_bytes 200
 local_retention_bytes 0
@@ -522,7 +548,7 @@ turn 2 1
 0 0 18 = Ok
 0 2 0 = Stopped
 0 0 19 = Down
-`# docs/SCRIPT.md, script 37
+`# docs/SCRIPT.md, script 38
 brokers 2
 segment_bytes 200
 local_retention_bytes 0
@@ -601,9 +627,4 @@ turn 2 1
 0 0 18 = Ok
 0 2 2 = Stopped
 0 0 19 = Down
-`# docs/SCRIPT.md, script 38
-0 0 0 stop
-0 0 0 stop
-`0 0 0 = Ok
-0 0 1 = Down
 `";

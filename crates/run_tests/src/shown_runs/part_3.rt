@@ -2,6 +2,11 @@
 
 /// Scripts and their traces.
 pub(crate) static RUNS: &str = "# docs/SCRIPT.md, script 39
+0 0 0 stop
+0 0 0 stop
+`0 0 0 = Ok
+0 0 1 = Down
+`# docs/SCRIPT.md, script 40
 fault 0 disk 0 list 1 before
 0 0 0 append 1000,-,:a
 0 0 0 flush

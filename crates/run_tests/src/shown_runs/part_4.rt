@@ -72,6 +72,85 @@ pub(crate) static RUNS: &str = "# examples/first.script
 0 0 7 = Run local 0 73 Limit 00000000000000000000003d0000000002e05277fc0000000000000000018bcfe568000000018bcfe56800ffffffffffffffffffffffffffff0000000116000000010a6170706c6500
 0 0 8 = Run local 0 148 Mark 00000000000000010000003e0000000002c25ba6780000000000000000018bcfe568010000018bcfe56801ffffffffffffffffffffffffffff0000000118000000010c62616e616e610000000000000000020000003e000000000272c7976a0000000000000000018bcfe568020000018bcfe56802ffffffffffffffffffffffffffff0000000118000000010c63686572727900
 0 0 9 = Run local 0 74 Mark 00000000000000020000003e000000000272c7976a0000000000000000018bcfe568020000018bcfe56802ffffffffffffffffffffffffffff0000000118000000010c63686572727900
+`# examples/packed.script
+# Segments are packed: a copy puts one object in place of four, and reads find the parts in it.
+segment_bytes 100
+local_retention_bytes 0
+
+# Three closed segments of a batch each, and an open one, committed.
+0 0 0 append 1000,-,:a
+0 0 0 append 2000,-,:b
+0 0 0 append 3000,-,:c
+0 0 0 append 4000,-,:d
+0 0 0 flush
+0 0 0 ack
+
+# The first one is copied as four objects.
+0 0 0 copy
+
+# From now on copies are packed. The second one is copied as one object, by the fifth put. The sixth
+# fails, and leaves the third one to the next copy.
+fault 0 store put 6 before
+0 0 - pack 1
+0 0 0 copy
+0 0 0 copy
+0 0 0 copy
+0 0 0 offset latest_tiered
+
+# All three are trimmed, and served from the tier in either form.
+0 0 0 trim
+0 0 0 trim
+0 0 0 trim
+0 0 0 fetch 0 1000
+0 0 0 fetch 1 1000
+0 0 0 fetch 2 1000
+0 0 0 offset at 2000
+
+# An expiry of the first one takes four objects away, one of the second one a single object.
+0 0 0 raise 2
+0 0 0 expire
+0 0 0 expire
+0 0 0 fetch 1 1000
+0 0 0 fetch 2 1000
+`0 0 0 = Ok 0 0 0
+0 0 1 = Ok 1 1 0
+0 0 2 = Ok 2 2 0
+0 0 3 = Ok 3 3 0
+0 0 4 = Ok 4
+0 0 5 = Ok 4
+0 0 6 begin
+0 0 6 = Copied 00000000-0000-0001-0000-000000000000 0 0
+0 0 7 = Ok
+0 0 8 begin
+0 0 8 = Copied 00000000-0000-0001-0000-000000000001 1 1
+0 0 9 begin
+0 0 9 = StoreFault
+0 0 10 begin
+0 0 10 = Copied 00000000-0000-0001-0000-000000000003 2 2
+0 0 11 begin
+0 0 11 = Offset 2
+0 0 12 begin
+0 0 12 = Dropped 0 0
+0 0 13 begin
+0 0 13 = Dropped 1 1
+0 0 14 begin
+0 0 14 = Dropped 2 2
+0 0 15 begin
+0 0 15 = Run remote 00000000-0000-0001-0000-000000000000 69 Piece 0000000000000000000000390000000002ebf1884b00000000000000000000000003e800000000000003e8ffffffffffffffffffffffffffff000000010e00000001026100
+0 0 16 begin
+0 0 16 = Run remote 00000000-0000-0001-0000-000000000001 69 Piece 00000000000000010000003900000000024dbddfc300000000000000000000000007d000000000000007d0ffffffffffffffffffffffffffff000000010e00000001026200
+0 0 17 begin
+0 0 17 = Run remote 00000000-0000-0001-0000-000000000003 69 Piece 000000000000000200000039000000000225e957490000000000000000000000000bb80000000000000bb8ffffffffffffffffffffffffffff000000010e00000001026300
+0 0 18 begin
+0 0 18 = Offset 1
+0 0 19 = Ok 2
+0 0 20 begin
+0 0 20 = Deleted 00000000-0000-0001-0000-000000000000
+0 0 21 begin
+0 0 21 = Deleted 00000000-0000-0001-0000-000000000001
+0 0 22 = OutOfRange 2 4
+0 0 23 begin
+0 0 23 = Run remote 00000000-0000-0001-0000-000000000003 69 Piece 000000000000000200000039000000000225e957490000000000000000000000000bb80000000000000bb8ffffffffffffffffffffffffffff000000010e00000001026300
 `# examples/remote-faults.script
 # A store and a metadata log that fail: a copy ends where its call fails, and the next one begins
 # anew, under another id.

@@ -8,13 +8,13 @@ lay_in-requires-clause-kept c = kept_found c.args.entry.now.id c.args.known.now 
 pub returns-in_ok-from_slice : goal.returns-in_ok-from_slice
 returns-in_ok-from_slice c =
     let into = sym c.is_readable.ensures ∙ c.if-is_readable.true in
-    if_ok c.lay_in.result c.lay_in.ensures (λ laid h broker event_ts.
-    finish_right broker event_ts c.args.state c.args.known.now c.args.entry.now c.args.epoch c.args.stair.now laid c.requires.distinct c.requires.kept c.requires.here
+    if_ok c.lay_in.result c.lay_in.ensures (λ laid h broker event_ts custom.
+    finish_right broker event_ts c.args.state custom c.args.known.now c.args.entry.now c.args.epoch c.args.stair.now laid c.requires.distinct c.requires.kept c.requires.here
     (finishing c.args.entry.now.state c.args.state c.requires.step into) into c.requires.stair
     (rw (c.from_vec-stair.ensures, c.in_ok-from_slice.ensures.items) at h))
 
 pub returns-else-is_readable : goal.returns-else-is_readable
 returns-else-is_readable c =
     let out = sym c.is_readable.ensures ∙ c.if-is_readable.false in
-    if_ok c.rebuilt.result c.rebuilt.ensures (λ laid h broker event_ts.
-    gone_right broker event_ts c.args.state c.args.known.now c.args.entry.now.id c.args.epoch laid c.requires.distinct out h)
+    if_ok c.rebuilt.result c.rebuilt.ensures (λ laid h broker event_ts custom.
+    gone_right broker event_ts c.args.state custom c.args.known.now c.args.entry.now.id c.args.epoch laid c.requires.distinct out h)

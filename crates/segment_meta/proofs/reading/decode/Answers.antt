@@ -2,7 +2,7 @@ use Rattle.segment_meta.proofs.OneSpelling.{added_rules, updated_rules}
 use Rattle.segment_meta.proofs.reading.decode.Goals as goal
 
 pub returns-in-0-clause-rules : goal.returns-in-0-clause-rules
-returns-in-0-clause-rules c = added_rules c.in_ok-kind.rest.now c.added.result c.added.ensures
+returns-in-0-clause-rules c = added_rules _ c.in_ok-kind.rest.now c.added.result c.added.ensures
 
 pub returns-in-1-clause-rules : goal.returns-in-1-clause-rules
-returns-in-1-clause-rules c = updated_rules c.in_ok-kind.rest.now c.updated.result c.updated.ensures
+returns-in-1-clause-rules c = updated_rules _ c.in_ok-kind.rest.now c.updated.result c.updated.ensures

@@ -1,12 +1,10 @@
 use Rattle.std.proofs.Common.{◌≡◌, ◌∙◌, ap, List, ℕ, ◌++◌}
-use Rattle.yard_audit.proofs.Tiers.{on_err}
-use Rattle.yard_audit.proofs.Sweeps.{AreUnder, all_unbegun, begins, under_more, swept_more, goes_on}
+use Rattle.yard_audit.proofs.Sweeps.{all_unbegun, begins, under_more, swept_more, goes_on}
 use Rattle.yard_audit.proofs.sweeping.sweep_all.Goals as goal
 
 pub returns-in_err-partitions-clause-under : goal.returns-in_err-partitions-clause-under
 returns-in_err-partitions-clause-under g c = λ t.
-    on_err c.from_residual.result (AreUnder g.Y.D.Disk.content g.Y.S.Store.content g.Y.M.MetaLog.content (g.Y.Yard.held c.args.yard.now) (g.Y.Yard.held c.list.new.yard))
-    (all_unbegun g.Y.D.Disk.content g.Y.S.Store.content g.Y.M.MetaLog.content (g.Y.Yard.held c.args.yard.now) (g.Y.Yard.held c.list.new.yard) (c.in_err-partitions.ensures.rest t))
+    all_unbegun g.Y.D.Disk.content g.Y.S.Store.content g.Y.M.MetaLog.content (g.Y.Yard.held c.args.yard.now) (g.Y.Yard.held c.list.new.yard) (c.in_err-partitions.ensures.rest t)
 
 pub loop-partition-init : goal.loop-partition-init
 loop-partition-init g c =
@@ -19,10 +17,9 @@ loop-partition-init g c =
 pub returns-in_err-count-clause-under : goal.returns-in_err-count-clause-under
 returns-in_err-count-clause-under g c = λ t.
     let told = c.in_err-count.ensures in
-    on_err c.from_residual-in_err-count.result (AreUnder g.Y.D.Disk.content g.Y.S.Store.content g.Y.M.MetaLog.content (g.Y.Yard.held c.args.yard.now) (g.Y.Yard.held c.sweep_one.new.yard))
-    (under_more g.Y.D.Disk.content g.Y.S.Store.content g.Y.M.MetaLog.content c.in-Some.partition c.next.new.self.rest.items
+    under_more g.Y.D.Disk.content g.Y.S.Store.content g.Y.M.MetaLog.content c.in-Some.partition c.next.new.self.rest.items
     (g.Y.Yard.held c.args.yard.now) (g.Y.Yard.held c.loop-partition.yard) (g.Y.Yard.held c.sweep_one.new.yard) (g.Y.Yard.control c.args.yard.now) (g.Y.Yard.control c.loop-partition.yard)
-    c.loop-partition.partition-iterator.rest.items c.loop-partition.text.items c.in-Some.ensures.steps.0 c.loop-partition.invariant told.under told.others t)
+    c.loop-partition.partition-iterator.rest.items c.loop-partition.text.items c.in-Some.ensures.steps.0 c.loop-partition.invariant told.under told.others t
 
 pub returns-in_default-clause-under : goal.returns-in_default-clause-under
 returns-in_default-clause-under g c =

@@ -14,6 +14,5 @@ returns-clause-rules c =
       ordered = omega (arith, up, c.base.ensures, c.last.ensures);
       bounded = omega (arith, low, c.last.ensures);
       map = rw (c.base.ensures, c.last.ensures, m) (is_map _ c.self.invariant line);
-      apart = refl;
       bare = refl;
     }

@@ -9,6 +9,7 @@ returns-clause-held g c = record {
   nodes = c.arm.ensures.nodes c.args.disks.now.items c.requires.disks (rw c.from_vec-nodes.ensures c.in_ok-nodes.ensures.nodes);
   clock = refl;
   copying = refl;
+  packed = refl;
 }
 
 pub returns-clause-seen : goal.returns-clause-seen

@@ -12,7 +12,7 @@ index_mut-requires c =
 pub invariant_of-self : goal.invariant_of-self
 invariant_of-self c q =
     let ts : to_z w64 (of_z w64 c.args.event_ts) ≡ c.args.event_ts = search rules in
-    let f = updated c.args.broker c.args.event_ts c.args.state in
+    let f = updated c.args.broker c.args.event_ts c.args.state c.args.custom in
     let es = c.self.inside.entries.items in
     let found : place_of c.args.id.now es ≡ Some c.in-Some.place = sym (c.self.invariant c.args.id.now) ∙ (sym c.get.ensures.value ∙ sym c.in-Some.ensures) in
     let new = ap (set es c.in-Some.place) (rw ts at c.update.ensures ∙ ap f c.index_mut.ensures.value) ∙ changed_at c.args.id.now f es c.in-Some.place c.index_mut.result.now found in
@@ -21,7 +21,7 @@ invariant_of-self c q =
 pub returns-in-Some : goal.returns-in-Some
 returns-in-Some c =
     let ts : to_z w64 (of_z w64 c.args.event_ts) ≡ c.args.event_ts = search rules in
-    let f = updated c.args.broker c.args.event_ts c.args.state in
+    let f = updated c.args.broker c.args.event_ts c.args.state c.args.custom in
     let es = c.self.inside.entries.items in
     let found : place_of c.args.id.now es ≡ Some c.in-Some.place = sym (c.self.invariant c.args.id.now) ∙ (sym c.get.ensures.value ∙ sym c.in-Some.ensures) in
     rw (← c.self.view_is) (ap (set es c.in-Some.place) (rw ts at c.update.ensures ∙ ap f c.index_mut.ensures.value) ∙ changed_at c.args.id.now f es c.in-Some.place c.index_mut.result.now found)
@@ -29,4 +29,4 @@ returns-in-Some c =
 pub returns-in_default : goal.returns-in_default
 returns-in_default c =
     let none : place_of c.args.id.now c.self.inside.entries.items ≡ None = sym (c.self.invariant c.args.id.now) ∙ (sym c.get.ensures.value ∙ sym c.in_default.ensures) in
-    rw (← c.self.view_is) (sym (no_place c.args.id.now (updated c.args.broker c.args.event_ts c.args.state) c.self.inside.entries.items none).1)
+    rw (← c.self.view_is) (sym (no_place c.args.id.now (updated c.args.broker c.args.event_ts c.args.state c.args.custom) c.self.inside.entries.items none).1)

@@ -9,11 +9,11 @@ fresh-requires-clause-here c =
     ap (λ (id : SegmentId). entry_of id c.self.inside.known) (found_id c.args.id.now c.self.inside.known c.in-Some.entry.now (sym c.in-Some.ensures)) ∙ sym c.in-Some.ensures
 
 pub replace_all-requires : goal.replace_all-requires
-replace_all-requires c = (c.in_ok-fresh.ensures.ok c.args.broker c.args.event_ts).room
+replace_all-requires c = (c.in_ok-fresh.ensures.ok c.args.broker c.args.event_ts c.args.custom.now).room
 
 pub invariant_of-self-2 : goal.invariant_of-self-2
 invariant_of-self-2 c =
     let ts : to_z w64 (of_z w64 c.args.event_ts) ≡ c.args.event_ts = search rules in
     let one = found_id c.args.id.now c.self.inside.known c.in-Some.entry.now (sym c.in-Some.ensures) in
-    viewed_update c.self.inside.known c.change.new.self c.self.inside.stairs c.fresh.new.stairs c.replace_all.new.self c.in_ok-fresh.fresh c.args.id.now c.in-Some.entry.now c.args.broker c.args.event_ts c.args.state
-    c.self.invariant one (rw ts at c.change.ensures) (c.in_ok-fresh.ensures.ok c.args.broker c.args.event_ts) c.replace_all.ensures
+    viewed_update c.self.inside.known c.change.new.self c.self.inside.stairs c.fresh.new.stairs c.replace_all.new.self c.in_ok-fresh.fresh c.args.id.now c.in-Some.entry.now c.args.broker c.args.event_ts c.args.state c.args.custom.now
+    c.self.invariant one (rw (ts, c.in_ok-custom.ensures) at c.change.ensures) (c.in_ok-fresh.ensures.ok c.args.broker c.args.event_ts c.args.custom.now) c.replace_all.ensures

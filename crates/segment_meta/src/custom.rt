@@ -1,0 +1,28 @@
+//! Custom metadata as notes tell it (KIP-917, CustomMetadata).
+
+ghost use Rattle.std.specs.Prelude.{◌≡◌, IfOk};
+ghost use Rattle.segment_meta.specs.Rules.{bare_custom};
+
+use std::alloc::{AllocError, Global};
+use tier_base::Blob;
+
+/// Custom metadata of the same bytes.
+pub fn copied_custom(alloc: Global, custom: &Option<Blob>) -> Result<Option<Blob>, AllocError>
+    ensures { IfOk result (λ copy. copy ≡ custom.now) }
+{
+    match custom {
+        Some(bytes) => Ok(Some(Blob::from_slice(alloc, bytes.as_slice())?)),
+        None => Ok(None),
+    }
+}
+
+/// What an update tells that has nothing to tell of it, without memory.
+pub fn bare_custom(alloc: Global, packed: bool) -> Option<Blob>
+    ensures { result ≡ bare_custom packed }
+{
+    if packed {
+        Some(Blob::from_vec(Vec::new(alloc)))
+    } else {
+        None
+    }
+}
