@@ -51,7 +51,7 @@ use Rattle.tier_serves.proofs.Reading.{copy_of, at_spot, gives, first_is}
 use Rattle.tier_serves.proofs.Turning.{shown}
 use Rattle.time_find.specs.declared.turn.Asked.{Asked}
 use Rattle.time_find.specs.declared.turn.Next.TheVariants.{Seek, Times, Index, Log}
-use Rattle.time_find.specs.declared.turn.TimeTurn.TheVariants.{Goes, Ends}
+use Rattle.time_find.specs.declared.turn.TimeTurn.TheVariants.{Ends}
 use Rattle.time_find.specs.Passing.{Passes, Stays, Over, SeeksNothing, Seeks}
 use Rattle.time_find.specs.Turns.{TimesBytes, Times as Timed, wanted_at, Indexes, Searches, SeekRow, TimesRow, IndexRow, LogRow}
 use Rattle.tier_dates.specs.Searching.{IsAtSearch}
@@ -189,7 +189,7 @@ module _ {S M : Type 0} (objects : S → store.Content) (calls : S → Control s
       let k = searches_damage asked line from piece span place at row.1.0 old new c p a b site x stops epoch row.1.1 row.1.2 h in
       let is = k.next_is in
       let same : k.piece ≡ piece = cc (is) in
-      record { piece = piece; from = from; span = span; next_is = refl; home = k.home; place_is = k.place_is ∙ ap (λ (q : Piece). Key (key_of asked.partition q.id k.home)) same }
+      record { piece = piece; from = from; span = span; next_is = refl; home = k.home; own = k.own; place_is = k.place_is ∙ ap (λ (q : Piece). Key (key_of asked.partition q.id k.home)) same }
 
   pub search_damage : SearchDamageIsOfLogs objects calls notes notings
   search_damage asked line cursor at Seek place old new c p a b site x stops epoch row below set h =

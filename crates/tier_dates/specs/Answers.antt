@@ -3,8 +3,9 @@
 -- A remote segment whose entry tells of an earlier greatest timestamp has no batch that isn't too early, and up to the batch that its
 -- time index shows there is none. A piece's batches are the log's, as far as it goes. So where the cursor comes to, all before it are
 -- too early, and the first batch of a run that isn't is the log's first.
-use Rattle.std.specs.Prelude.{◌≡◌, ℕ, ◌<◌, ◌≤◌, List, Some, Ok}
+use Rattle.std.specs.Prelude.{◌≡◌, ◌⊎◌, ℕ, ◌<◌, ◌≤◌, List, Some, Ok}
 use Rattle.tier_base.specs.declared.plain.Part.{Part}
+use Rattle.tier_base.specs.declared.plain.Part.TheVariants as part
 use Rattle.tier_base.specs.declared.plain.Stop.{Stop}
 use Rattle.tier_base.specs.Device.{Control}
 use Rattle.log_terms.specs.Log.{IsConsecutive, joined, up_to, from_offset}
@@ -48,6 +49,7 @@ pub record IsOfLog (asked : Asked) (next : Next) (place : Place) : Type 0 where
   pub span : Span
   pub next_is : next ≡ Log piece from span
   pub home : Part
+  pub own : (home ≡ part.Log) ⊎ (home ≡ part.Pack)
   pub place_is : place ≡ Key (key_of asked.partition piece.id home)
 
 module _ {S M : Type 0} (objects : S → store.Content) (calls : S → Control store_call.call_code)

@@ -1,6 +1,6 @@
 -- What a rebuild reads is of the path that its follower has joined.
-use Rattle.std.proofs.Common.{◌≡◌, ◌≢◌, ◌∙◌, inl, sym, ap, subst, refl, ℕ, ◌+◌, ◌-◌, ◌^◌, ◌<◌, ◌≤◌, true, List, Option, Some, None, Ok, Err, slice_get, arith}
-use Rattle.std.specs.Prelude.{nat_le, option_map}
+use Rattle.std.proofs.Common.{◌≡◌, ◌≢◌, ◌∙◌, inl, sym, ap, subst, refl, ℕ, ◌-◌, ◌^◌, ◌≤◌, true, List, Option, Some, None, Ok, Err, slice_get, arith}
+use Rattle.std.specs.Prelude.{option_map}
 use Rattle.std.specs.declared.result.Result.{Result}
 use Rattle.std.specs.declared.alloc.AllocError.{AllocError}
 use Rattle.std.proofs.lemmas.Bool.{le-leb, eq-eqb}
@@ -13,7 +13,7 @@ use Rattle.tier_base.specs.declared.plain.Part.TheVariants.{Epochs as EpochsPart
 use Rattle.tier_base.specs.declared.plain.State.TheVariants.{CopyStarted}
 use Rattle.tier_base.specs.Device.{Control}
 use Rattle.log_terms.specs.Line.{line_of, epoch_at, epoch_holding}
-use Rattle.log_terms.specs.Log.{end_of, end_from, up_to, IsConsecutive}
+use Rattle.log_terms.specs.Log.{end_of, up_to, IsConsecutive}
 use Rattle.log_terms.proofs.Logs.{up_to_is}
 use Rattle.epoch_line.specs.Line.{IsLine, cut_end}
 use Rattle.epoch_line.specs.Text.{text_of}

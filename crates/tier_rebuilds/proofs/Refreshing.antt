@@ -1,12 +1,12 @@
 -- A refresh of the view of a rebuild's broker, as changes.
-use Rattle.std.proofs.Common.{◌≡◌, sym, ap, subst, refl, ℕ, Some, slice_get, slice_set}
+use Rattle.std.proofs.Common.{◌≡◌, subst, refl, slice_get, slice_set}
 use Rattle.tier_base.specs.Device.{Control}
 use Rattle.object_store.specs.Call as store_call
 use Rattle.object_store.specs.Content as store
 use Rattle.meta_log.specs.Call as meta_call
 use Rattle.meta_log.specs.Content as meta
-use Rattle.remote_view.specs.Fold.{Seen, view_of}
-use Rattle.tier_safe.specs.Scene.{Site, Rebuilds, Scene}
+use Rattle.remote_view.specs.Fold.{view_of}
+use Rattle.tier_safe.specs.Scene.{Site, Rebuilds}
 use Rattle.tier_safe.specs.Changes.{Moves, Refreshes, effect}
 use Rattle.tier_safe.specs.Turns.{after_turn}
 use Rattle.tier_safe.proofs.Basics.{one_some}

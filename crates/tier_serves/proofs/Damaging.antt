@@ -1,5 +1,5 @@
 -- A fetch tells of damage in its last turn alone.
-use Rattle.std.proofs.Common.{◌≡◌, ◌∙◌, sym, ap, subst, refl, ℕ, List, take, drop, Option, Some, None, Result, Ok, Err}
+use Rattle.std.proofs.Common.{◌≡◌, ◌⊎◌, ◌∙◌, sym, ap, subst, refl, ℕ, List, take, drop, Option, Some, None, Result, Ok, Err}
 use Rattle.tier_base.specs.declared.fault.Trouble.{Trouble}
 use Rattle.tier_base.specs.declared.fault.Trouble.TheVariants.{Failed, NoMemory}
 use Rattle.tier_base.specs.declared.plain.Part.{Part}
@@ -140,15 +140,15 @@ module _ {S M : Type 0} (objects : S → store.Content) (calls : S → Control s
       let same : spot ≡ (r.entry.start, s.spot) =
       one_some (spot_in wanted.partition piece.id part.Log (entry_of piece.id view.entries)) spot (r.entry.start, s.spot) stood s.is in
       let key : spot.1.key ≡ key_of wanted.partition piece.id s.home = ap (λ (q : ℕ × Spot). q.1.key) same ∙ s.home_is in
-      by (short_in spot.1 span.from span.most bytes) s.home key k
+      by (short_in spot.1 span.from span.most bytes) s.home s.own key k
     where
-      by : (end : Option ℕ) (home : Part) → spot.1.key ≡ key_of wanted.partition piece.id home → CutsBytes end wanted piece spot.1 span bytes (Ok (Ends (Damaged place at)))
+      by : (end : Option ℕ) (home : Part) → (home ≡ part.Log) ⊎ (home ≡ part.Pack) → spot.1.key ≡ key_of wanted.partition piece.id home → CutsBytes end wanted piece spot.1 span bytes (Ok (Ends (Damaged place at)))
           → IsOfLog wanted (Log piece span) place
-      by (Some end) home key k =
+      by (Some end) home own key k =
           let told : Damaged (Key spot.1.key) end ≡ Damaged place at = cc (k) in
           let is : Key spot.1.key ≡ place = cc (told) in
-          record { piece = piece; span = span; next_is = refl; home = home; place_is = sym is ∙ ap Key key }
-      by None home key k = record { piece = piece; span = span; next_is = refl; home = home; place_is = k.place_is ∙ ap Key key }
+          record { piece = piece; span = span; next_is = refl; home = home; own = own; place_is = sym is ∙ ap Key key }
+      by None home own key k = record { piece = piece; span = span; next_is = refl; home = home; own = own; place_is = k.place_is ∙ ap Key key }
 
   log_damage : (c : Scene) (p : Plain) (a b : ℕ) (site : Site) (x : Broker) (stops epoch : ℕ) (wanted : Wanted) (line : List (ℕ × ℕ)) (piece : Piece) (span : Span) (ns : meta.Content) (view : Seen)
       (cache : Cache) (old new : S) (spot : Option (ℕ × Spot)) (place : Place) (at : ℕ) → IsAtTurn c p a b site x stops epoch wanted line (Log piece span) (objects old) ns view cache

@@ -1,8 +1,10 @@
 -- What a fetch reads in the store is what its copy's entry tells of: the index of its batches, and their bytes.
-use Rattle.std.proofs.Common.{◌≡◌, ◌≢◌, ◌∙◌, sym, ap, subst, refl, ℕ, List, [], ◌∷◌, Option, Some}
+use Rattle.std.proofs.Common.{◌≡◌, ◌≢◌, ◌⊎◌, inl, inr, ◌∙◌, sym, ap, subst, refl, ℕ, Bool, true, false, List, [], ◌∷◌, Option, Some, None}
 use Rattle.std.specs.Prelude.{option_map}
 use Rattle.tier_base.specs.declared.names.PartitionId.{PartitionId}
 use Rattle.tier_base.specs.declared.names.SegmentId.{SegmentId}
+use Rattle.tier_base.specs.declared.object_key.ObjectKey.{ObjectKey}
+use Rattle.tier_base.specs.declared.layout.Layout.{Layout}
 use Rattle.tier_base.specs.declared.plain.Part.{Part}
 use Rattle.tier_base.specs.declared.plain.Part.TheVariants as part
 use Rattle.log_terms.specs.Log.{IsConsecutive}
@@ -13,7 +15,7 @@ use Rattle.segment_file.specs.Index.{placed_from, index_of}
 use Rattle.segment_meta.specs.declared.note.Entry.{Entry}
 use Rattle.segment_bundle.specs.Parts.{first_offset, parts_of, part_in}
 use Rattle.object_store.specs.Content as store
-use Rattle.object_store.specs.Place.{key_of, spot_of, all_of}
+use Rattle.object_store.specs.Place.{key_of, whole, spot_of, told_layout, part_of, all_of}
 use Rattle.object_store.proofs.Parts.{AreAll}
 use Rattle.object_store.specs.declared.placing.Spot.{Spot}
 use Rattle.meta_log.specs.Content as meta
@@ -52,8 +54,23 @@ pub record IsAtSpot (partition : PartitionId) (id : SegmentId) (kind : Part) (fo
   pub spot : Spot
   pub is : spot_in partition id kind found ≡ Some (start, spot)
   pub home : Part
+  pub own : (home ≡ kind) ⊎ (home ≡ part.Pack)
   pub home_is : spot.key ≡ key_of partition id home
   pub placed : IsPlaced objects spot bytes
+
+-- it is under the key of the part, or that of the pack
+own_home : (partition : PartitionId) (id : SegmentId) (packed : Bool) (custom : Option (List ℕ)) (kind home : Part) (spot : Spot) → spot_of partition id packed custom kind ≡ Some spot
+    → spot.key ≡ key_of partition id home → (home ≡ kind) ⊎ (home ≡ part.Pack)
+own_home partition id false custom kind home spot is key =
+    let same : whole (key_of partition id kind) ≡ spot = cc (is) in
+    inl (sym (ap (λ (s : Spot). s.key.part) same ∙ ap (λ (k : ObjectKey). k.part) key))
+own_home partition id true custom kind home spot is key = by (told_layout custom) is
+  where
+    by : (told : Option Layout) → option_map (λ (l : Layout). part_of (key_of partition id part.Pack) l kind) told ≡ Some spot → (home ≡ kind) ⊎ (home ≡ part.Pack)
+    by None is = absurd (cc (is))
+    by (Some l) is =
+        let same : part_of (key_of partition id part.Pack) l kind ≡ spot = cc (is) in
+        inr (sym (ap (λ (s : Spot). s.key.part) same ∙ ap (λ (k : ObjectKey). k.part) key))
 
 -- the view's entry of it places its parts as its entry does
 pub at_spot : (c : Scene) (p : Plain) (a b : ℕ) (site : Site) (x : Broker) (stops epoch : ℕ) (wanted : Wanted) (line : List (ℕ × ℕ)) (next : Next) (s : store.Content) (n : meta.Content) (view : Seen)
@@ -76,6 +93,7 @@ at_spot c p a b site x stops epoch wanted line next s n view cache piece kind re
       spot = has.spot;
       is = ap (spot_in wanted.partition piece.id kind) there ∙ (ap (option_map (λ (spot : Spot). (k.0.start, spot))) placed ∙ ap (λ (m : ℕ). Some (m, has.spot)) start);
       home = has.home;
+      own = own_home r.entry.partition r.entry.id r.entry.packed r.entry.custom kind has.home has.spot has.is has.home_is;
       home_is = rw (← of, ← id) has.home_is;
       placed = subst (λ (o : store.Objects). IsPlaced o has.spot (part_in (parts_of r.held.batches r.held.line r.held.interval) kind)) h.shows.objects_are has.placed;
     }

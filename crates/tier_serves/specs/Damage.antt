@@ -2,8 +2,9 @@
 --
 -- Its broker's view has the piece, and the entry of its segment; the segment's index and its log stand, and the index has a
 -- reading. What is left is that the part of the log which was read has no run.
-use Rattle.std.specs.Prelude.{◌≡◌, ℕ, List, Ok}
+use Rattle.std.specs.Prelude.{◌≡◌, ◌⊎◌, ℕ, List, Ok}
 use Rattle.tier_base.specs.declared.plain.Part.{Part}
+use Rattle.tier_base.specs.declared.plain.Part.TheVariants as part
 use Rattle.tier_base.specs.Device.{Control}
 use Rattle.object_store.specs.Call as store_call
 use Rattle.object_store.specs.Content as store
@@ -31,6 +32,7 @@ pub record IsOfLog (wanted : Wanted) (next : Next) (place : Place) : Type 0 wher
   pub span : Span
   pub next_is : next ≡ Log piece span
   pub home : Part
+  pub own : (home ≡ part.Log) ⊎ (home ≡ part.Pack)
   pub place_is : place ≡ Key (key_of wanted.partition piece.id home)
 
 module _ {S M : Type 0} (objects : S → store.Content) (calls : S → Control store_call.call_code)
