@@ -158,7 +158,7 @@ acknowledged_keeps p b x r l bx br up on pa s =
             | inr i ↦ s.noted a n z bg i.1
           ];
     } in
-    record { safe = safe; actors = refl; wider = wider_self p.paths; grows = λ _. grows; clean = λ u. u }
+    record { safe = safe; actors = refl; wider = wider_self p.paths; grows = grows; clean = refl }
 
 -- the row of ack
 pub ack_keeps : (p : State) (b : ℕ) (x : Broker) (r : Replica) (answer : Answer) (q : State) → slice_get p.brokers b ≡ Some x → slice_get p.registry.replicas b ≡ Some r

@@ -1,4 +1,4 @@
--- What is committed only grows while elections are clean, and each run is a part of it.
+-- What is committed only grows until an unclean election, and while there was none each run is a part of it.
 use Rattle.std.proofs.Common.{◌≡◌, ◌∙◌, sym, ap, subst, refl, ℕ, ◌+◌, ◌-◌, ◌<◌, ◌≤◌, ◌==◌, nat_lt, List, [], ◌∷◌, ◌++◌, length, Some, None, Option, slice_get, Bool, true, false, ◌&&◌, arith, append_assoc}
 use Rattle.std.specs.Prelude.{nat_le, bytes_eq}
 use Rattle.std.specs.List.{AllByRecursion}
@@ -34,10 +34,10 @@ use Rattle.plain_log.specs.Rows.{row}
 use Rattle.plain_log.specs.Step.{event_step, step}
 use Rattle.plain_log.specs.Runs.{order_of, entry_step, replay}
 use Rattle.plain_log.specs.Safe.{RoleSafe, LogSafe, PlainSafe}
-use Rattle.plain_log.specs.Committed.{IsPartAt, IsCommittedRun, IsPartOfPath, IsRunOfPath}
+use Rattle.plain_log.specs.Committed.{IsNoRestart, IsPartAt, IsCommittedRun, IsPartOfPath, IsRunOfPath}
 use Rattle.plain_log.proofs.Options.{when_some, map_some, both, le_of}
 use Rattle.plain_log.proofs.Wider.{Wider, wider_self, wider_trans}
-use Rattle.plain_log.proofs.StepLaw.{Goes, step_of, step_goes, step_safe}
+use Rattle.plain_log.proofs.StepLaw.{step_of, step_goes, step_safe}
 
 -- a run is a part of what its broker knows to be committed
 
@@ -238,10 +238,17 @@ path_more ps qs offset bytes w h =
 
 -- over a replay
 
-pub replay_goes : (lists : List ActorList) (p : State) (journal : List JournalEntry) (q : State) → replay lists p journal ≡ Some q → PlainSafe p → Goes p q
+-- what a replay keeps: the safety rules, the paths but for their growth, and while elections are clean what is committed
+pub record ReplayGoes (p q : State) : Type 0 where
+  pub safe : PlainSafe q
+  pub wider : Wider p.paths q.paths
+  pub grows : q.unclean ≡ false → IsPrefix p.committed q.committed
+  pub clean : q.unclean ≡ false → p.unclean ≡ false
+
+pub replay_goes : (lists : List ActorList) (p : State) (journal : List JournalEntry) (q : State) → replay lists p journal ≡ Some q → PlainSafe p → ReplayGoes p q
 replay_goes lists p [] q e s =
     let is : p ≡ q = cc (e) in
-    subst (λ (k : State). Goes p k) is (record { safe = s; wider = wider_self p.paths; grows = λ _. prefix_self p.committed; clean = λ u. u })
+    subst (λ (k : State). ReplayGoes p k) is (record { safe = s; wider = wider_self p.paths; grows = λ _. prefix_self p.committed; clean = λ u. u })
 replay_goes lists p (entry ∷ journal) q e s =
     let m = and_then_some (λ (w : State). replay lists w journal) (entry_step lists p entry) q e in
     let o = and_then_some (λ (w : Order). step p w entry) (order_of lists entry) m.0 m.1 in
@@ -250,9 +257,21 @@ replay_goes lists p (entry ∷ journal) q e s =
     record {
       safe = more.safe;
       wider = wider_trans p.paths m.0.paths q.paths one.wider more.wider;
-      grows = λ u. prefix_trans p.committed m.0.committed q.committed (one.grows (more.clean u)) (more.grows u);
-      clean = λ u. one.clean (more.clean u);
+      grows = λ u. prefix_trans p.committed m.0.committed q.committed (one.grows (one.clean (more.clean u)).1) (more.grows u);
+      clean = λ u. (one.clean (more.clean u)).0;
     }
+
+-- what is committed stays where no step begins it anew
+pub replay_stays : (lists : List ActorList) (p : State) (journal : List JournalEntry) (q : State) → replay lists p journal ≡ Some q → PlainSafe p
+    → AllByRecursion (IsNoRestart lists) journal → IsPrefix p.committed q.committed
+replay_stays lists p [] q e s none =
+    let is : p ≡ q = cc (e) in
+    subst (λ (k : State). IsPrefix p.committed k.committed) is (prefix_self p.committed)
+replay_stays lists p (entry ∷ journal) q e s none =
+    let m = and_then_some (λ (w : State). replay lists w journal) (entry_step lists p entry) q e in
+    let o = and_then_some (λ (w : Order). step p w entry) (order_of lists entry) m.0 m.1 in
+    let one = step_goes p o.0 entry m.0 o.2 s in
+    prefix_trans p.committed m.0.committed q.committed (one.grows (none.0 o.0 o.1)) (replay_stays lists m.0 journal q m.2 one.safe none.1)
 
 pub replay_runs : (lists : List ActorList) (p : State) (journal : List JournalEntry) (q : State) → replay lists p journal ≡ Some q → PlainSafe p → q.unclean ≡ false
     → AllByRecursion (IsCommittedRun lists q.committed) journal

@@ -1,4 +1,4 @@
--- What every row keeps, and rows that change nothing, one broker or the registry.
+-- What the rows keep, and rows that change nothing, one broker or the registry.
 use Rattle.std.proofs.Common.{◌≡◌, ◌∙◌, sym, subst, refl, ℕ, List, Some, Option, slice_get, Bool, true, false}
 use Rattle.std.specs.Prelude.{option_map}
 use mathlib.Core.List.{IsPrefix}
@@ -14,13 +14,26 @@ use Rattle.plain_log.proofs.Options.{when_some, map_some}
 use Rattle.plain_log.proofs.Wider.{Wider, wider_self}
 use Rattle.plain_log.proofs.Swaps.{Swap, put_safe, swap_stop}
 
--- the safety rules, the actors, the paths but for their growth, and while elections are clean what is committed
+-- what all rows keep but that of an unclean election: the safety rules, the actors, whether an election was unclean, and
+-- but for their growth the paths and what is committed
 pub record Keeps (p q : State) : Type 0 where
   pub safe : PlainSafe q
   pub actors : q.actors ≡ p.actors
   pub wider : Wider p.paths q.paths
-  pub grows : q.unclean ≡ false → IsPrefix p.committed q.committed
-  pub clean : q.unclean ≡ false → p.unclean ≡ false
+  pub grows : IsPrefix p.committed q.committed
+  pub clean : q.unclean ≡ p.unclean
+
+-- what any row keeps, where `anew` tells whether it begins anew what is committed
+pub record RowGoes (anew : Bool) (p q : State) : Type 0 where
+  pub safe : PlainSafe q
+  pub actors : q.actors ≡ p.actors
+  pub wider : Wider p.paths q.paths
+  pub grows : anew ≡ false → IsPrefix p.committed q.committed
+  pub clean : q.unclean ≡ false → (p.unclean ≡ false) × (anew ≡ false)
+
+-- a row that keeps what is committed doesn't begin it anew
+pub row_goes : (p q : State) → Keeps p q → RowGoes false p q
+row_goes p q k = record { safe = k.safe; actors = k.actors; wider = k.wider; grows = λ _. k.grows; clean = λ u. (sym k.clean ∙ u, refl) }
 
 -- an effect that leaves what is committed
 pub grown : (p q : State) → q.actors ≡ p.actors → q.committed ≡ p.committed → q.unclean ≡ p.unclean → Wider p.paths q.paths → PlainSafe q → Keeps p q
@@ -28,8 +41,8 @@ grown p q a c u w s = record {
   safe = s;
   actors = a;
   wider = w;
-  grows = λ _. subst (λ (k : List (List ℕ)). IsPrefix p.committed k) (sym c) (prefix_self p.committed);
-  clean = λ f. sym u ∙ f;
+  grows = subst (λ (k : List (List ℕ)). IsPrefix p.committed k) (sym c) (prefix_self p.committed);
+  clean = u;
 }
 
 -- and the paths

@@ -1,4 +1,4 @@
--- Each step keeps the safety rules, and while elections are clean what is committed.
+-- Each step keeps the safety rules, and what is committed, unless it begins that anew.
 use Rattle.std.proofs.Common.{◌≡◌, ◌≢◌, inl, inr, subst, ℕ, zero, suc, ◌==◌, List, [], ◌∷◌, Some, None, Option, slice_get, slice_set, Bool, true, false, refl, ap, sym, ◌∙◌, arith}
 use Rattle.std.specs.Prelude.{is_none, is_some}
 use Rattle.std.specs.Option.{option_and_then}
@@ -30,15 +30,16 @@ use Rattle.plain_log.specs.State.{leads, followed, joined, path_of, put_broker, 
 use Rattle.plain_log.specs.RowsOfFollowers.{cut_to}
 use Rattle.plain_log.specs.Rows.{row}
 use Rattle.plain_log.specs.Step.{begins, same_command, noted_of, is_noted, event_step, next_actor, step}
+use Rattle.plain_log.specs.Committed.{restarts}
 use Rattle.plain_log.specs.Safe.{RoleSafe, NotedSafe, PlainSafe, is_leaders, is_followers}
 use Rattle.plain_log.proofs.Options.{when_some, map_some, both, eq_of}
 use Rattle.plain_log.proofs.Wider.{Wider}
 use Rattle.plain_log.proofs.Swaps.{Swap, swap_same}
 use Rattle.plain_log.proofs.Joins.{swap_cut}
-use Rattle.plain_log.proofs.Keeps.{Keeps, broker_kept}
+use Rattle.plain_log.proofs.Keeps.{RowGoes, row_goes, broker_kept}
 use Rattle.plain_log.proofs.LogRows.{flush_keeps, roll_keeps, stop_keeps, up_keeps}
 use Rattle.plain_log.proofs.AppendRow.{append_keeps, raw_keeps}
-use Rattle.plain_log.proofs.ElectionRows.{elect_keeps, unclean_keeps}
+use Rattle.plain_log.proofs.ElectionRows.{elect_keeps, unclean_goes}
 use Rattle.plain_log.proofs.LearnRow.{learn_keeps}
 use Rattle.plain_log.proofs.FollowerRows.{JoinedNoted, join_keeps, follow_keeps}
 use Rattle.plain_log.proofs.AckRow.{ack_keeps}
@@ -70,30 +71,30 @@ joined_for_follow p x (Some noted) limit h = h.1.joined (same_follow noted.order
 -- each row keeps them
 pub row_keeps : (p : State) (b : ℕ) (x : Broker) (r : Replica) (noted : Option Noted) (command : Command) (answer : Answer) (q : State)
     → slice_get p.brokers b ≡ Some x → slice_get p.registry.replicas b ≡ Some r → BegunSafe p x noted command
-    → row p b x r noted command answer ≡ Some q → PlainSafe p → Keeps p q
-row_keeps p b x r noted (Append recs) answer q bx br j e s = append_keeps p b x (built recs) answer q bx (built_long recs) e s
-row_keeps p b x r noted (Raw bytes) answer q bx br j e s = raw_keeps p b x bytes (checked bytes) answer q bx (λ batch is. (is_batch_of bytes batch is).long) e s
-row_keeps p b x r noted Flush answer q bx br j e s = flush_keeps p b x answer q bx e s
-row_keeps p b x r noted Roll answer q bx br j e s = roll_keeps p b x answer q bx e s
-row_keeps p b x r noted Elect answer q bx br j e s = elect_keeps p b x r answer q br e s
-row_keeps p b x r noted Unclean answer q bx br j e s = unclean_keeps p b x answer q bx e s
-row_keeps p b x r noted Learn answer q bx br j e s = learn_keeps p b x r answer q bx br e s
-row_keeps p b x r noted Join answer q bx br j e s = join_keeps p b x noted answer q bx (joined_for_join p x noted j) e s
-row_keeps p b x r noted (Follow limit) answer q bx br j e s = follow_keeps p b x limit noted answer q bx (joined_for_follow p x noted limit j) e s
-row_keeps p b x r noted Ack answer q bx br j e s = ack_keeps p b x r answer q bx br e s
-row_keeps p b x r noted Shrink answer q bx br j e s = shrink_keeps p b r answer q br e s
-row_keeps p b x r noted Expand answer q bx br j e s = expand_keeps p b x r answer q br e s
-row_keeps p b x r noted Copy answer q bx br j e s = copy_keeps p x noted answer q e s
-row_keeps p b x r noted Trim answer q bx br j e s = trim_keeps p b x noted answer q bx e s
-row_keeps p b x r noted Expire answer q bx br j e s = expire_keeps p x noted answer q e s
-row_keeps p b x r noted (Raise start) answer q bx br j e s = raise_keeps p x start answer q e s
-row_keeps p b x r noted (Clock ms) answer q bx br j e s = silent_keeps p answer q e s
-row_keeps p b x r noted Stop answer q bx br j e s = stop_keeps p b x answer q bx e s
-row_keeps p b x r noted Up answer q bx br j e s = up_keeps p b x answer q bx e s
-row_keeps p b x r noted (Fetch offset limit) answer q bx br j e s = fetch_keeps p x offset limit noted answer q e s
-row_keeps p b x r noted (Pack on) answer q bx br j e s = silent_keeps p answer q e s
-row_keeps p b x r noted (Copying on) answer q bx br j e s = silent_keeps p answer q e s
-row_keeps p b x r noted (Offset which) answer q bx br j e s = offset_keeps p x which noted answer q e s
+    → row p b x r noted command answer ≡ Some q → PlainSafe p → RowGoes (restarts command (Answers answer)) p q
+row_keeps p b x r noted (Append recs) answer q bx br j e s = row_goes p q (append_keeps p b x (built recs) answer q bx (built_long recs) e s)
+row_keeps p b x r noted (Raw bytes) answer q bx br j e s = row_goes p q (raw_keeps p b x bytes (checked bytes) answer q bx (λ batch is. (is_batch_of bytes batch is).long) e s)
+row_keeps p b x r noted Flush answer q bx br j e s = row_goes p q (flush_keeps p b x answer q bx e s)
+row_keeps p b x r noted Roll answer q bx br j e s = row_goes p q (roll_keeps p b x answer q bx e s)
+row_keeps p b x r noted Elect answer q bx br j e s = row_goes p q (elect_keeps p b x r answer q br e s)
+row_keeps p b x r noted Unclean answer q bx br j e s = unclean_goes p b x answer q bx e s
+row_keeps p b x r noted Learn answer q bx br j e s = row_goes p q (learn_keeps p b x r answer q bx br e s)
+row_keeps p b x r noted Join answer q bx br j e s = row_goes p q (join_keeps p b x noted answer q bx (joined_for_join p x noted j) e s)
+row_keeps p b x r noted (Follow limit) answer q bx br j e s = row_goes p q (follow_keeps p b x limit noted answer q bx (joined_for_follow p x noted limit j) e s)
+row_keeps p b x r noted Ack answer q bx br j e s = row_goes p q (ack_keeps p b x r answer q bx br e s)
+row_keeps p b x r noted Shrink answer q bx br j e s = row_goes p q (shrink_keeps p b r answer q br e s)
+row_keeps p b x r noted Expand answer q bx br j e s = row_goes p q (expand_keeps p b x r answer q br e s)
+row_keeps p b x r noted Copy answer q bx br j e s = row_goes p q (copy_keeps p x noted answer q e s)
+row_keeps p b x r noted Trim answer q bx br j e s = row_goes p q (trim_keeps p b x noted answer q bx e s)
+row_keeps p b x r noted Expire answer q bx br j e s = row_goes p q (expire_keeps p x noted answer q e s)
+row_keeps p b x r noted (Raise start) answer q bx br j e s = row_goes p q (raise_keeps p x start answer q e s)
+row_keeps p b x r noted (Clock ms) answer q bx br j e s = row_goes p q (silent_keeps p answer q e s)
+row_keeps p b x r noted Stop answer q bx br j e s = row_goes p q (stop_keeps p b x answer q bx e s)
+row_keeps p b x r noted Up answer q bx br j e s = row_goes p q (up_keeps p b x answer q bx e s)
+row_keeps p b x r noted (Fetch offset limit) answer q bx br j e s = row_goes p q (fetch_keeps p x offset limit noted answer q e s)
+row_keeps p b x r noted (Pack on) answer q bx br j e s = row_goes p q (silent_keeps p answer q e s)
+row_keeps p b x r noted (Copying on) answer q bx br j e s = row_goes p q (silent_keeps p answer q e s)
+row_keeps p b x r noted (Offset which) answer q bx br j e s = row_goes p q (offset_keeps p x which noted answer q e s)
 
 -- what was written of an actor stands there
 pub actor_put : (actors : List Actor) (a : ℕ) (y : Actor) → actor_at (put_actor actors a y) a ≡ y
@@ -204,23 +205,23 @@ noted_begin p order x z h = record {
   joined = λ c. let j = h.joined c in (j.0, j.1, λ _ _. refl);
 }
 
--- what a step keeps
-pub record Goes (p q : State) : Type 0 where
+-- what a step keeps, where `anew` tells whether it begins anew what is committed
+pub record Goes (anew : Bool) (p q : State) : Type 0 where
   pub safe : PlainSafe q
   pub wider : Wider p.paths q.paths
-  pub grows : q.unclean ≡ false → IsPrefix p.committed q.committed
-  pub clean : q.unclean ≡ false → p.unclean ≡ false
+  pub grows : anew ≡ false → IsPrefix p.committed q.committed
+  pub clean : q.unclean ≡ false → (p.unclean ≡ false) × (anew ≡ false)
 
 -- what an event of actor a keeps: that, and the other actors
-pub record EventGoes (p : State) (a : ℕ) (q : State) : Type 0 where
-  pub goes : Goes p q
+pub record EventGoes (anew : Bool) (p : State) (a : ℕ) (q : State) : Type 0 where
+  pub goes : Goes anew p q
   pub others : (c : ℕ) → c ≢ a → actor_at q.actors c ≡ actor_at p.actors c
 
 -- an actor that goes on keeps what a row does
-with_actor_keeps : (p q : State) (a : ℕ) (y : Actor)
+with_actor_goes : (anew : Bool) (p q : State) (a : ℕ) (y : Actor)
     → ((n : Noted) (x : Broker) → y.begun ≡ Some n → slice_get q.brokers n.order.broker.0 ≡ Some x → NotedSafe q.paths q.registry.epoch n x)
-    → Keeps p q → EventGoes p a (with_actor a y q)
-with_actor_keeps p q a y h k = record {
+    → RowGoes anew p q → EventGoes anew p a (with_actor a y q)
+with_actor_goes anew p q a y h k = record {
   goes = record { safe = with_actor_safe q a y h k.safe; wider = k.wider; grows = k.grows; clean = k.clean };
   others = λ c ne. actor_kept q.actors a y c ne ∙ ap (λ (z : List Actor). actor_at z c) k.actors;
 }
@@ -234,18 +235,23 @@ begun_safe p a order x (Some n) bx s i t =
     let one : n.order.broker.0 ≡ order.broker.0 = eq_of n.order.broker.0 order.broker.0 u.0 in
     (u.1, s.noted a n x i (ap (λ (k : ℕ). slice_get p.brokers k) one ∙ bx))
 
+-- a command that begins leaves what is committed
+begins_on : (c : Command) (cut : Option ℕ) → restarts c (Begins cut) ≡ false
+begins_on Unclean cut = refl
+begins_on other cut = refl
+
 -- so does each event
 event_goes : (p : State) (a : ℕ) (order : Order) (x : Broker) (r : Replica) (event : Event) (q : State)
     → slice_get p.brokers order.broker.0 ≡ Some x → slice_get p.registry.replicas order.broker.0 ≡ Some r
     → is_noted (actor_at p.actors a).begun order ≡ true
-    → event_step p a (actor_at p.actors a) order x r event ≡ Some q → PlainSafe p → EventGoes p a q
+    → event_step p a (actor_at p.actors a) order x r event ≡ Some q → PlainSafe p → EventGoes (restarts order.command event) p a q
 event_goes p a order x r (Begins cut) q bx br noted e s =
     let w = map_some _ (option_and_then (λ (z : Broker). when (is_none (actor_at p.actors a).begun) z) (begins p x order.command cut)) q e in
     let f = and_then_some _ (begins p x order.command cut) w.0 w.1 in
     let v = when_some _ _ w.0 f.2 in
     let is : begins p x order.command cut ≡ Some w.0 = f.1 ∙ ap Some v.1 in
     let g = begins_safe p order.broker.0 x order.command cut w.0 bx is s in
-    subst (λ (k : State). EventGoes p a k) w.2 (with_actor_keeps p (put_broker p order.broker.0 w.0) a _
+    subst (λ (k : Bool). EventGoes k p a q) (sym (begins_on order.command cut)) (subst (λ (k : State). EventGoes false p a k) w.2 (with_actor_goes false p (put_broker p order.broker.0 w.0) a _
     (λ n z bg nz.
     let same : noted_of p order w.0 ≡ n = cc (bg) in
     subst (λ (k : Noted). NotedSafe p.paths p.registry.epoch k z) same
@@ -253,11 +259,11 @@ event_goes p a order x r (Begins cut) q bx br noted e s =
       | inl i ↦ subst (λ (k : Broker). NotedSafe p.paths p.registry.epoch (noted_of p order w.0) k) (sym i.1) (noted_begin p order x w.0 g)
       | inr i ↦ absurd (i.0 refl)
     ]))
-    (broker_kept p order.broker.0 x w.0 bx g.swap s))
+    (row_goes p (put_broker p order.broker.0 w.0) (broker_kept p order.broker.0 x w.0 bx g.swap s))))
 event_goes p a order x r (Answers answer) q bx br noted e s =
     let w = map_some _ (row p order.broker.0 x r (actor_at p.actors a).begun order.command answer) q e in
     let begun = begun_safe p a order x (actor_at p.actors a).begun bx s refl noted in
-    subst (λ (k : State). EventGoes p a k) w.2 (with_actor_keeps p w.0 a _ (λ n z bg nz. absurd cc)
+    subst (λ (k : State). EventGoes (restarts order.command (Answers answer)) p a k) w.2 (with_actor_goes (restarts order.command (Answers answer)) p w.0 a _ (λ n z bg nz. absurd cc)
     (row_keeps p order.broker.0 x r (actor_at p.actors a).begun order.command answer w.0 bx br begun w.1 s))
 
 -- what a step is made of
@@ -287,13 +293,15 @@ step_of p order entry q e =
       event = subst (λ (k : Actor). event_step p entry.actor.0 k order x.0 r.0 entry.event ≡ Some q) (sym w.1) y.2;
     }
 
-step_event : (p : State) (order : Order) (entry : JournalEntry) (q : State) → step p order entry ≡ Some q → PlainSafe p → EventGoes p entry.actor.0 q
+step_event : (p : State) (order : Order) (entry : JournalEntry) (q : State) → step p order entry ≡ Some q → PlainSafe p
+    → EventGoes (restarts order.command entry.event) p entry.actor.0 q
 step_event p order entry q e s =
     let h = step_of p order entry q e in
     event_goes p entry.actor.0 order h.broker h.replica entry.event q h.at h.place h.noted h.event s
 
 -- so does each step
-pub step_goes : (p : State) (order : Order) (entry : JournalEntry) (q : State) → step p order entry ≡ Some q → PlainSafe p → Goes p q
+pub step_goes : (p : State) (order : Order) (entry : JournalEntry) (q : State) → step p order entry ≡ Some q → PlainSafe p
+    → Goes (restarts order.command entry.event) p q
 step_goes p order entry q e s = (step_event p order entry q e s).goes
 
 pub step_safe : (p : State) (order : Order) (entry : JournalEntry) (q : State) → step p order entry ≡ Some q → PlainSafe p → PlainSafe q

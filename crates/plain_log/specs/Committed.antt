@@ -1,19 +1,31 @@
--- What fetches are given: parts of the logs of leader epochs, and while elections are clean of one committed list.
-use Rattle.std.specs.Prelude.{◌≡◌, ℕ, ◌≤◌, Some, List, ◌∷◌, ◌++◌}
+-- What takes back what is committed, and what fetches are given: parts of the logs of leader epochs, and while elections
+-- are clean of one committed list.
+use Rattle.std.specs.Prelude.{◌≡◌, ℕ, ◌≤◌, Bool, true, false, Some, List, ◌∷◌, ◌++◌}
 use Rattle.std.specs.List.{AllByRecursion}
 use Rattle.tier_base.specs.declared.plain.Stop.{Stop}
 use Rattle.log_terms.specs.Batch.{base_of, last_of}
 use Rattle.log_terms.specs.Log.{IsConsecutive, joined}
-use Rattle.plain_log.specs.declared.answer.Answer.TheVariants.{Run}
+use Rattle.plain_log.specs.declared.answer.Answer.TheVariants.{Run, OkAt}
 use Rattle.plain_log.specs.declared.answer.Tier.{Tier}
 use Rattle.plain_log.specs.declared.command.ActorList.{ActorList}
-use Rattle.plain_log.specs.declared.command.Command.TheVariants.{Fetch}
+use Rattle.plain_log.specs.declared.command.Command.{Command}
+use Rattle.plain_log.specs.declared.command.Command.TheVariants.{Fetch, Unclean}
 use Rattle.plain_log.specs.declared.command.Order.{Order}
+use Rattle.plain_log.specs.declared.journal.Event.{Event}
 use Rattle.plain_log.specs.declared.journal.Event.TheVariants.{Answers}
 use Rattle.plain_log.specs.declared.journal.JournalEntry.{JournalEntry}
 use Rattle.plain_log.specs.declared.state.Path.{Path}
 use Rattle.plain_log.specs.State.{path_of}
 use Rattle.plain_log.specs.Runs.{order_of}
+
+-- an unclean election is answered with a new leader epoch: what is committed begins anew
+abbrev pub restarts : Command → Event → Bool
+restarts Unclean (Answers (OkAt n)) = true
+restarts command event = false
+
+-- the entry is no such answer
+abbrev pub IsNoRestart : List ActorList → JournalEntry → Type 0
+IsNoRestart lists entry = (order : Order) → order_of lists entry ≡ Some order → restarts order.command entry.event ≡ false
 
 -- the bytes are batches of the log, one after another, from the one on that holds the offset
 pub record IsPartAt (offset : ℕ) (bytes : List ℕ) (log : List (List ℕ)) : Type 0 where

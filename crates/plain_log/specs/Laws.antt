@@ -1,5 +1,6 @@
 -- The laws of the plain log.
 use Rattle.std.specs.Prelude.{◌≡◌, ℕ, ◌≤◌, Some, List, [], ◌∷◌, ◌++◌, false}
+use Rattle.std.specs.List.{AllByRecursion}
 use mathlib.Core.List.{IsPrefix}
 use Rattle.log_terms.specs.Batch.{epoch_of}
 use Rattle.plain_log.specs.declared.command.Config.{Config}
@@ -12,7 +13,7 @@ use Rattle.plain_log.specs.Runs.{replay, IsPlainRun, IsInOrder}
 use Rattle.plain_log.specs.Fresh.{fresh}
 use Rattle.plain_log.specs.Safe.{LogSafe, PlainSafe}
 use Rattle.plain_log.specs.Grows.{Grows}
-use Rattle.plain_log.specs.Committed.{IsCommitted, IsLed}
+use Rattle.plain_log.specs.Committed.{restarts, IsNoRestart, IsCommitted, IsLed}
 
 -- each step keeps the safety rules
 abbrev pub StepsKeepSafe : Type 0
@@ -43,10 +44,16 @@ abbrev pub RunsAnswerInOrder : Type 0
 RunsAnswerInOrder = (config : Config) (lists : List ActorList) (journal : List JournalEntry)
     → IsPlainRun config lists journal → IsInOrder journal
 
--- no step to a state of clean elections takes back what is committed
+-- no step takes back what is committed, unless it answers an unclean election with a new epoch
 abbrev pub CommittedGrows : Type 0
 CommittedGrows = (p : State) (order : Order) (entry : JournalEntry) (q : State) → step p order entry ≡ Some q
-    → PlainSafe p → q.unclean ≡ false → IsPrefix p.committed q.committed
+    → PlainSafe p → restarts order.command entry.event ≡ false → IsPrefix p.committed q.committed
+
+-- what is committed stays until the next unclean election that is answered with a new epoch
+abbrev pub CommittedStays : Type 0
+CommittedStays = (lists : List ActorList) (p : State) (journal : List JournalEntry) (q : State)
+    → replay lists p journal ≡ Some q → PlainSafe p → AllByRecursion (IsNoRestart lists) journal
+    → IsPrefix p.committed q.committed
 
 -- while elections are clean, each run that a fetch was given is a part of one committed list
 abbrev pub RunsAreCommitted : Type 0

@@ -7,7 +7,7 @@ use Rattle.plain_log.specs.declared.command.Order.{Order}
 use Rattle.plain_log.specs.declared.command.ActorList.{ActorList}
 use Rattle.plain_log.specs.declared.command.Config.{Config}
 
--- the command's numbers are in range, and the records of an append make a batch; no world packs a copy's parts yet
+-- the command's numbers are in range, and the records of an append make a batch
 abbrev pub IsInRange : Command → Type 0
 IsInRange (Append recs) = IsBuildable recs
 IsInRange (Raw bytes) = length bytes ≤ 1048576

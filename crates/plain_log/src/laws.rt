@@ -1,6 +1,6 @@
 //! Laws of the plain log. Each is the contract of a function that does nothing: calling it cites the law.
 
-ghost use Rattle.plain_log.specs.Laws.{StepsKeepSafe, StepsGrow, ReplaysKeepSafe, FreshIsSafe, EpochsNeverFall, RunsAnswerInOrder, CommittedGrows, RunsAreCommitted, RunsAreLed};
+ghost use Rattle.plain_log.specs.Laws.{StepsKeepSafe, StepsGrow, ReplaysKeepSafe, FreshIsSafe, EpochsNeverFall, RunsAnswerInOrder, CommittedGrows, CommittedStays, RunsAreCommitted, RunsAreLed};
 
 /// Each step keeps the safety rules.
 pub fn steps_keep_safe()
@@ -32,9 +32,15 @@ pub fn runs_answer_in_order()
     ensures { RunsAnswerInOrder }
 {}
 
-/// No step to a state of clean elections takes back what is committed.
+/// No step takes back what is committed, whatever the elections before it, but for an unclean election that is answered
+/// with a new epoch.
 pub fn committed_grows()
     ensures { CommittedGrows }
+{}
+
+/// What is committed stays until the next unclean election that is answered with a new epoch.
+pub fn committed_stays()
+    ensures { CommittedStays }
 {}
 
 /// While elections are clean, each run that a fetch was given is a part of one committed list.
