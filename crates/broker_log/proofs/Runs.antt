@@ -119,7 +119,7 @@ module _ {D : Type 0} (content : D → Content) (old new : Log D) (b : Becomes c
   module _ (control : D → Control call_code) (offset limit mark : ℕ) (from : old.local_start ≤ offset) (below : offset < mark) where
     -- the run that was read
     pub reads_by : (IsTrue (content old.disk).tells → Coheres old) → (out : RunOut) → (IsTrue (content old.disk).tells → IsRunOf old offset limit mark out) → out.base ≡ (segment_at old offset).base
-        → IsCut (control new.disk).handed offset limit mark (piece_of old offset) out → Reads content control (Up old) (Up new) offset limit mark out
+        → IsCut old.line (control new.disk).handed offset limit mark (piece_of old offset) out → Reads content control (Up old) (Up new) offset limit mark out
     reads_by coheres out run base part = record {
       stays = reading_stays;
       base = base;

@@ -284,7 +284,7 @@ module _ {D : Type 0} (content : D → Content) (control : D → Control call_co
     pub stays : Stays content old new
     -- its segment's base
     pub base : WhileUp old (λ log. out.base ≡ (segment_at log offset).base)
-    pub part : WhileUp old (λ log. OnDisk new (λ d. IsCut (control d).handed offset limit mark (piece_of log offset) out))
+    pub part : WhileUp old (λ log. OnDisk new (λ d. IsCut log.line (control d).handed offset limit mark (piece_of log offset) out))
     pub run : (s : Seen) → Shows content old s → EndsAt mark s.batches → IsRunIn old s offset limit mark out
 
   -- no run was read, since what the disk handed has none, or no batch ends at the mark

@@ -1,5 +1,5 @@
 -- A closed segment over a disk that tells is a part of the log.
-use Rattle.std.proofs.Common.{◌≡◌, ◌≢◌, ◌∙◌, ap, sym, refl, subst, inl, inr, ℕ, ◌+◌, ◌^◌, ◌<◌, ◌≤◌, nat_lt, nat_le, Bool, true, false, List, [], ◌∷◌, ◌++◌, length, take, Option, Some, IsOk, IsTrue, arith, append_assoc}
+use Rattle.std.proofs.Common.{◌≡◌, ◌≢◌, ◌⊎◌, ◌∙◌, ap, sym, refl, subst, inl, inr, ℕ, ◌+◌, ◌^◌, ◌<◌, ◌≤◌, nat_lt, nat_le, Bool, true, false, List, [], ◌∷◌, ◌++◌, length, take, Option, Some, IsOk, IsTrue, arith, append_assoc}
 use Rattle.std.specs.List.{AllByRecursion}
 use Rattle.std.specs.Prelude.{unwrap_or}
 use Rattle.std.proofs.lemmas.Bool.{ltb-false}
@@ -14,7 +14,7 @@ use Rattle.record_batch.specs.Check.{checked}
 use Rattle.epoch_line.specs.Line.{IsLine}
 use Rattle.segment_file.specs.Growing.{Grown}
 use Rattle.segment_file.specs.Segment.{EpochsRise, IsSegment}
-use Rattle.segment_file.specs.Closed.{Whole}
+use Rattle.segment_file.specs.Closed.{Whole, IsBadPlace}
 use Rattle.segment_file.proofs.Joining.{segment_same}
 use Rattle.segment_file.proofs.Laying.{end_up}
 use Rattle.log_steps.specs.Fronts.{Each}
@@ -25,27 +25,12 @@ use Rattle.local_log.specs.declared.refusal.ReadRefusal.{ReadRefusal}
 use Rattle.local_log.specs.declared.refusal.ReadRefusal.TheVariants as refusal
 use Rattle.local_log.specs.Stored.{bytes_of, batches_of, all_batches, size_of, end_of, AreChained, IsStored}
 use Rattle.local_log.specs.Listing.{IsLaidOut}
+use Rattle.local_log.specs.Epochs.{IsOfLine}
 use Rattle.local_log.specs.Inside.{log_in, IsSound}
-use Rattle.local_log.specs.Reading.{first_past, IsFront, HasNoSegment, FrontFails, IsPartOf, IsOfDevice}
+use Rattle.local_log.specs.Reading.{first_past, IsFront, HasStray, HasNoSegment, FrontFails, IsPartOf, IsOfDevice}
 use Rattle.local_log.proofs.Pieces.{stored_batches, stored_end, size_placed}
 use Rattle.local_log.proofs.Edges.{holder, holder_each}
-
--- an epoch isn't below that of the first entry
-epoch_low : (e st : ℕ) (line : List (ℕ × ℕ)) (o x : ℕ) → IsLine ((e, st) ∷ line) → epoch_at ((e, st) ∷ line) o ≡ Some x → (e ≤ x) × (x < 2 ^ 31)
-epoch_low e st [] o x is found = go (nat_le st o) refl
-  where
-    go : (t : Bool) → nat_le st o ≡ t → (e ≤ x) × (x < 2 ^ 31)
-    go true t = let same = same_Some e x (rw t at found) in (omega (arith, same), omega (arith, same, is.0))
-    go false t = let none = rw t at found in absurd (cc (none))
-epoch_low e st ((next, after) ∷ line) o x is found = go (nat_lt o st) refl (epoch_low next after line o x is.3)
-  where
-    second : (t : Bool) → nat_lt o st ≡ false → nat_lt o after ≡ t → (epoch_at ((next, after) ∷ line) o ≡ Some x → (next ≤ x) × (x < 2 ^ 31)) → (e ≤ x) × (x < 2 ^ 31)
-    second true f t more = let same = same_Some e x (rw t at (rw f at found)) in (omega (arith, same), omega (arith, same, is.0))
-    second false f t more = let h = more (rw t at (rw f at found)) in (omega (arith, h.0, is.2.0), h.1)
-
-    go : (t : Bool) → nat_lt o st ≡ t → (epoch_at ((next, after) ∷ line) o ≡ Some x → (next ≤ x) × (x < 2 ^ 31)) → (e ≤ x) × (x < 2 ^ 31)
-    go true t more = let none = rw t at found in absurd (cc (none))
-    go false t more = second (nat_lt o after) t refl more
+use Rattle.local_log.proofs.Strays.{epoch_low, placed_given, none_strays}
 
 -- epochs don't fall
 epochs_up : (e st : ℕ) (line : List (ℕ × ℕ)) (a b x y : ℕ) → IsLine ((e, st) ∷ line) → a ≤ b → epoch_at ((e, st) ∷ line) a ≡ Some x → epoch_at ((e, st) ∷ line) b ≡ Some y → x ≤ y
@@ -209,20 +194,34 @@ module _ {D : Type 0} (content : D → Content) (s : Inside D) (sound : IsSound 
       let size : size_of found ≡ 0 + length (joined k.batches) = ap (λ l. size_of (record found { batches = l })) k.placed ∙ size_placed 0 k.batches in
       not_none k.batches (omega (arith, some, size))
 
-  pub no_bad_segment : (read : List ℕ) (at : ℕ) → read ≡ take (size_of found) (bytes_of f found) → HasNoSegment found.base (size_of found) read at → ⊥
-  no_bad_segment read at same none =
-      let here = subst (λ (b : List ℕ). HasNoSegment found.base (size_of found) b at) same none in
-      elim here.bad [
-        | inl bad ↦ bad.unread k.batches none_empty segment (again ∙ bytes)
-        | inr short ↦ (let long = k.stands.long in let e = short.0 in let lt = short.1 in let len = length-take-le (size_of found) (bytes_of f found) long in absurd (omega (arith, long, e, lt, len)))
-      ]
+  given : Each (IsOfLine s.line) k.batches
+  given = placed_given s.line found.base k.batches k.stands.placed
 
-  pub front_told : (b size : ℕ) (read : List ℕ) (e : ReadRefusal) → b ≡ found.base → size ≡ size_of found → read ≡ take (size_of found) (bytes_of f found) → FrontFails b size read e → IsOfDevice e
-  front_told b size read (refusal.Damaged name at) at_b at_size same why = no_bad_segment read at same (subst (λ (n : ℕ). HasNoSegment found.base n read at) at_size (subst (λ (n : ℕ). HasNoSegment n size read at) at_b why.1))
+  no_stray : (at : ℕ) → HasStray s.line found.base (size_of found) (take (size_of found) (bytes_of f found)) at → ⊥
+  no_stray at h =
+      let mine : h.batches ≡ k.batches = segment_same found.base found.base h.batches k.batches h.is segment (sym h.bytes_are ∙ (again ∙ bytes)) in
+      none_strays s.line h.batches at (subst (Each (IsOfLine s.line)) (sym mine) given) h.strays
+
+  pub no_bad_segment : (read : List ℕ) (at : ℕ) → read ≡ take (size_of found) (bytes_of f found) → HasNoSegment s.line found.base (size_of found) read at → ⊥
+  no_bad_segment read at same none = go (subst (λ (b : List ℕ). HasNoSegment s.line found.base (size_of found) b at) same none).bad
+    where
+      part : List ℕ
+      part = take (size_of found) (bytes_of f found)
+
+      short : at ≡ length part → at < size_of found → ⊥
+      short e lt = let long = k.stands.long in let len = length-take-le (size_of found) (bytes_of f found) long in omega (arith, long, e, lt, len)
+
+      go : IsBadPlace found.base (take (size_of found) part) at ⊎ (((at ≡ length part) × (at < size_of found)) ⊎ HasStray s.line found.base (size_of found) part at) → ⊥
+      go (inl bad) = bad.unread k.batches none_empty segment (again ∙ bytes)
+      go (inr (inl cut)) = short cut.0 cut.1
+      go (inr (inr stray)) = no_stray at stray
+
+  pub front_told : (b size : ℕ) (read : List ℕ) (e : ReadRefusal) → b ≡ found.base → size ≡ size_of found → read ≡ take (size_of found) (bytes_of f found) → FrontFails s.line b size read e → IsOfDevice e
+  front_told b size read (refusal.Damaged name at) at_b at_size same why = no_bad_segment read at same (subst (λ (n : ℕ). HasNoSegment s.line found.base n read at) at_size (subst (λ (n : ℕ). HasNoSegment s.line n size read at) at_b why.1))
   front_told b size read refusal.DiskFault at_b at_size same why = absurd why
   front_told b size read refusal.NoMemory at_b at_size same why = why
 
-  pub part_told : (read : List ℕ) (whole : Whole) → read ≡ take (size_of found) (bytes_of f found) → IsFront found.base (size_of found) read whole → IsPartOf (log_in content s) whole
+  pub part_told : (read : List ℕ) (whole : Whole) → read ≡ take (size_of found) (bytes_of f found) → IsFront s.line found.base (size_of found) read whole → IsPartOf (log_in content s) whole
   part_told read whole same front =
       let w = front.whole in
       let stands = subst (StandsAt f s.local_start closed s.active) at_holder (holder_stands f s.line s.local_start offset closed s.active sound.segments.chained ((sound.has unbroken).stored t)) in

@@ -30,6 +30,7 @@ use Rattle.log_steps.specs.Fronts.{Each}
 use Rattle.log_steps.specs.Opens.{IsPlaced}
 use Rattle.log_steps.proofs.Lists.{each_map, each_right}
 use Rattle.local_log.specs.Stored.{bytes_of, size_of, end_of, IsStored}
+use Rattle.local_log.specs.Epochs.{IsRow}
 use Rattle.local_log.specs.Reading.{HasNoRun, passes}
 use Rattle.local_log.proofs.Pieces.{joined_append, stored_end}
 use Rattle.local_log.proofs.Heads.{head_front, headed_batch}
@@ -37,17 +38,17 @@ use Rattle.local_log.proofs.Reached.{Enough, front_whole}
 use Rattle.local_log.proofs.Edges.{Ends, from_skip}
 
 -- there is no run in nothing
-pub no_run_in_nothing : (offset limit bound position : ℕ) → HasNoRun [] offset limit bound position 0
-no_run_in_nothing offset limit bound position = record {
+pub no_run_in_nothing : (line : List (ℕ × ℕ)) (offset limit mark piece position : ℕ) → HasNoRun line [] offset limit mark piece position 0
+no_run_in_nothing line offset limit mark piece position = record {
   found = 0;
-  bad = record {
+  bad = inl (record {
     batches = [];
     rest = [];
     stand = record { parts = refl; follow = tt; place = refl };
     fits = tt;
     goes_on = tt;
     nothing = λ batch more e follows. (let long = checked_long batch follows.is in let n = ap length e ∙ length-append batch more in absurd (omega (arith, long, n)));
-  };
+  });
   place = inr (refl, refl);
 }
 
@@ -134,7 +135,7 @@ next_below n (x ∷ xs) m more (l ∷ ls) c p lt =
     subst (λ (z : List ℕ). last_of m + 1 ≤ end_from (last_of z + 1) ls) same (next_below (last_of x + 1) xs m more ls c.1 (p.0, others) lt')
 
 -- batches up to an offset, and those from it on
-from_parts : (offset : ℕ) (xs : List (List ℕ)) → (skipped : List (List ℕ)) × (xs ≡ skipped ++ from_offset offset xs)
+pub from_parts : (offset : ℕ) (xs : List (List ℕ)) → (skipped : List (List ℕ)) × (xs ≡ skipped ++ from_offset offset xs)
 from_parts offset [] = ([], refl)
 from_parts offset (x ∷ xs) = go (nat_lt (last_of x) offset) refl (from_parts offset xs)
   where
@@ -175,6 +176,47 @@ ends_within last offset bound (x ∷ xs) le are = ends_within (Some (last_of x +
 pub cancel : (xs ys zs : List (List ℕ)) → xs ++ ys ≡ xs ++ zs → ys ≡ zs
 cancel [] ys zs e = e
 cancel (x ∷ xs) ys zs e = let others : xs ++ ys ≡ xs ++ zs = cc (e) in cancel xs ys zs others
+
+follow_checked : (last : Option ℕ) (offset bound : ℕ) (xs : List (List ℕ)) → AreBatches last offset bound xs → AreChecked xs
+follow_checked last offset bound [] are = tt
+follow_checked last offset bound (x ∷ xs) are = (are.0.is, follow_checked (Some (last_of x + 1)) offset bound xs are.1)
+
+-- the bytes of a run that is cut out are its batches
+module _ (part : List ℕ) (offset limit mark piece : ℕ) (cut : Cutout) (r : IsRun part offset limit mark piece cut) where
+  skipping : (skipped : List (List ℕ)) × (r.batches ≡ skipped ++ r.first ∷ r.others)
+  skipping = let p = from_parts offset r.batches in (p.0, p.1 ∙ ap (λ (l : List (List ℕ)). p.0 ++ l) r.run)
+
+  from_is : cut.from ≡ length (joined skipping.0)
+  from_is =
+      let sum : length (joined r.batches) ≡ length (joined skipping.0) + length (joined (r.first ∷ r.others)) =
+      ap (λ (l : List (List ℕ)). length (joined l)) skipping.1 ∙ ap length (joined_append skipping.0 (r.first ∷ r.others)) ∙ length-append (joined skipping.0) (joined (r.first ∷ r.others)) in
+      let place = r.stand.place in
+      let to = r.from in
+      omega (arith, sum, place, to)
+
+  pub run_bytes : slice_range part cut.from cut.to ≡ joined (r.first ∷ r.others)
+  run_bytes =
+      let run = joined (r.first ∷ r.others) in
+      let long : cut.to - cut.from ≡ length run = (let to = r.from in omega (arith, to)) in
+      let there : part ≡ joined skipping.0 ++ (run ++ r.rest) =
+      r.stand.parts ∙ ap (λ (l : List (List ℕ)). joined l ++ r.rest) skipping.1 ∙ ap (λ (l : List ℕ). l ++ r.rest) (joined_append skipping.0 (r.first ∷ r.others)) ∙ append_assoc (joined skipping.0) run r.rest in
+      ap (λ (l : List ℕ). slice_range l cut.from cut.to) there
+      ∙ ap (λ (k : ℕ). take k (drop cut.from (joined skipping.0 ++ (run ++ r.rest)))) long
+      ∙ ap (λ (k : ℕ). take (length run) (drop k (joined skipping.0 ++ (run ++ r.rest)))) from_is
+      ∙ ap (take (length run)) (drop_at (joined skipping.0) (run ++ r.rest))
+      ∙ take_at run r.rest (length run) refl
+
+  pub run_checked : AreChecked (r.first ∷ r.others)
+  run_checked =
+      each_right (λ (b : List ℕ). IsOk (checked b)) skipping.0 (r.first ∷ r.others)
+      (subst AreChecked skipping.1 (follow_checked None offset (min mark piece) r.batches r.stand.follow))
+
+  -- and these bytes are they
+  abbrev pub run_row : (bytes : List ℕ) → bytes ≡ slice_range part cut.from cut.to → IsRow bytes
+  run_row bytes is = record { batches = r.first ∷ r.others; bytes_are = is ∙ run_bytes; are = run_checked }
+
+  pub run_within : cut.to ≤ length part
+  run_within = let e = ap length r.stand.parts ∙ length-append (joined r.batches) r.rest in let place = r.stand.place in omega (arith, e, place)
 
 -- what is read of a stored segment from a position on that an index gives
 module _ (f : Files) (line : List (ℕ × ℕ)) (g : Grown) (s : IsStored f line g) (offset limit mark piece position : ℕ)
@@ -356,24 +398,6 @@ module _ (f : Files) (line : List (ℕ × ℕ)) (g : Grown) (s : IsStored f line
           ∙ ap (from_offset offset) (append_assoc r.batches h.0 beyond)
           ∙ from_more offset r.batches (h.0 ++ beyond) r.first r.others r.run
 
-      from_is : cut.from ≡ length (joined p.0)
-      from_is =
-          let sum : length (joined r.batches) ≡ length (joined p.0) + length (joined run) = ap (λ (l : List (List ℕ)). length (joined l)) is ∙ ap length (joined_append p.0 run) ∙ length-append (joined p.0) (joined run) in
-          let place = r.stand.place in
-          let to = r.from in
-          omega (arith, sum, place, to)
-
-      bytes_cut : slice_range part cut.from cut.to ≡ joined run
-      bytes_cut =
-          let long : cut.to - cut.from ≡ length (joined run) = (let to = r.from in omega (arith, to)) in
-          let there : part ≡ joined p.0 ++ (joined run ++ r.rest) =
-          r.stand.parts ∙ ap (λ (l : List (List ℕ)). joined l ++ r.rest) is ∙ ap (λ (l : List ℕ). l ++ r.rest) (joined_append p.0 run) ∙ append_assoc (joined p.0) (joined run) r.rest in
-          ap (λ (l : List ℕ). slice_range l cut.from cut.to) there
-          ∙ ap (λ (k : ℕ). take k (drop cut.from (joined p.0 ++ (joined run ++ r.rest)))) long
-          ∙ ap (λ (k : ℕ). take (length (joined run)) (drop k (joined p.0 ++ (joined run ++ r.rest)))) from_is
-          ∙ ap (take (length (joined run))) (drop_at (joined p.0) (joined run ++ r.rest))
-          ∙ take_at (joined run) r.rest (length (joined run)) refl
-
       passed : (more : List (List ℕ)) → latter ≡ r.batches ++ more → r.rest ++ behind ≡ joined more ++ tail → cut.next ≢ piece → would_pass limit (length (joined run)) (headed r.rest) ≡ true
           → passes limit (length (joined run)) (more ++ beyond) ≡ true
       passed [] parts e other pass =
@@ -390,4 +414,4 @@ module _ (f : Files) (line : List (ℕ × ℕ)) (g : Grown) (s : IsStored f line
       stops Limit why = (why.0, why.1, passed h.0 h.1 h.2 why.1 why.2)
 
       pub told : Told cut r beyond
-      told = record { rest = h.0 ++ beyond; parts = parts_are; bytes = bytes_cut; next = next_is; below = below_is; stop = stops cut.stop r.stop_is }
+      told = record { rest = h.0 ++ beyond; parts = parts_are; bytes = run_bytes part offset limit mark piece cut r; next = next_is; below = below_is; stop = stops cut.stop r.stop_is }

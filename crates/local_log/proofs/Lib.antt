@@ -26,6 +26,7 @@ pub mod Dropped
 pub mod Edges
 pub mod Reached
 pub mod CutOut
+pub mod Strays
 pub mod RunsTold
 pub mod ClosedTold
 pub mod Lined

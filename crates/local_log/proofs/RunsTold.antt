@@ -1,7 +1,6 @@
 -- A run over a disk that tells is a part of the log.
 use Rattle.std.proofs.lemmas.List.{take-append-drop}
 use Rattle.std.proofs.Common.{◌≡◌, ◌∙◌, ap, sym, refl, subst, ℕ, zero, suc, ◌+◌, ◌<◌, ◌≤◌, min, true, false, List, [], ◌∷◌, ◌++◌, length, take, drop, nat_lt, inl, inr, length-append, Option, Some, None, option_map, Result, Ok, Err, IfOk, IfErr, IsErrAnd, IsOk, IsTrue, arith}
-use Rattle.tier_base.specs.declared.plain.FileName.TheVariants as file
 use Rattle.tier_base.specs.Told.{bytes_in}
 use Rattle.disk_model.specs.Content.{Content, Files, part_of}
 use Rattle.log_terms.specs.Batch.{last_of}
@@ -10,9 +9,10 @@ use Rattle.record_batch.specs.Check.{checked}
 use Rattle.segment_file.specs.Growing.{Grown, BeginsSearch, ending_by}
 use Rattle.segment_file.specs.Index.{placed, placed_from}
 use Rattle.segment_file.specs.Reach.{reach_from, reach_at}
-use Rattle.segment_file.specs.Run.{Fits}
+use Rattle.segment_file.specs.declared.taking.Cutout.{Cutout}
+use Rattle.segment_file.specs.Run.{Fits, IsRun}
 use Rattle.log_steps.specs.Fronts.{Each}
-use Rattle.log_steps.proofs.Lists.{each_join, each_right}
+use Rattle.log_steps.proofs.Lists.{each_join, each_left, each_right}
 use Rattle.local_log.specs.declared.log.LocalLog.TheInside.{Inside}
 use Rattle.local_log.specs.declared.reading.RunOut.{RunOut}
 use Rattle.local_log.specs.declared.refusal.ReadRefusal.{ReadRefusal}
@@ -20,12 +20,14 @@ use Rattle.local_log.specs.declared.refusal.ReadRefusal.TheVariants as refusal
 use Rattle.local_log.specs.Stored.{bytes_of, all_batches, size_of, IsStored}
 use Rattle.local_log.specs.Listing.{AreSegmentsOf, IsLaidOut}
 use Rattle.local_log.specs.Inside.{log_in, IsSound}
-use Rattle.local_log.specs.Reading.{begin_of, position_of, is_edge, piece_end, IsCut, HasNoRun, IsRunOf, CutFails, IsOfDevice}
+use Rattle.local_log.specs.Reading.{begin_of, position_of, is_edge, piece_end, IsCut, IsStray, HasNoRun, IsRunOf, CutFails, IsOfDevice}
+use Rattle.local_log.specs.Epochs.{IsOfLine}
+use Rattle.local_log.proofs.Strays.{placed_given, none_strays}
 use Rattle.local_log.proofs.Heads.{long_batch}
 use Rattle.local_log.proofs.Pieces.{stored_batches, size_placed, joined_append}
 use Rattle.local_log.proofs.Edges.{holder, IsPieceEnd, piece_ends, holder_each, holder_base, holder_end, bound_ends, holder_from, log_begin, Ends}
 use Rattle.local_log.proofs.Reached.{begins_there, first_holds, Enough, enough, take_long}
-use Rattle.local_log.proofs.CutOut.{AreChecked, parted, n as start_of, row as row_of, oks as oks_of, tail, bytes_are, never_bad, told}
+use Rattle.local_log.proofs.CutOut.{AreChecked, parted, n as start_of, row as row_of, oks as oks_of, tail, bytes_are, from_parts, never_bad, told}
 
 pub ok_more : {T E : Type 0} (P Q : T → Type 0) (r : Result T E) → ((x : T) → P x → Q x) → IfOk r P → IfOk r Q
 ok_more P Q (Ok x) f h = f x h
@@ -162,19 +164,34 @@ module _ {D : Type 0} (content : D → Content) (s : Inside D) (sound : IsSound 
         go (inl whole) = inl (take_long (length (joined xs) + length m) most (drop position (bytes_of f g)) whole (omega (arith, all, long)))
         go (inr head) = inr (head.0, head.1, take_long (length (joined xs) + 61) most (drop position (bytes_of f g)) head.2 (omega (arith, all, long, big)))
 
-    pub no_bad : (bytes : List ℕ) (at : ℕ) → bytes ≡ part → HasNoRun bytes offset limit (min mark piece) position at → ⊥
-    no_bad bytes at is none =
-        let here = subst (λ (b : List ℕ). HasNoRun b offset limit (min mark piece) position at) is none in
-        never_bad f s.line g k offset limit mark piece position search base under p.above ends p.below part unread read holds enough_read here.found here.bad
+    -- the batches of a run are the segment's
+    run_given : (cut : Cutout) (r : IsRun part offset limit mark piece cut) → Each (IsOfLine s.line) (r.first ∷ r.others)
+    run_given cut r =
+        let t = told f s.line g k offset limit mark piece position search base under p.above ends p.below part unread read cut r [] in
+        let all = each_join (IsOfLine s.line) k.batches [] (placed_given s.line g.base k.batches k.stands.placed) tt in
+        let skipped = from_parts offset (k.batches ++ []) in
+        let rest = each_right (IsOfLine s.line) skipped.0 (from_offset offset (k.batches ++ [])) (subst (Each (IsOfLine s.line)) skipped.1 all) in
+        each_left (IsOfLine s.line) (r.first ∷ r.others) t.rest (subst (Each (IsOfLine s.line)) t.parts rest)
 
-    pub fails_told : (b : ℕ) (bytes : List ℕ) (e : ReadRefusal) → bytes ≡ part → CutFails b position bytes offset limit (min mark piece) e → IsOfDevice e
+    no_stray : (at : ℕ) → IsStray s.line part offset limit mark piece at → ⊥
+    no_stray at h = none_strays s.line (h.is.first ∷ h.is.others) h.behind (run_given h.cut h.is) h.strays
+
+    pub no_bad : (bytes : List ℕ) (at : ℕ) → bytes ≡ part → HasNoRun s.line bytes offset limit mark piece position at → ⊥
+    no_bad bytes at is none =
+        let here = subst (λ (b : List ℕ). HasNoRun s.line b offset limit mark piece position at) is none in
+        elim here.bad [
+          | inl bad ↦ never_bad f s.line g k offset limit mark piece position search base under p.above ends p.below part unread read holds enough_read here.found bad
+          | inr stray ↦ no_stray here.found stray
+        ]
+
+    pub fails_told : (b : ℕ) (bytes : List ℕ) (e : ReadRefusal) → bytes ≡ part → CutFails s.line b position bytes offset limit mark piece e → IsOfDevice e
     fails_told b bytes (refusal.Damaged name at) is why = no_bad bytes at is why.1
     fails_told b bytes refusal.DiskFault is why = tt
     fails_told b bytes refusal.NoMemory is why = tt
 
-    pub run_told : (bytes : List ℕ) (out : RunOut) → bytes ≡ part → IsCut bytes offset limit mark piece out → IsRunOf (log_in content s) offset limit mark out
+    pub run_told : (bytes : List ℕ) (out : RunOut) → bytes ≡ part → IsCut s.line bytes offset limit mark piece out → IsRunOf (log_in content s) offset limit mark out
     run_told bytes out is there =
-        let here = subst (λ (b : List ℕ). IsCut b offset limit mark piece out) is there in
+        let here = subst (λ (b : List ℕ). IsCut s.line b offset limit mark piece out) is there in
         let more = holder_from f s.line offset closed s.active each in
         let r = told f s.line g k offset limit mark piece position search base under p.above ends p.below part unread read here.cut here.is more.0 in
         let cut_is = here.part ∙ r.bytes in

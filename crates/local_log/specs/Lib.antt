@@ -7,6 +7,7 @@ pub mod Listing
 pub mod Parsing
 pub mod Refusing
 pub mod Taking
+pub mod Epochs
 pub mod Reading
 pub mod Inside
 pub mod Opening

@@ -1,18 +1,21 @@
 -- What is read of a log: the run at an offset, and its closed segments.
 --
 -- A run has the batch that holds the offset, and as many further ones as the mark and the limit allow. It lies in a
--- piece: in one segment, and before the next epoch starts. A start that is no batch's end ends no piece.
-use Rattle.std.specs.Prelude.{◌≡◌, ℕ, ◌+◌, ◌-◌, ◌<◌, ◌≤◌, ◌⊎◌, ◌==◌, ◌&&◌, nat_lt, min, Bool, true, false, if◌then◌else◌, List, [], ◌∷◌, ◌++◌, length, take, Option, Some, None, unwrap_or, slice_range}
+-- piece: in one segment, and before the next epoch starts. A start that is no batch's end ends no piece. The line gives the
+-- epoch of each batch that is read.
+use Rattle.std.specs.Prelude.{◌≡◌, ℕ, ◌+◌, ◌<◌, ◌≤◌, ◌⊎◌, ◌==◌, ◌&&◌, nat_lt, min, Bool, true, false, if◌then◌else◌, List, [], ◌∷◌, ◌++◌, length, take, Option, Some, None, unwrap_or, slice_range}
 use Rattle.tier_base.specs.declared.plain.FileName.{FileName}
 use Rattle.tier_base.specs.declared.plain.FileName.TheVariants as file
 use Rattle.log_terms.specs.Log.{joined, from_offset, up_to, end_from}
 use Rattle.segment_file.specs.declared.taking.Cutout.{Cutout}
 use Rattle.segment_file.specs.Growing.{Grown, end_after, size_after, ending_by, BeginsSearch}
-use Rattle.segment_file.specs.Index.{index_of}
 use Rattle.segment_file.specs.Closed.{Whole, IsWhole, IsBadPlace}
 use Rattle.segment_file.specs.Run.{Fits, StopIs, IsRun, IsBadAt}
+use Rattle.segment_file.specs.Segment.{IsSegment}
+use Rattle.log_steps.specs.Fronts.{Each}
 use Rattle.local_log.specs.Stored.{size_of, end_of}
 use Rattle.local_log.specs.Log.{Log}
+use Rattle.local_log.specs.Epochs.{IsOfLine, StraysAt}
 use Rattle.local_log.specs.declared.refusal.ReadRefusal.{ReadRefusal}
 use Rattle.local_log.specs.declared.refusal.ReadRefusal.TheVariants.{Damaged, DiskFault, NoMemory}
 use Rattle.local_log.specs.declared.reading.RunOut.{RunOut}
@@ -46,43 +49,61 @@ abbrev pub passes : ℕ → ℕ → List (List ℕ) → Bool
 passes limit size [] = false
 passes limit size (batch ∷ batches) = nat_lt limit (size + length batch)
 
--- a run was cut out of bytes, of a piece that ends there
-pub record IsCut (bytes : List ℕ) (offset limit mark piece : ℕ) (out : RunOut) : Type 0 where
+-- a run was cut out of bytes, of a piece that ends there, and the line gives its batches' epochs
+pub record IsCut (line : List (ℕ × ℕ)) (bytes : List ℕ) (offset limit mark piece : ℕ) (out : RunOut) : Type 0 where
   pub cut : Cutout
   pub is : IsRun bytes offset limit mark piece cut
+  pub epochs : Each (IsOfLine line) (is.first ∷ is.others)
   pub part : out.bytes ≡ slice_range bytes cut.from cut.to
   pub next_is : out.next ≡ cut.next
   pub stop_is : out.stop ≡ cut.stop
 
+-- bytes have a run, and there stands its first batch whose epoch the line doesn't give
+pub record IsStray (line : List (ℕ × ℕ)) (bytes : List ℕ) (offset limit mark piece at : ℕ) : Type 0 where
+  pub cut : Cutout
+  pub is : IsRun bytes offset limit mark piece cut
+  pub behind : ℕ
+  pub strays : StraysAt line (is.first ∷ is.others) behind
+  pub place : at ≡ cut.from + behind
+
 -- bytes that stand at a position have no such run from this place on; those of an absent file have none at 0
-pub record HasNoRun (bytes : List ℕ) (offset limit bound position at : ℕ) : Type 0 where
+pub record HasNoRun (line : List (ℕ × ℕ)) (bytes : List ℕ) (offset limit mark piece position at : ℕ) : Type 0 where
   pub found : ℕ
-  pub bad : IsBadAt bytes offset limit bound found
+  pub bad : IsBadAt bytes offset limit (min mark piece) found ⊎ IsStray line bytes offset limit mark piece found
   pub place : (at ≡ position + found) ⊎ ((bytes ≡ []) × (at ≡ 0))
 
--- the segment of this base and size is the front of bytes
-pub record IsFront (base size : ℕ) (bytes : List ℕ) (segment : Whole) : Type 0 where
+-- the segment of this base and size is the front of bytes, and the line gives its batches' epochs
+pub record IsFront (line : List (ℕ × ℕ)) (base size : ℕ) (bytes : List ℕ) (segment : Whole) : Type 0 where
   pub whole : IsWhole segment
+  pub epochs : Each (IsOfLine line) whole.batches
   pub base_is : segment.base ≡ base
   pub long : size ≤ length bytes
   pub bytes_are : segment.bytes ≡ take size bytes
 
+-- the front of bytes is a segment, and there stands its first batch whose epoch the line doesn't give
+pub record HasStray (line : List (ℕ × ℕ)) (base size : ℕ) (bytes : List ℕ) (at : ℕ) : Type 0 where
+  pub batches : List (List ℕ)
+  pub is : IsSegment base batches
+  pub long : size ≤ length bytes
+  pub bytes_are : take size bytes ≡ joined batches
+  pub strays : StraysAt line batches at
+
 -- bytes are no segment of this base from this place on, or end there, before the segment does
-pub record HasNoSegment (base size : ℕ) (bytes : List ℕ) (at : ℕ) : Type 0 where
-  pub bad : IsBadPlace base (take size bytes) at ⊎ ((at ≡ length bytes) × (at < size))
+pub record HasNoSegment (line : List (ℕ × ℕ)) (base size : ℕ) (bytes : List ℕ) (at : ℕ) : Type 0 where
+  pub bad : IsBadPlace base (take size bytes) at ⊎ (((at ≡ length bytes) × (at < size)) ⊎ HasStray line base size bytes at)
 
 -- why bytes aren't read as a segment
-abbrev pub FrontFails : ℕ → ℕ → List ℕ → ReadRefusal → Type 0
-FrontFails base size bytes (Damaged name at) = (name ≡ file.Log base) × HasNoSegment base size bytes at
-FrontFails base size bytes DiskFault = ⊥
-FrontFails base size bytes NoMemory = Unit {0}
+abbrev pub FrontFails : List (ℕ × ℕ) → ℕ → ℕ → List ℕ → ReadRefusal → Type 0
+FrontFails line base size bytes (Damaged name at) = (name ≡ file.Log base) × HasNoSegment line base size bytes at
+FrontFails line base size bytes DiskFault = ⊥
+FrontFails line base size bytes NoMemory = Unit {0}
 
 -- why nothing was cut out of bytes that stand at a position of a segment's file
-abbrev pub CutFails : ℕ → ℕ → List ℕ → ℕ → ℕ → ℕ → ReadRefusal → Type 0
-CutFails base position bytes offset limit bound (Damaged name at) =
-    (name ≡ file.Log base) × HasNoRun bytes offset limit bound position at
-CutFails base position bytes offset limit bound DiskFault = ⊥
-CutFails base position bytes offset limit bound NoMemory = Unit {0}
+abbrev pub CutFails : List (ℕ × ℕ) → ℕ → ℕ → List ℕ → ℕ → ℕ → ℕ → ℕ → ReadRefusal → Type 0
+CutFails line base position bytes offset limit mark piece (Damaged name at) =
+    (name ≡ file.Log base) × HasNoRun line bytes offset limit mark piece position at
+CutFails line base position bytes offset limit mark piece DiskFault = ⊥
+CutFails line base position bytes offset limit mark piece NoMemory = Unit {0}
 
 -- the disk failed, or there was no memory
 abbrev pub IsOfDevice : ReadRefusal → Type 0
@@ -120,13 +141,13 @@ module _ {D : Type 0} where
   abbrev pub IsClosedFrom : Log D → ℕ → List ℕ → Option Whole → Type 0
   IsClosedFrom log offset handed None = first_past offset log.closed ≡ None
   IsClosedFrom log offset handed (Some whole) =
-      (segment : Grown) × (first_past offset log.closed ≡ Some segment) × IsFront segment.base (size_of segment) handed whole
+      (segment : Grown) × (first_past offset log.closed ≡ Some segment) × IsFront log.line segment.base (size_of segment) handed whole
 
   -- why it isn't read
   abbrev pub ClosedFails : Log D → ℕ → List ℕ → ReadRefusal → Type 0
   ClosedFails log offset handed (Damaged name at) =
       (segment : Grown) × (first_past offset log.closed ≡ Some segment) × (name ≡ file.Log segment.base)
-      × HasNoSegment segment.base (size_of segment) handed at
+      × HasNoSegment log.line segment.base (size_of segment) handed at
   ClosedFails log offset handed DiskFault = Unit {0}
   ClosedFails log offset handed NoMemory = Unit {0}
 
@@ -152,7 +173,7 @@ module _ {D : Type 0} where
     pub name_is : name ≡ file.Log (segment_at log offset).base
     pub position : ℕ
     pub search : BeginsSearch (segment_at log offset).base (segment_at log offset).batches offset position
-    pub bad : HasNoRun handed offset limit (min mark (piece_of log offset)) position at
+    pub bad : HasNoRun log.line handed offset limit mark (piece_of log offset) position at
 
   -- why there is no run
   abbrev pub RunFails : Log D → ℕ → ℕ → ℕ → List ℕ → ReadRefusal → Type 0

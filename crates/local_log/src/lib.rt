@@ -10,6 +10,7 @@
 mod admitting;
 mod cuts;
 mod dropping;
+mod epochs;
 mod laws;
 mod listing;
 mod log;

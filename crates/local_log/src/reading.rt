@@ -3,7 +3,8 @@
 //!
 //! What memory keeps says where the run begins and ends, so that no other batch is read, and a mark that is no batch's end
 //! is found before the disk is asked. Of the batch at which the limit ends a run the head is read too, since the bytes
-//! are tested without what memory keeps.
+//! are tested without what memory keeps. Last of all the batches' epochs are held against the line, since no checksum
+//! covers them.
 
 ghost use Rattle.std.specs.Prelude.{◌≡◌, ◌<◌, ◌≤◌, ◌+◌, ℕ, option_map, min, false, true, ◌^◌, ◌↔◌, IfOk, IfErr, IfSome, IsOk, IsErrOf, IsTrue};
 ghost use Rattle.tier_base.specs.declared.fault.Trouble.TheVariants as fault;
@@ -16,11 +17,13 @@ ghost use Rattle.local_log.specs.declared.refusal.ReadRefusal.TheVariants.{DiskF
 ghost use Rattle.local_log.specs.Log.{Becomes, OpensStable};
 ghost use Rattle.local_log.specs.Reading.{segment_at, piece_of, is_edge, IsCut, IsRunOf, IsEdge, RunFails, CutFails, IsOfDevice, IsClosedFrom, ClosedFails, IsPartOf, IsFront, FrontFails};
 
+use crate::epochs::first_stray;
 use crate::log::LocalLog;
 use crate::piece::{Piece, first_past, is_edge, piece_at, segment_at};
 use crate::refusal::ReadRefusal;
 use bytes::Bytes;
 use disk_model::{Disk, FileName};
+use epoch_line::Line;
 use segment_file::{Closed, ClosedRefusal, take_run};
 use std::alloc::Global;
 use tier_base::{Stop, Trouble};
@@ -45,7 +48,7 @@ impl<D: Disk> LocalLog<D> {
         ensures keeps { Keeps (D.content self.old.disk) (D.content self.new.disk) }
         ensures run { IfOk result (λ run. IsTrue (D.content self.old.disk).tells → IsRunOf self.old offset limit mark run) }
         ensures base { IfOk result (λ run. run.base ≡ (segment_at self.old offset).base) }
-        ensures bytes { IfOk result (λ run. IsCut (D.control self.new.disk).handed offset limit mark
+        ensures bytes { IfOk result (λ run. IsCut self.old.line (D.control self.new.disk).handed offset limit mark
             (piece_of self.old offset) run) }
 
         // A crash at any moment of the call leaves the stable log.
@@ -77,7 +80,7 @@ impl<D: Disk> LocalLog<D> {
         );
         let piece = piece_at(segment, self.line.entries(), offset, limit, mark);
         let part = self.read_part(piece.base, piece.from, piece.most as u64)?;
-        run_in(piece, part, offset, limit, mark)
+        run_in(piece, &self.line, part, offset, limit, mark)
     }
 
     /// Reads the first closed segment that ends past an offset. There is none where the offset lies in the open segment, or
@@ -110,7 +113,7 @@ impl<D: Disk> LocalLog<D> {
         let base = segment.base();
         let size = segment.size();
         let part = self.read_part(base, 0, size)?;
-        let closed = closed_in(self.alloc, base, size, part)?;
+        let closed = closed_in(self.alloc, &self.line, base, size, part)?;
         Ok(Some(closed))
     }
 
@@ -149,14 +152,15 @@ impl<D: Disk> LocalLog<D> {
 /// The closed segment in what was read of its file.
 fn closed_in(
     alloc: Global,
+    line: &Line,
     base: u64,
     size: u64,
     file: Option<Bytes>,
 ) -> Result<Closed, ReadRefusal>
     requires base { base ≤ 2 ^ 62 }
     requires some { 0 < size }
-    ensures ok { IfOk result (λ segment. IsFront base size (bytes_in file) segment) }
-    ensures err { IfErr result (λ e. FrontFails base size (bytes_in file) e) }
+    ensures ok { IfOk result (λ segment. IsFront line.now base size (bytes_in file) segment) }
+    ensures err { IfErr result (λ e. FrontFails line.now base size (bytes_in file) e) }
 {
     let name = FileName::Log(base);
     let Some(bytes) = file else {
@@ -170,11 +174,13 @@ fn closed_in(
         });
     }
     match Closed::read(alloc, base, bytes.slice(..size as usize)?) {
-        Ok(closed) => {
-            // Called for its clause `whole`, by which the proof knows that the segment is whole.
-            let _whole = closed.bytes();
-            Ok(closed)
-        }
+        Ok(closed) => match first_stray(closed.bytes().as_slice(), line) {
+            Some(at) => Err(ReadRefusal::Damaged {
+                file: name,
+                at: at as u64,
+            }),
+            None => Ok(closed),
+        },
         Err(ClosedRefusal::BadAt { at }) => Err(ReadRefusal::Damaged {
             file: name,
             at: at as u64,
@@ -186,6 +192,7 @@ fn closed_in(
 /// The run in what was read of a piece. The bytes of an absent file have none at 0.
 fn run_in(
     piece: Piece,
+    line: &Line,
     file: Option<Bytes>,
     offset: u64,
     limit: u64,
@@ -194,8 +201,8 @@ fn run_in(
     requires mark { offset < mark }
     requires inside { offset < piece.end }
     ensures base { IfOk result (λ run. run.base ≡ piece.base) }
-    ensures ok { IfOk result (λ run. IsCut (bytes_in file) offset limit mark piece.end run) }
-    ensures err { IfErr result (λ e. CutFails piece.base piece.from (bytes_in file) offset limit (min mark piece.end) e) }
+    ensures ok { IfOk result (λ run. IsCut line.now (bytes_in file) offset limit mark piece.end run) }
+    ensures err { IfErr result (λ e. CutFails line.now piece.base piece.from (bytes_in file) offset limit mark piece.end e) }
 {
     let from = piece.from as u64;
     let Some(bytes) = file else {
@@ -204,16 +211,28 @@ fn run_in(
             at: 0,
         });
     };
-    match take_run(bytes.as_slice(), offset, limit, mark, piece.end) {
-        Ok(cut) => Ok(RunOut {
+    // Called for its clause `bound`, by which the proof knows that places fit.
+    let _len = bytes.len();
+    let cut = match take_run(bytes.as_slice(), offset, limit, mark, piece.end) {
+        Ok(cut) => cut,
+        Err(bad) => {
+            return Err(ReadRefusal::Damaged {
+                file: FileName::Log(piece.base),
+                at: from + bad.at as u64,
+            });
+        }
+    };
+    let run = bytes.slice(cut.from..cut.to)?;
+    match first_stray(run.as_slice(), line) {
+        Some(at) => Err(ReadRefusal::Damaged {
+            file: FileName::Log(piece.base),
+            at: from + (cut.from + at) as u64,
+        }),
+        None => Ok(RunOut {
             base: piece.base,
-            bytes: bytes.slice(cut.from..cut.to)?,
+            bytes: run,
             next: cut.next,
             stop: cut.stop,
-        }),
-        Err(bad) => Err(ReadRefusal::Damaged {
-            file: FileName::Log(piece.base),
-            at: from + bad.at as u64,
         }),
     }
 }

@@ -74,8 +74,8 @@ pub enum RollRefusal {
 /// damage of what the disk handed is found last.
 #[derive(Clone, Copy, Debug, PartialEq, Eq, Drop, Error)]
 pub enum ReadRefusal {
-    /// What the disk handed of this file has no reading at this place, or a mark misses the batches' ends, and the batch
-    /// that holds it begins at this place.
+    /// What the disk handed of this file has no reading at this place, or there stands a batch whose epoch the line doesn't
+    /// give; or a mark misses the batches' ends, and the batch that holds it begins at this place.
     #[error("{file:?} is damaged at {at}")]
     Damaged { file: FileName, at: u64 },
     /// A call of the disk failed.

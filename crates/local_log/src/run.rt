@@ -31,7 +31,7 @@ pub(crate) struct Asked {
 }
 
 /// The head of the batch that stands at a place.
-fn head_at(run: &[u8], at: usize) -> Head
+pub(crate) fn head_at(run: &[u8], at: usize) -> Head
     requires inside { at ≤ length run.now }
     requires stands { IsOk (headed (drop at run.now)) }
     ensures { headed (drop at run.now) ≡ Ok result }

@@ -1,10 +1,12 @@
-//! Openings over files of any bytes: each is a log or the cause why there is none, with its place. Values worked by hand.
+//! Openings over files of any bytes: each is a log or the cause why there is none, with its place. And reads of a log whose
+//! file has changed under it. Values worked by hand.
 
-use crate::files::{FLUSHED, SEGMENT};
-use crate::trial::{leaves_names, open_files};
+use crate::checks::put;
+use crate::files::{FLUSHED, SEGMENT, SIZE};
+use crate::trial::{leaves_names, open_files, reads_over};
 use bytes::Bytes;
 use disk_model::FileName;
-use local_log::OpenRefusal;
+use local_log::{OpenRefusal, ReadRefusal};
 use std::alloc::{AllocError, Global};
 
 const LOG: FileName = FileName::Log(0);
@@ -174,4 +176,70 @@ fn leaves_of_stray(alloc: Global, names: &[FileName]) -> bool {
 fn a_stray_segment_goes_at_the_opening(rt: HostRuntime) {
     let names = [FileName::Manifest, LOG];
     assert!(rt; leaves_of_stray(rt.alloc(), names.as_slice()));
+}
+
+/// The files of a log, and behind its segment's file another one of that name, with another byte at a place.
+fn files_with_second(alloc: Global, at: usize, byte: u8) -> Option<Vec<(FileName, Bytes)>> {
+    let mut files = match files(alloc, FLUSHED.as_slice(), LOG, SEGMENT.as_slice()) {
+        Some(files) => files,
+        None => return None,
+    };
+    let mut second = match SEGMENT.as_slice().to_vec(alloc) {
+        Ok(second) => second,
+        Err(_) => return None,
+    };
+    put(&mut second, at, byte);
+    let second = match Bytes::from_vec(second) {
+        Ok(second) => second,
+        Err(_) => return None,
+    };
+    match files.push((LOG, second)) {
+        Ok(()) => Some(files),
+        Err(_) => None,
+    }
+}
+
+/// Whether both batches are read where the segment's file has a byte at a place, or the run and the closed segment are
+/// damaged at these places.
+fn reads_with(alloc: Global, at: usize, byte: u8, places: Option<(u64, u64)>) -> bool {
+    let files = match files_with_second(alloc, at, byte) {
+        Some(files) => files,
+        None => return false,
+    };
+    let wanted = match places {
+        Some((run, closed)) => (
+            Err(ReadRefusal::Damaged { file: LOG, at: run }),
+            Err(ReadRefusal::Damaged {
+                file: LOG,
+                at: closed,
+            }),
+        ),
+        None => (Ok(2), Ok(Some(1))),
+    };
+    reads_over(alloc, files, SEGMENT.as_slice()) == Some(wanted)
+}
+
+/// The first byte of the batches' epochs that isn't told where it has changed. Where the first epoch has risen, a closed
+/// segment is damaged at the second batch, whose epoch is below it: the line is asked last.
+fn first_untold_epoch(alloc: Global) -> Option<usize> {
+    let second = SIZE as u64;
+    for at in 12..16 {
+        if !reads_with(alloc, at, 1, Some((0, second))) {
+            return Some(at);
+        }
+        if !reads_with(alloc, SIZE + at, 1, Some((second, second))) {
+            return Some(SIZE + at);
+        }
+    }
+    None
+}
+
+#[test]
+fn each_changed_epoch_byte_is_told(rt: HostRuntime) {
+    assert_eq!(rt; first_untold_epoch(rt.alloc()), None);
+}
+
+#[test]
+fn what_has_not_changed_is_read(rt: HostRuntime) {
+    assert!(rt; reads_with(rt.alloc(), 15, 0, None));
 }

@@ -290,6 +290,54 @@ pub(crate) fn open_files(alloc: Global, files: Vec<(FileName, Bytes)>) -> Result
     }
 }
 
+/// What is read of batches that were appended in one run and whose segment has closed: the offset after the run at the
+/// local start, and the last offset of the closed segment.
+type Reads = (Result<u64, ReadRefusal>, Result<Option<u64>, ReadRefusal>);
+
+/// Appends a run to a log, and closes its segment.
+fn fill(log: &mut LocalLog<DeafDisk>, run: &[u8]) -> bool {
+    if log.is_broken() || !log.takes(run) || log.append(run).is_err() || log.is_broken() {
+        return false;
+    }
+    log.roll().is_ok()
+}
+
+/// Reads the run at a log's local start, up to its end, and the first closed segment.
+fn read_both(log: &mut LocalLog<DeafDisk>) -> Option<Reads> {
+    let (start, end) = (log.local_start(), log.end());
+    if log.is_broken() || end <= start {
+        return None;
+    }
+    let run = match log.read_run(start, LARGE as u64, end) {
+        Ok(run) => Ok(run.next),
+        Err(why) => Err(why),
+    };
+    let closed = match log.closed_from(start) {
+        Ok(Some(closed)) => Ok(Some(closed.last())),
+        Ok(None) => Ok(None),
+        Err(why) => Err(why),
+    };
+    Some((run, closed))
+}
+
+/// Begins an opened log of these files anew at 0, fills it with a run, and tells what is read. Of the segment's file the
+/// disk may have two. The log drops the first as it begins anew, and the run is appended to the second, so that the
+/// second's bytes are read in its place.
+pub(crate) fn reads_over(
+    alloc: Global,
+    files: Vec<(FileName, Bytes)>,
+    run: &[u8],
+) -> Option<Reads> {
+    let mut log = match open_deaf(alloc, files) {
+        Ok(log) => log,
+        Err(_) => return None,
+    };
+    if log.is_broken() || log.restart_at(0, Line::new(alloc)).is_err() || !fill(&mut log, run) {
+        return None;
+    }
+    read_both(&mut log)
+}
+
 /// The bytes between two places, as far as there are any.
 pub(crate) fn part(bytes: &[u8], from: usize, to: usize) -> &[u8] {
     let to = to.min(bytes.len());

@@ -1,4 +1,4 @@
-use Rattle.std.proofs.Common.{◌≡◌, ◌∙◌, ◌+◌, ◌≤◌, ℕ, true, false, List, sym, ap, subst, arith, eq-eqb, IsTrue, min, option_map}
+use Rattle.std.proofs.Common.{◌≡◌, ◌∙◌, ◌+◌, ◌≤◌, ℕ, false, List, sym, ap, subst, arith, eq-eqb, IsTrue, min, option_map}
 use Rattle.std.specs.Prelude.{unwrap_or}
 use Rattle.tier_base.specs.declared.plain.FileName.TheVariants as file
 use Rattle.tier_base.specs.Told.{bytes_in}
@@ -80,13 +80,16 @@ returns-clause-run g c =
     c.piece_at-piece.ensures.most
     ∙ ap (λ (n : ℕ). reach_at (min c.args.mark n) top c.args.offset c.segment_at-segment.result.now.batches) end_is
     ∙ ap (λ (x : Grown). reach_at (min c.args.mark (piece_end s.line (holder c.args.offset s.closed.items s.active) c.args.offset)) top c.args.offset x.batches) seg_is in
+    let line_is : c.self-2.inside.line ≡ s.line =
+    ap (λ (l : Log g.row.D.Denot). l.line) (c.self-2.view_is ∙ c.read_part.ensures.log.fields) ∙ sym (ap (λ (l : Log g.row.D.Denot). l.line) c.self.view_is) in
     ok_more _ _ c.run_in.result (λ out cut there. (
     let t : IsTrue (content s.disk).tells = subst (λ (l : Log g.row.D.Denot). IsTrue (content l.disk).tells) (sym c.self.view_is) there in
     let file_is = subst (λ (l : Log g.row.D.Denot). c.in_ok-part.part ≡ option_map (part_of from most) ((content l.disk).files (file.Log c.piece_at-piece.result.base))) (sym c.self.view_is) (c.in_ok-part.ensures.file there) in
     let bytes_are = ap bytes_in file_is ∙ part_bytes from most ((content s.disk).files (file.Log c.piece_at-piece.result.base)) ∙ ap (λ (b : ℕ). part_of from most (bytes_in ((content s.disk).files (file.Log b)))) (c.piece_at-piece.ensures.base ∙ ap (λ (x : Grown). x.base) seg_is) in
-    let whole = subst (λ (n : ℕ). IsCut (bytes_in c.in_ok-part.part) c.args.offset c.args.limit c.args.mark n out) end_is cut in
+    let whole = subst (λ (l : List (ℕ × ℕ)). IsCut l (bytes_in c.in_ok-part.part) c.args.offset c.args.limit c.args.mark c.piece_at-piece.result.end out) line_is cut in
+    let ended = subst (λ (n : ℕ). IsCut s.line (bytes_in c.in_ok-part.part) c.args.offset c.args.limit c.args.mark n out) end_is whole in
     subst (λ (l : Log g.row.D.Denot). IsRunOf l c.args.offset c.args.limit c.args.mark out) c.self.view_is
-    (run_told content s c.self.invariant unbroken t c.args.offset c.args.limit c.args.mark from most start c.requires.below edge from_is reach_is (bytes_in c.in_ok-part.part) out bytes_are whole)
+    (run_told content s c.self.invariant unbroken t c.args.offset c.args.limit c.args.mark from most start c.requires.below edge from_is reach_is (bytes_in c.in_ok-part.part) out bytes_are ended)
     )) c.run_in.ensures.ok
 
 pub returns-clause-whole : goal.returns-clause-whole
@@ -115,10 +118,13 @@ returns-clause-whole g c =
     c.piece_at-piece.ensures.most
     ∙ ap (λ (n : ℕ). reach_at (min c.args.mark n) top c.args.offset c.segment_at-segment.result.now.batches) end_is
     ∙ ap (λ (x : Grown). reach_at (min c.args.mark (piece_end s.line (holder c.args.offset s.closed.items s.active) c.args.offset)) top c.args.offset x.batches) seg_is in
+    let line_is : c.self-2.inside.line ≡ s.line =
+    ap (λ (l : Log g.row.D.Denot). l.line) (c.self-2.view_is ∙ c.read_part.ensures.log.fields) ∙ sym (ap (λ (l : Log g.row.D.Denot). l.line) c.self.view_is) in
     err_more _ _ c.run_in.result (λ e fails there at_edge. (
     let t : IsTrue (content s.disk).tells = subst (λ (l : Log g.row.D.Denot). IsTrue (content l.disk).tells) (sym c.self.view_is) there in
     let file_is = subst (λ (l : Log g.row.D.Denot). c.in_ok-part.part ≡ option_map (part_of from most) ((content l.disk).files (file.Log c.piece_at-piece.result.base))) (sym c.self.view_is) (c.in_ok-part.ensures.file there) in
     let bytes_are = ap bytes_in file_is ∙ part_bytes from most ((content s.disk).files (file.Log c.piece_at-piece.result.base)) ∙ ap (λ (b : ℕ). part_of from most (bytes_in ((content s.disk).files (file.Log b)))) (c.piece_at-piece.ensures.base ∙ ap (λ (x : Grown). x.base) seg_is) in
-    let whole = subst (λ (n : ℕ). CutFails c.piece_at-piece.result.base from (bytes_in c.in_ok-part.part) c.args.offset c.args.limit (min c.args.mark n) e) end_is fails in
-    fails_told content s c.self.invariant unbroken t c.args.offset c.args.limit c.args.mark from most start c.requires.below edge from_is reach_is c.piece_at-piece.result.base (bytes_in c.in_ok-part.part) e bytes_are whole
+    let whole = subst (λ (l : List (ℕ × ℕ)). CutFails l c.piece_at-piece.result.base from (bytes_in c.in_ok-part.part) c.args.offset c.args.limit c.args.mark c.piece_at-piece.result.end e) line_is fails in
+    let ended = subst (λ (n : ℕ). CutFails s.line c.piece_at-piece.result.base from (bytes_in c.in_ok-part.part) c.args.offset c.args.limit c.args.mark n e) end_is whole in
+    fails_told content s c.self.invariant unbroken t c.args.offset c.args.limit c.args.mark from most start c.requires.below edge from_is reach_is c.piece_at-piece.result.base (bytes_in c.in_ok-part.part) e bytes_are ended
     )) c.run_in.ensures.err
