@@ -29,12 +29,4 @@ pub mod SchedulesOfSearches
 pub mod Found
 pub mod RowsWithoutDamage
 pub mod RunsWithoutDamage
-pub mod FaultCounts
-pub mod FaultsOfRows
-pub mod FaultsTold
-pub mod FaultsOfCopies
-pub mod FaultsOfDeletions
-pub mod FaultsOfSearches
-pub mod FaultsOfDates
-pub mod FaultsOfTurns
 pub mod FaultsOfJournals

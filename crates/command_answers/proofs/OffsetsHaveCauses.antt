@@ -46,8 +46,8 @@ use Rattle.partition_world.proofs.Begins.{row_of}
 use Rattle.partition_world.proofs.DateEnds.{MayEnd, MayEndOwn, date_ends, own_ends}
 use Rattle.command_answers.specs.CausesOfOffsets.{FirstCause, SecondCause, SearchCause, HasCause}
 use Rattle.command_answers.specs.Faults.{DiskFailed, StoreFailed, MetaFailed}
-use Rattle.command_answers.proofs.FaultsTold.{TurnTold}
-use Rattle.command_answers.proofs.FaultsOfDates.{searched_told, time_counts}
+use Rattle.partition_world.proofs.TurnsTold.{TurnTold}
+use Rattle.partition_world.proofs.LastingDates.{searched_told, time_lasts}
 
 module _ {D S M : Type 0} (disk : DiskGhosts D) (store : StoreGhosts S) (meta : MetaGhosts M) where
   module _ (w : Whole D S M) (b : ℕ) (x : Node D) (side : Side) (w' : Whole D S M) where
@@ -141,7 +141,7 @@ module _ {D S M : Type 0} (disk : DiskGhosts D) (store : StoreGhosts S) (meta : 
         remote_cause g cursor answer keeps
         (date_ends store meta asked (line_of x) from next answer (fetch_tiers side.view side.cache w.tier)
         (fetch_tiers row.0.view row.0.cache w'.tier) row.0.row)
-        (time_counts (DiskFailed disk b w w') (Unit {0}) store meta asked (line_of x) from next (Ends answer)
+        (time_lasts (DiskFailed disk b w w') (Unit {0}) store meta asked (line_of x) from next (Ends answer)
         (fetch_tiers side.view side.cache w.tier) (fetch_tiers row.0.view row.0.cache w'.tier) row.0.row).2
 
     ended : slice_get w.held.nodes b ≡ Some x → (g : Begun) (ts : ℤ) (cursor : ℕ) (next : Next) (answer : Answer)

@@ -4,14 +4,13 @@ use Rattle.tier_base.specs.Counts.{Rose}
 use Rattle.disk_model.specs.declared.disk.Disk.{Ghosts as DiskGhosts}
 use Rattle.object_store.specs.declared.store.Store.{Ghosts as StoreGhosts}
 use Rattle.meta_log.specs.declared.log.MetaLog.{Ghosts as MetaGhosts}
-use Rattle.broker_log.specs.Seen.{Faulted}
-use Rattle.partition_turns.specs.Held.{AtNode}
+use Rattle.partition_turns.specs.Disks.{DiskFails}
 use Rattle.partition_world.specs.Whole.{Whole}
 
 module _ {D S M : Type 0} (disk : DiskGhosts D) where
   -- a call of the broker's disk failed
   abbrev pub DiskFailed : ℕ → Whole D S M → Whole D S M → Type 0
-  DiskFailed b w w' = AtNode w.held b (λ x. AtNode w'.held b (λ y. Faulted disk.control x.log y.log))
+  DiskFailed b w w' = DiskFails disk.control b w.held w'.held
 
 module _ {D S M : Type 0} (store : StoreGhosts S) where
   -- a call of the store failed

@@ -1,12 +1,11 @@
 //! What commands are answered, and in how many turns, as laws over definitions.
 //!
-//! They stand over the rows of a world's turns, and no code calls them but for the last. Over any devices a command is
-//! answered in so many turns of its actor, and what an answer to a question for an offset says is so; over devices
-//! that tell what they hold, what an answer to a copy, a fetch, a join or a search by timestamp says is so, one that
-//! nothing hinders is answered by what was asked for, and none is answered `Damaged`. Each fault of a device that a
-//! journal tells of is one that the device has counted, over any devices, also over those that don't tell what they
-//! hold, and whatever their counts of faults were at the start: no turn lowers a count, and a turn that is answered a
-//! fault of a device raises that device's.
+//! They stand over the rows of a world's turns. Over any devices a command is answered in so many turns of its actor,
+//! and what an answer to a question for an offset says is so; over devices that tell what they hold, what an answer to
+//! a copy, a fetch, a join or a search by timestamp says is so, one that nothing hinders is answered by what was asked
+//! for, and none is answered `Damaged`. Each fault of a device that a journal tells of is one that the device has
+//! counted, over any devices, also over those that don't tell what they hold, and whatever their counts of faults were
+//! at the start: no turn lowers a count, and a turn that is answered a fault of a device raises that device's.
 //!
 //! `specs/Turns.antt` has how many turns are left of a command; `specs/CausesOfCopies.antt`, `CausesOfFetches.antt`,
 //! `CausesOfJoins.antt` and `CausesOfOffsets.antt` why an answer is given, and `specs/Damage.antt` what a journal tells where

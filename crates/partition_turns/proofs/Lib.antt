@@ -11,8 +11,11 @@ pub mod ElectionsRefined
 pub mod FollowersRefined
 mod OffsetRefined
 pub mod Refinement
-pub mod CalmRows
 pub mod SoundLaw
+pub mod Told
+pub mod LastingDisks
+pub mod LastingRows
+pub mod CalmRows
 pub mod FreshSound
 pub mod FreshNodes
 pub mod FreshDisks

@@ -14,6 +14,7 @@ use Rattle.partition_turns.specs.declared.held.Node.{Node}
 use Rattle.partition_turns.specs.declared.held.Held.{Held}
 use Rattle.partition_turns.specs.Held.{node_of}
 use Rattle.partition_turns.specs.Calm.{AreCalm, HasNoFault}
+use Rattle.partition_turns.specs.Disks.{HaveDisks, DisksLast}
 use Rattle.partition_turns.specs.Shown.{Sees, Refines, Knows, KnowsBegun}
 use Rattle.partition_turns.specs.Sound.{HeldSound}
 use Rattle.partition_turns.specs.Turns.{Row}
@@ -32,6 +33,12 @@ module _ {D : Type 0} (content : D → Content) (control : D → Control call_co
   RowsKeepSound = (brokers : ℕ) (h : Held D) (b : ℕ) (x : Node D) (begun : Option Begun) (command : Command)
       (turned : Turned) (h' : Held D) → slice_get h.nodes b ≡ Some x → HeldSound brokers h
       → Row content control h b x begun command turned h' → HeldSound brokers h'
+
+  -- over any disks each of them lasts over each row
+  abbrev pub RowsLast : Type 0
+  RowsLast = (h : Held D) (b : ℕ) (x : Node D) (begun : Option Begun) (command : Command) (turned : Turned) (h' : Held D)
+      → slice_get h.nodes b ≡ Some x → HaveDisks h.nodes → Row content control h b x begun command turned h'
+      → DisksLast control h.nodes h'.nodes
 
   -- over disks of which no call can fail each row leaves them so, and tells of no fault
   abbrev pub RowsStayCalm : Type 0

@@ -5,6 +5,7 @@ pub mod TurnsOfElections
 pub mod TurnsOfFollowers
 pub mod Turns
 pub mod Sound
+pub mod Disks
 pub mod Calm
 pub mod Fresh
 pub mod Shown

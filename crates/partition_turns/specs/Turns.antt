@@ -17,6 +17,7 @@ use Rattle.plain_log.specs.declared.command.Command.TheVariants.{Append, Raw, Fl
 use Rattle.plain_log.specs.declared.command.Which.{Which}
 use Rattle.plain_log.specs.declared.command.Which.TheVariants.{Earliest, Latest, EarliestLocal, LatestTiered, At}
 use Rattle.plain_log.specs.State.{leads}
+use Rattle.plain_log.specs.RowsOfReads.{is_long}
 use Rattle.broker_log.specs.Seen.{Kept, Lasting}
 use Rattle.broker_log.specs.Turns.{Stops, ComesUp, Unopened, IsSpent}
 use Rattle.partition_seen.specs.declared.begun.Begun.{Begun}
@@ -45,6 +46,22 @@ IsOfTier Expire = Unit {0}
 IsOfTier (Offset LatestTiered) = Unit {0}
 IsOfTier (Offset (At ts)) = Unit {0}
 IsOfTier command = ⊥
+
+-- the command may want memory: none does that only asks the registry, sets the clock or a switch, stops a broker, or asks for
+-- an offset that is known at once
+abbrev pub takes_memory : Command → Bool
+takes_memory Elect = false
+takes_memory Unclean = false
+takes_memory Ack = false
+takes_memory Shrink = false
+takes_memory Expand = false
+takes_memory (Raise start) = false
+takes_memory (Clock ms) = false
+takes_memory StopCommand = false
+takes_memory (Pack on) = false
+takes_memory (Copying on) = false
+takes_memory (Offset which) = is_long which
+takes_memory other = true
 
 module _ {D : Type 0} where
   -- clock

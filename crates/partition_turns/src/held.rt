@@ -8,7 +8,7 @@ ghost use Rattle.epoch_line.specs.Line.{last_epoch};
 ghost use Rattle.plain_log.specs.Orders.{IsInRange};
 ghost use Rattle.partition_seen.specs.declared.begun.Turned.TheVariants.{Answers};
 ghost use Rattle.partition_turns.specs.Held.{AtNode, CanStop, StaysHeld, stopped, is_up, end_of, stable_of, line_of, local_of};
-ghost use Rattle.partition_turns.specs.Turns.{IsOfTier, FirstRow};
+ghost use Rattle.partition_turns.specs.Turns.{IsOfTier, takes_memory, FirstRow};
 ghost use Rattle.partition_turns.specs.TurnsOfLog.{Notes};
 ghost use Rattle.partition_turns.specs.Sound.{HeldSound};
 
@@ -142,6 +142,7 @@ impl<D: Disk> Held<D> {
             FirstRow D.content D.control self.old order.now.broker.0 x order.now.command turned self.new))) }
         ensures none { IfOk result (λ found. found ≡ None → IsOfTier order.now.command × (self.new ≡ self.old)) }
         ensures err { OnErr result (StaysHeld D.content D.control self.old self.new) }
+        ensures wants { OnErr result (IsTrue (takes_memory order.now.command)) }
     {
         let (broker, b) = (order.broker, order.broker.0 as usize);
         match &order.command {

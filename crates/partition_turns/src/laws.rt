@@ -1,6 +1,6 @@
 //! Laws of the rows. Each is the contract of a function that does nothing: calling it cites the law.
 
-ghost use Rattle.partition_turns.specs.Laws.{RowsAreSeen, RowsKeepSound, RowsStayCalm};
+ghost use Rattle.partition_turns.specs.Laws.{RowsAreSeen, RowsKeepSound, RowsLast, RowsStayCalm};
 
 use disk_model::Disk;
 
@@ -12,6 +12,11 @@ pub fn rows_are_seen<D: Disk>()
 /// Each row keeps what later turns need, over any disks.
 pub fn rows_keep_sound<D: Disk>()
     ensures { RowsKeepSound D.content D.control }
+{}
+
+/// Over any disks each of them lasts over each row.
+pub fn rows_last<D: Disk>()
+    ensures { RowsLast D.content D.control }
 {}
 
 /// Over disks of which no call can fail each row stays so, and tells of no fault.

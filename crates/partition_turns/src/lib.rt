@@ -2,8 +2,8 @@
 //!
 //! `specs/Turns.antt` says for each command which answer it is given and what that does; the code proves its row and nothing
 //! else. Where the disks tell, each row is one of the partition as it is seen (the crate `partition_seen`): that is a law
-//! over the rows, as are that each keeps what later turns need, and that over disks of which no call can fail none is
-//! answered a fault.
+//! over the rows, as are that each keeps what later turns need, that over each the disks' plans last, and that over disks of
+//! which no call can fail none is answered a fault.
 //!
 //! A partition has 1 to 8 brokers: one leads, others follow, and elections, stops and starts change which. A broker that
 //! stops closes its log, and one that comes up opens it again from its disk. A follow takes two turns, and whatever comes
@@ -22,6 +22,6 @@ mod roles;
 mod stops;
 
 pub use held::{Held, Node};
-pub use laws::{rows_are_seen, rows_keep_sound, rows_stay_calm};
+pub use laws::{rows_are_seen, rows_keep_sound, rows_last, rows_stay_calm};
 pub use refusal::WorldRefusal;
 pub use roles::leading;

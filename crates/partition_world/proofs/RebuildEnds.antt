@@ -3,10 +3,8 @@ use Rattle.std.proofs.Common.{◌≡◌, ap, subst, sym, ℕ, List, Some, None, 
 use mathlib.Core.Path.{fun_ext}
 use Rattle.std.specs.declared.result.Result.{Result}
 use Rattle.std.specs.declared.alloc.AllocError.{AllocError}
-use Rattle.tier_base.specs.Device.{Ran, fate_of}
 use Rattle.tier_base.specs.declared.fault.Trouble.{Trouble}
 use Rattle.tier_base.specs.declared.fault.Trouble.TheVariants.{Failed, NoMemory}
-use Rattle.object_store.specs.declared.call.StoreCall.TheVariants.{Get}
 use Rattle.object_store.specs.declared.placing.Spot.{Spot}
 use Rattle.object_store.specs.Place.{short_of}
 use Rattle.object_store.specs.declared.store.Store.{Ghosts as StoreGhosts}
@@ -18,9 +16,6 @@ use Rattle.rebuild_task.specs.declared.turn.Wanted.{Wanted}
 use Rattle.rebuild_task.specs.Turns.{TakesBytes, Takes, EpochsRow, RebuildRow}
 use Rattle.plain_log.specs.declared.answer.Answer.{Answer}
 use Rattle.plain_log.specs.declared.answer.Answer.TheVariants.{StoreFault, Damaged}
-use Rattle.partition_world.specs.Calm.{IsCalm}
-use Rattle.partition_world.specs.Seats.{rebuild_outcome}
-use Rattle.partition_world.proofs.Quiet.{IsQuiet, call_calm, no_fault}
 
 -- it is answered so, or the log is begun anew next
 abbrev pub MayTurn : RebuildTurn → Type 0
@@ -44,22 +39,6 @@ takes_may wanted spot (Ok (Some bytes)) turn w = by (short_of spot bytes) turn w
     by None (Goes next) w = elim w [ ]
     by None (Ends answer) w = may_same (Ends answer) _ (ap (λ (a : Answer). Ok (Ends a)) w.0) tt
 
-quiet_same : (turn after : RebuildTurn) → ◌≡◌ {A = Result RebuildTurn AllocError} (Ok turn) (Ok after) → IsQuiet (rebuild_outcome after) → IsQuiet (rebuild_outcome turn)
-quiet_same turn after is q = let same : turn ≡ after = cc (is) in subst (λ (t : RebuildTurn). IsQuiet (rebuild_outcome t)) (sym same) q
-
--- over a calm store it is no fault
-takes_quiet : {S : Type 0} (store : StoreGhosts S) (wanted : ℕ) (spot : Spot) (answer : Result (Option (List ℕ)) Trouble) (turn : RebuildTurn) (old new : S)
-    → Ran Get (fate_of answer) (store.control old) (store.control new) → Takes wanted spot answer (Ok turn) → IsCalm (store.control old) → IsQuiet (rebuild_outcome turn)
-takes_quiet store wanted spot (Err Failed) turn old new r w c = no_fault _ (store.control old) (store.control new) r c
-takes_quiet store wanted spot (Err NoMemory) turn old new r w c = absurd (let no : false ≡ true = w in cc)
-takes_quiet store wanted spot (Ok None) turn old new r w c = quiet_same turn _ w tt
-takes_quiet store wanted spot (Ok (Some bytes)) turn old new r w c = by (short_of spot bytes) turn w
-  where
-    by : (end : Option ℕ) (turn : RebuildTurn) → TakesBytes end wanted spot bytes (Ok turn) → IsQuiet (rebuild_outcome turn)
-    by (Some end) turn w = quiet_same turn _ w tt
-    by None (Goes next) w = tt
-    by None (Ends answer) w = subst (λ (a : Answer). IsQuiet (rebuild_outcome (Ends a))) (sym w.0) tt
-
 module _ {S : Type 0} (store : StoreGhosts S) where
   epochs_may : (wanted : ℕ) (view : View) (spot : Option Spot) (turn : RebuildTurn) (old new : S) → EpochsRow store.content store.control wanted view spot (Ok turn) old new → MayTurn turn
   epochs_may wanted view None turn old new w = may_same turn _ w.0 tt
@@ -79,14 +58,3 @@ module _ {S : Type 0} (store : StoreGhosts S) where
 
   pub rebuild_kept : (wanted : Wanted) (line : List (ℕ × ℕ)) (view : View) (result : Result RebuildTurn AllocError) (old new : S) → RebuildRow store.content store.control wanted line view result old new → IsKept old new
   rebuild_kept wanted line view result old new w = epochs_kept wanted.offset view _ result old new w
-
-  epochs_calm : (wanted : ℕ) (view : View) (spot : Option Spot) (turn : RebuildTurn) (old new : S) → EpochsRow store.content store.control wanted view spot (Ok turn) old new → IsCalm (store.control old)
-      → IsCalm (store.control new) × IsQuiet (rebuild_outcome turn)
-  epochs_calm wanted view None turn old new w c =
-      (rw w.1 c, quiet_same turn _ w.0 tt)
-  epochs_calm wanted view (Some spot) turn old new w c =
-      (call_calm _ _ (store.control old) (store.control new) w.gets.control c, takes_quiet store wanted spot w.answer turn old new w.gets.control w.takes c)
-
-  pub rebuild_calm : (wanted : Wanted) (line : List (ℕ × ℕ)) (view : View) (turn : RebuildTurn) (old new : S) → RebuildRow store.content store.control wanted line view (Ok turn) old new → IsCalm (store.control old)
-      → IsCalm (store.control new) × IsQuiet (rebuild_outcome turn)
-  rebuild_calm wanted line view turn old new w c = epochs_calm wanted.offset view _ turn old new w c

@@ -1,5 +1,6 @@
 -- What a seat keeps is for its order's next turn, also after a turn.
-use Rattle.std.proofs.Common.{◌≡◌, ◌∙◌, ap, inl, inr, refl, subst, ℕ, slice_get, Some}
+use Rattle.std.proofs.Common.{◌≡◌, ◌≢◌, ◌∙◌, ap, inl, inr, refl, subst, ℕ, slice_get, Some}
+use Rattle.std.specs.Prelude.{IsTrue}
 use Rattle.disk_model.specs.declared.disk.Disk.{Ghosts as DiskGhosts}
 use Rattle.object_store.specs.declared.store.Store.{Ghosts as StoreGhosts}
 use Rattle.meta_log.specs.declared.log.MetaLog.{Ghosts as MetaGhosts}
@@ -33,7 +34,7 @@ use Rattle.partition_world.specs.declared.seat.Outcome.TheVariants.{Answers, Beg
 use Rattle.partition_world.specs.declared.seat.Seat.{Seat}
 use Rattle.partition_world.specs.declared.seat.Work.{Work}
 use Rattle.partition_world.specs.declared.seat.Work.TheVariants.{Idle, Noted, Copies, Seeks, Dates, Expires, Rebuilds}
-use Rattle.partition_turns.specs.Turns.{FirstRow}
+use Rattle.partition_turns.specs.Turns.{takes_memory, FirstRow}
 use Rattle.partition_world.specs.Seats.{outcome_of, chosen, moved, sought, dated, doomed, deleting, rebuilding, seat_after}
 use Rattle.partition_world.specs.Sound.{MayGoOn, SeeksBy, DatesBy, IsWorkFor}
 use Rattle.partition_world.specs.Turns.{BeginRow, NotedRow, SeekingRow, DatingRow, Row, TurnRow}
@@ -42,6 +43,37 @@ use Rattle.partition_world.proofs.Begins.{row_of, begins_idle}
 -- nothing is for any order
 pub idle_for : (command : Command) → IsWorkFor command Idle
 idle_for command = tt
+
+-- a command that goes on takes memory
+noted_takes : (command : Command) (g : Begun) → IsWorkFor command (Noted g) → IsTrue (takes_memory command)
+noted_takes Join g k = refl
+noted_takes (Follow limit) g k = refl
+noted_takes Copy g k = refl
+noted_takes Trim g k = refl
+noted_takes Expire g k = refl
+noted_takes (Fetch offset limit) g k = refl
+noted_takes (Offset LatestTiered) g k = refl
+noted_takes (Offset (At ts)) g k = refl
+noted_takes (Offset other) g k = absurd k
+noted_takes other g k = absurd k
+
+seeks_take : (command : Command) (g : Begun) (next : Search) → IsWorkFor command (Seeks g next) → IsTrue (takes_memory command)
+seeks_take (Fetch offset limit) g next k = refl
+seeks_take other g next k = absurd k
+
+dates_take : (command : Command) (g : Begun) (cursor : ℕ) (next : Dating) → IsWorkFor command (Dates g cursor next) → IsTrue (takes_memory command)
+dates_take (Offset (At ts)) g cursor next k = refl
+dates_take (Offset other) g cursor next k = absurd k
+dates_take other g cursor next k = absurd k
+
+pub works_take : (command : Command) (work : Work) → work ≢ Idle → IsWorkFor command work → IsTrue (takes_memory command)
+works_take command Idle busy k = absurd (busy refl)
+works_take command (Noted g) busy k = noted_takes command g k
+works_take command (Copies g copy next) busy k = ap takes_memory k
+works_take command (Seeks g next) busy k = seeks_take command g next k
+works_take command (Dates g cursor next) busy k = dates_take command g cursor next k
+works_take command (Expires g segment next) busy k = ap takes_memory k
+works_take command (Rebuilds g next) busy k = ap takes_memory k
 
 -- a copy, an expiry and a join go on with what is for them as before
 moved_for : (command : Command) (work : Work) (next : Next) → IsWorkFor command work → IsWorkFor command (moved work next)

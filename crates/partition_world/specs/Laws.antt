@@ -16,6 +16,7 @@ use Rattle.partition_world.specs.Calm.{IsUnplanned, IsUnfailing}
 use Rattle.partition_world.specs.Central.{IsCentral, KeepsCentral}
 use Rattle.partition_world.specs.Fresh.{IsFresh, IsSeenEmpty}
 use Rattle.partition_world.specs.InTurn.{IsInTurn}
+use Rattle.partition_world.specs.Lasting.{HaveLasted}
 use Rattle.partition_world.specs.Later.{IsLater}
 use Rattle.partition_world.specs.Reaches.{Reaches}
 use Rattle.partition_world.specs.Turn.{Steps, IsAtEnd}
@@ -47,6 +48,12 @@ module _ {D S M : Type 0} (disk : DiskGhosts D) (store : StoreGhosts S) (meta : 
   abbrev pub ReachesLater : Type 0
   ReachesLater = (w : Whole D S M) (schedule : List Pace) (w' : Whole D S M) → Reaches disk store meta w schedule w'
       → IsLater disk store meta w w'
+
+  -- in whatever a schedule reaches from a fresh world, over any devices: each of them has lasted
+  abbrev pub ReachesLasting : Type 0
+  ReachesLasting = (partition : PartitionId) (config : Config) (lists : List ActorList) (disks : List D) (s : S) (m : M)
+      (w : Whole D S M) (schedule : List Pace) (w' : Whole D S M) → IsFresh disk store meta partition config lists disks s m w
+      → Reaches disk store meta w schedule w' → HaveLasted disk store meta w w'
 
   -- over devices of which no call can fail no turn of a schedule is answered a fault
   abbrev pub ReachesUnfailing : Type 0

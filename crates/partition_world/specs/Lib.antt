@@ -15,6 +15,7 @@ pub mod Central
 pub mod Calm
 pub mod Fresh
 pub mod Later
+pub mod Lasting
 pub mod Reaches
 pub mod InTurn
 pub mod Laws

@@ -1,5 +1,5 @@
 -- The turns of a world.
-use Rattle.std.specs.Prelude.{◌≡◌, ℕ, ◌<◌, ◌≤◌, Some, ◌++◌, length, slice_get, slice_set}
+use Rattle.std.specs.Prelude.{◌≡◌, ℕ, ◌<◌, ◌≤◌, Some, ◌++◌, IsTrue, length, slice_get, slice_set}
 use Rattle.disk_model.specs.declared.disk.Disk.{Ghosts as DiskGhosts}
 use Rattle.object_store.specs.declared.store.Store.{Ghosts as StoreGhosts}
 use Rattle.meta_log.specs.declared.log.MetaLog.{Ghosts as MetaGhosts}
@@ -8,6 +8,8 @@ use Rattle.plain_log.specs.declared.command.ActorList.{ActorList}
 use Rattle.plain_log.specs.declared.command.Order.{Order}
 use Rattle.partition_seen.specs.declared.seat.Stepped.{Stepped}
 use Rattle.partition_seen.specs.declared.seat.Stepped.TheVariants.{Ran, Done, Nothing, NoMemory}
+use Rattle.partition_turns.specs.Held.{CanStop}
+use Rattle.partition_turns.specs.Turns.{takes_memory}
 use Rattle.partition_world.specs.declared.seat.Outcome.{Outcome}
 use Rattle.partition_world.specs.declared.seat.Outcome.TheVariants.{Answers}
 use Rattle.partition_world.specs.declared.seat.Seat.{Seat}
@@ -49,7 +51,8 @@ module _ {D S M : Type 0} (disk : DiskGhosts D) (store : StoreGhosts S) (meta : 
     pub lists : w'.lists ≡ w.lists
 
   -- memory was wanting for the actor's next order: nothing that is seen has changed, but that its broker's view may have
-  -- taken in some notes
+  -- taken in some notes. The command is one that takes memory, unless its broker has stopped 2^64 - 1 times, for which no
+  -- run is long enough
   pub record StaysWhole (w : Whole D S M) (a : ℕ) (w' : Whole D S M) : Type 0 where
     pub place : ℕ
     pub list : ActorList
@@ -58,6 +61,7 @@ module _ {D S M : Type 0} (disk : DiskGhosts D) (store : StoreGhosts S) (meta : 
     pub next : IsNext w a place list seat order
     pub node : order.broker.0 < length w.held.nodes
     pub tier : StaysTier disk store meta w.held w.tier order.broker.0 w'.held w'.tier
+    pub wants : CanStop w.held order.broker.0 → IsTrue (takes_memory order.command)
     pub fields : w' ≡ record w { held = w'.held; tier = w'.tier }
 
   -- what a step of the actor comes to, by what it answers

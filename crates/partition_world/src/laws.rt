@@ -1,6 +1,6 @@
 //! Laws of worlds. Each is the contract of a function that does nothing: calling it cites the law.
 
-ghost use Rattle.partition_world.specs.Laws.{StepsKeepCentral, FreshIsCentral, ReachesLater, EndsAreComplete, ReachesInTurn, EndsAreAnswered, ReachesUnfailing, FreshIsUnfailing};
+ghost use Rattle.partition_world.specs.Laws.{StepsKeepCentral, FreshIsCentral, ReachesLater, EndsAreComplete, ReachesInTurn, EndsAreAnswered, ReachesLasting, ReachesUnfailing, FreshIsUnfailing};
 
 use disk_model::Disk;
 use meta_log::MetaLog;
@@ -34,6 +34,11 @@ pub fn reaches_in_turn<D: Disk, S: Store, M: MetaLog>()
 /// Where each actor is at its end, the journal answers every command of every list, whatever the devices.
 pub fn ends_are_answered<D: Disk, S: Store, M: MetaLog>()
     ensures { EndsAreAnswered D.Disk S.Store M.MetaLog }
+{}
+
+/// In a world that a schedule reaches from a fresh one each device has lasted, whatever the devices.
+pub fn reaches_lasting<D: Disk, S: Store, M: MetaLog>()
+    ensures { ReachesLasting D.Disk S.Store M.MetaLog }
 {}
 
 /// Over devices of which no call can fail, no turn that a schedule leads through is answered a fault.

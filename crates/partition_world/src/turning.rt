@@ -1,11 +1,11 @@
 //! A turn of a command, by what its seat keeps of it.
 
-ghost use Rattle.std.specs.Prelude.{◌≡◌, ◌<◌, length, IfOk, OnErr};
+ghost use Rattle.std.specs.Prelude.{◌≡◌, ◌<◌, length, IfOk, OnErr, IsTrue};
 ghost use Rattle.plain_log.specs.Orders.{IsInRange};
 ghost use Rattle.partition_turns.specs.Held.{AtNode, CanStop};
 ghost use Rattle.partition_turns.specs.Sound.{HeldSound};
 ghost use Rattle.partition_world.specs.Tier.{AtSide};
-ghost use Rattle.partition_turns.specs.Turns.{IsOfTier};
+ghost use Rattle.partition_turns.specs.Turns.{IsOfTier, takes_memory};
 ghost use Rattle.partition_world.specs.declared.seat.Work.TheVariants.{Noted, Copies, Seeks, Dates, Expires, Rebuilds};
 ghost use Rattle.partition_world.specs.Sound.{IsWorkFor};
 ghost use Rattle.partition_world.specs.Turns.{OwnRow, BeginRow, NotedRow, CopyingRow, SeekingRow, DatingRow, DeletingRow, RebuildingRow, TurnRow, StaysTier};
@@ -45,6 +45,7 @@ impl<S: Store, M: MetaLog> Tier<S, M> {
         ensures row { IfOk result (λ outcome. TurnRow D.Disk S.Store M.MetaLog partition config held.old self.old
             order.now.broker.0 work.now order.now.command outcome held.new self.new) }
         ensures err { OnErr result (StaysTier D.Disk S.Store M.MetaLog held.old self.old order.now.broker.0 held.new self.new) }
+        ensures wants { OnErr result (CanStop held.old order.now.broker.0 → IsTrue (takes_memory order.now.command)) }
     {
         if !held.can_stop(order.broker.0 as usize) {
             return Err(AllocError);
@@ -84,6 +85,7 @@ impl<S: Store, M: MetaLog> Tier<S, M> {
         ensures row { IfOk result (λ outcome. AtNode held.old order.now.broker.0 (λ x. AtSide self.old order.now.broker.0 (λ side.
             BeginRow D.Disk S.Store M.MetaLog held.old self.old order.now.broker.0 x side order.now.command outcome held.new self.new))) }
         ensures err { OnErr result (StaysTier D.Disk S.Store M.MetaLog held.old self.old order.now.broker.0 held.new self.new) }
+        ensures wants { OnErr result (IsTrue (takes_memory order.now.command)) }
     {
         match &order.command {
             Command::Copy => self.copy(alloc, order.broker.0 as usize, held),
@@ -110,6 +112,7 @@ impl<S: Store, M: MetaLog> Tier<S, M> {
         ensures row { IfOk result (λ outcome. AtNode held.old order.now.broker.0 (λ x.
             OwnRow D.Disk held.old self.old order.now.broker.0 x order.now.command outcome held.new self.new)) }
         ensures err { OnErr result (StaysTier D.Disk S.Store M.MetaLog held.old self.old order.now.broker.0 held.new self.new) }
+        ensures wants { OnErr result (IsTrue (takes_memory order.now.command)) }
     {
         match held.first_turn(alloc, order)? {
             Some(turned) => Ok(outcome_of(turned)),

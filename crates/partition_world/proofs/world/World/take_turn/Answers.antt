@@ -93,5 +93,6 @@ returns-in-Err g c =
       next = record { at = record { list = c.get-list.ensures; actor = actor; seat_is = c.get-seat.ensures }; next = c.get-order.ensures };
       node = omega (arith, order.broker, c.self.invariant.0.held.count);
       tier = c.in-Err.ensures.err;
+      wants = c.in-Err.ensures.wants;
       fields = refl;
     })

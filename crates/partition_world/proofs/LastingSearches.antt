@@ -1,4 +1,4 @@
--- A turn of a fetch from the remote tier, and one of a rebuild that reads its line: no count of faults falls, and one rises
+-- A turn of a fetch from the remote tier, and one of a rebuild that reads its line: the devices last, and one has failed
 -- where a fault is told.
 use Rattle.std.proofs.Common.{◌≡◌, sym, ap, subst, refl, ℕ, List, Some, None, Option, Ok, Err, true, false}
 use Rattle.std.specs.declared.result.Result.{Result}
@@ -31,8 +31,8 @@ use Rattle.rebuild_task.specs.Turns.{TakesBytes, Takes, EpochsRow, RebuildRow}
 use Rattle.plain_log.specs.declared.answer.Answer.{Answer}
 use Rattle.plain_log.specs.declared.answer.Answer.TheVariants.{MetaFault, Damaged, Run}
 use Rattle.partition_world.specs.Seats.{fetch_outcome, rebuild_outcome}
-use Rattle.command_answers.proofs.FaultCounts.{Told}
-use Rattle.command_answers.proofs.FaultsTold.{TurnTold, StoreKeeps, StoreRose, MetaKeeps, MetaRose, store_same, meta_same}
+use Rattle.partition_turns.proofs.Told.{Told}
+use Rattle.partition_world.proofs.TurnsTold.{TurnTold, StoreLasts, StoreRose, MetaLasts, MetaRose, store_same, meta_same, store_ran, meta_ran}
 
 module _ (A B : Type 0) where
   found_told : (C E : Type 0) (notes : ℕ) (piece : Option Piece) → TurnTold A B C E (fetch_outcome (found_piece notes piece))
@@ -46,11 +46,11 @@ module _ (A B : Type 0) where
   rebuilt_told C E turn after is told = let same : turn ≡ after = cc (is) in subst (λ (t : RebuildTurn). TurnTold A B C E (rebuild_outcome t)) (sym same) told
 
   module _ {M : Type 0} (meta : MetaGhosts M) where
-    refresh_counts : (C : Type 0) (wanted : Wanted) (line : List (ℕ × ℕ)) (turn : FetchTurn) (before after : View) (old new : M) → RefreshRow meta.content meta.control wanted line (Ok turn) before after old new
-        → MetaKeeps meta old new × TurnTold A B C (MetaRose meta old new) (fetch_outcome turn)
-    refresh_counts C wanted line (fetch.Ends MetaFault) before after old new w = (w.control.ran.never_falls, w.control.ran.cause refl)
-    refresh_counts C wanted line turn before after old new w = (
-      w.1.control.ran.never_falls,
+    refresh_lasts : (C : Type 0) (wanted : Wanted) (line : List (ℕ × ℕ)) (turn : FetchTurn) (before after : View) (old new : M) → RefreshRow meta.content meta.control wanted line (Ok turn) before after old new
+        → MetaLasts meta old new × TurnTold A B C (MetaRose meta old new) (fetch_outcome turn)
+    refresh_lasts C wanted line (fetch.Ends MetaFault) before after old new w = (meta_ran meta _ _ old new w.control.ran, w.control.ran.cause refl)
+    refresh_lasts C wanted line turn before after old new w = (
+      meta_ran meta _ _ old new w.1.control.ran,
       subst (λ (t : FetchTurn). TurnTold A B C (MetaRose meta old new) (fetch_outcome t)) (sym w.0)
           (found_told C (MetaRose meta old new) after.notes (piece_at after.entries line wanted.log_end wanted.offset)),
     )
@@ -68,17 +68,17 @@ module _ (A B : Type 0) where
         by None (fetch.Goes next) w = tt
         by None (fetch.Ends answer) w = subst (λ (a : Answer). Told A B (StoreRose store old new) E a) (sym w.0) tt
 
-    load_counts : (wanted : Wanted) (piece : Piece) (view : View) (place : Option (ℕ × Spot)) (turn : FetchTurn) (cache cache' : Cache) (old new : S)
-        → LoadRow store.content store.control wanted piece view place (Ok turn) cache cache' old new → StoreKeeps store old new × TurnTold A B (StoreRose store old new) E (fetch_outcome turn)
-    load_counts wanted piece view None turn cache cache' old new w = (store_same store old new w.2, ends_told (StoreRose store old new) E turn _ w.0 tt)
-    load_counts wanted piece view (Some place) turn cache cache' old new w =
-        (w.gets.control.never_falls, loads_told wanted piece place.0 place.1 w.answer turn cache cache' old new w.gets.control w.loads)
+    load_lasts : (wanted : Wanted) (piece : Piece) (view : View) (place : Option (ℕ × Spot)) (turn : FetchTurn) (cache cache' : Cache) (old new : S)
+        → LoadRow store.content store.control wanted piece view place (Ok turn) cache cache' old new → StoreLasts store old new × TurnTold A B (StoreRose store old new) E (fetch_outcome turn)
+    load_lasts wanted piece view None turn cache cache' old new w = (store_same store old new w.2, ends_told (StoreRose store old new) E turn _ w.0 tt)
+    load_lasts wanted piece view (Some place) turn cache cache' old new w =
+        (store_ran store _ _ old new w.gets.control, loads_told wanted piece place.0 place.1 w.answer turn cache cache' old new w.gets.control w.loads)
 
-    index_counts : (wanted : Wanted) (piece : Piece) (view : View) (turn : FetchTurn) (index : Option OffsetTable) (cache cache' : Cache) (old new : S)
-        → IndexRow store.content store.control wanted piece view (Ok turn) index cache cache' old new → StoreKeeps store old new × TurnTold A B (StoreRose store old new) E (fetch_outcome turn)
-    index_counts wanted piece view turn (Some index) cache cache' old new w = (store_same store old new w.2, ends_told (StoreRose store old new) E turn _ w.0 tt)
-    index_counts wanted piece view turn None cache cache' old new w =
-        load_counts wanted piece view (spot_in wanted.partition piece.id part.Index (entry_of piece.id view.entries)) turn cache cache' old new w
+    index_lasts : (wanted : Wanted) (piece : Piece) (view : View) (turn : FetchTurn) (index : Option OffsetTable) (cache cache' : Cache) (old new : S)
+        → IndexRow store.content store.control wanted piece view (Ok turn) index cache cache' old new → StoreLasts store old new × TurnTold A B (StoreRose store old new) E (fetch_outcome turn)
+    index_lasts wanted piece view turn (Some index) cache cache' old new w = (store_same store old new w.2, ends_told (StoreRose store old new) E turn _ w.0 tt)
+    index_lasts wanted piece view turn None cache cache' old new w =
+        load_lasts wanted piece view (spot_in wanted.partition piece.id part.Index (entry_of piece.id view.entries)) turn cache cache' old new w
 
     cuts_told : (wanted : Wanted) (piece : Piece) (spot : Spot) (span : Span) (answer : Result (Option (List ℕ)) Trouble) (turn : FetchTurn) (old new : S)
         → Ran Get (fate_of answer) (store.control old) (store.control new) → Cuts wanted piece spot span answer (Ok turn) → TurnTold A B (StoreRose store old new) E (fetch_outcome turn)
@@ -93,11 +93,11 @@ module _ (A B : Type 0) where
         by None (fetch.Ends (Damaged place at)) w = tt
         by None turn w = elim w [ ]
 
-    log_counts : (wanted : Wanted) (piece : Piece) (span : Span) (view : View) (place : Option (ℕ × Spot)) (turn : FetchTurn) (old new : S)
-        → LogRow store.content store.control wanted piece span view place (Ok turn) old new → StoreKeeps store old new × TurnTold A B (StoreRose store old new) E (fetch_outcome turn)
-    log_counts wanted piece span view None turn old new w = (store_same store old new w.1, ends_told (StoreRose store old new) E turn _ w.0 tt)
-    log_counts wanted piece span view (Some place) turn old new w =
-        (w.gets.control.never_falls, cuts_told wanted piece place.1 span w.answer turn old new w.gets.control w.cuts)
+    log_lasts : (wanted : Wanted) (piece : Piece) (span : Span) (view : View) (place : Option (ℕ × Spot)) (turn : FetchTurn) (old new : S)
+        → LogRow store.content store.control wanted piece span view place (Ok turn) old new → StoreLasts store old new × TurnTold A B (StoreRose store old new) E (fetch_outcome turn)
+    log_lasts wanted piece span view None turn old new w = (store_same store old new w.1, ends_told (StoreRose store old new) E turn _ w.0 tt)
+    log_lasts wanted piece span view (Some place) turn old new w =
+        (store_ran store _ _ old new w.gets.control, cuts_told wanted piece place.1 span w.answer turn old new w.gets.control w.cuts)
 
     takes_told : (wanted : ℕ) (spot : Spot) (answer : Result (Option (List ℕ)) Trouble) (turn : RebuildTurn) (old new : S)
         → Ran Get (fate_of answer) (store.control old) (store.control new) → Takes wanted spot answer (Ok turn) → TurnTold A B (StoreRose store old new) E (rebuild_outcome turn)
@@ -111,26 +111,26 @@ module _ (A B : Type 0) where
         by None (Goes next) w = tt
         by None (Ends answer) w = subst (λ (a : Answer). Told A B (StoreRose store old new) E a) (sym w.0) tt
 
-    epochs_counts : (wanted : ℕ) (view : View) (spot : Option Spot) (turn : RebuildTurn) (old new : S) → EpochsRow store.content store.control wanted view spot (Ok turn) old new
-        → StoreKeeps store old new × TurnTold A B (StoreRose store old new) E (rebuild_outcome turn)
-    epochs_counts wanted view None turn old new w = (store_same store old new w.1, rebuilt_told (StoreRose store old new) E turn _ w.0 tt)
-    epochs_counts wanted view (Some spot) turn old new w = (w.gets.control.never_falls, takes_told wanted spot w.answer turn old new w.gets.control w.takes)
+    epochs_lasts : (wanted : ℕ) (view : View) (spot : Option Spot) (turn : RebuildTurn) (old new : S) → EpochsRow store.content store.control wanted view spot (Ok turn) old new
+        → StoreLasts store old new × TurnTold A B (StoreRose store old new) E (rebuild_outcome turn)
+    epochs_lasts wanted view None turn old new w = (store_same store old new w.1, rebuilt_told (StoreRose store old new) E turn _ w.0 tt)
+    epochs_lasts wanted view (Some spot) turn old new w = (store_ran store _ _ old new w.gets.control, takes_told wanted spot w.answer turn old new w.gets.control w.takes)
 
-    pub rebuild_counts : (wanted : Rebuilt) (line : List (ℕ × ℕ)) (view : View) (turn : RebuildTurn) (old new : S) → RebuildRow store.content store.control wanted line view (Ok turn) old new
-        → StoreKeeps store old new × TurnTold A B (StoreRose store old new) E (rebuild_outcome turn)
-    rebuild_counts wanted line view turn old new w = epochs_counts wanted.offset view _ turn old new w
+    pub rebuild_lasts : (wanted : Rebuilt) (line : List (ℕ × ℕ)) (view : View) (turn : RebuildTurn) (old new : S) → RebuildRow store.content store.control wanted line view (Ok turn) old new
+        → StoreLasts store old new × TurnTold A B (StoreRose store old new) E (rebuild_outcome turn)
+    rebuild_lasts wanted line view turn old new w = epochs_lasts wanted.offset view _ turn old new w
 
   module _ {S M : Type 0} (store : StoreGhosts S) (meta : MetaGhosts M) where
-    pub fetch_counts : (wanted : Wanted) (line : List (ℕ × ℕ)) (next : Search) (turn : FetchTurn) (old new : Tiers S M)
+    pub fetch_lasts : (wanted : Wanted) (line : List (ℕ × ℕ)) (next : Search) (turn : FetchTurn) (old new : Tiers S M)
         → FetchRow store.content store.control meta.content meta.control wanted line next (Ok turn) old new
-        → StoreKeeps store old.store new.store × MetaKeeps meta old.meta new.meta
+        → StoreLasts store old.store new.store × MetaLasts meta old.meta new.meta
         × TurnTold A B (StoreRose store old.store new.store) (MetaRose meta old.meta new.meta) (fetch_outcome turn)
-    fetch_counts wanted line Refresh turn old new w =
-        let k = refresh_counts meta (StoreRose store old.store new.store) wanted line turn old.view new.view old.meta new.meta w.1 in
+    fetch_lasts wanted line Refresh turn old new w =
+        let k = refresh_lasts meta (StoreRose store old.store new.store) wanted line turn old.view new.view old.meta new.meta w.1 in
         (store_same store old.store new.store (ap (λ (t : Tiers S M). t.store) w.0), k.0, k.1)
-    fetch_counts wanted line (Index piece) turn old new w =
-        let k = index_counts (MetaRose meta old.meta new.meta) store wanted piece old.view turn (found piece.id.0 old.cache.pairs) old.cache new.cache old.store new.store w.1 in
+    fetch_lasts wanted line (Index piece) turn old new w =
+        let k = index_lasts (MetaRose meta old.meta new.meta) store wanted piece old.view turn (found piece.id.0 old.cache.pairs) old.cache new.cache old.store new.store w.1 in
         (k.0, meta_same meta old.meta new.meta (ap (λ (t : Tiers S M). t.meta) w.0), k.1)
-    fetch_counts wanted line (Log piece span) turn old new w =
-        let k = log_counts (MetaRose meta old.meta new.meta) store wanted piece span old.view (spot_in wanted.partition piece.id part.Log (entry_of piece.id old.view.entries)) turn old.store new.store w.1 in
+    fetch_lasts wanted line (Log piece span) turn old new w =
+        let k = log_lasts (MetaRose meta old.meta new.meta) store wanted piece span old.view (spot_in wanted.partition piece.id part.Log (entry_of piece.id old.view.entries)) turn old.store new.store w.1 in
         (k.0, meta_same meta old.meta new.meta (ap (λ (t : Tiers S M). t.meta) w.0), k.1)

@@ -1,4 +1,4 @@
--- A turn of a search by timestamp: no count of faults falls, and one rises where a fault is told.
+-- A turn of a search by timestamp: the devices last, and one has failed where a fault is told.
 use Rattle.std.proofs.Common.{◌≡◌, inl, inr, sym, ap, subst, refl, ℕ, List, Some, None, Option, Ok, Err, true, false}
 use Rattle.std.specs.declared.result.Result.{Result}
 use Rattle.std.specs.declared.alloc.AllocError.{AllocError}
@@ -29,9 +29,9 @@ use Rattle.plain_log.specs.declared.answer.Answer.{Answer}
 use Rattle.plain_log.specs.declared.answer.Answer.TheVariants.{MetaFault, Damaged, Run, Offset}
 use Rattle.plain_log.specs.declared.answer.Place.TheVariants.{Meta}
 use Rattle.partition_world.specs.Seats.{date_outcome, fetch_outcome}
-use Rattle.command_answers.proofs.FaultCounts.{Told}
-use Rattle.command_answers.proofs.FaultsTold.{TurnTold, StoreKeeps, StoreRose, MetaKeeps, MetaRose, store_same, meta_same}
-use Rattle.command_answers.proofs.FaultsOfSearches.{fetch_counts}
+use Rattle.partition_turns.proofs.Told.{Told}
+use Rattle.partition_world.proofs.TurnsTold.{TurnTold, StoreLasts, StoreRose, MetaLasts, MetaRose, store_same, meta_same, store_ran, meta_ran}
+use Rattle.partition_world.proofs.LastingSearches.{fetch_lasts}
 
 module _ (A B : Type 0) where
   as_told : (C E : Type 0) (turn after : TimeTurn) → ◌≡◌ {A = Result TimeTurn AllocError} (Ok turn) (Ok after)
@@ -66,13 +66,13 @@ module _ (A B : Type 0) where
   searches_told C E asked from (fetch.Ends answer) turn w told = as_told C E turn (Ends answer) w told
   searches_told C E asked from (fetch.Goes next) turn w told = elim w [ ]
 
-  seek_counts : (C : Type 0) {M : Type 0} (meta : MetaGhosts M) (asked : Asked) (line : List (ℕ × ℕ)) (cursor : ℕ) (turn : TimeTurn)
+  seek_lasts : (C : Type 0) {M : Type 0} (meta : MetaGhosts M) (asked : Asked) (line : List (ℕ × ℕ)) (cursor : ℕ) (turn : TimeTurn)
       (before after : View) (old new : M)
-      → SeekRow meta.content meta.control asked line cursor (Ok turn) before after old new → MetaKeeps meta old new
+      → SeekRow meta.content meta.control asked line cursor (Ok turn) before after old new → MetaLasts meta old new
       × TurnTold A B C (MetaRose meta old new) (date_outcome turn)
-  seek_counts C meta asked line cursor (Ends MetaFault) before after old new w = (w.control.ran.never_falls, w.control.ran.cause refl)
-  seek_counts C meta asked line cursor turn before after old new w =
-      (w.1.control.ran.never_falls, seeks_told C (MetaRose meta old new) asked line after cursor turn w.0)
+  seek_lasts C meta asked line cursor (Ends MetaFault) before after old new w = (meta_ran meta _ _ old new w.control.ran, w.control.ran.cause refl)
+  seek_lasts C meta asked line cursor turn before after old new w =
+      (meta_ran meta _ _ old new w.1.control.ran, seeks_told C (MetaRose meta old new) asked line after cursor turn w.0)
 
   module _ (E : Type 0) {S : Type 0} (store : StoreGhosts S) where
     times_told : (asked : Asked) (cursor : ℕ) (piece : Piece) (base : ℕ) (spot : Spot) (answer : Result (Option (List ℕ)) Trouble)
@@ -90,65 +90,65 @@ module _ (A B : Type 0) where
         by None (Goes at next) w = tt
         by None (Ends answer) w = subst (λ (a : Answer). Told A B (StoreRose store old new) E a) (sym w.0) tt
 
-    times_counts : (asked : Asked) (cursor : ℕ) (piece : Piece) (view : View) (place : Option (ℕ × Spot)) (turn : TimeTurn) (old new : S)
-        → TimesRow store.content store.control asked cursor piece view place (Ok turn) old new → StoreKeeps store old new
+    times_lasts : (asked : Asked) (cursor : ℕ) (piece : Piece) (view : View) (place : Option (ℕ × Spot)) (turn : TimeTurn) (old new : S)
+        → TimesRow store.content store.control asked cursor piece view place (Ok turn) old new → StoreLasts store old new
         × TurnTold A B (StoreRose store old new) E (date_outcome turn)
-    times_counts asked cursor piece view None turn old new w = (
+    times_lasts asked cursor piece view None turn old new w = (
       store_same store old new w.1,
       as_told (StoreRose store old new) E turn _
           w.0 tt,
     )
-    times_counts asked cursor piece view (Some place) turn old new w =
-        (w.gets.control.never_falls, times_told asked cursor piece place.0 place.1 w.answer turn old new w.gets.control w.times)
+    times_lasts asked cursor piece view (Some place) turn old new w =
+        (store_ran store _ _ old new w.gets.control, times_told asked cursor piece place.0 place.1 w.answer turn old new w.gets.control w.times)
 
   module _ {S M : Type 0} (store : StoreGhosts S) (meta : MetaGhosts M) where
-    abbrev Counted : Tiers S M → Tiers S M → TimeTurn → Type 0
-    Counted old new turn =
-        StoreKeeps store old.store new.store × MetaKeeps meta old.meta new.meta
+    abbrev Lasted : Tiers S M → Tiers S M → TimeTurn → Type 0
+    Lasted old new turn =
+        StoreLasts store old.store new.store × MetaLasts meta old.meta new.meta
         × TurnTold A B (StoreRose store old.store new.store) (MetaRose meta old.meta new.meta) (date_outcome turn)
 
     -- no call was made
-    goes_counted : (old new : Tiers S M) (turn : TimeTurn) (at : ℕ) (next : Next)
-        → ◌≡◌ {A = Result TimeTurn AllocError} (Ok turn) (Ok (Goes at next)) → new ≡ old → Counted old new turn
-    goes_counted old new turn at next is same = (
+    goes_lasted : (old new : Tiers S M) (turn : TimeTurn) (at : ℕ) (next : Next)
+        → ◌≡◌ {A = Result TimeTurn AllocError} (Ok turn) (Ok (Goes at next)) → new ≡ old → Lasted old new turn
+    goes_lasted old new turn at next is same = (
       store_same store old.store new.store (ap (λ (t : Tiers S M). t.store) same),
       meta_same meta old.meta new.meta (ap (λ (t : Tiers S M). t.meta) same),
       as_told (StoreRose store old.store new.store) (MetaRose meta old.meta new.meta) turn (Goes at next) is tt,
     )
 
-    index_counts : (asked : Asked) (line : List (ℕ × ℕ)) (cursor from : ℕ) (piece : Piece) (found : Result FetchTurn AllocError)
+    index_lasts : (asked : Asked) (line : List (ℕ × ℕ)) (cursor from : ℕ) (piece : Piece) (found : Result FetchTurn AllocError)
         (turn : TimeTurn) (old new : Tiers S M)
         → FetchRow store.content store.control meta.content meta.control (wanted_at asked from) line (fetching.Index piece) found old new
-        → Indexes cursor piece from found (Ok turn) → Counted old new turn
-    index_counts asked line cursor from piece (Ok found) turn old new row w =
-        let k = fetch_counts A B store meta (wanted_at asked from) line (fetching.Index piece) found old new row in
+        → Indexes cursor piece from found (Ok turn) → Lasted old new turn
+    index_lasts asked line cursor from piece (Ok found) turn old new row w =
+        let k = fetch_lasts A B store meta (wanted_at asked from) line (fetching.Index piece) found old new row in
         (k.0, k.1, indexes_told (StoreRose store old.store new.store) (MetaRose meta old.meta new.meta) cursor from piece found turn w k.2)
-    index_counts asked line cursor from piece (Err e) turn old new row w = absurd (let no : false ≡ true = w in cc)
+    index_lasts asked line cursor from piece (Err e) turn old new row w = absurd (let no : false ≡ true = w in cc)
 
-    log_counts : (asked : Asked) (line : List (ℕ × ℕ)) (from : ℕ) (piece : Piece) (span : Span) (found : Result FetchTurn AllocError)
+    log_lasts : (asked : Asked) (line : List (ℕ × ℕ)) (from : ℕ) (piece : Piece) (span : Span) (found : Result FetchTurn AllocError)
         (turn : TimeTurn) (old new : Tiers S M)
         → FetchRow store.content store.control meta.content meta.control (wanted_at asked from) line (fetching.Log piece span) found old new
-        → Searches asked from found (Ok turn) → Counted old new turn
-    log_counts asked line from piece span (Ok found) turn old new row w =
-        let k = fetch_counts A B store meta (wanted_at asked from) line (fetching.Log piece span) found old new row in
+        → Searches asked from found (Ok turn) → Lasted old new turn
+    log_lasts asked line from piece span (Ok found) turn old new row w =
+        let k = fetch_lasts A B store meta (wanted_at asked from) line (fetching.Log piece span) found old new row in
         (k.0, k.1, searches_told (StoreRose store old.store new.store) (MetaRose meta old.meta new.meta) asked from found turn w k.2)
-    log_counts asked line from piece span (Err e) turn old new row w = absurd (let no : false ≡ true = w in cc)
+    log_lasts asked line from piece span (Err e) turn old new row w = absurd (let no : false ≡ true = w in cc)
 
     -- among the remote segments
-    pub time_counts : (asked : Asked) (line : List (ℕ × ℕ)) (cursor : ℕ) (next : Next) (turn : TimeTurn) (old new : Tiers S M)
+    pub time_lasts : (asked : Asked) (line : List (ℕ × ℕ)) (cursor : ℕ) (next : Next) (turn : TimeTurn) (old new : Tiers S M)
         → TimeRow store.content store.control meta.content meta.control asked line cursor next (Ok turn) old new
-        → StoreKeeps store old.store new.store × MetaKeeps meta old.meta new.meta
+        → StoreLasts store old.store new.store × MetaLasts meta old.meta new.meta
         × TurnTold A B (StoreRose store old.store new.store) (MetaRose meta old.meta new.meta) (date_outcome turn)
-    time_counts asked line cursor Seek turn old new w =
-        let k = seek_counts (StoreRose store old.store new.store) meta asked line cursor turn old.view new.view old.meta new.meta w.1 in
+    time_lasts asked line cursor Seek turn old new w =
+        let k = seek_lasts (StoreRose store old.store new.store) meta asked line cursor turn old.view new.view old.meta new.meta w.1 in
         (store_same store old.store new.store (ap (λ (t : Tiers S M). t.store) w.0), k.0, k.1)
-    time_counts asked line cursor (ReadsTimes piece) turn old new w =
+    time_lasts asked line cursor (ReadsTimes piece) turn old new w =
         let place = spot_in asked.partition piece.id part.TimeIndex (entry_of piece.id old.view.entries) in
-        let k = times_counts (MetaRose meta old.meta new.meta) store asked cursor piece old.view place turn old.store new.store w.1 in
+        let k = times_lasts (MetaRose meta old.meta new.meta) store asked cursor piece old.view place turn old.store new.store w.1 in
         (k.0, meta_same meta old.meta new.meta (ap (λ (t : Tiers S M). t.meta) w.0), k.1)
-    time_counts asked line cursor (Index piece from) turn old new (inl w) = goes_counted old new turn _ Seek w.1 w.2
-    time_counts asked line cursor (Index piece from) turn old new (inr w) = index_counts asked line cursor from piece w.1.0 turn old new
+    time_lasts asked line cursor (Index piece from) turn old new (inl w) = goes_lasted old new turn _ Seek w.1 w.2
+    time_lasts asked line cursor (Index piece from) turn old new (inr w) = index_lasts asked line cursor from piece w.1.0 turn old new
         w.1.1 w.1.2
-    time_counts asked line cursor (Log piece from span) turn old new (inl w) = goes_counted old new turn _ Seek w.1 w.2
-    time_counts asked line cursor (Log piece from span) turn old new (inr w) = log_counts asked line from piece span w.1.0 turn old new
+    time_lasts asked line cursor (Log piece from span) turn old new (inl w) = goes_lasted old new turn _ Seek w.1 w.2
+    time_lasts asked line cursor (Log piece from span) turn old new (inr w) = log_lasts asked line from piece span w.1.0 turn old new
         w.1.1 w.1.2

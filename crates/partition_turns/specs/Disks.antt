@@ -1,0 +1,26 @@
+-- What turns leave of the brokers' disks.
+use Rattle.std.specs.Prelude.{ℕ, List, [], ◌∷◌}
+use Rattle.tier_base.specs.Device.{Control}
+use Rattle.disk_model.specs.Call.{call_code}
+use Rattle.broker_log.specs.Seen.{OnDisk, Lasting, Faulted}
+use Rattle.partition_turns.specs.declared.held.Node.{Node}
+use Rattle.partition_turns.specs.declared.held.Held.{Held}
+use Rattle.partition_turns.specs.Held.{AtNode}
+
+module _ {D : Type 0} where
+  -- each broker has its disk: no log is taken out
+  abbrev pub HaveDisks : List (Node D) → Type 0
+  HaveDisks [] = Unit {0}
+  HaveDisks (x ∷ xs) = OnDisk x.log (λ d. Unit {0}) × HaveDisks xs
+
+module _ {D : Type 0} (control : D → Control call_code) where
+  -- each broker's disk has lasted: its plan is as it was, and its count of faults hasn't fallen
+  abbrev pub DisksLast : List (Node D) → List (Node D) → Type 0
+  DisksLast [] [] = Unit {0}
+  DisksLast (x ∷ xs) (y ∷ ys) = Lasting control x.log y.log × DisksLast xs ys
+  DisksLast [] (y ∷ ys) = ⊥
+  DisksLast (x ∷ xs) [] = ⊥
+
+  -- a call of the broker's disk failed
+  abbrev pub DiskFails : ℕ → Held D → Held D → Type 0
+  DiskFails b h h' = AtNode h b (λ x. AtNode h' b (λ y. Faulted control x.log y.log))
