@@ -17,6 +17,7 @@ use Rattle.plain_log.specs.Laws.{FreshIsSafe, ReplaysKeepSafe}
 use Rattle.plain_log.specs.Safe.{PlainSafe}
 use Rattle.plain_log.proofs.Grows.{replay_led, replay_runs}
 use Rattle.command_answers.specs.LawsOfDamage.{RunsMeetNoDamage}
+use Rattle.command_answers.proofs.FaultsOfJournals.{reaches_counted}
 use Rattle.partition_world.specs.Whole.{Whole}
 use Rattle.partition_world.specs.Turn.{IsAtEnd}
 use Rattle.partition_world.specs.Central.{IsCentral}
@@ -94,7 +95,15 @@ module _ {D S M : Type 0} (disk : DiskGhosts D) (store : StoreGhosts S) (meta : 
             (unplanned disk.control part.faults 0 starts.disks none starts.planned.disk_plans)
             (unplanned_device (store_plan part.faults) (store.control starts.objects) (ap store_plan none) starts.planned.store_plan_is)
             (unplanned_device (meta_plan part.faults) (meta.control starts.notes) (ap meta_plan none) starts.planned.meta_plan_is))).journal;
-        reached = record { first = w; last = w'; starts = starts; reaches = reaches; central = later.central (fresh config) c; its = refl };
+        reached = record {
+          first = w;
+          last = w';
+          starts = starts;
+          reaches = reaches;
+          central = later.central (fresh config) c;
+          counted = reaches_counted disk store meta part.partition config lists starts.disks starts.objects starts.notes w part.schedule w' fit f reaches;
+          its = refl;
+        };
       }
 
   -- a schedule that steps each actor to its end comes there

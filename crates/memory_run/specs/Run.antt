@@ -20,6 +20,7 @@ use Rattle.partition_world.specs.Whole.{Whole}
 use Rattle.partition_world.specs.Fresh.{IsFresh, IsSeenEmpty}
 use Rattle.partition_world.specs.InTurn.{IsInTurn}
 use Rattle.partition_world.specs.Reaches.{Reaches}
+use Rattle.command_answers.specs.Counted.{FaultsAreCounted}
 use Rattle.command_answers.specs.Damage.{MeetsNoDamage}
 use Rattle.script_lang.specs.declared.fault.Fault.{Fault}
 use Rattle.script_lang.specs.declared.script.PartScript.{PartScript}
@@ -37,13 +38,15 @@ module _ {D S M : Type 0} (disk : DiskGhosts D) (store : StoreGhosts S) (meta : 
     pub empty : IsSeenEmpty disk store meta w
 
   -- the journal is that of a world which the partition's schedule reaches from the fresh one over its faults; in it the central
-  -- fact holds: its logs are the plain log's, and the remote tier beside them keeps its safety rules
+  -- fact holds: its logs are the plain log's, and the remote tier beside them keeps its safety rules; its devices have counted
+  -- each fault that is told
   pub record IsReached (config : Config) (part : PartScript) (journal : List JournalEntry) : Type 0 where
     pub first : Whole D S M
     pub last : Whole D S M
     pub starts : StartsWith part.partition config part.lists part.faults first
     pub reaches : Reaches disk store meta first part.schedule last
     pub central : IsCentral disk store meta (fresh config) last
+    pub counted : FaultsAreCounted disk store meta first last
     pub its : last.journal.items ≡ journal
 
   -- a partition's number and journal: a run of the plain log over the partition's lists, by its schedule, which ends with

@@ -2,7 +2,8 @@
 //! calls fail that the script's fault lines name.
 //!
 //! `run_partition` runs it by its own schedule. `specs/Run.antt` says what a run is: its journal is one of the plain log, in
-//! which each command is answered once and in order, and that of a world which the schedule reaches.
+//! which each command is answered once and in order, and that of a world which the schedule reaches. Its devices
+//! have counted each fault that is told.
 #![tactic(auto)]
 
 mod devices;

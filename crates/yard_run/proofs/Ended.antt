@@ -17,6 +17,7 @@ use Rattle.plain_log.specs.Runs.{IsPlainRun, IsComplete}
 use Rattle.plain_log.specs.Laws.{FreshIsSafe, ReplaysKeepSafe}
 use Rattle.plain_log.proofs.Grows.{replay_led, replay_runs}
 use Rattle.command_answers.specs.LawsOfDamage.{RunsMeetNoDamage}
+use Rattle.command_answers.specs.LawsOfFaults.{ReachesCounted}
 use Rattle.partition_turns.specs.Fresh.{DisksTell, AllSeen, ComeBack}
 use Rattle.partition_world.specs.Whole.{Whole}
 use Rattle.partition_world.specs.declared.tier.Devices.{Devices}
@@ -128,11 +129,11 @@ module _ {D S M : Type 0} (disk : DiskGhosts D) (store : StoreGhosts S) (meta : 
       }
 
   -- the journal of a world that was run by its schedule is that of a run of its partition
-  pub is_run : (config : Config) (part : PartScript) (devices back : Devices D S M) (w w' : Whole D S M) → EndsAreComplete disk store meta → EndsAreAnswered disk store meta → ReachesLater disk store meta → ReachesInTurn disk store meta → FreshIsCentral disk store meta → FreshIsSafe → ReplaysKeepSafe → RunsMeetNoDamage disk store meta → IsConfig config → AreListsFor config part.lists → StepsToEnds part
+  pub is_run : (config : Config) (part : PartScript) (devices back : Devices D S M) (w w' : Whole D S M) → EndsAreComplete disk store meta → EndsAreAnswered disk store meta → ReachesLater disk store meta → ReachesInTurn disk store meta → FreshIsCentral disk store meta → FreshIsSafe → ReplaysKeepSafe → RunsMeetNoDamage disk store meta → ReachesCounted disk store meta → IsConfig config → AreListsFor config part.lists → StepsToEnds part
       → IsFresh disk store meta part.partition config part.lists devices.disks.items devices.store devices.meta w → (DisksTell disk.content devices.disks.items → AllSeen disk.content w.held.nodes)
       → Reaches disk store meta w part.schedule w' → AreOf disk store meta w' back.disks.items back.store back.meta
       → IsRun disk store meta config part devices w'.journal.items back
-  is_run config part devices back w w' law answers goes turns begins opens keeps undamaged fits fit ends f told reaches its =
+  is_run config part devices back w w' law answers goes turns begins opens keeps undamaged counted fits fit ends f told reaches its =
       let lists = part.lists in
       let later = goes w part.schedule w' reaches in
       let same : w'.lists ≡ lists = later.lists ∙ f.lists_are in
@@ -150,6 +151,7 @@ module _ {D S M : Type 0} (disk : DiskGhosts D) (store : StoreGhosts S) (meta : 
           in_turn = subst (λ (k : List ActorList). IsInTurn k w'.journal.items) same (turns part.partition config lists devices.disks.items devices.store devices.meta w part.schedule w' fit f reaches);
         };
         its_devices = its;
+        counted = counted part.partition config lists devices.disks.items devices.store devices.meta w part.schedule w' fit f reaches;
         log_run = λ blank. is_log_run config part devices w w' law goes opens keeps undamaged fits fit f (seen_empty part config devices w f told blank) (central blank) reaches
             (all_at_end config part devices w w' goes fit ends f reaches);
         central = λ blank. later.central (fresh config) (central blank);

@@ -12,7 +12,7 @@ ghost use Rattle.yard_run.specs.Run.{IsRunText};
 ghost use Rattle.yard_run.specs.declared.refusal.RunRefusal.TheVariants as refusal;
 
 use crate::refusal::RunRefusal;
-use command_answers::runs_meet_no_damage;
+use command_answers::{reaches_counted, runs_meet_no_damage};
 use disk_model::Disk;
 use meta_log::MetaLog;
 use object_store::Store;
@@ -71,6 +71,7 @@ pub fn run_on<D: Disk, S: Store, M: MetaLog>(
     ends_are_answered::<D, S, M>();
     reaches_later::<D, S, M>();
     reaches_in_turn::<D, S, M>();
+    reaches_counted::<D, S, M>();
     runs_meet_no_damage::<D, S, M>();
     fresh_is_central::<D, S, M>();
     fresh_is_safe();

@@ -12,7 +12,7 @@ returns-in-Ok-clause-text g c =
     ok_both c.trace-text.result _ _ _ c.trace-text.ensures.reaches c.trace-text.ensures.text (λ text reaches spelled. record {
       journal = w'.journal.items;
       run = is_run g.D.Disk g.S.Store g.M.MetaLog c.args.config c.args.part c.args.devices c.close.result w w' c.ends_are_complete.ensures c.ends_are_answered.ensures c.reaches_later.ensures
-          c.reaches_in_turn.ensures c.fresh_is_central.ensures c.fresh_is_safe.ensures c.replays_keep_safe.ensures c.runs_meet_no_damage.ensures c.requires.config c.requires.fit c.requires.ends
+          c.reaches_in_turn.ensures c.fresh_is_central.ensures c.fresh_is_safe.ensures c.replays_keep_safe.ensures c.runs_meet_no_damage.ensures c.reaches_counted.ensures c.requires.config c.requires.fit c.requires.ends
           c.in-Ok.ensures.fresh c.in-Ok.ensures.told (subst (λ (k : List Pace). Reaches g.D.Disk g.S.Store g.M.MetaLog w k w') c.as_slice.ensures reaches)
           (record { disks_are = c.close.ensures.disks; store_is = c.close.ensures.store; meta_is = c.close.ensures.meta });
       spelled = spelled;
