@@ -31,6 +31,7 @@ module _ {D S M W : Type 0} (disk : DiskGhosts D) (store : StoreGhosts S) (meta 
         rest = rests;
         tells = same;
         back = back.out;
+        own = record {};
         yard_fault = λ e. absurd (cc e);
         write_fault = λ e. absurd (cc e);
         front = λ e. absurd (cc e);
@@ -42,6 +43,7 @@ module _ {D S M W : Type 0} (disk : DiskGhosts D) (store : StoreGhosts S) (meta 
         rest = rests;
         tells = same;
         back = back.out;
+        own = record {};
         yard_fault = λ e. absurd (cc e);
         write_fault = λ e. absurd (cc e);
         front = λ e. absurd (cc e);
@@ -57,6 +59,7 @@ module _ {D S M W : Type 0} (disk : DiskGhosts D) (store : StoreGhosts S) (meta 
     rest = rests;
     tells = same;
     back = back.out;
+    own = record {};
     yard_fault = λ e. absurd (cc e);
     write_fault = λ e. rose;
     front = λ e. record { told = told; tells = tells_so; written = front };

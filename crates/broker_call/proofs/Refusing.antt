@@ -1,5 +1,5 @@
 -- What a script without a reading comes to.
-use Rattle.std.proofs.Common.{◌≡◌, ◌∙◌, sym, ap, subst, refl, ℕ, ◌+◌, ◌≤◌, List, length, Some, None, Err, Option, ◌++◌, append-nil, arith}
+use Rattle.std.proofs.Common.{◌≡◌, ◌∙◌, sym, ap, subst, refl, ℕ, ◌+◌, ◌<◌, ◌≤◌, List, length, Some, None, Err, Option, ◌++◌, append-nil, arith}
 use Rattle.std.specs.Prelude.{IsOk}
 use Rattle.tier_base.specs.Counts.{counted}
 use Rattle.tier_base.specs.Stream.{ReadsWhole}
@@ -28,6 +28,10 @@ one_refusal bytes b line n why w bad same is =
     let pair : (line, why) ≡ (n, w) = cc both in
     (ap (λ (p : ℕ × Why). p.0) pair, ap (λ (p : ℕ × Why). p.1) pair)
 
+-- nor more than was read
+not_over : (bytes b : List ℕ) → b ≡ bytes → length bytes ≤ script_limit → script_limit < length b → ⊥
+not_over bytes b same within more = let lengths : length b ≡ length bytes = ap length same in omega (arith, lengths, within, more)
+
 module _ {R W : Type 0} (Traces : List ℕ → List ℕ → Type 0) (source : SourceGhosts R) (sink : SinkGhosts W) where
   -- the source was read whole, and what it gave has no reading
   pub refuses : (script script' : R) (out : W) (bytes : List ℕ) (line : ℕ) (why : Why) → ReadsWhole (source.left script) (source.left script') bytes
@@ -35,6 +39,7 @@ module _ {R W : Type 0} (Traces : List ℕ → List ℕ → Type 0) (source : So
       → Simulates Traces source sink script script' out out (BadScript line why)
   refuses script script' out bytes line why read count within bad = record {
     trace = λ e. absurd (cc e);
+    own = record {};
     read_fault = λ e. absurd (cc e);
     long = λ e. absurd (cc e);
     long_bytes = λ e. absurd (cc e);
@@ -47,5 +52,6 @@ module _ {R W : Type 0} (Traces : List ℕ → List ℕ → Type 0) (source : So
     front = λ e. absurd (cc e);
     complete = λ calm quiet b left few ok. absurd (none_ok bytes b line why bad (whole (source.left script) (source.left script') bytes b read left) ok);
     refused = λ calm b n w left few is. one_refusal bytes b line n why w bad (whole (source.left script) (source.left script') bytes b read left) is;
+    over = λ calm b left more. not_over bytes b (whole (source.left script) (source.left script') bytes b read left) within more;
     unwritten = λ no there. refl;
   }

@@ -1,7 +1,7 @@
 -- The headline: whatever the script, the written trace is a run of the plain log, and a load's summary tells of such runs.
 --
 -- The brokers' logs stand on disks, and what they copy in a remote store, with notes in a metadata log.
-use Rattle.std.specs.Prelude.{◌≡◌, ℕ, List, [], ◌∷◌, Some, Ok, Err}
+use Rattle.std.specs.Prelude.{◌≡◌, ℕ, List, [], ◌∷◌, Some, Ok, Err, IsOk}
 use Rattle.std.specs.declared.option.Option.{Option}
 use Rattle.std.specs.Io.KnownBytes.{Appends}
 use Rattle.tier_base.specs.Stream.{ReadsWhole, AppendsFront}
@@ -100,6 +100,12 @@ module _ (Traces : List ℕ → List ℕ → Type 0) where
     pub text : List ℕ
     pub trace : Traces script text
     pub written : AppendsFront written_old written_new text
+
+-- the source was read to its end, and what it gave has a reading
+pub record ReadsGood (left_old left_new : Option (List ℕ)) : Type 0 where
+  pub script : List ℕ
+  pub read : ReadsWhole left_old left_new script
+  pub has : IsOk (script_in script)
 
 -- the source was read to its end, this line of what it gave is the first without a reading, and this is why
 pub record ReadsBad (left_old left_new : Option (List ℕ)) (line : ℕ) (why : Why) : Type 0 where

@@ -33,6 +33,19 @@ abbrev pub status_of : Option PartitionId → Status
 status_of None = ending.Ok
 status_of (Some partition) = ending.Unsound partition
 
+-- a status of `sweep`
+abbrev pub IsOfSweep : Status → Type 0
+IsOfSweep ending.Ok = Unit {0}
+IsOfSweep ending.WriteFault = Unit {0}
+IsOfSweep ending.NoMemory = Unit {0}
+IsOfSweep ending.YardFault = Unit {0}
+IsOfSweep other = ⊥
+
+-- a status of `audit`: one of `sweep`, or a tier isn't sound
+abbrev pub IsOfAudit : Status → Type 0
+IsOfAudit (ending.Unsound partition) = Unit {0}
+IsOfAudit other = IsOfSweep other
+
 -- the audit was written
 abbrev pub IsWritten : Status → Type 0
 IsWritten ending.Ok = Unit {0}
@@ -86,13 +99,15 @@ module _ {D S M W : Type 0} (disk : DiskGhosts D) (store : StoreGhosts S) (meta 
     pub tells : held'.tells ≡ held.tells
     -- each device that was handed out is back
     pub back : control'.out ≡ control.out
-    -- each other status has its cause; want of memory alone is free
+    -- no other form's status comes, and each has its cause; want of memory alone is free
+    pub own : IsOfAudit status
     pub yard_fault : status ≡ ending.YardFault → Rose control.faults control'.faults
     pub write_fault : status ≡ ending.WriteFault → Rose (sink.faults out) (sink.faults out')
     pub front : status ≡ ending.WriteFault → WritesAuditFront disk store meta held (sink.written out) (sink.written out')
     -- where nothing fails the audit is written, unless memory runs out
     pub complete : ¬ Rose control.faults control'.faults → ¬ Rose (sink.faults out) (sink.faults out') → IsWrittenOrNoMemory status
-    pub unwritten : IsRefused status → sink.written out' ≡ sink.written out
+    -- nothing else touches the sink
+    pub unwritten : IsRefused status → out' ≡ out
 
   -- `sweep`, over a yard to a sink
   pub record SweepsYard (held held' : Held D S M) (control control' : Control) (out out' : W) (status : Status) : Type 0 where
@@ -104,10 +119,12 @@ module _ {D S M W : Type 0} (disk : DiskGhosts D) (store : StoreGhosts S) (meta 
     pub tells : held'.tells ≡ held.tells
     -- each device that was handed out is back
     pub back : control'.out ≡ control.out
-    -- each other status has its cause; want of memory alone is free
+    -- no other form's status comes, and each has its cause; want of memory alone is free
+    pub own : IsOfSweep status
     pub yard_fault : status ≡ ending.YardFault → Rose control.faults control'.faults
     pub write_fault : status ≡ ending.WriteFault → Rose (sink.faults out) (sink.faults out')
     pub front : status ≡ ending.WriteFault → WritesSweepFront disk store meta held held' (sink.written out) (sink.written out')
     -- where nothing fails all is done and written, unless memory runs out
     pub complete : ¬ Rose control.faults control'.faults → ¬ Rose (sink.faults out) (sink.faults out') → IsDoneOrNoMemory status
-    pub unwritten : IsRefused status → sink.written out' ≡ sink.written out
+    -- nothing else touches the sink
+    pub unwritten : IsRefused status → out' ≡ out

@@ -1,7 +1,7 @@
 -- What a run over a yard writes, and how it may end.
 --
 -- The yard is asked for its first name before the first device is handed out: a run begins only where there is none.
-use Rattle.std.specs.Prelude.{◌≡◌, ◌≢◌, ℕ, ◌+◌, ◌≤◌, List, length, Option, Some, None, Ok, Err, IsOk, IsTrue}
+use Rattle.std.specs.Prelude.{◌≡◌, ◌≢◌, ℕ, ◌+◌, ◌<◌, ◌≤◌, List, length, Option, Some, None, Ok, Err, IsOk, IsTrue}
 use Rattle.std.specs.declared.result.Result.{Result}
 use Rattle.std.specs.Io.KnownBytes.{Appends}
 use Rattle.tier_base.specs.Counts.{counted, Rose}
@@ -19,8 +19,20 @@ use Rattle.script_lang.specs.Script.{script_in}
 use Rattle.yard_run.specs.Runs.{IsRunText}
 use Rattle.broker_call.specs.declared.status.Status.{Status}
 use Rattle.broker_call.specs.declared.status.Status.TheVariants as ending
-use Rattle.broker_call.specs.Headline.{ReadsBad}
-use Rattle.broker_call.specs.Endings.{script_limit, IsRefusedOrNoMemory}
+use Rattle.broker_call.specs.Headline.{ReadsGood, ReadsBad}
+use Rattle.broker_call.specs.Endings.{script_limit, IsOfSim, IsRefusedOrNoMemory, IsTooLongOrNoMemory}
+
+-- a status that tells of the yard
+abbrev pub IsOfYard : Status → Type 0
+IsOfYard ending.YardFault = Unit {0}
+IsOfYard (ending.NotEmpty name) = Unit {0}
+IsOfYard other = ⊥
+
+-- a status of `run`: the yard's, or one of `sim`
+abbrev pub IsOfRun : Status → Type 0
+IsOfRun ending.YardFault = Unit {0}
+IsOfRun (ending.NotEmpty name) = Unit {0}
+IsOfRun other = IsOfSim other
 
 -- all was done, or the yard has this name, or there was no memory
 abbrev pub IsDoneOrNamed : Option (List ℕ) → Status → Type 0
@@ -37,10 +49,11 @@ IsOfScript (ending.BadScript line why) = Unit {0}
 IsOfScript other = ⊥
 
 module _ {D S M : Type 0} (disk : DiskGhosts D) (store : StoreGhosts S) (meta : MetaGhosts M) where
-  -- why a script that was read isn't run to its end: the yard has this first name, or failed, or there was no memory
+  -- why a script that was read isn't run to its end: the yard answered this first name and handed nothing out, or it failed,
+  -- or there was no memory
   abbrev pub StopsOver : Held D S M → Control → Control → Status → Type 0
   StopsOver held control control' (ending.NotEmpty name) =
-      (control'.named ≡ Some name) × (IsTrue held.tells → IsFirst (IsName disk.content store.content meta.content held) (Some name))
+      Names (Ok (Some name)) control control' × (IsTrue held.tells → IsFirst (IsName disk.content store.content meta.content held) (Some name))
   StopsOver held control control' ending.YardFault = Rose control.faults control'.faults
   StopsOver held control control' ending.NoMemory = Unit {0}
   StopsOver held control control' other = ⊥
@@ -96,14 +109,15 @@ module _ {D S M R W : Type 0} (disk : DiskGhosts D) (store : StoreGhosts S) (met
     -- each device that was handed out is back
     pub back : control'.out ≡ control.out
     pub tells : held'.tells ≡ held.tells
-    -- each other status has its cause; want of memory alone is free
+    -- no other form's status comes, and each has its cause; want of memory alone is free
+    pub own : IsOfRun status
     pub read_fault : status ≡ ending.ReadFault → Rose (source.faults script) (source.faults script')
     pub long : status ≡ ending.TooLong → source.given script' ≡ counted (source.given script) (script_limit + 1)
     pub long_bytes : status ≡ ending.TooLong → Gave (source.left script) (source.left script') (script_limit + 1)
     pub not_long : status ≢ ending.TooLong → source.given script' ≤ source.given script + script_limit
     pub bad : (line : ℕ) (why : Why) → status ≡ ending.BadScript line why
         → ReadsBad (source.left script) (source.left script') line why
-    pub not_empty : (name : List ℕ) → status ≡ ending.NotEmpty name → control'.named ≡ Some name
+    pub not_empty : (name : List ℕ) → status ≡ ending.NotEmpty name → Names (Ok (Some name)) control control'
     pub first : (name : List ℕ) → status ≡ ending.NotEmpty name → IsTrue held.tells
         → IsFirst (IsName disk.content store.content meta.content held) (Some name)
     pub yard_fault : status ≡ ending.YardFault → Rose control.faults control'.faults
@@ -119,7 +133,11 @@ module _ {D S M R W : Type 0} (disk : DiskGhosts D) (store : StoreGhosts S) (met
     pub refused : ¬ Rose (source.faults script) (source.faults script')
         → (bytes : List ℕ) (number : ℕ) (why : Why) → source.left script ≡ Some bytes → length bytes ≤ script_limit
         → script_in bytes ≡ Err (number, why) → IsRefusedOrNoMemory number why status
-    -- then the yard isn't asked
+    -- and one of more bytes is too long
+    pub over : ¬ Rose (source.faults script) (source.faults script')
+        → (bytes : List ℕ) → source.left script ≡ Some bytes → script_limit < length bytes → IsTooLongOrNoMemory status
+    -- the yard is asked only behind a script that has a reading
     pub unasked : IsOfScript status → control' ≡ control
-    -- nothing else writes
-    pub unwritten : status ≢ ending.Ok → status ≢ ending.WriteFault → sink.written out' ≡ sink.written out
+    pub asked : IsOfYard status → ReadsGood (source.left script) (source.left script')
+    -- nothing else touches the sink
+    pub unwritten : status ≢ ending.Ok → status ≢ ending.WriteFault → out' ≡ out

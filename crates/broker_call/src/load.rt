@@ -3,7 +3,7 @@
 //! The script of the number is made, read and run as any other. Each partition's journal is carried out once more by the
 //! plain log's machine, which tells how the partition ended. The summary is made whole before its first byte is written.
 
-ghost use Rattle.std.specs.Prelude.{◌≡◌, ◌≢◌, ℕ, All, Err, IfOk, IsErrOf};
+ghost use Rattle.std.specs.Prelude.{◌≡◌, ℕ, All, Err, IfOk, IsErrOf};
 ghost use Rattle.plain_log.specs.Orders.{AreListsFor, IsConfig};
 ghost use Rattle.load_gen.specs.Script.{script_of as script_is};
 ghost use Rattle.script_lang.specs.declared.refusal.Why.{Why};
@@ -81,9 +81,8 @@ fn summary_of(alloc: Global, number: u32) -> Result<Vec<u8>, ScriptRefusal>
 
 /// Runs the script of a number, and writes the summary.
 pub fn generate<W: Sink>(alloc: Global, number: u32, out: &mut W) -> Status
-    ensures ends { Generates ⟦<MemoryDisk as Disk>⟧ ⟦<MemoryStore as Store>⟧ ⟦<MemoryLog as MetaLog>⟧ W.Sink
+    ensures { Generates ⟦<MemoryDisk as Disk>⟧ ⟦<MemoryStore as Store>⟧ ⟦<MemoryLog as MetaLog>⟧ W.Sink
         number out.old out.new result }
-    ensures asked { result ≢ Status.Usage }
 {
     let text = match summary_of(alloc, number) {
         Ok(text) => text,

@@ -2,7 +2,7 @@
 //!
 //! All is told before the first byte is written, so that nothing is written where a call fails.
 
-ghost use Rattle.std.specs.Prelude.{◌≡◌, ◌≢◌};
+ghost use Rattle.std.specs.Prelude.{◌≡◌};
 ghost use Rattle.broker_call.specs.Rounds.{AuditsYard, SweepsYard, refused, status_of};
 
 use crate::status::Status;
@@ -13,9 +13,8 @@ use yard_audit::{RoundRefusal, audit_all, sweep_all};
 
 /// Audits the remote tier of each partition in a yard, and writes what was found.
 pub fn audit<Y: Yard, W: Sink>(alloc: Global, yard: &mut Y, out: &mut W) -> Status
-    ensures ends { AuditsYard Y.D.Disk Y.S.Store Y.M.MetaLog W.Sink (Y.held yard.old) (Y.held yard.new)
+    ensures { AuditsYard Y.D.Disk Y.S.Store Y.M.MetaLog W.Sink (Y.held yard.old) (Y.held yard.new)
         (Y.control yard.old) (Y.control yard.new) out.old out.new result }
-    ensures asked { result ≢ Status.Usage }
 {
     let told = match audit_all(alloc, yard) {
         Ok(told) => told,
@@ -29,9 +28,8 @@ pub fn audit<Y: Yard, W: Sink>(alloc: Global, yard: &mut Y, out: &mut W) -> Stat
 
 /// Sweeps the remote tier of each partition in a yard, and writes how much went.
 pub fn sweep<Y: Yard, W: Sink>(alloc: Global, yard: &mut Y, out: &mut W) -> Status
-    ensures ends { SweepsYard Y.D.Disk Y.S.Store Y.M.MetaLog W.Sink (Y.held yard.old) (Y.held yard.new)
+    ensures { SweepsYard Y.D.Disk Y.S.Store Y.M.MetaLog W.Sink (Y.held yard.old) (Y.held yard.new)
         (Y.control yard.old) (Y.control yard.new) out.old out.new result }
-    ensures asked { result ≢ Status.Usage }
 {
     let text = match sweep_all(alloc, yard) {
         Ok(text) => text,

@@ -3,7 +3,7 @@
 //! The script is read, and the yard is asked for its first name, before the first device is handed out: so nothing is touched
 //! where the script has no reading or something stands in the yard. The trace is made whole before its first byte is written.
 
-ghost use Rattle.std.specs.Prelude.{◌≡◌, ◌≢◌, ◌<◌, ◌-◌, ◌^◌, Ok, None, length, IfOk, IfErr, OnOk, IsTrue};
+ghost use Rattle.std.specs.Prelude.{◌≡◌, ◌<◌, ◌-◌, ◌^◌, Ok, None, length, IfOk, IfErr, OnOk, IsTrue};
 ghost use Rattle.script_lang.specs.Fit.{IsFit};
 ghost use Rattle.script_lang.specs.Script.{script_in};
 ghost use Rattle.device_yard.specs.Control.{Names};
@@ -83,9 +83,8 @@ pub fn run<R: Source, Y: Yard, W: Sink>(
     yard: &mut Y,
     out: &mut W,
 ) -> Status
-    ensures ends { RunsInYard Y.D.Disk Y.S.Store Y.M.MetaLog R.Source W.Sink script.old script.new
+    ensures { RunsInYard Y.D.Disk Y.S.Store Y.M.MetaLog R.Source W.Sink script.old script.new
         (Y.held yard.old) (Y.held yard.new) (Y.control yard.old) (Y.control yard.new) out.old out.new result }
-    ensures asked { result ≢ Status.Usage }
 {
     let bytes = match read_all(alloc, script, SCRIPT_LIMIT) {
         Ok(bytes) => bytes,

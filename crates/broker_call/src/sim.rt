@@ -3,7 +3,7 @@
 //! The trace is made whole before its first byte is written, so that nothing is written where the script has no reading
 //! or memory runs out.
 
-ghost use Rattle.std.specs.Prelude.{◌≡◌, ◌≢◌, ℕ, ◌-◌, ◌<◌, ◌^◌, ◌++◌, All, Err, length, IfOk, IsErrOf};
+ghost use Rattle.std.specs.Prelude.{◌≡◌, ℕ, ◌-◌, ◌<◌, ◌^◌, ◌++◌, All, Err, length, IfOk, IsErrOf};
 ghost use Rattle.plain_log.specs.Orders.{AreListsFor, IsConfig};
 ghost use Rattle.script_lang.specs.declared.refusal.Why.{Why};
 ghost use Rattle.script_lang.specs.Fit.{StepsToEnds};
@@ -89,9 +89,8 @@ pub(crate) fn trace_of(alloc: Global, script: &[u8]) -> Result<Vec<u8>, ScriptRe
 
 /// Reads a script, runs it, and writes what each of its commands was answered.
 pub fn simulate<R: Source, W: Sink>(alloc: Global, script: &mut R, out: &mut W) -> Status
-    ensures ends { Simulates (IsTrace ⟦<MemoryDisk as Disk>⟧ ⟦<MemoryStore as Store>⟧ ⟦<MemoryLog as MetaLog>⟧) R.Source W.Sink
+    ensures { Simulates (IsTrace ⟦<MemoryDisk as Disk>⟧ ⟦<MemoryStore as Store>⟧ ⟦<MemoryLog as MetaLog>⟧) R.Source W.Sink
         script.old script.new out.old out.new result }
-    ensures asked { result ≢ Status.Usage }
 {
     let bytes = match read_all(alloc, script, SCRIPT_LIMIT) {
         Ok(bytes) => bytes,

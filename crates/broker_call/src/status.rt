@@ -2,7 +2,6 @@
 
 use script_lang::Why;
 use std::alloc::{AllocError, Global};
-use std::str;
 use tier_base::{Blob, PartitionId};
 
 /// How a call ends. The tests are made in this order: words, source, length, script, yard, sink.
@@ -71,8 +70,22 @@ impl Status {
     }
 }
 
-/// The line that tells of what stands in a folder. A name that isn't UTF-8 is left out.
+/// The line that tells of what stands in a folder.
 fn not_empty(alloc: Global, name: &[u8]) -> Result<String, AllocError> {
-    let name = str::from_utf8(name).unwrap_or("");
+    let name = on_one_line(alloc, name)?;
     format!(in alloc; "tiered: folder not empty: {name}\n")
+}
+
+/// Spells a name so that it breaks no line: U+FFFD stands for what isn't UTF-8, and an escape for each control character.
+fn on_one_line(alloc: Global, name: &[u8]) -> Result<String, AllocError> {
+    let name = String::from_utf8_lossy(alloc, name)?;
+    let mut spelled = String::new(alloc);
+    for c in name.chars() {
+        if c.is_control() {
+            write!(spelled, "{}", c.escape_default())?;
+        } else {
+            spelled.push(c)?;
+        }
+    }
+    Ok(spelled)
 }

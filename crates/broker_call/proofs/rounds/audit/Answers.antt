@@ -5,8 +5,8 @@ use Rattle.broker_call.specs.Rounds.{AuditsYard}
 use Rattle.broker_call.proofs.Audited.{written, cut_off}
 use Rattle.broker_call.proofs.rounds.audit.Goals as goal
 
-pub returns-in-Ok-write_all-clause-ends : goal.returns-in-Ok-write_all-clause-ends
-returns-in-Ok-write_all-clause-ends g c =
+pub returns-in-Ok-write_all : goal.returns-in-Ok-write_all
+returns-in-Ok-write_all g c =
     let told = c.in-Ok.ensures in
     let text : c.as_slice.result.now ≡ c.in-Ok.told.text.items = cc in
     subst (λ status. AuditsYard g.Y.D.Disk g.Y.S.Store g.Y.M.MetaLog g.W.Sink (g.Y.Yard.held c.args.yard.now) (g.Y.Yard.held c.audit_all.new.yard)
@@ -15,8 +15,8 @@ returns-in-Ok-write_all-clause-ends g c =
     (g.Y.Yard.control c.args.yard.now) (g.Y.Yard.control c.audit_all.new.yard) c.args.out.now c.write_all.new.sink c.in-Ok.told told.told told.rest told.tells told.back
     (subst (λ (bytes : List ℕ). Appends (g.W.Sink.written c.args.out.now) (g.W.Sink.written c.write_all.new.sink) bytes) text c.in-Ok-write_all.ensures.ok))
 
-pub returns-clause-ends : goal.returns-clause-ends
-returns-clause-ends g c =
+pub returns : goal.returns
+returns g c =
     let told = c.in-Ok.ensures in
     let text : c.as_slice.result.now ≡ c.in-Ok.told.text.items = cc in
     cut_off g.Y.D.Disk g.Y.S.Store g.Y.M.MetaLog g.W.Sink (g.Y.Yard.held c.args.yard.now) (g.Y.Yard.held c.audit_all.new.yard)
