@@ -9,6 +9,8 @@ mod broker_tests;
 #[cfg(test)]
 mod law_tests;
 #[cfg(test)]
+mod remote_tests;
+#[cfg(test)]
 mod round_tests;
 #[cfg(test)]
 mod shown;

@@ -109,7 +109,7 @@ fn scripts_that_are_shown_give_their_traces(rt: HostRuntime) {
 }
 
 /// What a call comes to with these words and texts.
-fn shown(
+pub(crate) fn shown(
     rt: HostRuntime,
     words: &[&str],
     texts: &[(u32, &str)],

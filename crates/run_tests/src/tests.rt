@@ -406,7 +406,7 @@ fn statuses_tell_their_causes(rt: HostRuntime) {
     assert_eq!(rt; first_wrong_status(rt), None);
 }
 
-/// A call's status, of which one names a file.
+/// A call's status.
 fn status(alloc: Global, number: u8) -> Option<Status> {
     match number {
         0 => Some(Status::Ok),
@@ -420,15 +420,16 @@ fn status(alloc: Global, number: u8) -> Option<Status> {
         6 => Some(Status::NoMemory),
         7 => Some(Status::TooLong),
         8 => Some(Status::YardFault),
-        9 => named(alloc),
+        9 => named(alloc, b"x"),
         _ => Some(Status::Unsound {
             partition: PartitionId(3),
         }),
     }
 }
 
-fn named(alloc: Global) -> Option<Status> {
-    match Blob::from_slice(alloc, b"x") {
+/// The status that tells of this name.
+fn named(alloc: Global, name: &[u8]) -> Option<Status> {
+    match Blob::from_slice(alloc, name) {
         Ok(name) => Some(Status::NotEmpty { name }),
         Err(_) => None,
     }
@@ -472,6 +473,41 @@ fn first_wrong_line(alloc: Global) -> Option<u8> {
 #[test]
 fn each_status_has_its_number_and_line(rt: HostRuntime) {
     assert_eq!(rt; first_wrong_line(rt.alloc()), None);
+}
+
+/// Names of what may stand in a folder, and the line that tells of each. Worked by hand, by the escapes of Rust's `char`.
+static NAMES: [(&[u8], &str); 6] = [
+    (b"it's a \\n", "tiered: folder not empty: it's a \\n\n"),
+    (
+        b"\xc3\xa9t\xc3\xa9",
+        "tiered: folder not empty: \u{e9}t\u{e9}\n",
+    ),
+    (
+        b"a\xffb\xc3",
+        "tiered: folder not empty: a\u{fffd}b\u{fffd}\n",
+    ),
+    (b"a\nb\r\tc", "tiered: folder not empty: a\\nb\\r\\tc\n"),
+    (
+        b"\x1b[1m\x7f\xc2\x85",
+        "tiered: folder not empty: \\u{1b}[1m\\u{7f}\\u{85}\n",
+    ),
+    (b"", "tiered: folder not empty: \n"),
+];
+
+/// The number of the first name whose line is another one.
+fn first_wrong_name(alloc: Global) -> Option<usize> {
+    for (i, (name, line)) in NAMES.iter().enumerate() {
+        match named(alloc, name) {
+            Some(status) if is_text(status.line(alloc), line) => {}
+            _ => return Some(i),
+        }
+    }
+    None
+}
+
+#[test]
+fn a_name_breaks_no_line(rt: HostRuntime) {
+    assert_eq!(rt; first_wrong_name(rt.alloc()), None);
 }
 
 /// A status's number, bytes that were kept of a script, and what follows the status's line. Of a bad script the second line

@@ -4,6 +4,8 @@ ghost use Rattle.std.specs.Prelude.{All, IfSome};
 ghost use Rattle.plain_log.specs.Orders.{AreListsFor, IsConfig};
 ghost use Rattle.script_lang.specs.Fit.{StepsToEnds, AreNumbered, IsFit};
 
+use crate::tests::{Wanted, is_wanted, sink_of, source_of, well, words_of};
+use broker_call::tiered_in_order;
 use disk_model::{DiskCall, MemoryDisk};
 use memory_yard::MemoryYard;
 use meta_log::MemoryLog;
@@ -12,7 +14,7 @@ use partition_world::Devices;
 use plain_log::Config;
 use script_lang::{PartScript, Script, parse};
 use std::alloc::Global;
-use tier_base::{Planned, Row};
+use tier_base::{MemorySink, MemorySource, Planned, Row};
 use yard_run::{RunRefusal, YardRefusal, run_in_yard, run_on};
 
 /// How a run ends.
@@ -96,6 +98,58 @@ fn what_was_handed_out_is_back_after_a_fault(rt: HostRuntime) {
             "{before} calls before it"
         );
     }
+}
+
+/// Makes a call of the program that runs a script over a yard: the number of its status, and whether what is told and written is
+/// as it should be.
+fn called(
+    rt: HostRuntime,
+    yard: &mut MemoryYard,
+    script: &mut MemorySource,
+    out: &mut MemorySink,
+    wanted: Wanted,
+) -> Option<(u8, bool, bool)> {
+    match words_of(rt.alloc(), &["run", "yard"]) {
+        Some(words) => {
+            let status = tiered_in_order(&rt, words.as_slice(), script, yard, out);
+            let (is_told, is_written) = is_wanted(rt.alloc(), &status, out.written(), wanted);
+            Some((status.number(), is_told, is_written))
+        }
+        None => None,
+    }
+}
+
+/// The same of the script of two partitions, over a new yard, whose call with this number fails.
+fn called_over(rt: HostRuntime, failing: u32, wanted: Wanted) -> Option<(u8, bool, bool)> {
+    match (
+        vec![in rt.alloc(); failing],
+        source_of(rt.alloc(), TWO.as_bytes(), &[]),
+        sink_of(rt.alloc(), (10_000, 100, &[])),
+    ) {
+        (Ok(failing), Some(mut script), Some(mut out)) => {
+            let mut yard = MemoryYard::new(rt.alloc(), Vec::new(rt.alloc()), failing);
+            called(rt, &mut yard, &mut script, &mut out, wanted)
+        }
+        _ => None,
+    }
+}
+
+/// The yard is asked for its first name, and then for eight devices.
+#[test]
+fn nothing_is_written_where_a_yard_fails(rt: HostRuntime) {
+    let fault = Wanted::Whole("tiered: folder fault\n", b"");
+    for before in 0..9u32 {
+        assert!(rt;
+            called_over(rt, before + 1, fault) == well(8),
+            "{before} calls before it"
+        );
+    }
+}
+
+#[test]
+fn a_trace_is_written_where_a_yard_goes_on(rt: HostRuntime) {
+    let traced = Wanted::Whole("", TRACE.as_bytes());
+    assert!(rt; called_over(rt, 10, traced) == well(0));
 }
 
 /// Runs a part over devices in memory, of whose disk the first append fails, and tells how that ends.
