@@ -22,7 +22,8 @@ import sys
 import tempfile
 
 HERE = os.path.dirname(os.path.abspath(__file__))
-DEFAULT = ["copy", "tiered-fetch", "retention", "copying-off", "by-time", "fallen-behind", "replaced-leader", "failover"]
+DEFAULT = ["copy", "packed", "tiered-fetch", "retention", "copying-off", "by-time", "fallen-behind", "replaced-leader"]
+DEFAULT += ["failover"]
 DISK = ["append", "sync", "read", "cut", "replace", "remove", "list"]
 STORE = ["put", "get", "delete"]
 META = ["append", "read"]

@@ -16,7 +16,7 @@ import sys
 import tempfile
 
 HERE = os.path.dirname(os.path.abspath(__file__))
-DEFAULT = ["copy", "tiered-fetch", "retention", "copying-off", "fallen-behind"]
+DEFAULT = ["copy", "packed", "tiered-fetch", "retention", "copying-off", "by-time", "fallen-behind"]
 REFUSING = r"""
 #define _GNU_SOURCE
 #include <dlfcn.h>
