@@ -1,5 +1,5 @@
 -- A copy with which nothing interferes is answered `Copied`.
-use Rattle.std.proofs.Common.{◌≡◌, inl, ap, subst, refl, ℕ, zero, suc, ◌≤◌, List, [], ◌∷◌, ◌++◌, slice_get, arith}
+use Rattle.std.proofs.Common.{◌≡◌, ap, subst, refl, ℕ, ◌≤◌, List, slice_get, arith}
 use Rattle.tier_base.specs.declared.names.SegmentId.{SegmentId}
 use Rattle.disk_model.specs.declared.disk.Disk.{Ghosts as DiskGhosts}
 use Rattle.object_store.specs.declared.store.Store.{Ghosts as StoreGhosts}
@@ -11,14 +11,10 @@ use Rattle.plain_log.specs.declared.answer.Answer.TheVariants.{Down, NotLeader, 
 use Rattle.plain_log.specs.declared.command.ActorList.{ActorList}
 use Rattle.plain_log.specs.declared.command.Command.TheVariants.{Copy}
 use Rattle.plain_log.specs.declared.command.Order.{Order}
-use Rattle.plain_log.specs.declared.command.Pace.TheVariants.{Times}
-use Rattle.plain_log.specs.declared.journal.Event.TheVariants as event
-use Rattle.plain_log.specs.declared.journal.JournalEntry.{JournalEntry}
 use Rattle.plain_log.specs.declared.state.State.{State}
 use Rattle.partition_seen.specs.declared.begun.Begun.{Begun}
 use Rattle.partition_seen.proofs.BoolTests.{some_of}
 use Rattle.partition_turns.specs.declared.held.Node.{Node}
-use Rattle.partition_turns.specs.Calm.{HasNoFault, AreFaultless}
 use Rattle.tier_safe.proofs.Basics.{one_some}
 use Rattle.partition_world.specs.declared.tier.Side.{Side}
 use Rattle.partition_world.specs.declared.seat.Outcome.{Outcome}
@@ -33,15 +29,14 @@ use Rattle.partition_world.specs.Tier.{AtSide}
 use Rattle.partition_world.specs.Turn.{IsNext, IsTurn}
 use Rattle.partition_world.specs.Whole.{Whole}
 use Rattle.partition_world.proofs.Begins.{begins_idle}
-use Rattle.partition_world.proofs.CalmLaw.{reaches_unfailing}
 use Rattle.partition_world.proofs.CentralLaw.{turn_central}
-use Rattle.command_answers.specs.Faults.{DiskFailed, StoreFailed, MetaFailed}
 use Rattle.command_answers.specs.CausesOfCopies.{HasCause, MayCopy}
 use Rattle.command_answers.specs.DeletionsKnown.{DeletionsKnown}
 use Rattle.command_answers.specs.Turns.{turns_left}
 use Rattle.command_answers.specs.Chains.{times, IsAnswered, Runs}
-use Rattle.command_answers.proofs.ChainsOfTurns.{entry, run, own_turn}
+use Rattle.command_answers.proofs.ChainsOfTurns.{run, own_turn}
 use Rattle.command_answers.specs.UnhinderedCopies.{IsFree, IsUnhindered}
+use Rattle.command_answers.proofs.Clear.{Clear, well_clear, turn_calm, calm_clear}
 use Rattle.command_answers.proofs.CopiesHaveCauses.{have_causes}
 use Rattle.command_answers.proofs.KnownOfCopies.{keep_known}
 
@@ -64,13 +59,7 @@ module _ {D S M : Type 0} (disk : DiskGhosts D) (store : StoreGhosts S) (meta : 
   copied_so (Expires g segment next) answer is = is
   copied_so (Rebuilds g next) answer is = is
 
-  -- where the turn tells of a fault none was met
-  record Clear (b : ℕ) (answer : Answer) (w w' : Whole D S M) : Type 0 where
-    disk_clear : answer ≡ DiskFault → DiskFailed disk b w w' → ⊥
-    store_clear : answer ≡ StoreFault → StoreFailed store w w' → ⊥
-    meta_clear : answer ≡ MetaFault → MetaFailed meta w w' → ⊥
-
-  first_copied : (w : Whole D S M) (b : ℕ) (x : Node D) (side : Side) (answer : Answer) (w' : Whole D S M) → HasCause disk store meta w b x side Idle answer w' → MayCopy w x side Idle → Clear b answer w w'
+  first_copied : (w : Whole D S M) (b : ℕ) (x : Node D) (side : Side) (answer : Answer) (w' : Whole D S M) → HasCause disk store meta w b x side Idle answer w' → MayCopy w x side Idle → Clear disk store meta b answer w w'
       → IsCopiedAnswer answer
   first_copied w b x side Down w' cause may clear = let up = may.0 in absurd (cc (cause, up))
   first_copied w b x side NotLeader w' cause may clear = let leads = may.1 in absurd (cc (cause, leads))
@@ -79,14 +68,14 @@ module _ {D S M : Type 0} (disk : DiskGhosts D) (store : StoreGhosts S) (meta : 
   first_copied w b x side other w' cause may clear = elim cause [ ]
 
   second_copied : (w : Whole D S M) (b : ℕ) (x : Node D) (side : Side) (g : _) (answer : Answer) (w' : Whole D S M) → HasCause disk store meta w b x side (Noted g) answer w' → MayCopy w x side (Noted g)
-      → Clear b answer w w' → IsCopiedAnswer answer
+      → Clear disk store meta b answer w w' → IsCopiedAnswer answer
   second_copied w b x side g LostLead w' cause may clear = absurd (cause may.0)
   second_copied w b x side g Level w' cause may clear = absurd (may.1 cause)
   second_copied w b x side g DiskFault w' cause may clear = absurd (clear.disk_clear refl cause)
   second_copied w b x side g other w' cause may clear = elim cause [ ]
 
   later_copied : (w : Whole D S M) (b : ℕ) (x : Node D) (side : Side) (g : _) (copy : _) (next : Next) (answer : Answer) (w' : Whole D S M) → HasCause disk store meta w b x side (Copies g copy next) answer w'
-      → MayCopy w x side (Copies g copy next) → Clear b answer w w' → CopiedFor (Copies g copy next) answer
+      → MayCopy w x side (Copies g copy next) → Clear disk store meta b answer w w' → CopiedFor (Copies g copy next) answer
   later_copied w b x side g copy next LostLead w' cause may clear = absurd (cause may.0)
   later_copied w b x side g copy next MetaFault w' cause may clear = absurd (clear.meta_clear refl cause)
   later_copied w b x side g copy next StoreFault w' cause may clear = absurd (clear.store_clear refl cause)
@@ -95,7 +84,7 @@ module _ {D S M : Type 0} (disk : DiskGhosts D) (store : StoreGhosts S) (meta : 
   later_copied w b x side g copy next other w' cause may clear = elim cause [ ]
 
   any_copied : (w : Whole D S M) (b : ℕ) (x : Node D) (side : Side) (work : Work) (answer : Answer) (w' : Whole D S M) → HasCause disk store meta w b x side work answer w' → MayCopy w x side work
-      → Clear b answer w w' → CopiedFor work answer
+      → Clear disk store meta b answer w w' → CopiedFor work answer
   any_copied w b x side Idle answer w' cause may clear = first_copied w b x side answer w' cause may clear
   any_copied w b x side (Noted g) answer w' cause may clear = second_copied w b x side g answer w' cause may clear
   any_copied w b x side (Copies g copy next) answer w' cause may clear = later_copied w b x side g copy next answer w' cause may clear
@@ -112,7 +101,7 @@ module _ {D S M : Type 0} (disk : DiskGhosts D) (store : StoreGhosts S) (meta : 
   turn_known opening v b outcome u t i = (turn_central disk store meta opening v b outcome u t i.0, keep_known disk store meta opening v b outcome u i.0 i.1 t)
 
   ends_copied : (opening : State) (place number : ℕ) (v : Whole D S M) (b : ℕ) (answer : Answer) (u : Whole D S M) (t : IsTurn disk store meta v b (Answers answer) u) → AllKnown opening v
-      → IsFree disk store meta place number v b u → t.place ≡ place → t.seat.number ≡ number → t.order.command ≡ Copy → Clear t.order.broker.0 answer v u → CopiedFor t.seat.work answer
+      → IsFree disk store meta place number v b u → t.place ≡ place → t.seat.number ≡ number → t.order.command ≡ Copy → Clear disk store meta t.order.broker.0 answer v u → CopiedFor t.seat.work answer
   ends_copied opening place number v b answer u t known free same number_is copies clear =
       let c = t.order.broker.0 in
       let h = free t.list t.seat t.order (own_turn disk store meta place v b (Answers answer) u t same) number_is in
@@ -130,7 +119,7 @@ module _ {D S M : Type 0} (disk : DiskGhosts D) (store : StoreGhosts S) (meta : 
   free_copied opening place number v b (Answers k) answer u t is known free same number_is copies =
       let one : k ≡ answer = cc (is) in
       let well = free.1 t.list t.seat t.order (own_turn disk store meta place v b (Answers k) u t same) number_is in
-      let clear : Clear t.order.broker.0 k v u = record { disk_clear = λ e. well.disk_well; store_clear = λ e. well.store_well; meta_clear = λ e. well.meta_well } in
+      let clear = well_clear disk store meta t.order.broker.0 k v u well in
       subst (CopiedFor t.seat.work) one (ends_copied opening place number v b k u t known free.0 same number_is copies clear)
   free_copied opening place number v b other answer u t is known free same number_is copies = absurd (cc (is))
 
@@ -177,24 +166,11 @@ module _ {D S M : Type 0} (disk : DiskGhosts D) (store : StoreGhosts S) (meta : 
 
   -- over devices of which no call can fail
 
-  turn_calm : (v : Whole D S M) (b : ℕ) (outcome : Outcome) (u : Whole D S M) → IsTurn disk store meta v b outcome u → IsUnfailing disk store meta v → IsUnfailing disk store meta u
-  turn_calm v b outcome u t calm = reaches_unfailing disk store meta v (Times (record { 0 = b }) (suc zero) ∷ []) u (u, (u, inl (outcome, t), refl), refl) calm
-
-  last_calm : (items : List JournalEntry) (last : JournalEntry) → AreFaultless (items ++ last ∷ []) → HasNoFault last.event
-  last_calm [] last f = f.0
-  last_calm (first ∷ items) last f = last_calm items last f.1
-
   ends_calm : (opening : State) (place number : ℕ) (v : Whole D S M) (b : ℕ) (outcome : Outcome) (answer : Answer) (u : Whole D S M) (t : IsTurn disk store meta v b outcome u) → outcome ≡ Answers answer
       → AllKnown opening v × IsUnfailing disk store meta v → IsFree disk store meta place number v b u → t.place ≡ place → t.seat.number ≡ number → t.order.command ≡ Copy → Unit {0} → IsCopiedAnswer answer
   ends_calm opening place number v b (Answers k) answer u t is known free same number_is copies works =
       let one : k ≡ answer = cc (is) in
-      let after = turn_calm v b (Answers k) u t known.1 in
-      let told : HasNoFault (event.Answers k) = last_calm v.journal.items (entry t.list.actor t.seat.number k) (subst AreFaultless t.entered after.journal) in
-      let clear : Clear t.order.broker.0 k v u = record {
-        disk_clear = λ e f. subst (λ (j : Answer). HasNoFault (event.Answers j)) e told;
-        store_clear = λ e f. subst (λ (j : Answer). HasNoFault (event.Answers j)) e told;
-        meta_clear = λ e f. subst (λ (j : Answer). HasNoFault (event.Answers j)) e told;
-      } in
+      let clear = calm_clear disk store meta v b k u t known.1 in
       subst IsCopiedAnswer one (copied_so t.seat.work k (ends_copied opening place number v b k u t known.0 free same number_is copies clear))
   ends_calm opening place number v b other answer u t is known free same number_is copies works = absurd (cc (is))
 
@@ -203,7 +179,7 @@ module _ {D S M : Type 0} (disk : DiskGhosts D) (store : StoreGhosts S) (meta : 
       → turns_left Copy seat.work ≤ times a actors → (id : SegmentId) × (base : ℕ) × (last : ℕ) × IsAnswered w' l.actor seat.number (CopiedSegment id base last)
   calm_copied opening w a place l seat order actors w' c known calm next copies r le =
       let k = run disk store meta (λ v. AllKnown opening v × IsUnfailing disk store meta v) (IsFree disk store meta place seat.number) (λ work. Unit {0}) IsCopiedAnswer Copy a place seat.number l
-      (λ v b outcome u t i. (turn_known opening v b outcome u t i.0, turn_calm v b outcome u t i.1)) (ends_calm opening place seat.number) (λ v b outcome u t un works. tt) actors w w'
+      (λ v b outcome u t i. (turn_known opening v b outcome u t i.0, turn_calm disk store meta v b outcome u t i.1)) (ends_calm opening place seat.number) (λ v b outcome u t un works. tt) actors w w'
       (record { rising = c.central.stands.rising; seat = seat; order = order; next = next; number_is = refl; kind_is = copies; works = tt }) ((c, known), calm) r le in
       let is = k.1 in
       (is.0, is.1, is.2, subst (IsAnswered w' l.actor seat.number) is.3 k.2)

@@ -35,11 +35,12 @@ use Rattle.command_answers.specs.Turns.{turns_left, search_left}
 use Rattle.command_answers.specs.Chains.{times, IsAnswered, KnowsUpTo, Runs}
 use Rattle.command_answers.specs.UnhinderedSearches.{IsFound, IsFree, IsUnhindered}
 use Rattle.command_answers.proofs.ChainsOfTurns.{own_turn, run, run_by}
+use Rattle.command_answers.proofs.Clear.{Clear, well_clear, calm_clear, turn_calm}
 use Rattle.command_answers.proofs.Marked.{search_left_some, closer}
 use Rattle.command_answers.proofs.KnownOfSearches.{keep_searches}
 use Rattle.command_answers.proofs.OffsetsHaveCauses.{have_causes}
 use Rattle.command_answers.proofs.SearchesTell.{none_damaged}
-use Rattle.command_answers.proofs.Served.{Clear, well_clear, calm_clear, stopped_never, turn_calm}
+use Rattle.command_answers.proofs.Served.{stopped_never}
 
 -- the answer isn't damage
 abbrev IsWhole : Answer → Type 0

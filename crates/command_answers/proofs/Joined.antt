@@ -22,18 +22,19 @@ use Rattle.partition_world.specs.declared.seat.Outcome.TheVariants.{Answers}
 use Rattle.partition_world.specs.declared.seat.Seat.{Seat}
 use Rattle.partition_world.specs.declared.seat.Work.{Work}
 use Rattle.partition_world.specs.declared.seat.Work.TheVariants.{Idle, Noted, Rebuilds}
+use Rattle.partition_world.specs.Calm.{IsUnfailing}
 use Rattle.partition_world.specs.Central.{IsCentral}
 use Rattle.partition_world.specs.Turn.{IsNext, IsTurn}
 use Rattle.partition_world.specs.TurnsOfFetch.{HasStopped}
 use Rattle.partition_world.specs.TurnsOfRebuild.{AnswersAtOnce}
 use Rattle.partition_world.specs.Whole.{Whole}
 use Rattle.partition_world.proofs.CentralLaw.{turn_central}
-use Rattle.command_answers.specs.Faults.{MeetsNoFault}
 use Rattle.command_answers.specs.Turns.{turns_left}
 use Rattle.command_answers.specs.Chains.{times, IsAnswered, Runs}
 use Rattle.command_answers.proofs.ChainsOfTurns.{run, own_turn}
+use Rattle.command_answers.proofs.Clear.{Clear, well_clear, turn_calm, calm_clear}
 use Rattle.command_answers.specs.CausesOfJoins.{FirstCause, RestartCause, RefreshCause, EpochsCause, HasCause, MayJoin, IsJoined}
-use Rattle.command_answers.specs.UnhinderedJoins.{IsUnhindered}
+use Rattle.command_answers.specs.UnhinderedJoins.{IsFree, IsUnhindered}
 use Rattle.command_answers.proofs.JoinsHaveCauses.{have_causes}
 
 -- an epoch isn't both above and not
@@ -59,52 +60,58 @@ module _ {D : Type 0} where
   once_never h x g other is may = elim is [ ]
 
 module _ {D S M : Type 0} (disk : DiskGhosts D) (store : StoreGhosts S) (meta : MetaGhosts M) where
-  first_joined : (w : Whole D S M) (b : ℕ) (x : Node D) (answer : Answer) (w' : Whole D S M) → FirstCause disk store meta w b x answer w' → MayJoin w x Idle → MeetsNoFault disk store meta b w w'
+  first_joined : (w : Whole D S M) (b : ℕ) (x : Node D) (answer : Answer) (w' : Whole D S M) → FirstCause disk store meta w b x answer w' → MayJoin w x Idle → Clear disk store meta b answer w w'
       → IsJoined answer
-  first_joined w b x Down w' cause may well = let up = may.0 in absurd (cc (cause, up))
-  first_joined w b x NotFollower w' cause may well = absurd (none_never w.held (followed x.role) cause may.1)
-  first_joined w b x (StaleEpoch n) w' cause may well = absurd (stale_never w.held (followed x.role) cause.0 may.1)
-  first_joined w b x NoLeader w' cause may well = absurd (may.2 cause)
-  first_joined w b x (Cut n) w' cause may well = (n, inl refl)
-  first_joined w b x (DiskFaultAt n) w' cause may well = absurd (well.disk_well cause)
-  first_joined w b x other w' cause may well = elim cause [ ]
+  first_joined w b x Down w' cause may clear = let up = may.0 in absurd (cc (cause, up))
+  first_joined w b x NotFollower w' cause may clear = absurd (none_never w.held (followed x.role) cause may.1)
+  first_joined w b x (StaleEpoch n) w' cause may clear = absurd (stale_never w.held (followed x.role) cause.0 may.1)
+  first_joined w b x NoLeader w' cause may clear = absurd (may.2 cause)
+  first_joined w b x (Cut n) w' cause may clear = (n, inl refl)
+  first_joined w b x (DiskFaultAt n) w' cause may clear = absurd (clear.end_clear n refl cause)
+  first_joined w b x other w' cause may clear = elim cause [ ]
 
   restart_joined : (w : Whole D S M) (b : ℕ) (x : Node D) (g : Begun) (answer : Answer) (w' : Whole D S M) → RestartCause disk store meta w b x g answer w' → MayRebuild w.held x g
-      → MeetsNoFault disk store meta b w w' → IsJoined answer
-  restart_joined w b x g (DiskFaultAt n) w' cause may well = absurd (well.disk_well cause)
-  restart_joined w b x g (Rebuilt n) w' cause may well = (n, inr refl)
-  restart_joined w b x g other w' cause may well = absurd (once_never w.held x g other cause may)
+      → Clear disk store meta b answer w w' → IsJoined answer
+  restart_joined w b x g (DiskFaultAt n) w' cause may clear = absurd (clear.end_clear n refl cause)
+  restart_joined w b x g (Rebuilt n) w' cause may clear = (n, inr refl)
+  restart_joined w b x g other w' cause may clear = absurd (once_never w.held x g other cause may)
 
   refresh_joined : (w : Whole D S M) (b : ℕ) (x : Node D) (g : Begun) (answer : Answer) (w' : Whole D S M) → RefreshCause disk store meta w x g answer w' → MayRebuild w.held x g
-      → MeetsNoFault disk store meta b w w' → IsJoined answer
-  refresh_joined w b x g MetaFault w' cause may well = absurd (well.meta_well cause)
-  refresh_joined w b x g other w' cause may well = absurd (once_never w.held x g other cause may)
+      → Clear disk store meta b answer w w' → IsJoined answer
+  refresh_joined w b x g MetaFault w' cause may clear = absurd (clear.meta_clear refl cause)
+  refresh_joined w b x g other w' cause may clear = absurd (once_never w.held x g other cause may)
 
   epochs_joined : (w : Whole D S M) (b : ℕ) (x : Node D) (g : Begun) (answer : Answer) (w' : Whole D S M) → EpochsCause disk store meta w x g answer w' → MayRebuild w.held x g
-      → MeetsNoFault disk store meta b w w' → IsJoined answer
-  epochs_joined w b x g StoreFault w' cause may well = absurd (well.store_well cause)
-  epochs_joined w b x g other w' cause may well = absurd (once_never w.held x g other cause may)
+      → Clear disk store meta b answer w w' → IsJoined answer
+  epochs_joined w b x g StoreFault w' cause may clear = absurd (clear.store_clear refl cause)
+  epochs_joined w b x g other w' cause may clear = absurd (once_never w.held x g other cause may)
 
   any_joined : (w : Whole D S M) (b : ℕ) (x : Node D) (work : Work) (answer : Answer) (w' : Whole D S M) → HasCause disk store meta w b x work answer w' → MayJoin w x work
-      → MeetsNoFault disk store meta b w w' → IsJoined answer
-  any_joined w b x Idle answer w' cause may well = first_joined w b x answer w' cause may well
-  any_joined w b x (Noted g) answer w' (inl cause) may well = restart_joined w b x g answer w' cause.1 may well
-  any_joined w b x (Noted g) answer w' (inr cause) may well = refresh_joined w b x g answer w' cause.1 may well
-  any_joined w b x (Rebuilds g Epochs) answer w' cause may well = epochs_joined w b x g answer w' cause may well
-  any_joined w b x (Rebuilds g (Restart line)) answer w' cause may well = restart_joined w b x g answer w' cause may well
-  any_joined w b x other answer w' cause may well = absurd cause
+      → Clear disk store meta b answer w w' → IsJoined answer
+  any_joined w b x Idle answer w' cause may clear = first_joined w b x answer w' cause may clear
+  any_joined w b x (Noted g) answer w' (inl cause) may clear = restart_joined w b x g answer w' cause.1 may clear
+  any_joined w b x (Noted g) answer w' (inr cause) may clear = refresh_joined w b x g answer w' cause.1 may clear
+  any_joined w b x (Rebuilds g Epochs) answer w' cause may clear = epochs_joined w b x g answer w' cause may clear
+  any_joined w b x (Rebuilds g (Restart line)) answer w' cause may clear = restart_joined w b x g answer w' cause may clear
+  any_joined w b x other answer w' cause may clear = absurd cause
 
-  ends_joined : (opening : State) (place number : ℕ) (v : Whole D S M) (b : ℕ) (outcome : Outcome) (answer : Answer) (u : Whole D S M) (t : IsTurn disk store meta v b outcome u) → outcome ≡ Answers answer
-      → IsCentral disk store meta opening v → IsUnhindered disk store meta place number v b u → t.place ≡ place → t.seat.number ≡ number → t.order.command ≡ Join → IsJoined answer
-  ends_joined opening place number v b (Answers k) answer u t is central free same number_is joins =
-      let one : k ≡ answer = cc (is) in
+  ends_joined : (opening : State) (place number : ℕ) (v : Whole D S M) (b : ℕ) (answer : Answer) (u : Whole D S M) (t : IsTurn disk store meta v b (Answers answer) u) → IsCentral disk store meta opening v
+      → IsFree disk store meta place number v b u → t.place ≡ place → t.seat.number ≡ number → t.order.command ≡ Join → Clear disk store meta t.order.broker.0 answer v u → IsJoined answer
+  ends_joined opening place number v b answer u t central free same number_is joins clear =
       let c = t.order.broker.0 in
-      let h = free t.list t.seat t.order (own_turn disk store meta place v b (Answers k) u t same) number_is in
-      let x = some_of (λ x. HasCause disk store meta v c x t.seat.work k u) (slice_get v.held.nodes c) (have_causes disk store meta opening v b k u central t joins) in
-      let y = some_of (λ x. MayJoin v x t.seat.work) (slice_get v.held.nodes c) h.0 in
+      let h = free t.list t.seat t.order (own_turn disk store meta place v b (Answers answer) u t same) number_is in
+      let x = some_of (λ x. HasCause disk store meta v c x t.seat.work answer u) (slice_get v.held.nodes c) (have_causes disk store meta opening v b answer u central t joins) in
+      let y = some_of (λ x. MayJoin v x t.seat.work) (slice_get v.held.nodes c) h in
       let may : MayJoin v x.0 t.seat.work = subst (λ (n : Node D). MayJoin v n t.seat.work) (one_some (slice_get v.held.nodes c) y.0 x.0 y.1 x.1) y.2 in
-      subst IsJoined one (any_joined v c x.0 t.seat.work k u x.2 may h.1)
-  ends_joined opening place number v b other answer u t is central free same number_is joins = absurd (cc (is))
+      any_joined v c x.0 t.seat.work answer u x.2 may clear
+
+  free_joined : (opening : State) (place number : ℕ) (v : Whole D S M) (b : ℕ) (outcome : Outcome) (answer : Answer) (u : Whole D S M) (t : IsTurn disk store meta v b outcome u) → outcome ≡ Answers answer
+      → IsCentral disk store meta opening v → IsUnhindered disk store meta place number v b u → t.place ≡ place → t.seat.number ≡ number → t.order.command ≡ Join → IsJoined answer
+  free_joined opening place number v b (Answers k) answer u t is central free same number_is joins =
+      let one : k ≡ answer = cc (is) in
+      let well = free.1 t.list t.seat t.order (own_turn disk store meta place v b (Answers k) u t same) number_is in
+      subst IsJoined one (ends_joined opening place number v b k u t central free.0 same number_is joins (well_clear disk store meta t.order.broker.0 k v u well))
+  free_joined opening place number v b other answer u t is central free same number_is joins = absurd (cc (is))
 
   pub are_joined : (opening : State) (w : Whole D S M) (a place : ℕ) (l : ActorList) (seat : Seat) (order : Order) (actors : List ℕ) (w' : Whole D S M) → IsCentral disk store meta opening w
       → IsNext w a place l seat order → order.command ≡ Join → Runs disk store meta (IsUnhindered disk store meta place seat.number) w actors w' → turns_left Join seat.work ≤ times a actors
@@ -112,5 +119,23 @@ module _ {D S M : Type 0} (disk : DiskGhosts D) (store : StoreGhosts S) (meta : 
   are_joined opening w a place l seat order actors w' c next joins r le =
       run disk store meta (IsCentral disk store meta opening) (IsUnhindered disk store meta place seat.number) (λ work. Unit {0}) IsJoined Join a place seat.number l
       (λ v b outcome u t central. turn_central disk store meta opening v b outcome u t central)
-      (λ v b outcome answer u t is central free same number join works. ends_joined opening place seat.number v b outcome answer u t is central free same number join) (λ v b outcome u t un works. tt) actors w w'
+      (λ v b outcome answer u t is central free same number join works. free_joined opening place seat.number v b outcome answer u t is central free same number join) (λ v b outcome u t un works. tt) actors w w'
       (record { rising = c.central.stands.rising; seat = seat; order = order; next = next; number_is = refl; kind_is = joins; works = tt }) c r le
+
+  -- over devices of which no call can fail
+
+  ends_calm : (opening : State) (place number : ℕ) (v : Whole D S M) (b : ℕ) (outcome : Outcome) (answer : Answer) (u : Whole D S M) (t : IsTurn disk store meta v b outcome u) → outcome ≡ Answers answer
+      → IsCentral disk store meta opening v × IsUnfailing disk store meta v → IsFree disk store meta place number v b u → t.place ≡ place → t.seat.number ≡ number → t.order.command ≡ Join → IsJoined answer
+  ends_calm opening place number v b (Answers k) answer u t is known free same number_is joins =
+      let one : k ≡ answer = cc (is) in
+      subst IsJoined one (ends_joined opening place number v b k u t known.0 free same number_is joins (calm_clear disk store meta v b k u t known.1))
+  ends_calm opening place number v b other answer u t is known free same number_is joins = absurd (cc (is))
+
+  pub calm_joined : (opening : State) (w : Whole D S M) (a place : ℕ) (l : ActorList) (seat : Seat) (order : Order) (actors : List ℕ) (w' : Whole D S M) → IsCentral disk store meta opening w
+      → IsUnfailing disk store meta w → IsNext w a place l seat order → order.command ≡ Join → Runs disk store meta (IsFree disk store meta place seat.number) w actors w' → turns_left Join seat.work ≤ times a actors
+      → (answer : Answer) × IsJoined answer × IsAnswered w' l.actor seat.number answer
+  calm_joined opening w a place l seat order actors w' c calm next joins r le =
+      run disk store meta (λ v. IsCentral disk store meta opening v × IsUnfailing disk store meta v) (IsFree disk store meta place seat.number) (λ work. Unit {0}) IsJoined Join a place seat.number l
+      (λ v b outcome u t i. (turn_central disk store meta opening v b outcome u t i.0, turn_calm disk store meta v b outcome u t i.1))
+      (λ v b outcome answer u t is i p same number join works. ends_calm opening place seat.number v b outcome answer u t is i p same number join) (λ v b outcome u t un works. tt) actors w w'
+      (record { rising = c.central.stands.rising; seat = seat; order = order; next = next; number_is = refl; kind_is = joins; works = tt }) (c, calm) r le

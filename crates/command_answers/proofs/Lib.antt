@@ -1,5 +1,6 @@
 pub mod Progress
 pub mod ChainsOfTurns
+pub mod Clear
 pub mod Marked
 pub mod SchedulesOfTurns
 pub mod NotesOfCopies
@@ -30,3 +31,4 @@ pub mod Found
 pub mod RowsWithoutDamage
 pub mod RunsWithoutDamage
 pub mod FaultsOfJournals
+pub mod FailedByPlan

@@ -1,5 +1,5 @@
 -- A fetch with which nothing interferes is answered by a run.
-use Rattle.std.proofs.Common.{◌≡◌, ◌⊎◌, inl, inr, ap, subst, refl, ℕ, zero, suc, ◌+◌, ◌<◌, ◌≤◌, nat_lt, Bool, true, false, cond, List, [], ◌∷◌, ◌++◌, Some, slice_get, arith}
+use Rattle.std.proofs.Common.{◌≡◌, ◌⊎◌, inl, inr, ap, subst, refl, ℕ, ◌+◌, ◌<◌, ◌≤◌, nat_lt, Bool, true, false, cond, List, [], ◌∷◌, ◌++◌, Some, slice_get, arith}
 use Rattle.std.proofs.lemmas.Bool.{ltb-true}
 use Rattle.tier_base.specs.declared.plain.Stop.{Stop}
 use Rattle.disk_model.specs.declared.disk.Disk.{Ghosts as DiskGhosts}
@@ -16,9 +16,6 @@ use Rattle.plain_log.specs.declared.answer.Tier.{Tier}
 use Rattle.plain_log.specs.declared.command.ActorList.{ActorList}
 use Rattle.plain_log.specs.declared.command.Command.TheVariants.{Fetch}
 use Rattle.plain_log.specs.declared.command.Order.{Order}
-use Rattle.plain_log.specs.declared.command.Pace.TheVariants.{Times}
-use Rattle.plain_log.specs.declared.journal.Event.TheVariants as event
-use Rattle.plain_log.specs.declared.journal.JournalEntry.{JournalEntry}
 use Rattle.plain_log.specs.declared.state.State.{State}
 use Rattle.plain_log.specs.Fetch.{is_within}
 use Rattle.partition_seen.specs.declared.begun.Begun.{Begun}
@@ -26,7 +23,6 @@ use Rattle.broker_log.specs.Seen.{Kept, Up as Open, Shows, is_up as is_open}
 use Rattle.broker_log.specs.Seen as log
 use Rattle.partition_seen.proofs.BoolTests.{some_of}
 use Rattle.partition_turns.specs.declared.held.Node.{Node}
-use Rattle.partition_turns.specs.Calm.{HasNoFault, AreFaultless}
 use Rattle.partition_turns.specs.Held.{is_up, end_of}
 use Rattle.partition_turns.proofs.Shown.{end_shown, sees_at}
 use Rattle.tier_safe.proofs.Basics.{one_some}
@@ -42,15 +38,14 @@ use Rattle.partition_world.specs.Turn.{IsNext, IsTurn}
 use Rattle.partition_world.specs.TurnsOfCopy.{KeepsLead}
 use Rattle.partition_world.specs.TurnsOfFetch.{AnswersAtOnce, HasStopped}
 use Rattle.partition_world.specs.Whole.{Whole}
-use Rattle.partition_world.proofs.CalmLaw.{reaches_unfailing}
 use Rattle.partition_world.proofs.CentralLaw.{turn_central}
-use Rattle.command_answers.specs.Faults.{DiskFailed, StoreFailed, MetaFailed, MeetsNoFault}
 use Rattle.command_answers.specs.CausesOfFetches.{IsLogsRun, HasCause, LaterCause, IsCommitted, MayServe}
 use Rattle.command_answers.specs.Found.{SpansKnown}
 use Rattle.command_answers.specs.Turns.{turns_left}
 use Rattle.command_answers.specs.Chains.{times, IsAnswered, Runs}
-use Rattle.command_answers.proofs.ChainsOfTurns.{entry, run, own_turn}
+use Rattle.command_answers.proofs.ChainsOfTurns.{run, own_turn}
 use Rattle.command_answers.specs.UnhinderedFetches.{IsServed, IsFree, IsUnhindered}
+use Rattle.command_answers.proofs.Clear.{Clear, well_clear, turn_calm, calm_clear}
 use Rattle.command_answers.proofs.FetchesHaveCauses.{have_causes}
 use Rattle.command_answers.proofs.KnownOfFetches.{keep_spans}
 
@@ -94,22 +89,13 @@ module _ {D S M : Type 0} (disk : DiskGhosts D) (store : StoreGhosts S) (meta : 
         is = ap (λ (bs : List ℕ). Run tier size stop bs) spelled;
       }
 
-  -- where the turn tells of a fault none was met
-  pub record Clear (b : ℕ) (answer : Answer) (w w' : Whole D S M) : Type 0 where
-    pub disk_clear : answer ≡ DiskFault → DiskFailed disk b w w' → ⊥
-    pub store_clear : answer ≡ StoreFault → StoreFailed store w w' → ⊥
-    pub meta_clear : answer ≡ MetaFault → MetaFailed meta w w' → ⊥
-
-  pub well_clear : (b : ℕ) (answer : Answer) (w w' : Whole D S M) → MeetsNoFault disk store meta b w w' → Clear b answer w w'
-  well_clear b answer w w' well = record { disk_clear = λ e. well.disk_well; store_clear = λ e. well.store_well; meta_clear = λ e. well.meta_well }
-
   -- a committed offset is in the log
   never_outside : (w : Whole D S M) (x : Node D) (offset start end : ℕ) → x.known ≤ end_of x → IsCommitted w x offset → (offset < start) ⊎ (end < offset) → start ≡ w.held.registry.start → end ≡ end_of x → ⊥
   never_outside w x offset start end high may (inl below) start_is end_is = let from = may.from in omega (arith, below, start_is, from)
   never_outside w x offset start end high may (inr past) start_is end_is = let low = may.below in omega (arith, past, end_is, low, high)
 
   first_served : (w : Whole D S M) (b : ℕ) (x : Node D) (offset limit : ℕ) (answer : Answer) (w' : Whole D S M) → (is_up x ≡ true → x.known ≤ end_of x) → HasCause disk store meta w b x Idle offset limit answer w'
-      → MayServe w x offset Idle → Clear b answer w w' → IsServed offset limit answer
+      → MayServe w x offset Idle → Clear disk store meta b answer w w' → IsServed offset limit answer
   first_served w b x offset limit Down w' high cause may clear = let up = may.0 in absurd (cc (cause, up))
   first_served w b x offset limit NotLeader w' high cause may clear = let leads = may.1 in absurd (cc (cause, leads))
   first_served w b x offset limit (OutOfRange start end) w' high cause may clear = absurd (never_outside w x offset start end (high may.0) may.2 cause.outside cause.start_is cause.end_is)
@@ -131,29 +117,29 @@ module _ {D S M : Type 0} (disk : DiskGhosts D) (store : StoreGhosts S) (meta : 
   at_once_never w x g offset other high is keeps may = elim is [ ]
 
   refresh_served : (w : Whole D S M) (b : ℕ) (x : Node D) (g : Begun) (offset limit : ℕ) (answer : Answer) (w' : Whole D S M) → x.known ≤ end_of x → LaterCause disk store meta w x g offset limit Refresh answer w'
-      → KeepsLead x g → IsCommitted w x offset → Clear b answer w w' → IsServed offset limit answer
+      → KeepsLead x g → IsCommitted w x offset → Clear disk store meta b answer w w' → IsServed offset limit answer
   refresh_served w b x g offset limit MetaFault w' high cause keeps may clear = absurd (clear.meta_clear refl cause)
   refresh_served w b x g offset limit other w' high cause keeps may clear = absurd (at_once_never w x g offset other high cause keeps may)
 
   index_served : (w : Whole D S M) (b : ℕ) (x : Node D) (g : Begun) (offset limit : ℕ) (piece : _) (answer : Answer) (w' : Whole D S M) → x.known ≤ end_of x
-      → LaterCause disk store meta w x g offset limit (Index piece) answer w' → KeepsLead x g → IsCommitted w x offset → Clear b answer w w' → IsServed offset limit answer
+      → LaterCause disk store meta w x g offset limit (Index piece) answer w' → KeepsLead x g → IsCommitted w x offset → Clear disk store meta b answer w w' → IsServed offset limit answer
   index_served w b x g offset limit piece StoreFault w' high cause keeps may clear = absurd (clear.store_clear refl cause)
   index_served w b x g offset limit piece other w' high cause keeps may clear = absurd (at_once_never w x g offset other high cause keeps may)
 
   log_served : (w : Whole D S M) (b : ℕ) (x : Node D) (g : Begun) (offset limit : ℕ) (piece : _) (span : _) (answer : Answer) (w' : Whole D S M) → x.known ≤ end_of x
-      → LaterCause disk store meta w x g offset limit (Log piece span) answer w' → KeepsLead x g → IsCommitted w x offset → Clear b answer w w' → IsServed offset limit answer
+      → LaterCause disk store meta w x g offset limit (Log piece span) answer w' → KeepsLead x g → IsCommitted w x offset → Clear disk store meta b answer w w' → IsServed offset limit answer
   log_served w b x g offset limit piece span StoreFault w' high cause keeps may clear = absurd (clear.store_clear refl cause)
   log_served w b x g offset limit piece span (Run tier size stop bytes) w' high cause keeps may clear = served x offset limit tier size stop bytes keeps.up cause.1
   log_served w b x g offset limit piece span other w' high cause keeps may clear = absurd (at_once_never w x g offset other high cause keeps may)
 
   later_served : (w : Whole D S M) (b : ℕ) (x : Node D) (g : Begun) (offset limit : ℕ) (next : Next) (answer : Answer) (w' : Whole D S M) → x.known ≤ end_of x
-      → LaterCause disk store meta w x g offset limit next answer w' → KeepsLead x g → IsCommitted w x offset → Clear b answer w w' → IsServed offset limit answer
+      → LaterCause disk store meta w x g offset limit next answer w' → KeepsLead x g → IsCommitted w x offset → Clear disk store meta b answer w w' → IsServed offset limit answer
   later_served w b x g offset limit Refresh answer w' high cause keeps may clear = refresh_served w b x g offset limit answer w' high cause keeps may clear
   later_served w b x g offset limit (Index piece) answer w' high cause keeps may clear = index_served w b x g offset limit piece answer w' high cause keeps may clear
   later_served w b x g offset limit (Log piece span) answer w' high cause keeps may clear = log_served w b x g offset limit piece span answer w' high cause keeps may clear
 
   any_served : (w : Whole D S M) (b : ℕ) (x : Node D) (offset limit : ℕ) (work : Work) (answer : Answer) (w' : Whole D S M) → (is_up x ≡ true → x.known ≤ end_of x)
-      → HasCause disk store meta w b x work offset limit answer w' → MayServe w x offset work → Clear b answer w w' → IsServed offset limit answer
+      → HasCause disk store meta w b x work offset limit answer w' → MayServe w x offset work → Clear disk store meta b answer w w' → IsServed offset limit answer
   any_served w b x offset limit Idle answer w' high cause may clear = first_served w b x offset limit answer w' high cause may clear
   any_served w b x offset limit (Noted g) answer w' high cause may clear = later_served w b x g offset limit Refresh answer w' (high may.0.up) cause may.0 may.1 clear
   any_served w b x offset limit (Seeks g next) answer w' high cause may clear = later_served w b x g offset limit next answer w' (high may.0.up) cause may.0 may.1 clear
@@ -178,7 +164,7 @@ module _ {D S M : Type 0} (disk : DiskGhosts D) (store : StoreGhosts S) (meta : 
   turn_known opening v b outcome u t i = (turn_central disk store meta opening v b outcome u t i.0, keep_spans disk store meta opening v b outcome u i.0 i.1 t)
 
   ends_served : (opening : State) (place number offset limit : ℕ) (v : Whole D S M) (b : ℕ) (answer : Answer) (u : Whole D S M) (t : IsTurn disk store meta v b (Answers answer) u) → AllKnown opening v
-      → IsFree disk store meta place number offset v b u → t.place ≡ place → t.seat.number ≡ number → t.order.command ≡ Fetch offset limit → Clear t.order.broker.0 answer v u → IsServed offset limit answer
+      → IsFree disk store meta place number offset v b u → t.place ≡ place → t.seat.number ≡ number → t.order.command ≡ Fetch offset limit → Clear disk store meta t.order.broker.0 answer v u → IsServed offset limit answer
   ends_served opening place number offset limit v b answer u t known free same number_is fetches clear =
       let c = t.order.broker.0 in
       let h = free t.list t.seat t.order (own_turn disk store meta place v b (Answers answer) u t same) number_is in
@@ -192,7 +178,7 @@ module _ {D S M : Type 0} (disk : DiskGhosts D) (store : StoreGhosts S) (meta : 
   free_served opening place number offset limit v b (Answers k) answer u t is known free same number_is fetches =
       let one : k ≡ answer = cc (is) in
       let well = free.1 t.list t.seat t.order (own_turn disk store meta place v b (Answers k) u t same) number_is in
-      subst (IsServed offset limit) one (ends_served opening place number offset limit v b k u t known free.0 same number_is fetches (well_clear t.order.broker.0 k v u well))
+      subst (IsServed offset limit) one (ends_served opening place number offset limit v b k u t known free.0 same number_is fetches (well_clear disk store meta t.order.broker.0 k v u well))
   free_served opening place number offset limit v b other answer u t is known free same number_is fetches = absurd (cc (is))
 
   pub are_served : (opening : State) (w : Whole D S M) (a place : ℕ) (l : ActorList) (seat : Seat) (order : Order) (offset limit : ℕ) (actors : List ℕ) (w' : Whole D S M)
@@ -206,29 +192,12 @@ module _ {D S M : Type 0} (disk : DiskGhosts D) (store : StoreGhosts S) (meta : 
 
   -- over devices of which no call can fail
 
-  pub turn_calm : (v : Whole D S M) (b : ℕ) (outcome : Outcome) (u : Whole D S M) → IsTurn disk store meta v b outcome u → IsUnfailing disk store meta v → IsUnfailing disk store meta u
-  turn_calm v b outcome u t calm = reaches_unfailing disk store meta v (Times (record { 0 = b }) (suc zero) ∷ []) u (u, (u, inl (outcome, t), refl), refl) calm
-
-  last_calm : (items : List JournalEntry) (last : JournalEntry) → AreFaultless (items ++ last ∷ []) → HasNoFault last.event
-  last_calm [] last f = f.0
-  last_calm (first ∷ items) last f = last_calm items last f.1
-
-  pub calm_clear : (v : Whole D S M) (b : ℕ) (answer : Answer) (u : Whole D S M) (t : IsTurn disk store meta v b (Answers answer) u) → IsUnfailing disk store meta v → Clear t.order.broker.0 answer v u
-  calm_clear v b answer u t calm =
-      let after = turn_calm v b (Answers answer) u t calm in
-      let told : HasNoFault (event.Answers answer) = last_calm v.journal.items (entry t.list.actor t.seat.number answer) (subst AreFaultless t.entered after.journal) in
-      record {
-        disk_clear = λ e f. subst (λ (j : Answer). HasNoFault (event.Answers j)) e told;
-        store_clear = λ e f. subst (λ (j : Answer). HasNoFault (event.Answers j)) e told;
-        meta_clear = λ e f. subst (λ (j : Answer). HasNoFault (event.Answers j)) e told;
-      }
-
   ends_calm : (opening : State) (place number offset limit : ℕ) (v : Whole D S M) (b : ℕ) (outcome : Outcome) (answer : Answer) (u : Whole D S M) (t : IsTurn disk store meta v b outcome u)
       → outcome ≡ Answers answer → AllKnown opening v × IsUnfailing disk store meta v → IsFree disk store meta place number offset v b u → t.place ≡ place → t.seat.number ≡ number
       → t.order.command ≡ Fetch offset limit → IsServed offset limit answer
   ends_calm opening place number offset limit v b (Answers k) answer u t is known free same number_is fetches =
       let one : k ≡ answer = cc (is) in
-      subst (IsServed offset limit) one (ends_served opening place number offset limit v b k u t known.0 free same number_is fetches (calm_clear v b k u t known.1))
+      subst (IsServed offset limit) one (ends_served opening place number offset limit v b k u t known.0 free same number_is fetches (calm_clear disk store meta v b k u t known.1))
   ends_calm opening place number offset limit v b other answer u t is known free same number_is fetches = absurd (cc (is))
 
   pub calm_served : (opening : State) (w : Whole D S M) (a place : ℕ) (l : ActorList) (seat : Seat) (order : Order) (offset limit : ℕ) (actors : List ℕ) (w' : Whole D S M)
@@ -237,6 +206,6 @@ module _ {D S M : Type 0} (disk : DiskGhosts D) (store : StoreGhosts S) (meta : 
       → (answer : Answer) × IsServed offset limit answer × IsAnswered w' l.actor seat.number answer
   calm_served opening w a place l seat order offset limit actors w' c known calm next fetches r le =
       run disk store meta (λ v. AllKnown opening v × IsUnfailing disk store meta v) (IsFree disk store meta place seat.number offset) (λ work. Unit {0}) (IsServed offset limit) (Fetch offset limit) a place seat.number l
-      (λ v b outcome u t i. (turn_known opening v b outcome u t i.0, turn_calm v b outcome u t i.1))
+      (λ v b outcome u t i. (turn_known opening v b outcome u t i.0, turn_calm disk store meta v b outcome u t i.1))
       (λ v b outcome answer u t is i p same number fetch works. ends_calm opening place seat.number offset limit v b outcome answer u t is i p same number fetch) (λ v b outcome u t un works. tt) actors w w'
       (record { rising = c.central.stands.rising; seat = seat; order = order; next = next; number_is = refl; kind_is = fetches; works = tt }) ((c, known), calm) r le

@@ -16,6 +16,7 @@ use Rattle.partition_world.specs.declared.seat.Seat.{Seat}
 use Rattle.partition_world.specs.Reaches.{Goes}
 use Rattle.partition_world.specs.Turn.{IsNext}
 use Rattle.partition_world.specs.Whole.{Whole}
+use Rattle.command_answers.specs.Faults.{MeetsNoFault}
 
 -- how many of these turns are the actor's
 abbrev pub times : ℕ → List ℕ → ℕ
@@ -36,13 +37,21 @@ module _ {D S M : Type 0} where
     pub is : w.journal.items
         ≡ before ++ record { actor = actor; number = number; event = event.Answers answer } ∷ after
 
-  -- where the turn is one of the command at this place, under this number, its broker knows no high watermark past a mark
+  -- where the actor's next turn is one of the command at this place, under this number, this holds of its seat and its order
+  abbrev pub AtTurnsOf : ℕ → ℕ → Whole D S M → ℕ → (Seat → Order → Type 0) → Type 0
+  AtTurnsOf place number w a P =
+      (l : ActorList) (seat : Seat) (order : Order) → IsNext w a place l seat order → seat.number ≡ number → P seat order
+
+  -- its broker knows no high watermark past a mark in it
   abbrev pub KnowsUpTo : ℕ → ℕ → ℕ → Whole D S M → ℕ → Whole D S M → Type 0
-  KnowsUpTo mark place number w a w' =
-      (l : ActorList) (seat : Seat) (order : Order) → IsNext w a place l seat order → seat.number ≡ number
-      → AtNode w.held order.broker.0 (λ x. x.known ≤ mark)
+  KnowsUpTo mark place number w a w' = AtTurnsOf place number w a (λ seat order. AtNode w.held order.broker.0 (λ x. x.known ≤ mark))
 
 module _ {D S M : Type 0} (disk : DiskGhosts D) (store : StoreGhosts S) (meta : MetaGhosts M) where
+  -- no call of a device fails in it
+  abbrev pub TurnMeetsNoFault : ℕ → ℕ → Whole D S M → ℕ → Whole D S M → Type 0
+  TurnMeetsNoFault place number w a w' =
+      AtTurnsOf place number w a (λ seat order. MeetsNoFault disk store meta order.broker.0 w w')
+
   -- turns of these actors, one after another, of each of which this holds
   abbrev pub Runs : (Whole D S M → ℕ → Whole D S M → Type 0) → Whole D S M → List ℕ → Whole D S M → Type 0
   Runs P w [] w' = w' ≡ w

@@ -1,4 +1,4 @@
--- The law of faults that a journal tells of.
+-- The laws of devices' faults in a run.
 use Rattle.std.specs.Prelude.{List}
 use Rattle.tier_base.specs.declared.names.PartitionId.{PartitionId}
 use Rattle.disk_model.specs.declared.disk.Disk.{Ghosts as DiskGhosts}
@@ -12,6 +12,7 @@ use Rattle.partition_world.specs.Fresh.{IsFresh}
 use Rattle.partition_world.specs.Reaches.{Reaches}
 use Rattle.partition_world.specs.Whole.{Whole}
 use Rattle.command_answers.specs.Counted.{FaultsAreCounted}
+use Rattle.command_answers.specs.ByPlan.{AreRuled, HaveFailedByPlan}
 
 module _ {D S M : Type 0} (disk : DiskGhosts D) (store : StoreGhosts S) (meta : MetaGhosts M) where
   -- whatever a schedule reaches from a fresh world, over any devices: each fault that is told is counted
@@ -20,3 +21,8 @@ module _ {D S M : Type 0} (disk : DiskGhosts D) (store : StoreGhosts S) (meta : 
       (w : Whole D S M) (schedule : List Pace) (w' : Whole D S M) → AreListsFor config lists
       → IsFresh disk store meta partition config lists disks s m w → Reaches disk store meta w schedule w'
       → FaultsAreCounted disk store meta w w'
+
+  -- over devices of which the plans alone decide which calls fail: as many failed as they name of those that were made
+  abbrev pub ReachesByPlan : Type 0
+  ReachesByPlan = (w : Whole D S M) (schedule : List Pace) (w' : Whole D S M) → AreRuled disk store meta w
+      → Reaches disk store meta w schedule w' → HaveFailedByPlan disk store meta w w'

@@ -11,13 +11,14 @@ use Rattle.plain_log.specs.declared.state.State.{State}
 use Rattle.partition_turns.specs.Held.{AtNode}
 use Rattle.partition_world.specs.declared.seat.Outcome.TheVariants.{Answers}
 use Rattle.partition_world.specs.declared.seat.Seat.{Seat}
+use Rattle.partition_world.specs.Calm.{IsUnfailing}
 use Rattle.partition_world.specs.Central.{IsCentral}
 use Rattle.partition_world.specs.Turn.{IsNext, IsTurn}
 use Rattle.partition_world.specs.Whole.{Whole}
 use Rattle.command_answers.specs.Turns.{turns_left}
 use Rattle.command_answers.specs.Chains.{times, IsAnswered, Runs}
 use Rattle.command_answers.specs.CausesOfJoins.{HasCause, IsJoined}
-use Rattle.command_answers.specs.UnhinderedJoins.{IsUnhindered}
+use Rattle.command_answers.specs.UnhinderedJoins.{IsFree, IsUnhindered}
 
 module _ {D S M : Type 0} (disk : DiskGhosts D) (store : StoreGhosts S) (meta : MetaGhosts M) where
   -- a join's answer has its cause
@@ -32,4 +33,12 @@ module _ {D S M : Type 0} (disk : DiskGhosts D) (store : StoreGhosts S) (meta : 
       (actors : List ℕ) (w' : Whole D S M) → IsCentral disk store meta opening w → IsNext w a place l seat order
       → order.command ≡ Join → Runs disk store meta (IsUnhindered disk store meta place seat.number) w actors w'
       → turns_left Join seat.work ≤ times a actors
+      → (answer : Answer) × IsJoined answer × IsAnswered w' l.actor seat.number answer
+
+  -- over devices of which no call can fail that is where it may go on
+  abbrev pub UnfailingAreJoined : Type 0
+  UnfailingAreJoined = (opening : State) (w : Whole D S M) (a place : ℕ) (l : ActorList) (seat : Seat) (order : Order)
+      (actors : List ℕ) (w' : Whole D S M) → IsCentral disk store meta opening w → IsUnfailing disk store meta w
+      → IsNext w a place l seat order → order.command ≡ Join
+      → Runs disk store meta (IsFree disk store meta place seat.number) w actors w' → turns_left Join seat.work ≤ times a actors
       → (answer : Answer) × IsJoined answer × IsAnswered w' l.actor seat.number answer

@@ -21,4 +21,5 @@ pub mod LawsOfSearches
 pub mod Damage
 pub mod LawsOfDamage
 pub mod Counted
+pub mod ByPlan
 pub mod LawsOfFaults

@@ -8,18 +8,15 @@ use Rattle.log_terms.specs.Log.{joined}
 use Rattle.plain_log.specs.declared.answer.Answer.{Answer}
 use Rattle.plain_log.specs.declared.answer.Answer.TheVariants.{Run}
 use Rattle.plain_log.specs.declared.answer.Tier.{Tier}
-use Rattle.plain_log.specs.declared.command.ActorList.{ActorList}
-use Rattle.plain_log.specs.declared.command.Order.{Order}
 use Rattle.plain_log.specs.Fetch.{is_within}
 use Rattle.tier_base.specs.declared.plain.Stop.{Stop}
 use Rattle.partition_turns.specs.Held.{AtNode}
-use Rattle.partition_world.specs.declared.seat.Seat.{Seat}
-use Rattle.partition_world.specs.Turn.{IsNext}
 use Rattle.partition_world.specs.Whole.{Whole}
-use Rattle.command_answers.specs.Faults.{MeetsNoFault}
+use Rattle.command_answers.specs.Chains.{AtTurnsOf, TurnMeetsNoFault}
 use Rattle.command_answers.specs.CausesOfFetches.{MayServe}
 
--- an answer is a run: of one batch, which holds the offset, or of several from that one on, which fit the limit
+-- an answer is a run: of one batch, which holds the offset, or of several from that one on, which fit the limit; the fetch's row
+-- pins which batches they are
 pub record IsServed (offset limit : ℕ) (answer : Answer) : Type 0 where
   pub tier : Tier
   pub size : ℕ
@@ -34,11 +31,9 @@ module _ {D S M : Type 0} (disk : DiskGhosts D) (store : StoreGhosts S) (meta : 
   -- where the turn is one of the fetch of this offset at this place, under this number, its broker leads on and may give it
   abbrev pub IsFree : ℕ → ℕ → ℕ → Whole D S M → ℕ → Whole D S M → Type 0
   IsFree place number offset w a w' =
-      (l : ActorList) (seat : Seat) (order : Order) → IsNext w a place l seat order → seat.number ≡ number
-      → AtNode w.held order.broker.0 (λ x. MayServe w x offset seat.work)
+      AtTurnsOf place number w a (λ seat order. AtNode w.held order.broker.0 (λ x. MayServe w x offset seat.work))
 
   -- and no call of a device fails
   abbrev pub IsUnhindered : ℕ → ℕ → ℕ → Whole D S M → ℕ → Whole D S M → Type 0
-  IsUnhindered place number offset w a w' = IsFree place number offset w a w'
-      × ((l : ActorList) (seat : Seat) (order : Order) → IsNext w a place l seat order → seat.number ≡ number
-      → MeetsNoFault disk store meta order.broker.0 w w')
+  IsUnhindered place number offset w a w' =
+      IsFree place number offset w a w' × TurnMeetsNoFault disk store meta place number w a w'

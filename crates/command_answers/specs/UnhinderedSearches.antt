@@ -2,19 +2,15 @@
 --
 -- Its broker leads on, and no call of a device fails: no other answer has a cause then (`FirstCause` and `SearchCause` in
 -- `CausesOfOffsets.antt`) but damage, and over devices that tell none is found.
-use Rattle.std.specs.Prelude.{◌≡◌, ℕ}
+use Rattle.std.specs.Prelude.{ℕ}
 use Rattle.disk_model.specs.declared.disk.Disk.{Ghosts as DiskGhosts}
 use Rattle.object_store.specs.declared.store.Store.{Ghosts as StoreGhosts}
 use Rattle.meta_log.specs.declared.log.MetaLog.{Ghosts as MetaGhosts}
 use Rattle.plain_log.specs.declared.answer.Answer.{Answer}
 use Rattle.plain_log.specs.declared.answer.Answer.TheVariants.{Offset, NoOffset}
-use Rattle.plain_log.specs.declared.command.ActorList.{ActorList}
-use Rattle.plain_log.specs.declared.command.Order.{Order}
 use Rattle.partition_turns.specs.Held.{AtNode}
-use Rattle.partition_world.specs.declared.seat.Seat.{Seat}
-use Rattle.partition_world.specs.Turn.{IsNext}
 use Rattle.partition_world.specs.Whole.{Whole}
-use Rattle.command_answers.specs.Faults.{MeetsNoFault}
+use Rattle.command_answers.specs.Chains.{AtTurnsOf, TurnMeetsNoFault}
 use Rattle.command_answers.specs.CausesOfOffsets.{MaySearch}
 
 -- an answer is what was searched for: an offset, or that there is none
@@ -27,11 +23,8 @@ module _ {D S M : Type 0} (disk : DiskGhosts D) (store : StoreGhosts S) (meta : 
   -- where the turn is one of the search at this place, under this number, its broker leads on
   abbrev pub IsFree : ℕ → ℕ → Whole D S M → ℕ → Whole D S M → Type 0
   IsFree place number w a w' =
-      (l : ActorList) (seat : Seat) (order : Order) → IsNext w a place l seat order → seat.number ≡ number
-      → AtNode w.held order.broker.0 (λ x. MaySearch x seat.work)
+      AtTurnsOf place number w a (λ seat order. AtNode w.held order.broker.0 (λ x. MaySearch x seat.work))
 
   -- and no call of a device fails
   abbrev pub IsUnhindered : ℕ → ℕ → Whole D S M → ℕ → Whole D S M → Type 0
-  IsUnhindered place number w a w' = IsFree place number w a w'
-      × ((l : ActorList) (seat : Seat) (order : Order) → IsNext w a place l seat order → seat.number ≡ number
-      → MeetsNoFault disk store meta order.broker.0 w w')
+  IsUnhindered place number w a w' = IsFree place number w a w' × TurnMeetsNoFault disk store meta place number w a w'

@@ -1,7 +1,7 @@
-//! The law of faults that a journal tells of, as the contract of a function that does nothing:
+//! The laws of devices' faults in a run. Each is the contract of a function that does nothing:
 //! calling it cites the law.
 
-ghost use Rattle.command_answers.specs.LawsOfFaults.{ReachesCounted};
+ghost use Rattle.command_answers.specs.LawsOfFaults.{ReachesCounted, ReachesByPlan};
 
 use disk_model::Disk;
 use meta_log::MetaLog;
@@ -11,4 +11,10 @@ use object_store::Store;
 /// one that the device has counted since then.
 pub fn reaches_counted<D: Disk, S: Store, M: MetaLog>()
     ensures { ReachesCounted D.Disk S.Store M.MetaLog }
+{}
+
+/// Over devices of which the plans alone decide which calls fail, as many calls failed as the plans
+/// name of those that were made.
+pub fn reaches_by_plan<D: Disk, S: Store, M: MetaLog>()
+    ensures { ReachesByPlan D.Disk S.Store M.MetaLog }
 {}

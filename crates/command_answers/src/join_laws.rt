@@ -1,7 +1,7 @@
 //! Laws of what a join is answered. Each is the contract of a function that does nothing: calling it
 //! cites the law.
 
-ghost use Rattle.command_answers.specs.LawsOfJoins.{JoinsHaveCauses, UnhinderedAreJoined};
+ghost use Rattle.command_answers.specs.LawsOfJoins.{JoinsHaveCauses, UnhinderedAreJoined, UnfailingAreJoined};
 
 use disk_model::Disk;
 use meta_log::MetaLog;
@@ -15,4 +15,9 @@ pub fn joins_have_causes<D: Disk, S: Store, M: MetaLog>()
 /// A join that nothing hinders is answered `Cut` or `Rebuilt`.
 pub fn unhindered_are_joined<D: Disk, S: Store, M: MetaLog>()
     ensures { UnhinderedAreJoined D.Disk S.Store M.MetaLog }
+{}
+
+/// Over devices of which no call can fail a join is answered so where it may go on.
+pub fn unfailing_are_joined<D: Disk, S: Store, M: MetaLog>()
+    ensures { UnfailingAreJoined D.Disk S.Store M.MetaLog }
 {}

@@ -5,11 +5,12 @@
 //! a copy, a fetch, a join or a search by timestamp says is so, one that nothing hinders is answered by what was asked
 //! for, and none is answered `Damaged`. Each fault of a device that a journal tells of is one that the device has
 //! counted, over any devices, also over those that don't tell what they hold, and whatever their counts of faults were
-//! at the start: no turn lowers a count, and a turn that is answered a fault of a device raises that device's.
+//! at the start: no turn lowers a count, and a turn that is answered a fault of a device raises that device's. Where
+//! the devices' plans alone decide which calls fail, as many are counted as the plans name of those that were made.
 //!
 //! `specs/Turns.antt` has how many turns are left of a command; `specs/CausesOfCopies.antt`, `CausesOfFetches.antt`,
 //! `CausesOfJoins.antt` and `CausesOfOffsets.antt` why an answer is given, and `specs/Damage.antt` what a journal tells where
-//! nothing is damaged; `specs/Counted.antt` which device each fault is of.
+//! nothing is damaged; `specs/Counted.antt` which device each fault is of, and `specs/ByPlan.antt` which call.
 #![tactic(auto)]
 
 mod copy_laws;
@@ -26,12 +27,12 @@ pub use copy_laws::{
     turns_keep_known, unfailing_are_copied, unhindered_are_copied,
 };
 pub use damage_laws::{no_answer_is_damaged, runs_meet_no_damage};
-pub use fault_laws::reaches_counted;
+pub use fault_laws::{reaches_by_plan, reaches_counted};
 pub use fetch_laws::{
     fetches_have_causes, fresh_has_spans, no_fetch_is_damaged, pieces_end, reaches_spans,
     turns_keep_spans, unfailing_are_served, unhindered_are_served,
 };
-pub use join_laws::{joins_have_causes, unhindered_are_joined};
+pub use join_laws::{joins_have_causes, unfailing_are_joined, unhindered_are_joined};
 pub use offset_laws::offsets_have_causes;
 pub use search_laws::{
     fresh_has_searches, marked_are_found, no_search_is_damaged, reaches_searches,

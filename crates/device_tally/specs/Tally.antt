@@ -2,7 +2,8 @@
 -- of its calls can fail.
 use Rattle.std.specs.Prelude.{ℕ, Bool, false, List, []}
 use Rattle.std.proofs.Math.ListN.{get_or}
-use Rattle.tier_base.specs.Device.{Control}
+use Rattle.std.proofs.lemmas.Bool.{false≢true}
+use Rattle.tier_base.specs.Device.{Control, FailsAsPlanned}
 
 -- faults, and calls since it was armed
 pub record Counts : Type 0 where
@@ -24,3 +25,7 @@ module _ {K : Type 0} (code : K → ℕ) where
         ruled = false;
         handed = handed;
       }
+
+  -- no plan decides which of its calls fail
+  pub fails_as_planned : (t : Counts) (handed : List ℕ) → FailsAsPlanned (control_of t handed)
+  fails_as_planned t handed = λ ruled. absurd (false≢true ruled)

@@ -63,7 +63,7 @@ enum Turn<'a> {
     Fuse(u64),
     Crash,
     Renew,
-    /// It tells how many calls failed and how many are planned, and whether it is armed and fused.
+    /// It tells how many calls failed and how many are planned, and whether it is armed and fused, or was.
     Tell(u64, usize, bool, bool),
 }
 
@@ -176,7 +176,7 @@ static STORIES: [(&str, &[Planned], &[Turn<'static>]); 14] = [
             Turn::Tell(3, 0, false, true),
             Turn::Crash,
             Turn::Do(&[Step::Read(LOG, 0, b"a")]),
-            Turn::Tell(3, 0, false, false),
+            Turn::Tell(3, 0, false, true),
         ],
     ),
     (

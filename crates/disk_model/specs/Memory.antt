@@ -32,9 +32,9 @@ module _ {K : Type 0} {code : K → ℕ} where
     pub calm : IsFalse new.calm
     pub ruled : IsFalse new.ruled
 
-  -- without one
+  -- without one from now on: its plan doesn't decide alone of all calls if there was one
   pub record Unfuses (old new : Control code) : Type 0 where
     pub stays : Stays old new
-    pub ruled : IsTrue new.ruled
+    pub ruled : new.ruled ≡ old.ruled
     pub calm : old.plan ≡ [] → IsTrue new.calm
     pub still_calm : IsTrue old.calm → IsTrue new.calm

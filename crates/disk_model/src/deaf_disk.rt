@@ -5,6 +5,7 @@
 ghost use Rattle.std.specs.Prelude.{◌≡◌, ◌<◌, [], length, drop, IfOk, IfSome, IsTrue};
 ghost use Rattle.tier_base.specs.Device.{IsFresh};
 ghost use Rattle.tier_base.specs.Faults.{control_of};
+ghost use Rattle.tier_base.specs.Laws.{fails_as_planned};
 ghost use Rattle.disk_model.specs.Call.{call_code};
 ghost use Rattle.tier_base.specs.Told.{bytes_in};
 ghost use Rattle.disk_model.specs.Deaf.{nothing_told, deaf_lawful};
@@ -122,6 +123,8 @@ impl Disk for DeafDisk {
     }
 
     ghost lawful = { λ d. deaf_lawful };
+
+    ghost planned = { λ d. fails_as_planned call_code d.faults d.handed };
 }
 
 /// Finds a file by its name.

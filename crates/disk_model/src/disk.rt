@@ -5,7 +5,7 @@
 //! answers `Failed` may have been done or not, and one that finds no memory changes nothing.
 
 ghost use Rattle.std.specs.Prelude.{◌≡◌, ◌+◌, ◌≤◌, List, ℕ, drop, IfOk, OnOk, IsTrue, Some, option_map};
-ghost use Rattle.tier_base.specs.Device.{Control, Ran, RanQuietly, MayBeDone, Rests, Arms, fate_of, failing};
+ghost use Rattle.tier_base.specs.Device.{Control, Ran, RanQuietly, MayBeDone, Rests, Arms, FailsAsPlanned, fate_of, failing};
 ghost use Rattle.disk_model.specs.declared.call.DiskCall.TheVariants.{Append, Sync, Read, Cut, Replace, Remove, List as Listing};
 ghost use Rattle.disk_model.specs.Call.{call_code};
 ghost use Rattle.tier_base.specs.Told.{Names, replaced, removed, handed_after};
@@ -15,7 +15,9 @@ use bytes::Bytes;
 use std::alloc::AllocError;
 use tier_base::{Failed, FileName, Row, Trouble};
 
-/// A disk of a broker.
+/// The files of a broker's log or of a metadata log, by name. After `Failed` the call's file reads
+/// as before or as if the call was done, and the others as before; a sync promises nothing then.
+/// The room for the call is used up all the same, and any call may follow.
 pub trait Disk: Drop {
     /// The files, and what a crash may leave of them.
     ghost content: { Self → Content };
@@ -118,4 +120,7 @@ pub trait Disk: Drop {
 
     /// What holds of every disk's content.
     ghost lawful: { (disk : Self) → Lawful (content disk) };
+
+    /// Where its plan alone decides which calls fail, as many failed as the plan names of those made.
+    ghost planned: { (disk : Self) → FailsAsPlanned (control disk) };
 }

@@ -6,6 +6,7 @@
 ghost use Rattle.std.specs.Prelude.{◌≡◌, ◌↔◌, [], ℕ, IsTrue, IsFalse};
 ghost use Rattle.tier_base.specs.Device.{IsFresh};
 ghost use Rattle.tier_base.specs.Faults.{control_of};
+ghost use Rattle.tier_base.specs.Laws.{fails_as_planned};
 ghost use Rattle.tier_base.specs.declared.plain.FileName.{FileName};
 ghost use Rattle.disk_model.specs.Call.{call_code};
 ghost use Rattle.disk_model.specs.Content.{Keeps};
@@ -97,11 +98,11 @@ impl MemoryDisk {
         self.faults.plan()
     }
 
-    /// Answers whether there is a fuse.
+    /// Answers whether there is a fuse, or was one.
     pub fn fused(&self) -> bool
         ensures { IsTrue result ↔ IsFalse (⟦<MemoryDisk as Disk>⟧.control self.now).ruled }
     {
-        self.faults.is_fused()
+        !self.faults.is_ruled()
     }
 
     /// Answers whether planned calls fail.
@@ -195,4 +196,6 @@ impl Disk for MemoryDisk {
     }
 
     ghost lawful = { λ m. lawful_at m.history.past };
+
+    ghost planned = { λ m. fails_as_planned call_code m.faults m.handed };
 }

@@ -5,7 +5,7 @@ ghost use Rattle.tier_base.specs.Device.{IsFresh};
 ghost use Rattle.disk_model.specs.Call.{call_code};
 ghost use Rattle.tier_base.specs.Told.{bytes_in};
 ghost use Rattle.disk_model.specs.Deaf.{nothing_told, deaf_lawful};
-ghost use Rattle.device_tally.specs.Tally.{control_of};
+ghost use Rattle.device_tally.specs.Tally.{control_of, fails_as_planned};
 
 use crate::folder::Folder;
 use bytes::Bytes;
@@ -125,6 +125,8 @@ impl<R: Files + AllocGlobal + Clone + Drop> Disk for FolderDisk<R> {
     }
 
     ghost lawful = { λ d. deaf_lawful };
+
+    ghost planned = { λ d. fails_as_planned call_code d.tally d.handed };
 }
 
 /// Whether a call that changes files went well. Want of memory in the system is a failure too, since

@@ -4,7 +4,7 @@ ghost use Rattle.std.specs.Prelude.{◌≡◌, [], false, IfOk};
 ghost use Rattle.tier_base.specs.Device.{IsFresh};
 ghost use Rattle.object_store.specs.Call.{call_code};
 ghost use Rattle.object_store.specs.Deaf.{nothing_told};
-ghost use Rattle.device_tally.specs.Tally.{control_of};
+ghost use Rattle.device_tally.specs.Tally.{control_of, fails_as_planned};
 
 use crate::folder_disk::{done, hand, share, told};
 use crate::objects::Objects;
@@ -92,4 +92,6 @@ impl<R: Files + AllocGlobal + Clone + Drop> Store for FolderStore<R> {
     fn arm(&mut self) {
         self.tally.arm();
     }
+
+    ghost planned = { λ s. fails_as_planned call_code s.tally s.handed };
 }

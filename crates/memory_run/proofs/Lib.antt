@@ -1,4 +1,6 @@
+mod Faulting
 pub mod MemoryDevices
 mod Opening
 mod Planning
+mod Ruled
 pub mod Running

@@ -11,8 +11,6 @@ use Rattle.script_lang.specs.declared.fault.FaultCall.{FaultCall}
 use Rattle.script_lang.specs.declared.fault.FaultDevice.{FaultDevice}
 use Rattle.partition_turns.specs.Held.{IsCalm}
 use Rattle.partition_turns.specs.Fresh.{AreCalmDisks}
-use Rattle.partition_turns.specs.Calm.{AreUnplanned}
-use Rattle.partition_world.specs.Calm.{IsUnplanned}
 use Rattle.memory_run.specs.Plans.{planned_call, planned_by, disk_plan, IsPlanned, ArePlanned}
 
 module _ {K : Type 0} (named : FaultDevice → FaultCall → Option K) where
@@ -36,14 +34,6 @@ module _ {K : Type 0} {code : K → ℕ} where
   few_faults : (plan : List (Planned K)) (c : Control code) → IsPlanned plan c → c.faults < 2 ^ 64 - 1
   few_faults plan c p = let zero_is = p.fresh.faults in omega (arith, zero_is)
 
-  -- where there are no fault lines no call of a device is planned to fail
-  pub unplanned_device : (plan : List (Planned K)) (c : Control code) → plan ≡ [] → IsPlanned plan c → IsUnplanned c
-  unplanned_device plan c none p = record {
-    ruled = p.ruled;
-    plan = p.plan_is ∙ none;
-    calm = record { calm = p.calm; few = few_faults plan c p };
-  }
-
 module _ {D : Type 0} (control : D → Control call_code) where
   disk_calm : (broker : ℕ) (faults : List Fault) (disk : D) → IsPlanned (disk_plan broker faults) (control disk) → IsCalm (control disk)
   disk_calm broker faults disk p = record { calm = p.calm; few = few_faults (disk_plan broker faults) (control disk) p }
@@ -51,13 +41,3 @@ module _ {D : Type 0} (control : D → Control call_code) where
   pub planned_calm : (faults : List Fault) (broker : ℕ) (disks : List D) → ArePlanned control faults broker disks → AreCalmDisks control disks
   planned_calm faults broker [] p = tt
   planned_calm faults broker (disk ∷ disks) p = (disk_calm broker faults disk p.0, planned_calm faults (broker + 1) disks p.1)
-
-  -- nor of the disks
-  pub unplanned : (faults : List Fault) (broker : ℕ) (disks : List D) → faults ≡ [] → ArePlanned control faults broker disks → AreUnplanned control disks
-  unplanned faults broker [] none p = tt
-  unplanned faults broker (disk ∷ disks) none p = (
-    p.0.ruled,
-    p.0.plan_is ∙ ap (disk_plan broker) none,
-    disk_calm broker faults disk p.0,
-    unplanned faults (broker + 1) disks none p.1,
-  )

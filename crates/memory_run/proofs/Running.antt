@@ -7,7 +7,6 @@ use Rattle.object_store.specs.declared.store.Store.{Ghosts as StoreGhosts}
 use Rattle.meta_log.specs.declared.log.MetaLog.{Ghosts as MetaGhosts}
 use Rattle.plain_log.specs.declared.command.ActorList.{ActorList}
 use Rattle.plain_log.specs.declared.command.Config.{Config}
-use Rattle.plain_log.specs.declared.journal.JournalEntry.{JournalEntry}
 use Rattle.plain_log.specs.declared.command.Pace.{Pace}
 use Rattle.plain_log.specs.declared.command.Pace.TheVariants.{Until}
 use Rattle.plain_log.specs.Fresh.{fresh}
@@ -17,20 +16,24 @@ use Rattle.plain_log.specs.Laws.{FreshIsSafe, ReplaysKeepSafe}
 use Rattle.plain_log.specs.Safe.{PlainSafe}
 use Rattle.plain_log.proofs.Grows.{replay_led, replay_runs}
 use Rattle.command_answers.specs.LawsOfDamage.{RunsMeetNoDamage}
+use Rattle.command_answers.specs.Counted.{FaultsAreCounted}
 use Rattle.command_answers.proofs.FaultsOfJournals.{reaches_counted}
+use Rattle.command_answers.specs.LawsOfFaults.{ReachesByPlan}
 use Rattle.partition_world.specs.Whole.{Whole}
 use Rattle.partition_world.specs.Turn.{IsAtEnd}
 use Rattle.partition_world.specs.Central.{IsCentral}
 use Rattle.partition_world.specs.InTurn.{IsInTurn}
-use Rattle.partition_world.specs.Laws.{EndsAreComplete, ReachesLater, ReachesInTurn, ReachesUnfailing, FreshIsUnfailing}
+use Rattle.partition_world.specs.Laws.{EndsAreComplete, ReachesLater, ReachesInTurn}
 use Rattle.partition_world.specs.Reaches.{GoesUntil, HasAnswered, Reaches}
 use Rattle.partition_seen.proofs.Lists.{one_list}
 use Rattle.partition_world.proofs.LaterLaw.{all_ended}
+use Rattle.partition_world.proofs.LastingRuns.{reaches_lasting}
 use Rattle.script_lang.specs.Fit.{StepsTo, StepsToEnds}
 use Rattle.script_lang.specs.declared.script.PartScript.{PartScript}
-use Rattle.memory_run.specs.Plans.{store_plan, meta_plan}
+use Rattle.memory_run.specs.Planned.{FaultsArePlanned}
 use Rattle.memory_run.specs.Run.{StartsWith, IsRunOf}
-use Rattle.memory_run.proofs.Planning.{unplanned, unplanned_device}
+use Rattle.memory_run.proofs.Faulting.{faults_planned}
+use Rattle.memory_run.proofs.Ruled.{starts_ruled}
 
 -- what holds of all holds of the one that stands at a place
 all_at : {A : Type 0} (P : A → Type 0) (xs : List A) (i : ℕ) (x : A) → All P xs → slice_get xs i ≡ Some x → P x
@@ -69,9 +72,9 @@ module _ {D S M : Type 0} (disk : DiskGhosts D) (store : StoreGhosts S) (meta : 
       ])
 
   -- the journal of a world that a schedule reaches, with each actor at its end, is a run of its partition by that schedule
-  pub ended_is_run_of : (config : Config) (part : PartScript) (w w' : Whole D S M) → EndsAreComplete disk store meta → ReachesLater disk store meta → ReachesInTurn disk store meta → FreshIsSafe → ReplaysKeepSafe → ReachesUnfailing disk store meta → FreshIsUnfailing disk store meta → RunsMeetNoDamage disk store meta → IsConfig config → AreListsFor config part.lists
+  pub ended_is_run_of : (config : Config) (part : PartScript) (w w' : Whole D S M) → EndsAreComplete disk store meta → ReachesLater disk store meta → ReachesInTurn disk store meta → FreshIsSafe → ReplaysKeepSafe → RunsMeetNoDamage disk store meta → ReachesByPlan disk store meta → IsConfig config → AreListsFor config part.lists
       → StartsWith disk store meta part.partition config part.lists part.faults w → IsCentral disk store meta (fresh config) w → Reaches disk store meta w part.schedule w' → ((a : ℕ) → IsAtEnd w' a) → IsRunOf disk store meta config part (part.partition.0, w'.journal.items)
-  ended_is_run_of config part w w' law goes turns opens keeps calm unfailing undamaged fits fit starts c reaches ended =
+  ended_is_run_of config part w w' law goes turns opens keeps undamaged by_plan fits fit starts c reaches ended =
       let f = starts.fresh in
       let lists = part.lists in
       let later = goes w part.schedule w' reaches in
@@ -81,6 +84,8 @@ module _ {D S M : Type 0} (disk : DiskGhosts D) (store : StoreGhosts S) (meta : 
       let whole = law w' central ended in
       let run : IsPlainRun config lists w'.journal.items =
       subst (λ (k : Config). IsPlainRun k lists w'.journal.items) same (subst (λ (k : List ActorList). IsPlainRun w'.config k w'.journal.items) its whole.run) in
+      let counted : FaultsAreCounted disk store meta w w' =
+      reaches_counted disk store meta part.partition config lists starts.disks starts.objects starts.notes w part.schedule w' fit f reaches in
       let safe : PlainSafe run.last = keeps lists (fresh config) w'.journal.items run.last run.replays (opens config) in
       record {
         partition = refl;
@@ -91,17 +96,17 @@ module _ {D S M : Type 0} (disk : DiskGhosts D) (store : StoreGhosts S) (meta : 
         led = replay_led lists (fresh config) w'.journal.items run.last run.replays (opens config);
         committed = λ clean. replay_runs lists (fresh config) w'.journal.items run.last run.replays (opens config) clean;
         undamaged = undamaged part.partition config lists starts.disks starts.objects starts.notes w part.schedule w' fits fit f starts.empty reaches;
-        faultless = λ none. (calm w part.schedule w' reaches (unfailing part.partition config lists starts.disks starts.objects starts.notes w f
-            (unplanned disk.control part.faults 0 starts.disks none starts.planned.disk_plans)
-            (unplanned_device (store_plan part.faults) (store.control starts.objects) (ap store_plan none) starts.planned.store_plan_is)
-            (unplanned_device (meta_plan part.faults) (meta.control starts.notes) (ap meta_plan none) starts.planned.meta_plan_is))).journal;
+        planned = subst (λ (k : List ActorList). FaultsArePlanned k part.faults w'.journal.items) its
+            (faults_planned disk store meta part.partition config lists part.faults w w' starts
+            (reaches_lasting disk store meta part.partition config lists starts.disks starts.objects starts.notes w part.schedule w' f reaches) counted);
         reached = record {
           first = w;
           last = w';
           starts = starts;
           reaches = reaches;
           central = later.central (fresh config) c;
-          counted = reaches_counted disk store meta part.partition config lists starts.disks starts.objects starts.notes w part.schedule w' fit f reaches;
+          counted = counted;
+          by_plan = by_plan w part.schedule w' (starts_ruled disk store meta part config w starts) reaches;
           its = refl;
         };
       }
@@ -120,7 +125,7 @@ module _ {D S M : Type 0} (disk : DiskGhosts D) (store : StoreGhosts S) (meta : 
       (all_at (λ (m : ActorList). StepsTo part.schedule m.actor (length m.orders)) lists place l ends here))
 
   -- and so is that of a world that was run by its schedule
-  pub is_run_of : (config : Config) (part : PartScript) (w w' : Whole D S M) → EndsAreComplete disk store meta → ReachesLater disk store meta → ReachesInTurn disk store meta → FreshIsSafe → ReplaysKeepSafe → ReachesUnfailing disk store meta → FreshIsUnfailing disk store meta → RunsMeetNoDamage disk store meta → IsConfig config → AreListsFor config part.lists → StepsToEnds part
+  pub is_run_of : (config : Config) (part : PartScript) (w w' : Whole D S M) → EndsAreComplete disk store meta → ReachesLater disk store meta → ReachesInTurn disk store meta → FreshIsSafe → ReplaysKeepSafe → RunsMeetNoDamage disk store meta → ReachesByPlan disk store meta → IsConfig config → AreListsFor config part.lists → StepsToEnds part
       → StartsWith disk store meta part.partition config part.lists part.faults w → IsCentral disk store meta (fresh config) w → Reaches disk store meta w part.schedule w' → IsRunOf disk store meta config part (part.partition.0, w'.journal.items)
-  is_run_of config part w w' law goes turns opens keeps calm unfailing undamaged fits fit ends starts c reaches =
-      ended_is_run_of config part w w' law goes turns opens keeps calm unfailing undamaged fits fit starts c reaches (schedule_ends config part w w' goes fit ends starts reaches)
+  is_run_of config part w w' law goes turns opens keeps undamaged by_plan fits fit ends starts c reaches =
+      ended_is_run_of config part w w' law goes turns opens keeps undamaged by_plan fits fit starts c reaches (schedule_ends config part w w' goes fit ends starts reaches)

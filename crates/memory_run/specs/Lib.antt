@@ -1,3 +1,4 @@
 pub mod Plans
+pub mod Planned
 pub mod Devices
 pub mod Run

@@ -2,8 +2,9 @@
 //! calls fail that the script's fault lines name.
 //!
 //! `run_partition` runs it by its own schedule. `specs/Run.antt` says what a run is: its journal is one of the plain log, in
-//! which each command is answered once and in order, and that of a world which the schedule reaches. Its devices
-//! have counted each fault that is told.
+//! which each command is answered once and in order, and that of a world which the schedule reaches. Of its devices' calls
+//! as many failed as the lines name of those that were made; each fault that is told is counted, and none is told of a
+//! device that no line names.
 #![tactic(auto)]
 
 mod devices;

@@ -8,13 +8,12 @@ ghost use Rattle.script_lang.specs.Fit.{StepsToEnds};
 ghost use Rattle.memory_run.specs.Run.{StartsWith, IsRunOf};
 
 use crate::devices::devices;
-use command_answers::runs_meet_no_damage;
+use command_answers::{reaches_by_plan, runs_meet_no_damage};
 use disk_model::{Disk, MemoryDisk};
 use meta_log::{MemoryLog, MetaLog};
 use object_store::{MemoryStore, Store};
 use partition_world::{
-    World, WorldRefusal, ends_are_complete, fresh_is_unfailing, reaches_in_turn, reaches_later,
-    reaches_unfailing, run_in_order,
+    World, WorldRefusal, ends_are_complete, reaches_in_turn, reaches_later, run_in_order,
 };
 use plain_log::{ActorList, Config, fresh_is_safe, replays_keep_safe};
 use script_lang::{Fault, PartScript};
@@ -60,9 +59,8 @@ pub fn run_partition(
     ends_are_complete::<MemoryDisk, MemoryStore, MemoryLog>();
     reaches_later::<MemoryDisk, MemoryStore, MemoryLog>();
     reaches_in_turn::<MemoryDisk, MemoryStore, MemoryLog>();
-    reaches_unfailing::<MemoryDisk, MemoryStore, MemoryLog>();
-    fresh_is_unfailing::<MemoryDisk, MemoryStore, MemoryLog>();
     runs_meet_no_damage::<MemoryDisk, MemoryStore, MemoryLog>();
+    reaches_by_plan::<MemoryDisk, MemoryStore, MemoryLog>();
     fresh_is_safe();
     replays_keep_safe();
     let PartScript {

@@ -9,7 +9,7 @@ ghost use Rattle.segment_meta.specs.Rules.{IsNote};
 ghost use Rattle.meta_log.specs.declared.call.MetaCall.TheVariants.{Append, Read};
 ghost use Rattle.meta_log.specs.Call.{call_code};
 ghost use Rattle.meta_log.specs.Content.{AreNotes, Grows, Keeps};
-ghost use Rattle.device_tally.specs.Tally.{control_of};
+ghost use Rattle.device_tally.specs.Tally.{control_of, fails_as_planned};
 ghost use Rattle.meta_file.specs.declared.refusal.NotesRefusal.TheVariants.{Failed, Damaged};
 ghost use Rattle.meta_file.specs.Notes.{Opens};
 ghost use Rattle.meta_file.specs.Crash.{Reopens, OpensLike, Appending};
@@ -178,4 +178,6 @@ impl<D: Disk> MetaLog for DiskLog<D> {
         self.disk.arm();
         self.tally.arm();
     }
+
+    ghost planned = { λ log. fails_as_planned call_code log.counts [] };
 }

@@ -4,7 +4,7 @@
 //! finds no memory changes nothing. No call hands bytes.
 
 ghost use Rattle.std.specs.Prelude.{◌≡◌, length, drop, IfOk, IsTrue};
-ghost use Rattle.tier_base.specs.Device.{Control, RanQuietly, MayBeDone, Arms, fate_of};
+ghost use Rattle.tier_base.specs.Device.{Control, RanQuietly, MayBeDone, Arms, FailsAsPlanned, fate_of};
 ghost use Rattle.segment_meta.specs.Rules.{IsNote};
 ghost use Rattle.meta_log.specs.declared.call.MetaCall.TheVariants.{Append, Read};
 ghost use Rattle.meta_log.specs.Call.{call_code};
@@ -13,7 +13,8 @@ ghost use Rattle.meta_log.specs.Content.{Content, AreNotes, Grows, Keeps};
 use segment_meta::Note;
 use tier_base::{Row, Trouble};
 
-/// A metadata log.
+/// What was noted of a partition's remote segments, in order. After an `append` that answers
+/// `Failed` its note stands at the end or nowhere, all earlier ones stay, and any call may follow.
 pub trait MetaLog: Drop {
     /// The notes.
     ghost content: { Self → Content };
@@ -42,4 +43,7 @@ pub trait MetaLog: Drop {
     fn arm(&mut self)
         ensures control { Arms (control self.old) (control self.new) }
         ensures content { Keeps (content self.old) (content self.new) };
+
+    /// Where its plan alone decides which calls fail, as many failed as the plan names of those made.
+    ghost planned: { (log : Self) → FailsAsPlanned (control log) };
 }

@@ -6,6 +6,7 @@
 ghost use Rattle.std.specs.Prelude.{◌≡◌, [], IsTrue};
 ghost use Rattle.tier_base.specs.Device.{IsFresh};
 ghost use Rattle.tier_base.specs.Faults.{control_of};
+ghost use Rattle.tier_base.specs.Laws.{fails_as_planned};
 ghost use Rattle.meta_log.specs.Call.{call_code};
 ghost use Rattle.meta_log.specs.Content.{Keeps};
 ghost use Rattle.meta_log.specs.Memory.{content_of};
@@ -95,4 +96,6 @@ impl MetaLog for MemoryLog {
     fn arm(&mut self) {
         self.faults.arm();
     }
+
+    ghost planned = { λ m. fails_as_planned call_code m.faults [] };
 }

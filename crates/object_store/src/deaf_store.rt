@@ -5,6 +5,7 @@
 ghost use Rattle.std.specs.Prelude.{◌≡◌, ◌<◌, [], length, IfSome, IsTrue};
 ghost use Rattle.tier_base.specs.Device.{IsFresh};
 ghost use Rattle.tier_base.specs.Faults.{control_of};
+ghost use Rattle.tier_base.specs.Laws.{fails_as_planned};
 ghost use Rattle.object_store.specs.Call.{call_code};
 ghost use Rattle.object_store.specs.Deaf.{nothing_told};
 
@@ -76,6 +77,8 @@ impl Store for DeafStore {
     fn arm(&mut self) {
         self.faults.arm();
     }
+
+    ghost planned = { λ d. fails_as_planned call_code d.faults d.handed };
 }
 
 /// Finds an object by its key.

@@ -6,6 +6,7 @@
 ghost use Rattle.std.specs.Prelude.{◌≡◌, [], IsTrue};
 ghost use Rattle.tier_base.specs.Device.{IsFresh};
 ghost use Rattle.tier_base.specs.Faults.{control_of};
+ghost use Rattle.tier_base.specs.Laws.{fails_as_planned};
 ghost use Rattle.object_store.specs.Call.{call_code};
 ghost use Rattle.object_store.specs.Content.{Keeps};
 ghost use Rattle.object_store.specs.Memory.{IsEmptyStore};
@@ -116,4 +117,6 @@ impl Store for MemoryStore {
     fn arm(&mut self) {
         self.faults.arm();
     }
+
+    ghost planned = { λ m. fails_as_planned call_code m.faults m.handed };
 }

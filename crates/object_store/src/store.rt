@@ -4,7 +4,7 @@
 //! finds no memory changes nothing.
 
 ghost use Rattle.std.specs.Prelude.{◌≡◌, take, drop, IfOk, IsTrue, option_map};
-ghost use Rattle.tier_base.specs.Device.{Control, Ran, RanQuietly, MayBeDone, Arms, fate_of, failing};
+ghost use Rattle.tier_base.specs.Device.{Control, Ran, RanQuietly, MayBeDone, Arms, FailsAsPlanned, fate_of, failing};
 ghost use Rattle.object_store.specs.declared.call.StoreCall.TheVariants.{Put, Get, Delete, Keys};
 ghost use Rattle.object_store.specs.Call.{call_code};
 ghost use Rattle.tier_base.specs.Told.{Names, replaced, removed, handed_after};
@@ -13,7 +13,8 @@ ghost use Rattle.object_store.specs.Content.{Content, Changes, Keeps};
 use bytes::Bytes;
 use tier_base::{Failed, ObjectKey, Row, Trouble};
 
-/// A remote store.
+/// The objects of a partition's remote segments, by key. After `Failed` the call's object is as
+/// before or as if the call was done, the others are as before, and any call may follow.
 pub trait Store: Drop {
     /// The objects.
     ghost content: { Self → Content };
@@ -65,4 +66,7 @@ pub trait Store: Drop {
     fn arm(&mut self)
         ensures control { Arms (control self.old) (control self.new) }
         ensures content { Keeps (content self.old) (content self.new) };
+
+    /// Where its plan alone decides which calls fail, as many failed as the plan names of those made.
+    ghost planned: { (store : Self) → FailsAsPlanned (control store) };
 }

@@ -1,5 +1,5 @@
 -- A turn more leads on, and a run that came to its end is one of its part.
-use Rattle.std.proofs.Common.{◌≡◌, ◌≢◌, ◌∙◌, sym, ap, subst, refl, ℕ, List, [], ◌∷◌, ◌++◌, length, slice_get, Some, false, Bool}
+use Rattle.std.proofs.Common.{◌≡◌, ◌≢◌, ◌∙◌, sym, ap, subst, refl, ℕ, List, [], ◌∷◌, ◌++◌, slice_get, Some}
 use Rattle.std.specs.Prelude.{All}
 use Rattle.std.proofs.lemmas.Option.{get_or_from_slice_get, slice_get_within}
 use Rattle.tier_base.specs.declared.names.ActorId.{ActorId}
@@ -7,17 +7,16 @@ use Rattle.tier_base.specs.declared.names.PartitionId.{PartitionId}
 use Rattle.disk_model.specs.declared.disk.Disk.{Ghosts as DiskGhosts}
 use Rattle.object_store.specs.declared.store.Store.{Ghosts as StoreGhosts}
 use Rattle.meta_log.specs.declared.log.MetaLog.{Ghosts as MetaGhosts}
-use Rattle.plain_log.specs.declared.command.ActorList.{ActorList}
 use Rattle.plain_log.specs.declared.command.Config.{Config}
 use Rattle.plain_log.specs.declared.command.Pace.{Pace}
 use Rattle.plain_log.specs.declared.command.Pace.TheVariants.{Times}
-use Rattle.plain_log.specs.Fresh.{fresh}
 use Rattle.plain_log.specs.Orders.{AreListsFor, IsConfig}
 use Rattle.plain_log.specs.Laws.{FreshIsSafe, ReplaysKeepSafe}
 use Rattle.command_answers.specs.LawsOfDamage.{RunsMeetNoDamage}
+use Rattle.command_answers.specs.LawsOfFaults.{ReachesByPlan}
 use Rattle.partition_seen.specs.declared.seat.Stepped.{Stepped}
 use Rattle.partition_seen.specs.declared.seat.Stepped.TheVariants.{NoMemory}
-use Rattle.partition_world.specs.Laws.{EndsAreComplete, ReachesLater, ReachesInTurn, ReachesUnfailing, FreshIsUnfailing}
+use Rattle.partition_world.specs.Laws.{EndsAreComplete, ReachesLater, ReachesInTurn}
 use Rattle.partition_world.specs.Reaches.{Goes, Paces, Reaches}
 use Rattle.partition_world.specs.Turn.{IsAtEnd, Steps}
 use Rattle.partition_world.specs.Whole.{Whole}
@@ -25,7 +24,7 @@ use Rattle.partition_world.proofs.Chains.{step_goes}
 use Rattle.script_lang.specs.declared.script.PartScript.{PartScript}
 use Rattle.memory_run.specs.Run.{IsRunOf}
 use Rattle.memory_run.proofs.Running.{ended_is_run_of}
-use Rattle.thread_run.specs.Traced.{Trace, GoesOn, IsSamePart, LeadsFrom, IsThreadedRun, one_by_one, by_schedule}
+use Rattle.thread_run.specs.Traced.{Trace, IsSamePart, LeadsFrom, IsThreadedRun, one_by_one, by_schedule}
 
 -- one actor more
 one_more : (turns : List ActorId) (a : ActorId) → one_by_one (turns ++ a ∷ []) ≡ one_by_one turns ++ Times a 1 ∷ []
@@ -67,9 +66,9 @@ module _ {D S M : Type 0} (disk : DiskGhosts D) (store : StoreGhosts S) (meta : 
       }
 
   -- where each actor is at its end, the journal is that of a run of the part, by these turns
-  pub ends_run : (script : List ℕ) (place : ℕ) (partition : PartitionId) (turns : List ActorId) (w : Whole D S M) → EndsAreComplete disk store meta → ReachesLater disk store meta → ReachesInTurn disk store meta → FreshIsSafe → ReplaysKeepSafe → ReachesUnfailing disk store meta → FreshIsUnfailing disk store meta → RunsMeetNoDamage disk store meta
+  pub ends_run : (script : List ℕ) (place : ℕ) (partition : PartitionId) (turns : List ActorId) (w : Whole D S M) → EndsAreComplete disk store meta → ReachesLater disk store meta → ReachesInTurn disk store meta → FreshIsSafe → ReplaysKeepSafe → RunsMeetNoDamage disk store meta → ReachesByPlan disk store meta
       → LeadsFrom disk store meta script place partition turns w → ((a : ℕ) → IsAtEnd w a) → IsThreadedRun disk store meta script place (partition.0, w.journal.items)
-  ends_run script place partition turns w law goes in_turn opens keeps calm unfailing undamaged h ended =
+  ends_run script place partition turns w law goes in_turn opens keeps undamaged by_plan h ended =
       let part' : PartScript = by_schedule (one_by_one turns) h.part in
       let fits : IsConfig h.config = subst IsConfig h.is_part.config_is h.is_part.fit.config in
       let lists : AreListsFor h.config h.part.lists =
@@ -82,6 +81,6 @@ module _ {D S M : Type 0} (disk : DiskGhosts D) (store : StoreGhosts S) (meta : 
         is = (
           one_by_one turns,
           subst (λ (k : PartitionId). IsRunOf disk store meta h.config part' (k.0, w.journal.items)) h.numbered
-              (ended_is_run_of disk store meta h.config part' h.first w law goes in_turn opens keeps calm unfailing undamaged fits lists h.starts h.central h.reaches ended),
+              (ended_is_run_of disk store meta h.config part' h.first w law goes in_turn opens keeps undamaged by_plan fits lists h.starts h.central h.reaches ended),
         );
       }

@@ -8,14 +8,12 @@ ghost use Rattle.partition_world.specs.Central.{KeepsCentral};
 ghost use Rattle.thread_run.specs.Traced.{LeadsFrom, IsTraced, IsOf, GoesOn, IsThreadedRun};
 
 use bytes::Bytes;
-use command_answers::runs_meet_no_damage;
+use command_answers::{reaches_by_plan, runs_meet_no_damage};
 use disk_model::Disk;
 use meta_log::MetaLog;
 use object_store::Store;
 use partition_seen::Stepped;
-use partition_world::{
-    World, ends_are_complete, fresh_is_unfailing, reaches_in_turn, reaches_later, reaches_unfailing,
-};
+use partition_world::{World, ends_are_complete, reaches_in_turn, reaches_later};
 use plain_log::{Journal, fresh_is_safe, replays_keep_safe};
 use std::alloc::{AllocError, Global};
 use std::marker::Model;
@@ -170,9 +168,8 @@ impl<D: Disk, S: Store, M: MetaLog> Traced<D, S, M> {
         ends_are_complete::<D, S, M>();
         reaches_later::<D, S, M>();
         reaches_in_turn::<D, S, M>();
-        reaches_unfailing::<D, S, M>();
-        fresh_is_unfailing::<D, S, M>();
         runs_meet_no_damage::<D, S, M>();
+        reaches_by_plan::<D, S, M>();
         fresh_is_safe();
         replays_keep_safe();
         self.run_to_end(alloc)?;

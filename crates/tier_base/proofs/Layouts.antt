@@ -1,6 +1,5 @@
 -- What is written of a layout is read as that layout.
-use Rattle.std.proofs.Common.{◌≡◌, refl, ap, ◌∙◌, ℕ, ◌<◌, ◌^◌, Some}
-use Rattle.std.specs.Int.{w32, to_be_bytes, from_be_bytes}
+use Rattle.std.proofs.Common.{◌≡◌, refl, Some}
 use Rattle.std.proofs.lemmas.Nat.{from_be_bytes-to_be_bytes_4}
 use Rattle.tier_base.specs.declared.layout.Layout.{Layout}
 use Rattle.tier_base.specs.Layout.{LayoutFits, layout_bytes, layout_in}

@@ -9,10 +9,11 @@
 --   Lasts old new               any calls but `arm`
 --   Arms old new                from now on planned calls fail
 --   IsFresh c                   as the device is handed out
+--   FailsAsPlanned c            those calls failed that its plan names
 --
 -- Planned calls are counted from the first `arm` on. A device is calm while no call can fail. It is ruled
--- where its plan alone decides which calls fail.
-use Rattle.std.specs.Prelude.{◌≡◌, ◌≢◌, ◌↔◌, ℕ, ◌≤◌, Bool, false, ◌&&◌, ◌==◌, if◌then◌else◌, List, [], ◌∷◌, IsTrue, IsFalse, IsSome, Option, Some, None, Ok, Err}
+-- where its plan alone decides which calls fail, and did so from the first on.
+use Rattle.std.specs.Prelude.{◌≡◌, ◌≢◌, ◌↔◌, ℕ, ◌≤◌, ◌+◌, nat_le, Bool, false, not, ◌&&◌, ◌==◌, if◌then◌else◌, List, [], ◌∷◌, IsTrue, IsFalse, IsSome, is_some, Option, Some, None, Ok, Err}
 use Rattle.std.specs.declared.result.Result.{Result}
 use Rattle.tier_base.specs.declared.fault.Failed.{Failed}
 use Rattle.tier_base.specs.declared.fault.Trouble.{Trouble}
@@ -63,6 +64,15 @@ module _ {K : Type 0} (code : K → ℕ) where
       if (code p.call == code call) && (p.number == number)
       then Some p.after
       else planned call number ps
+
+  -- the call that an item of a plan names was made
+  abbrev pub was_made : (K → ℕ) → Planned K → Bool
+  was_made made p = nat_le 1 p.number && nat_le p.number (made p.call)
+
+  -- how many of the calls that a plan names were made; one that several items name is counted at the last of them
+  abbrev pub met : (K → ℕ) → List (Planned K) → ℕ
+  met made [] = 0
+  met made (p ∷ ps) = if was_made made p && not (is_some (planned p.call p.number ps)) then met made ps + 1 else met made ps
 
   -- how many calls of a kind were made after one that ended so
   abbrev pub made_after : K → Fate → Bool → K → ℕ → ℕ
@@ -142,3 +152,7 @@ module _ {K : Type 0} {code : K → ℕ} where
     pub armed : c.armed ≡ false
     pub made : (kind : K) → c.made kind ≡ 0
     pub handed : c.handed ≡ []
+
+  -- where the plan alone decides which calls fail, as many failed as it names of those that were made
+  abbrev pub FailsAsPlanned : Control code → Type 0
+  FailsAsPlanned c = IsTrue c.ruled → c.faults ≡ counted 0 (met code c.made c.plan)

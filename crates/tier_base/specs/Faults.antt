@@ -1,11 +1,11 @@
 -- The faults of a device in memory: those that its plan and its fuse have in store, and those it had.
-use Rattle.std.specs.Prelude.{ℕ, ◌-◌, ◌==◌, Bool, true, false, not, ◌&&◌, ◌||◌, if◌then◌else◌, List, [], ◌∷◌, Option, Some, None}
+use Rattle.std.specs.Prelude.{◌≡◌, ℕ, ◌-◌, ◌^◌, ◌<◌, IsTrue, ◌==◌, Bool, true, false, not, ◌&&◌, ◌||◌, if◌then◌else◌, List, [], ◌∷◌, Option, Some, None}
 use Rattle.std.proofs.Math.ListN.{get_or}
 use Rattle.tier_base.specs.declared.planned.Planned.{Planned}
 use Rattle.tier_base.specs.declared.ending.Ending.{Ending}
 use Rattle.tier_base.specs.declared.ending.Ending.TheVariants.{Done, DoneAndFailed, Undone}
 use Rattle.tier_base.specs.Counts.{counted}
-use Rattle.tier_base.specs.Device.{Control, planned}
+use Rattle.tier_base.specs.Device.{Control, planned, met}
 
 -- a plan, and how far it has come
 pub record Faults (K : Type 0) : Type 0 where
@@ -15,6 +15,9 @@ pub record Faults (K : Type 0) : Type 0 where
   pub counts : List ℕ
   -- how many more calls pass before each one fails
   pub fuse : Option ℕ
+  -- there was no fuse from the first on
+  pub ruled : Bool
+  -- how many calls failed
   pub faults : ℕ
 
 -- none is told
@@ -26,6 +29,11 @@ has_none (Some x) = false
 abbrev pub is_empty : {X : Type 0} → List X → Bool
 is_empty [] = true
 is_empty (x ∷ xs) = false
+
+-- a call's number fits in 32 bits, in each item of a plan
+abbrev pub NumbersFit : {K : Type 0} → List (Planned K) → Type 0
+NumbersFit [] = Unit {0}
+NumbersFit (p ∷ ps) = (p.number < 2 ^ 32) × NumbersFit ps
 
 -- a fuse that has burnt down
 abbrev pub is_blown : Option ℕ → Bool
@@ -67,15 +75,25 @@ module _ {K : Type 0} (code : K → ℕ) where
       then Undone
       else (if f.armed then ending_from (planned code call (counted (count_of f call) 1) f.plan) else Done)
 
+  -- how many calls failed: without a fuse those that the plan names
+  abbrev pub faults_of : Faults K → ℕ
+  faults_of f = if f.ruled then counted 0 (met code (count_of f) f.plan) else f.faults
+
+  -- what holds of them at any moment
+  pub record AreKept (f : Faults K) : Type 0 where
+    pub numbers : NumbersFit f.plan
+    pub alone : IsTrue f.ruled → f.fuse ≡ None
+    pub exact : f.faults ≡ faults_of f
+
   -- what a device with these faults tells, where the last read gave these bytes
   abbrev pub control_of : Faults K → List ℕ → Control code
   control_of f handed =
       record {
-        faults = f.faults;
+        faults = faults_of f;
         plan = f.plan;
         armed = f.armed;
         made = count_of f;
         calm = has_none f.fuse && (not f.armed || is_empty f.plan);
-        ruled = has_none f.fuse;
+        ruled = f.ruled;
         handed = handed;
       }

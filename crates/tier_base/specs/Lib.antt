@@ -2,6 +2,7 @@ pub mod Counts
 pub mod Device
 pub mod Faults
 pub mod Key
+pub mod Laws
 pub mod Layout
 pub mod Nexts
 pub mod Number

@@ -6,14 +6,14 @@
 //! Where the numbers of a kind's calls don't fall along the plan, the next one of them is known, and no
 //! call looks through the plan.
 
-ghost use Rattle.std.specs.Prelude.{◌≡◌, ◌≤◌, ◌↔◌, [], List, ℕ, true, None, is_some, IsTrue, OnOk};
+ghost use Rattle.std.specs.Prelude.{◌≡◌, ◌≤◌, ◌↔◌, [], List, ℕ, true, not, ◌&&◌, if◌then◌else◌, None, is_some, IsTrue, OnOk};
 ghost use Rattle.tier_base.specs.Counts.{counted};
 ghost use Rattle.tier_base.specs.Device.{Went, made_after, Ran, MayBeDone, Arms, IsFresh, failing};
-ghost use Rattle.tier_base.specs.Faults.{Faults, is_done, count_of, ending_at, has_none, shorter, control_of};
+ghost use Rattle.tier_base.specs.Faults.{Faults, is_done, count_of, faults_of, ending_at, goes_well, has_none, shorter, control_of};
 
 use crate::ending::Ending;
 use crate::fault::Failed;
-use crate::nexts::{all_nexts, count, said};
+use crate::nexts::{all_nexts, count_if, fit, said};
 use crate::planned::{CallKind, Planned};
 use std::marker::Model;
 
@@ -25,11 +25,12 @@ pub struct FaultPlan<K: CallKind> {
     counts: [u64; 8],
     nexts: [Option<usize>; 8],
     fuse: Option<u64>,
+    ruled: bool,
     faults: u64,
 }
 
 impl<K: CallKind> Model for FaultPlan<K> {
-    ghost use Rattle.tier_base.specs.Faults.{Faults};
+    ghost use Rattle.tier_base.specs.Faults.{Faults, AreKept};
     ghost use Rattle.tier_base.specs.Nexts.{AreNext};
 
     ghost Value = { Faults K };
@@ -39,10 +40,19 @@ impl<K: CallKind> Model for FaultPlan<K> {
       armed = f.armed;
       counts = f.counts;
       fuse = f.fuse;
+      ruled = f.ruled;
       faults = f.faults;
     } };
 
-    ghost invariant = { λ f. AreNext K.code f.plan.items f.counts f.nexts };
+    ghost invariant = { λ f. AreNext K.code f.plan.items f.counts f.nexts
+        × AreKept K.code (record {
+          plan = f.plan.items;
+          armed = f.armed;
+          counts = f.counts;
+          fuse = f.fuse;
+          ruled = f.ruled;
+          faults = f.faults;
+        }) };
 }
 
 impl<K: CallKind> FaultPlan<K> {
@@ -50,8 +60,10 @@ impl<K: CallKind> FaultPlan<K> {
     pub fn new(plan: Vec<Planned<K>>) -> FaultPlan<K>
         ensures plan { result.plan ≡ plan.items }
         ensures fuse { result.fuse ≡ None }
+        ensures ruled { IsTrue result.ruled }
         ensures fresh { IsFresh (control_of K.code result []) }
     {
+        fit(plan.as_slice());
         let nexts = all_nexts(plan.as_slice());
         FaultPlan {
             plan,
@@ -59,6 +71,7 @@ impl<K: CallKind> FaultPlan<K> {
             counts: [0; 8],
             nexts,
             fuse: None,
+            ruled: true,
             faults: 0,
         }
     }
@@ -79,7 +92,7 @@ impl<K: CallKind> FaultPlan<K> {
 
     /// Counts the calls that failed.
     pub fn faults(&self) -> u64
-        ensures { result ≡ self.now.faults }
+        ensures { result ≡ faults_of K.code self.now }
     {
         self.faults
     }
@@ -98,11 +111,20 @@ impl<K: CallKind> FaultPlan<K> {
         self.fuse.is_some()
     }
 
+    /// Answers whether the plan alone decides which calls fail, and did so from the first on: whether there was no fuse.
+    pub fn is_ruled(&self) -> bool
+        ensures { result ≡ self.now.ruled }
+    {
+        self.ruled
+    }
+
     /// Lets so many calls pass, and then every call fails, or does away with the fuse.
     pub fn set_fuse(&mut self, fuse: Option<u64>)
-        ensures { self.new ≡ record self.old { fuse = fuse } }
+        ensures is { self.new ≡ record self.old { fuse = fuse; ruled = self.old.ruled && has_none fuse } }
+        ensures faults { faults_of K.code self.new ≡ faults_of K.code self.old }
     {
         self.fuse = fuse;
+        self.ruled = self.ruled && fuse.is_none();
     }
 
     /// From the first time on planned calls fail.
@@ -132,35 +154,32 @@ impl<K: CallKind> FaultPlan<K> {
         }
     }
 
-    /// Counts a call of a kind, and lets the fuse burn down.
-    fn tally(&mut self, call: K)
+    /// Counts a call of a kind that ends so, and its fault, and lets the fuse burn down.
+    fn tally(&mut self, call: K, ending: Ending)
+        requires { ending ≡ ending_at K.code self.old call }
         ensures plan { self.new.plan ≡ self.old.plan }
         ensures armed { self.new.armed ≡ self.old.armed }
-        ensures faults { self.new.faults ≡ self.old.faults }
+        ensures ruled { self.new.ruled ≡ self.old.ruled }
         ensures fuse { has_none self.new.fuse ≡ has_none self.old.fuse }
+        ensures alone { IsTrue self.old.ruled → self.old.fuse ≡ None }
+        ensures later { faults_of K.code self.old ≤ faults_of K.code self.new }
+        ensures faults { faults_of K.code self.new ≡ if goes_well ending
+            then faults_of K.code self.old else counted (faults_of K.code self.old) 1 }
         ensures made { (kind : K) → count_of K.code self.new kind
             ≡ made_after K.code call Went self.old.armed kind (count_of K.code self.old kind) }
     {
-        if self.armed {
-            count(
-                self.plan.as_slice(),
-                call.to_code(),
-                &mut self.counts,
-                &mut self.nexts,
-            );
-        }
+        count_if(
+            self.armed,
+            self.plan.as_slice(),
+            call.to_code(),
+            &mut self.counts,
+            &mut self.nexts,
+        );
         self.fuse = burnt(self.fuse);
+        self.faults = missed(self.faults, ending);
     }
 
-    /// Counts a call that failed.
-    fn miss(&mut self)
-        ensures is { self.new ≡ record self.old { faults = counted self.old.faults 1 } }
-        ensures later { self.old.faults ≤ self.new.faults }
-    {
-        self.faults = self.faults.saturating_add(1);
-    }
-
-    /// Counts a call that ends so, and answers for it.
+    /// Counts a call of a kind that ends so, and answers for it.
     pub fn note(&mut self, call: K, ending: Ending) -> Result<(), Failed>
         requires { ending ≡ ending_at K.code self.old call }
         ensures ran { (before after : List ℕ) → Ran call (failing result)
@@ -169,13 +188,10 @@ impl<K: CallKind> FaultPlan<K> {
             (control_of K.code self.old handed) (is_done ending) }
         ensures ok { OnOk result (ending ≡ Ending.Done) }
     {
-        self.tally(call);
+        self.tally(call, ending);
         match ending {
             Ending::Done => Ok(()),
-            Ending::DoneAndFailed | Ending::Undone => {
-                self.miss();
-                Err(Failed)
-            }
+            Ending::DoneAndFailed | Ending::Undone => Err(Failed),
         }
     }
 }
@@ -186,4 +202,16 @@ fn burnt(fuse: Option<u64>) -> Option<u64>
 {
     let left = fuse?;
     Some(left.saturating_sub(1))
+}
+
+/// A count of faults after a call that ended so.
+fn missed(faults: u64, ending: Ending) -> u64
+    ensures is { result ≡ if goes_well ending then faults else counted faults 1 }
+    ensures later { faults ≤ result }
+{
+    if ending.is_ok() {
+        faults
+    } else {
+        faults.saturating_add(1)
+    }
 }

@@ -1,13 +1,30 @@
 //! Where the next planned call of each kind stands in a plan. It goes forward as calls are made, so that all of them
 //! together pass over the plan once a kind.
 
-ghost use Rattle.std.specs.Prelude.{◌≡◌, ◌≤◌, ◌<◌, ℕ, None, drop};
+ghost use Rattle.std.specs.Prelude.{◌≡◌, ◌^◌, ◌≤◌, ◌<◌, ◌&&◌, ◌==◌, if◌then◌else◌, ℕ, None, drop};
 ghost use Rattle.std.proofs.Math.ListN.{get_or, set};
 ghost use Rattle.tier_base.specs.Counts.{counted};
 ghost use Rattle.tier_base.specs.Device.{planned};
+ghost use Rattle.tier_base.specs.Faults.{NumbersFit};
 ghost use Rattle.tier_base.specs.Nexts.{rises_from, coming, IsNext, AreNext, said_first};
 
 use crate::planned::{CallKind, Planned};
+
+/// Each number of a plan is one of 32 bits: it reads them, and does nothing else.
+pub(crate) fn fit<K: CallKind>(plan: &[Planned<K>])
+    ensures { NumbersFit plan.now }
+{
+    for item in plan {
+        fits(item.number);
+    }
+}
+
+/// A number of 32 bits.
+fn fits(number: u32)
+    ensures { number < 2 ^ 32 }
+{
+    let _number = number;
+}
 
 /// The first planned call of each kind.
 pub(crate) fn all_nexts<K: CallKind>(plan: &[Planned<K>]) -> [Option<usize>; 8]
@@ -117,8 +134,27 @@ fn find<K: CallKind>(plan: &[Planned<K>], call: K, number: u64) -> Option<bool>
     None
 }
 
+/// Counts a call of a kind where planned calls fail.
+pub(crate) fn count_if<K: CallKind>(
+    armed: bool,
+    plan: &[Planned<K>],
+    kind: usize,
+    counts: &mut [u64; 8],
+    nexts: &mut [Option<usize>; 8],
+)
+    requires small { kind < 8 }
+    requires are { AreNext K.code plan.now counts.old nexts.old }
+    ensures are { AreNext K.code plan.now counts.new nexts.new }
+    ensures made { (other : ℕ) → get_or counts.new other 0 ≡ if armed && (kind == other)
+        then counted (get_or counts.old other 0) 1 else get_or counts.old other 0 }
+{
+    if armed {
+        count(plan, kind, counts, nexts);
+    }
+}
+
 /// Counts a call of a kind.
-pub(crate) fn count<K: CallKind>(
+fn count<K: CallKind>(
     plan: &[Planned<K>],
     kind: usize,
     counts: &mut [u64; 8],

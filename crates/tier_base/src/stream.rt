@@ -13,7 +13,8 @@ ghost use Rattle.tier_base.specs.Counts.{counted, HasCause};
 
 use crate::fault::Failed;
 
-/// A source of bytes.
+/// What gives bytes, up to an end. A read that answers `Failed` has given none, and another one may
+/// follow.
 pub trait Source {
     /// The bytes that are left, where the source tells.
     ghost left: { Self → Option (List ℕ) };
@@ -36,7 +37,8 @@ pub trait Source {
     ghost given_fits: { (s : Self) → given s ≤ 2 ^ 64 - 1 };
 }
 
-/// A sink of bytes.
+/// What takes bytes, one behind another. A write that answers `Failed` has taken none, and another
+/// one may follow.
 pub trait Sink {
     /// The bytes that were written, where the sink tells.
     ghost written: { Self → Option (List ℕ) };

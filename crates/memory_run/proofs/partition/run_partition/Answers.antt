@@ -17,7 +17,7 @@ returns c =
     subst (λ (k : List Pace). Reaches disk store meta first k last) c.as_slice-2.ensures c.in_ok-run_in_order.ensures.reaches in
     record {
       run = is_run_of disk store meta c.args.config c.args.part first last c.ends_are_complete.ensures c.reaches_later.ensures c.reaches_in_turn.ensures
-          c.fresh_is_safe.ensures c.replays_keep_safe.ensures c.reaches_unfailing.ensures c.fresh_is_unfailing.ensures c.runs_meet_no_damage.ensures
+          c.fresh_is_safe.ensures c.replays_keep_safe.ensures c.runs_meet_no_damage.ensures c.reaches_by_plan.ensures
           c.requires.config c.requires.fit c.requires.ends starts c.in_ok-world.ensures.central reaches;
       lists = (c.reaches_later.ensures first c.args.part.schedule last reaches).lists ∙ starts.fresh.lists_are;
     }
