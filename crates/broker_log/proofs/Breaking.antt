@@ -6,6 +6,7 @@ use Rattle.disk_model.specs.Content.{Content, Files, Image, Lawful, LeavesOnly}
 use Rattle.log_terms.specs.Log.{end_of, up_to, from_offset}
 use Rattle.epoch_line.specs.Line.{cut_end}
 use Rattle.log_steps.specs.Opens.{Opened, Opens}
+use Rattle.log_steps.specs.Reopens.{Reopens}
 use Rattle.local_log.specs.Log.{Log, committed, stable_log}
 use Rattle.local_log.specs.Cutting.{OpensAs, OpensAsOr}
 use Rattle.broker_log.specs.Seen.{Seen, Back, Up, Down, back_of, returning, returns, ComesBack, IsBack, IsKept, ShowsOpen}
@@ -59,32 +60,25 @@ pub most : {m n : ℕ} → m ≡ n → m ≤ n
 most is = omega (arith, is)
 
 -- a log that is closed comes back as it is
-pub stops_by : {D : Type 0} (content : D → Content) (log : Log D) → Stops content (Up log) (Down log.settings log.disk)
-stops_by content log = record {
+pub stops_by : {D : Type 0} (content : D → Content) (log : Log D) → Reopens (content log.disk) → Stops content (Up log) (Down log.settings log.disk)
+stops_by content log again = record {
   down = refl;
   settings = refl;
-  seen = λ s h. (s, record { told = h.told; kept = kept_stands content log s h; images = λ c now. (log.incarnation, most h.incarnation_is, inl (h.images c now)) }, refl);
+  seen = λ s h. (s, record { told = h.told; kept = kept_stands content log s h; images = λ c now. (log.incarnation, most h.incarnation_is, inl (h.images c now)); again = again }, refl);
 }
 
 module _ {D : Type 0} (content : D → Content) (old new : Log D) where
-  pub breaks_by : (after : Seen → Seen) → (content new.disk).tells ≡ (content old.disk).tells
+  pub breaks_by : (after : Seen → Seen) → (content new.disk).tells ≡ (content old.disk).tells → Reopens (content new.disk)
       → ((s : Seen) → ShowsOpen content old s → IsKept (after s))
       → ((s : Seen) → ShowsOpen content old s → (c : Files) → Image (content new.disk) c → (i : ℕ) × ((after s).incarnation ≤ i) × ComesBack i (after s) c)
       → Breaks content (Up old) (Down old.settings new.disk) after
-  breaks_by after tells kept images = record {
+  breaks_by after tells again kept images = record {
     down = refl;
     settings = refl;
-    seen = λ s h. (after s, record { told = tells ∙ h.told; kept = kept s h; images = images s h }, refl);
+    seen = λ s h. (after s, record { told = tells ∙ h.told; kept = kept s h; images = images s h; again = again }, refl);
   }
 
   module _ (laws : Lawful (content new.disk)) where
-    -- each image opens as before
-    pub breaks_unsaved : (content new.disk).tells ≡ (content old.disk).tells → LeavesOnly (content old.disk) (content new.disk) (OpensAs (content old.disk)) → BreaksUnsaved content (Up old) (Down old.settings new.disk)
-    breaks_unsaved tells opens =
-        breaks_by _ tells
-        (λ s h. loosened_kept s (back_of s) (kept_stands content old s h) (back_stands content old s h))
-        (λ s h c now. (let was = image_as (content old.disk) (content new.disk) laws opens c now in (old.incarnation, most h.incarnation_is, inl (was.2 (returns old.incarnation s) (h.images was.0 was.1)))))
-
     -- as before, or as what was to be
     pub image_or : (o : Opened) → LeavesOnly (content old.disk) (content new.disk) (OpensAsOr (content old.disk) o)
         → (s : Seen) → ShowsOpen content old s → (p : Opened) → o ≡ p
@@ -95,19 +89,27 @@ module _ {D : Type 0} (content : D → Content) (old new : Log D) where
         (λ made. inr (subst (Opens c) is made))
         (opens.each c (laws.earlier (content old.disk).moment (content new.disk).moment c opens.later now))
 
-    -- all of the log was to be stable
-    pub breaks_settling : (f : List (ℕ × ℕ) → ℕ → List (ℕ × ℕ)) → (IsTrue (content old.disk).tells → cut_end (f old.line old.end) (old.end + 1) ≡ f old.line old.end)
-        → (content new.disk).tells ≡ (content old.disk).tells → LeavesOnly (content old.disk) (content new.disk) (OpensAsOr (content old.disk) (stable_log (committed old (f old.line old.end))))
-        → Breaks content (Up old) (Down old.settings new.disk) (λ s. loosened s (end_of s.batches, f s.line (end_of s.batches), s.local))
-    breaks_settling f within tells opens =
-        breaks_by _ tells
-        (λ s h. loosened_kept s (end_of s.batches, f s.line (end_of s.batches), s.local) (kept_stands content old s h) (record { begins = local_ends content old s h; within = local_low content old s h }))
-        (λ s h c now. (old.incarnation, most h.incarnation_is, image_or (stable_log (committed old (f old.line old.end))) opens s h (returning old.incarnation s (end_of s.batches, f s.line (end_of s.batches), s.local)) (made s h) c now))
-      where
-        made : (s : Seen) → ShowsOpen content old s → stable_log (committed old (f old.line old.end)) ≡ returning old.incarnation s (end_of s.batches, f s.line (end_of s.batches), s.local)
-        made s h =
-            opened_as (stable_log (committed old (f old.line old.end))) old.incarnation s.local (from_offset s.local (up_to (end_of s.batches) s.batches)) (f s.line (end_of s.batches))
-            refl
-            (sym h.local_is)
-            (ap (λ (n : ℕ). up_to n old.batches) (sym h.ends) ∙ sym (up_local content old s h (end_of s.batches) (local_low content old s h)))
-            (within h.told ∙ ap (f old.line) (sym h.ends) ∙ ap (λ (l : List (ℕ × ℕ)). f l (end_of s.batches)) (sym h.line_is))
+    module _ (again : Reopens (content new.disk)) where
+      -- each image opens as before
+      pub breaks_unsaved : (content new.disk).tells ≡ (content old.disk).tells → LeavesOnly (content old.disk) (content new.disk) (OpensAs (content old.disk)) → BreaksUnsaved content (Up old) (Down old.settings new.disk)
+      breaks_unsaved tells opens =
+          breaks_by _ tells again
+          (λ s h. loosened_kept s (back_of s) (kept_stands content old s h) (back_stands content old s h))
+          (λ s h c now. (let was = image_as (content old.disk) (content new.disk) laws opens c now in (old.incarnation, most h.incarnation_is, inl (was.2 (returns old.incarnation s) (h.images was.0 was.1)))))
+
+      -- all of the log was to be stable
+      pub breaks_settling : (f : List (ℕ × ℕ) → ℕ → List (ℕ × ℕ)) → (IsTrue (content old.disk).tells → cut_end (f old.line old.end) (old.end + 1) ≡ f old.line old.end)
+          → (content new.disk).tells ≡ (content old.disk).tells → LeavesOnly (content old.disk) (content new.disk) (OpensAsOr (content old.disk) (stable_log (committed old (f old.line old.end))))
+          → Breaks content (Up old) (Down old.settings new.disk) (λ s. loosened s (end_of s.batches, f s.line (end_of s.batches), s.local))
+      breaks_settling f within tells opens =
+          breaks_by _ tells again
+          (λ s h. loosened_kept s (end_of s.batches, f s.line (end_of s.batches), s.local) (kept_stands content old s h) (record { begins = local_ends content old s h; within = local_low content old s h }))
+          (λ s h c now. (old.incarnation, most h.incarnation_is, image_or (stable_log (committed old (f old.line old.end))) opens s h (returning old.incarnation s (end_of s.batches, f s.line (end_of s.batches), s.local)) (made s h) c now))
+        where
+          made : (s : Seen) → ShowsOpen content old s → stable_log (committed old (f old.line old.end)) ≡ returning old.incarnation s (end_of s.batches, f s.line (end_of s.batches), s.local)
+          made s h =
+              opened_as (stable_log (committed old (f old.line old.end))) old.incarnation s.local (from_offset s.local (up_to (end_of s.batches) s.batches)) (f s.line (end_of s.batches))
+              refl
+              (sym h.local_is)
+              (ap (λ (n : ℕ). up_to n old.batches) (sym h.ends) ∙ sym (up_local content old s h (end_of s.batches) (local_low content old s h)))
+              (within h.told ∙ ap (f old.line) (sym h.ends) ∙ ap (λ (l : List (ℕ × ℕ)). f l (end_of s.batches)) (sym h.line_is))

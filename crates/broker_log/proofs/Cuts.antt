@@ -6,6 +6,7 @@ use Rattle.log_terms.specs.Log.{EndsAt, up_to, from_offset, end_of, IsConsecutiv
 use Rattle.log_terms.proofs.Logs.{end_above, up_to_prefix, up_to_end, up_to_is, consecutive_prefix}
 use Rattle.epoch_line.specs.Line.{cut_end}
 use Rattle.log_steps.specs.Opens.{Opens}
+use Rattle.log_steps.specs.Reopens.{Reopens}
 use Rattle.local_log.specs.Log.{Log, Becomes}
 use Rattle.local_log.specs.Coheres.{Coheres}
 use Rattle.local_log.specs.Cutting.{cut, cut_at, cut_point, restarted, all_of, OpensAsOr}
@@ -135,9 +136,9 @@ module _ {D : Type 0} (content : D → Content) (old : Log D) (end : ℕ) (coher
 
   module _ (new : Log D) where
     -- the cut may be done
-    pub cut_breaks : (content new.disk).tells ≡ (content old.disk).tells → Lawful (content new.disk) → LeavesOnly (content old.disk) (content new.disk) (OpensAsOr (content old.disk) (all_of (cut_at old end)))
+    pub cut_breaks : (content new.disk).tells ≡ (content old.disk).tells → Lawful (content new.disk) → Reopens (content new.disk) → LeavesOnly (content old.disk) (content new.disk) (OpensAsOr (content old.disk) (all_of (cut_at old end)))
         → (cut_at old end).incarnation ≡ old.incarnation → BreaksIf content (Up old) (Down old.settings new.disk) (MayCut end) (λ s. torn s (cut_back s end))
-    cut_breaks tells laws opens inc = record {
+    cut_breaks tells laws again opens inc = record {
       down = refl;
       settings = refl;
       seen = λ s h may. (
@@ -152,6 +153,7 @@ module _ {D : Type 0} (content : D → Content) (old : Log D) (end : ℕ) (coher
                 (image_or content old new laws (all_of (cut_at old end)) opens s h (returning old.incarnation s (cut_back s end))
                 (opens_cut s h may ∙ ap (λ (i : ℕ). returning i s (cut_back s end)) inc) c now),
           );
+          again = again;
         },
         refl,
       );

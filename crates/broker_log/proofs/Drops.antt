@@ -6,6 +6,7 @@ use Rattle.log_terms.proofs.Logs.{end_above, end_append, consecutive_prefix, up_
 use Rattle.epoch_line.specs.Line.{cut_end}
 use Rattle.segment_file.specs.Growing.{Grown}
 use Rattle.log_steps.specs.Opens.{Opens}
+use Rattle.log_steps.specs.Reopens.{Reopens}
 use Rattle.local_log.specs.Log.{Log, Becomes, stable_log}
 use Rattle.local_log.specs.Coheres.{Coheres}
 use Rattle.local_log.specs.Cutting.{OpensAsOr}
@@ -78,9 +79,9 @@ module _ {D : Type 0} (content : D → Content) (old : Log D) (some : IsFirstSta
         (ap (λ (l : List (ℕ × ℕ)). cut_end l (old.stable + 1)) (sym h.line_is) ∙ ap (λ (n : ℕ). cut_end s.line (n + 1)) (sym h.stable_is))
 
   -- the write failed
-  pub drop_breaks : (new : Log D) → (content new.disk).tells ≡ (content old.disk).tells → Lawful (content new.disk) → LeavesOnly (content old.disk) (content new.disk) (OpensAsOr (content old.disk) (stable_log (dropped_log old)))
+  pub drop_breaks : (new : Log D) → (content new.disk).tells ≡ (content old.disk).tells → Lawful (content new.disk) → Reopens (content new.disk) → LeavesOnly (content old.disk) (content new.disk) (OpensAsOr (content old.disk) (stable_log (dropped_log old)))
       → DropBreaks content (Up old) (Down old.settings new.disk)
-  drop_breaks new tells laws opens = record {
+  drop_breaks new tells laws again opens = record {
     down = refl;
     settings = refl;
     seen = λ s h. (
@@ -95,6 +96,7 @@ module _ {D : Type 0} (content : D → Content) (old : Log D) (some : IsFirstSta
           most h.incarnation_is,
           image_or content old new laws (stable_log (dropped_log old)) opens s h (returning old.incarnation s (s.stable, kept_line s, start)) (opens_dropped s h) c now,
         );
+        again = again;
       },
       ap (λ (n : ℕ). start_behind n old.closed) (sym h.local_is),
       from s h,

@@ -1,8 +1,6 @@
 -- Where a log is after a call, by how the call ended.
 use Rattle.std.proofs.Common.{◌≡◌, ◌⊎◌, ◌↔◌, sym, subst, refl, inl, inr, Bool, true, false, Result, Ok, Err, IfOk, IfErr, OnOk, OnErr, IsErrOf, IsOk, IsTrue, ⊎_elim, ℕ, ◌≤◌, ◌<◌, arith}
 use Rattle.std.proofs.lemmas.Bool.{cases_lt}
-use Rattle.disk_model.specs.Content.{Content}
-use Rattle.log_steps.specs.Reopens.{Reopens}
 use Rattle.tier_base.specs.declared.plain.Settings.{Settings}
 use Rattle.local_log.specs.Log.{Log, AreSettings}
 use Rattle.tier_base.specs.declared.fault.Trouble.{Trouble}
@@ -55,17 +53,17 @@ whole_by P Q A B (Err e) ok (inl h) f a b not = a h
 whole_by P Q A B (Err e) ok (inr (inl h)) f a b not = b h
 whole_by P Q A B (Err e) ok (inr (inr h)) f a b not = absurd (not h)
 
-module _ {D : Type 0} (content : D → Content) where
+module _ {D : Type 0} where
   -- an open log was taken out
-  pub well_up : (p : Place D) (log : Log D) → kept_of p ≡ Up log → IsWell content p → log.broken ≡ false
+  pub well_up : (p : Place D) (log : Log D) → kept_of p ≡ Up log → IsWell p → log.broken ≡ false
   well_up (place.Up l) log is well = let same : l ≡ log = cc is in subst (λ (x : Log D). x.broken ≡ false) same well
   well_up (place.Down settings disk) log is well = absurd (cc is)
   well_up place.Away log is well = absurd well
 
   pub place_well : (p : Place D) (settings : Settings) (n : Log D) (b : Bool) → AreSettings settings → (b ≡ false → p ≡ place.Up n) → (b ≡ true → p ≡ place.Down settings n.disk)
-      → (b ≡ true → Reopens (content n.disk)) → (b ≡ false → n.broken ≡ false) → IsWell content p
-  place_well p settings n true are up down again whole = subst (IsWell content) (sym (down refl)) (are, again refl)
-  place_well p settings n false are up down again whole = subst (IsWell content) (sym (up refl)) (whole refl)
+      → (b ≡ false → n.broken ≡ false) → IsWell p
+  place_well p settings n true are up down whole = subst IsWell (sym (down refl)) are
+  place_well p settings n false are up down whole = subst IsWell (sym (up refl)) (whole refl)
 
 -- what a call of no answer leaves that didn't end by a fault
 pub whole_on : {T E : Type 0} {fault : E} (P P2 : Type 0) (Q : Type 0) (B : Type 0) (r : Result T E) → OnOk r P → OnOk r P2 → OnErr r (B ⊎ IsErrOf r fault) → (P → P2 → Q) → (B → Q) → (IsErrOf r fault → ⊥) → Q

@@ -5,6 +5,7 @@ use Rattle.log_terms.specs.Log.{EndsAt, up_to, from_offset, end_of}
 use Rattle.log_terms.proofs.Logs.{up_to_prefix, up_to_end}
 use Rattle.log_terms.proofs.Lists.{prefix_self}
 use Rattle.log_steps.specs.Opens.{Opens}
+use Rattle.log_steps.specs.Reopens.{Reopens}
 use Rattle.local_log.specs.Log.{Log, Becomes}
 use Rattle.local_log.specs.Coheres.{Coheres}
 use Rattle.local_log.specs.Cutting.{restarted as restarted_log, all_of, OpensAsOr}
@@ -56,9 +57,9 @@ module _ {D : Type 0} (content : D → Content) (old : Log D) (n : ℕ) (line : 
       sym (up_up s.local s.stable whole h.within) ∙ ap (up_to s.local) same ∙ up_up s.local s.stable s.batches h.within in
       (up_to s.local whole, up_to_prefix s.local whole, ap end_of here ∙ at)
 
-  pub restart_breaks : (new : Log D) → (content new.disk).tells ≡ (content old.disk).tells → Lawful (content new.disk)
+  pub restart_breaks : (new : Log D) → (content new.disk).tells ≡ (content old.disk).tells → Lawful (content new.disk) → Reopens (content new.disk)
       → LeavesOnly (content old.disk) (content new.disk) (OpensAsOr (content old.disk) (all_of (restarted_log old n line))) → RestartBreaks content (Up old) (Down old.settings new.disk) n line
-  restart_breaks new tells laws opens = record {
+  restart_breaks new tells laws again opens = record {
     down = refl;
     settings = refl;
     seen = λ s h whole w same.
@@ -77,5 +78,6 @@ module _ {D : Type 0} (content : D → Content) (old : Log D) (n : ℕ) (line : 
                 (λ made. inr made)
                 (image_or content old new laws (all_of (restarted_log old n line)) opens s h (returning old.incarnation (unbuilt s whole line n) (n, line, n)) (opens_restarted s whole w) c now),
           );
+          again = again;
         };
   }

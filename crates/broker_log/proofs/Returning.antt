@@ -1,25 +1,27 @@
 -- How a log is seen when it is opened again, or couldn't be.
-use Rattle.std.proofs.Common.{◌≡◌, ◌∙◌, ap, sym, subst, refl, inl, inr, ℕ, ◌+◌, ◌≤◌, ◌<◌, List, [], ◌∷◌, ◌++◌, arith, Result, Ok, Err, IfErr, IsErrOf, Option, Some, None, IsSomeAnd, IsTrue, false}
+use Rattle.std.proofs.Common.{◌≡◌, ◌∙◌, ap, sym, subst, refl, inl, inr, ℕ, ◌+◌, ◌≤◌, ◌<◌, List, [], ◌∷◌, ◌++◌, arith, Option, Some, None, IsSomeAnd, IsTrue, false}
 use Rattle.tier_base.specs.declared.plain.FileName.{FileName}
 use Rattle.tier_base.specs.declared.plain.Settings.{Settings}
+use Rattle.tier_base.specs.Device.{Control}
+use Rattle.disk_model.specs.Call.{call_code}
 use Rattle.disk_model.specs.Content.{Content, Files, Image, Lawful, LeavesOnly}
 use Rattle.log_terms.specs.Log.{up_to, from_offset, end_from, end_of, IsConsecutive}
 use Rattle.log_steps.specs.Opens.{Opened, Opens}
-use Rattle.log_steps.specs.Reopens.{raised, Opening}
+use Rattle.log_steps.specs.Reopens.{Reopens, raised, Opening}
 use Rattle.local_log.specs.Log.{Log}
 use Rattle.local_log.specs.Coheres.{Coheres}
 use Rattle.local_log.specs.Cutting.{whole_log}
 use Rattle.segment_file.specs.Growing.{Grown}
 use Rattle.log_steps.specs.Fronts.{Each}
-use Rattle.local_log.specs.Opening.{IsOf, IsOpenLog}
-use Rattle.local_log.proofs.Pieces.{up_to_all}
+use Rattle.local_log.specs.Opening.{IsOf, IsOpenLog, OpenFails}
+use Rattle.local_log.proofs.Pieces.{up_to_all, consecutive_append}
 use Rattle.broker_log.specs.Seen.{Seen, Back, Up, Down, Goes, Stays, back_of, IsBack, returning, returns, ComesBack, ShowsOpen, ShowsClosed}
-use Rattle.local_log.specs.declared.refusal.OpenRefusal.TheVariants.{DiskFault, Damaged, LastIncarnation, NoMemory}
+use Rattle.local_log.specs.declared.refusal.OpenRefusal.TheVariants.{Damaged}
 use Rattle.local_log.specs.Refusing.{IsSoundCause}
 use Rattle.local_log.specs.declared.refusal.OpenRefusal.{OpenRefusal}
-use Rattle.broker_log.specs.Turns.{opened, OpensAt, Opens as ComesAt}
-use Rattle.broker_log.proofs.Local.{opened_as, parts_at, up_up}
-use Rattle.log_terms.proofs.Logs.{end_above, end_append, consecutive_prefix, up_to_prefix, up_to_end}
+use Rattle.broker_log.specs.Turns.{opened, OpensAt, Opens as ComesAt, LeadsTo, read_behind, Unopened}
+use Rattle.broker_log.proofs.Local.{opened_as, parts_at, up_up, from_rest}
+use Rattle.log_terms.proofs.Logs.{end_append, consecutive_prefix, prefix_end, up_to_prefix, up_to_end}
 use Rattle.local_log.proofs.OneWay.{opens_once}
 
 -- what is seen in one of two ways
@@ -42,81 +44,85 @@ module _ {D : Type 0} (content : D → Content) (settings : Settings) (disk : D)
   module _ (log : Log D) (tells : (content log.disk).tells ≡ (content disk).tells) (stable : log.stable ≡ log.end) (unbroken : log.broken ≡ false)
       (is_of : IsTrue (content disk).tells → (o : Opened) × Opens (content disk).files o × IsOf o log) (coheres : IsTrue (content log.disk).tells → Coheres log)
       (durable : (c : Files) → Image (content log.disk) c → Opens c (whole_log log)) where
-    -- what came back
-    module _ (s : Seen) (h : ShowsClosed content disk s) (i : ℕ) (back : Back) (from : IsBack s back) (is : Opens (content disk).files (returning i s back)) where
-      abbrev pub read : Opened
-      read = (is_of h.told).0
-
-      read_is : read ≡ returning i s back
-      read_is = opens_once (content disk).files read (returning i s back) (is_of h.told).1 is
-
-      start_is : log.local_start ≡ back.2
-      start_is = (is_of h.told).2.local_start ∙ ap (λ (o : Opened). o.local_start) read_is
-
-      batches_are : log.batches ≡ from_offset back.2 (up_to back.0 s.batches)
-      batches_are = (is_of h.told).2.batches ∙ ap (λ (o : Opened). o.batches) read_is
-
-      line_is : log.line ≡ back.1
-      line_is = (is_of h.told).2.line ∙ ap (λ (o : Opened). o.line) read_is
-
-      told : IsTrue (content log.disk).tells
-      told = tells ∙ h.told
-
+    -- what was read is seen, behind whatever leads up to it
+    module _ (told : IsTrue (content log.disk).tells) (o : Opened) (is : IsOf o log) (below : List (List ℕ)) (leads : LeadsTo below o.local_start) where
       c : Coheres log
       c = coheres told
 
-      abbrev below : List (List ℕ)
-      below = up_to back.2 s.batches
+      all : IsConsecutive 0 (below ++ o.batches)
+      all = consecutive_append 0 below o.batches leads.consecutive
+          (subst (λ (n : ℕ). IsConsecutive n o.batches) (is.local_start ∙ sym leads.ends) (subst (IsConsecutive log.local_start) is.batches c.consecutive))
 
-      parts : up_to back.0 s.batches ≡ below ++ log.batches
-      parts = parts_at back.2 (up_to back.0 s.batches)
-          ∙ ap (λ (l : List (List ℕ)). l ++ from_offset back.2 (up_to back.0 s.batches)) (up_up back.2 back.0 s.batches from.within)
-          ∙ ap (λ (l : List (List ℕ)). below ++ l) (sym batches_are)
+      ends : end_of (below ++ o.batches) ≡ log.end
+      ends =
+          end_append 0 below o.batches
+          ∙ ap (λ (n : ℕ). end_from n o.batches) (leads.ends ∙ sym is.local_start)
+          ∙ ap (end_from log.local_start) (sym is.batches)
+          ∙ c.ends
 
-      begins : end_of below ≡ back.2
-      begins = up_to_end back.2 s.batches h.kept.consecutive from.begins
-
-      ends : end_of (up_to back.0 s.batches) ≡ log.end
-      ends = ap end_of parts ∙ end_append 0 below log.batches ∙ ap (λ (n : ℕ). end_from n log.batches) (begins ∙ sym start_is) ∙ c.ends
-
-      all : IsConsecutive 0 (up_to back.0 s.batches)
-      all = consecutive_prefix 0 (up_to back.0 s.batches) s.batches (up_to_prefix back.0 s.batches) h.kept.consecutive
-
-      low : back.2 ≤ end_of (up_to back.0 s.batches)
-      low = let up = end_above log.local_start log.batches c.consecutive in let e = c.ends in omega (arith, up, e, start_is, ends)
-
-      whole_is : whole_log log ≡ returns log.incarnation (opened s back log.incarnation)
+      whole_is : whole_log log ≡ returns log.incarnation (read_behind o below)
       whole_is =
-          opened_as (whole_log log) log.incarnation back.2 (from_offset back.2 (up_to (end_of (up_to back.0 s.batches)) (up_to back.0 s.batches))) back.1
+          opened_as (whole_log log) log.incarnation o.local_start (from_offset o.local_start (up_to (end_of (below ++ o.batches)) (below ++ o.batches))) o.line
           refl
-          start_is
-          (batches_are ∙ ap (from_offset back.2) (sym (up_to_all 0 (up_to back.0 s.batches) all)))
-          (c.line_within ∙ line_is)
+          is.local_start
+          (is.batches ∙ sym (ap (from_offset o.local_start) (up_to_all 0 (below ++ o.batches) all) ∙ from_rest o.local_start below o.batches all leads.ends))
+          (c.line_within ∙ is.line)
 
-      incarnation_is : log.incarnation ≡ i + 1
-      incarnation_is = (is_of h.told).2.incarnation ∙ ap (λ (o : Opened). o.incarnation + 1) read_is
-
-      pub comes_back : ShowsOpen content log (opened s back log.incarnation)
-      comes_back = record {
+      pub seen_behind : ShowsOpen content log (read_behind o below)
+      seen_behind = record {
         told = told;
         unbroken = unbroken;
         below = below;
-        batches_are = parts;
-        begins = begins ∙ sym start_is;
+        batches_are = ap (λ (l : List (List ℕ)). below ++ l) (sym is.batches);
+        begins = leads.ends ∙ sym is.local_start;
         consecutive = all;
-        local_is = sym start_is;
-        within = low;
-        line_is = sym line_is;
+        local_is = sym is.local_start;
+        within = (let low = prefix_end below (below ++ o.batches) all (o.batches, refl) in omega (arith, low, leads.ends));
+        line_is = sym is.line;
         stable_is = ends ∙ sym stable;
         ends = ends;
         tight = refl;
         images = λ f now. subst (Opens f) whole_is (durable f now);
-        incarnation_is = refl;
+        incarnation_is = sym is.incarnation;
         segments = c.segments;
       }
 
+    pub read_by : IsTrue (content disk).tells → (o : Opened) × Opens (content disk).files o × ((below : List (List ℕ)) → LeadsTo below o.local_start → ShowsOpen content log (read_behind o below))
+    read_by t = (let x = is_of t in (x.0, x.1, seen_behind (subst IsTrue (sym tells) t) x.0 x.2))
+
+    -- what came back
+    module _ (s : Seen) (h : ShowsClosed content disk s) (i : ℕ) (back : Back) (from : IsBack s back) (is : Opens (content disk).files (returning i s back)) where
+      read_is : (is_of h.told).0 ≡ returning i s back
+      read_is = opens_once (content disk).files (is_of h.told).0 (returning i s back) (is_of h.told).1 is
+
+      is_back : IsOf (returning i s back) log
+      is_back = subst (λ (o : Opened). IsOf o log) read_is (is_of h.told).2
+
+      abbrev below : List (List ℕ)
+      below = up_to back.2 s.batches
+
+      leads : LeadsTo below back.2
+      leads = record {
+        consecutive = consecutive_prefix 0 below s.batches (up_to_prefix back.2 s.batches) h.kept.consecutive;
+        ends = up_to_end back.2 s.batches h.kept.consecutive from.begins;
+      }
+
+      parts : below ++ from_offset back.2 (up_to back.0 s.batches) ≡ up_to back.0 s.batches
+      parts =
+          ap (λ (l : List (List ℕ)). l ++ from_offset back.2 (up_to back.0 s.batches)) (sym (up_up back.2 back.0 s.batches from.within))
+          ∙ sym (parts_at back.2 (up_to back.0 s.batches))
+
+      -- as it came back, with these batches
+      abbrev whole : List (List ℕ) → ℕ → Seen
+      whole batches n = record { batches = batches; line = back.1; stable = end_of batches; saved = back.1; local = back.2; loose = None; incarnation = n }
+
+      pub comes_back : ShowsOpen content log (opened s back log.incarnation)
+      comes_back =
+          subst (ShowsOpen content log) (ap (λ (l : List (List ℕ)). whole l (i + 1)) parts ∙ ap (whole (up_to back.0 s.batches)) (sym is_back.incarnation))
+          (seen_behind (tells ∙ h.told) (returning i s back) is_back below leads)
+
       pub opens_at : s.incarnation ≤ i → (s' : Seen) × ShowsOpen content log s' × OpensAt log.end s s' back × (s.incarnation < s'.incarnation)
-      opens_at least = (opened s back log.incarnation, comes_back, (refl, sym ends), omega (arith, least, incarnation_is))
+      opens_at least = (opened s back log.incarnation, comes_back, (refl, sym comes_back.ends), (let next = is_back.incarnation in omega (arith, least, next)))
 
     pub opens_by : Goes content (Down settings disk) (Up log) (λ s s'. ComesAt log.end s s' × (s.incarnation < s'.incarnation))
     opens_by s h = go (reads s h).2
@@ -132,7 +138,8 @@ module _ {D : Type 0} (content : D → Content) (settings : Settings) (disk : D)
             )
 
   -- it couldn't be opened, or was closed again
-  module _ (disk' : D) (laws' : Lawful (content disk')) (tells : (content disk').tells ≡ (content disk).tells) (leaves : LeavesOnly (content disk) (content disk') (Opening (content disk))) where
+  module _ (disk' : D) (laws' : Lawful (content disk')) (tells : (content disk').tells ≡ (content disk).tells)
+      (leaves : Reopens (content disk) → LeavesOnly (content disk) (content disk') (Opening (content disk))) (again : Reopens (content disk) → Reopens (content disk')) where
     still : (s : Seen) (h : ShowsClosed content disk s) (c : Files) → Opening (content disk) c → (i : ℕ) × (s.incarnation ≤ i) × ComesBack i s c
     still s h c (inl like) =
         let was = h.images like.0 like.1 in
@@ -150,7 +157,8 @@ module _ {D : Type 0} (content : D → Content) (settings : Settings) (disk : D)
       record {
         told = tells ∙ h.told;
         kept = h.kept;
-        images = λ c now. still s h c (leaves.each c (laws'.earlier (content disk).moment (content disk').moment c leaves.later now));
+        images = λ c now. (let l = leaves h.again in still s h c (l.each c (laws'.earlier (content disk).moment (content disk').moment c l.later now)));
+        again = again h.again;
       },
       refl,
     )
@@ -159,15 +167,16 @@ module _ {D : Type 0} (content : D → Content) (settings : Settings) (disk : D)
     pub stays_by_closing : Stays content (Down settings disk) (Down settings disk')
     stays_by_closing = record { up = refl; end = refl; stable = refl; line = refl; local = refl; layout = refl; settings = refl; seen = stays_closed }
 
+    -- what was handed has no reading, so nothing was seen of the log
+    pub unopened : (control : D → Control call_code) (why : OpenRefusal) (name : FileName) (at : ℕ) → why ≡ Damaged name at → OpenFails (control disk').handed why
+        → (IsTrue (content disk).tells → (o : Opened) → Opens (content disk).files o → IsSoundCause why) → Unopened content control (Down settings disk) (Down settings disk') name at
+    unopened control why name at is fails sound = record {
+      stays = stays_by_closing;
+      cause = subst (OpenFails (control disk').handed) is fails;
+      unread = λ t o opens. subst IsSoundCause is (sound t o opens);
+      unseen = λ s h. (let o = h.again.opens (content disk).files (laws.reads h.told) in subst IsSoundCause is (sound h.told o.0 o.1));
+    }
+
 -- its segments' indexes have the interval of its settings
 pub intervals_of : {D : Type 0} (settings : Settings) (log : Log D) → IsOpenLog settings log → Each (λ (segment : Grown). segment.interval ≡ log.settings.index_interval) (log.closed ++ log.active ∷ [])
 intervals_of settings log is = subst (λ (s : Settings). Each (λ (segment : Grown). segment.interval ≡ s.index_interval) (log.closed ++ log.active ∷ [])) (sym is.settings_are) is.intervals
-
--- nothing is seen of a disk that has no log of a broker
-pub unseen : {D : Type 0} (content : D → Content) (disk : D) (r : Result ℕ OpenRefusal) (name : FileName) (at : ℕ) → IfErr r (λ e. IsTrue (content disk).tells → IsSoundCause e) → IsErrOf r (Damaged name at)
-    → (s : Seen) → ShowsClosed content disk s → ⊥
-unseen content disk (Ok n) name at sound is s shows = absurd (cc is)
-unseen content disk (Err (Damaged file from)) name at sound is s shows = sound shows.told
-unseen content disk (Err DiskFault) name at sound is s shows = absurd (cc is)
-unseen content disk (Err LastIncarnation) name at sound is s shows = absurd (cc is)
-unseen content disk (Err NoMemory) name at sound is s shows = absurd (cc is)

@@ -1,7 +1,5 @@
 -- What the fields of a broker's log mean, and what they keep.
 use Rattle.std.specs.Prelude.{◌≡◌, false}
-use Rattle.disk_model.specs.Content.{Content}
-use Rattle.log_steps.specs.Reopens.{Reopens}
 use Rattle.local_log.specs.Log.{AreSettings}
 use Rattle.broker_log.specs.Seen.{Kept, Up, Down, Away}
 use Rattle.broker_log.specs.declared.place.Place.{Place}
@@ -17,11 +15,11 @@ module _ {D : Type 0} where
   abbrev pub kept_in : Inside D → Kept D
   kept_in broker = kept_of broker.place
 
-  -- an open log isn't broken, and one that is closed can be opened again
-  abbrev pub IsWell : (D → Content) → Place D → Type 0
-  IsWell content (place.Up log) = log.broken ≡ false
-  IsWell content (place.Down settings disk) = AreSettings settings × Reopens (content disk)
-  IsWell content place.Away = ⊥
+  -- an open log isn't broken, and one that is closed has a log's settings
+  abbrev pub IsWell : Place D → Type 0
+  IsWell (place.Up log) = log.broken ≡ false
+  IsWell (place.Down settings disk) = AreSettings settings
+  IsWell place.Away = ⊥
 
-  abbrev pub IsWellPlaced : (D → Content) → Inside D → Type 0
-  IsWellPlaced content broker = IsWell content broker.place
+  abbrev pub IsWellPlaced : Inside D → Type 0
+  IsWellPlaced broker = IsWell broker.place

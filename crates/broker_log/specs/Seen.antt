@@ -20,6 +20,7 @@ use Rattle.disk_model.specs.Content.{Content, Files, Image}
 use Rattle.log_terms.specs.Log.{IsConsecutive, EndsAt, up_to, from_offset, end_of}
 use Rattle.segment_file.specs.Growing.{Grown}
 use Rattle.log_steps.specs.Opens.{Opened, Opens}
+use Rattle.log_steps.specs.Reopens.{Reopens}
 use Rattle.local_log.specs.Log.{Log}
 use Rattle.local_log.specs.Coheres.{Hold}
 
@@ -106,6 +107,8 @@ pub record ShowsClosed {D : Type 0} (content : D → Content) (disk : D) (s : Se
   pub told : IsTrue (content disk).tells
   pub kept : IsKept s
   pub images : (c : Files) → Image (content disk) c → (i : ℕ) × (s.incarnation ≤ i) × ComesBack i s c
+  -- a log can be opened from it, also after a crash in the course of an opening
+  pub again : Reopens (content disk)
 
 -- how a log that is up stands in segments: the closed ones, and the open one
 pub record Layout : Type 0 where

@@ -21,6 +21,7 @@ use Rattle.log_terms.specs.Log.{joined, IsConsecutive, EndsAt, end_of, end_from,
 use Rattle.record_batch.specs.Check.{checked}
 use Rattle.epoch_line.specs.Line.{assign, cut_end}
 use Rattle.log_steps.specs.Fronts.{Each}
+use Rattle.log_steps.specs.Opens.{Opened, Opens as OpenAs}
 use Rattle.local_log.specs.Run.{lined, taking, open_for, rolled, with_batches as gaining}
 use Rattle.local_log.specs.Stored.{size_of}
 use Rattle.local_log.specs.Log.{Log}
@@ -297,6 +298,8 @@ module _ {D : Type 0} (content : D → Content) (control : D → Control call_co
   pub record Unopened (old new : Kept D) (name : FileName) (at : ℕ) : Type 0 where
     pub stays : Stays content old new
     pub cause : OnDisk new (λ d. OpenFails (control d).handed (Damaged name at))
+    -- nor do the files of a disk that tells open
+    pub unread : OnDisk old (λ d. IsTrue (content d).tells → (o : Opened) → OpenAs (content d).files o → ⊥)
     pub unseen : (s : Seen) → Shows content old s → ⊥
 
   -- the log wasn't opened, since its manifest has the last incarnation
@@ -311,6 +314,18 @@ pub record Stops {D : Type 0} (content : D → Content) (old new : Kept D) : Typ
   pub settings : settings_in new ≡ settings_in old
   pub seen : Goes content old new (λ s s'. s' ≡ s)
 
+-- the log that was read, behind these batches, under the next incarnation
+abbrev pub read_behind : Opened → List (List ℕ) → Seen
+read_behind o below = record {
+  batches = below ++ o.batches;
+  line = o.line;
+  stable = end_of (below ++ o.batches);
+  saved = o.line;
+  local = o.local_start;
+  loose = None;
+  incarnation = o.incarnation + 1;
+}
+
 -- the broker is up, and its log ends there
 pub record ComesUp {D : Type 0} (content : D → Content) (old new : Kept D) (end : ℕ) : Type 0 where
   pub end_is : end_in new ≡ Some end
@@ -318,5 +333,8 @@ pub record ComesUp {D : Type 0} (content : D → Content) (old new : Kept D) (en
   pub settings : settings_in new ≡ settings_in old
   -- its segments' indexes have the settings' interval
   pub intervals : WhileUp new (λ log. Each (λ (segment : Grown). segment.interval ≡ log.settings.index_interval) (log.closed ++ log.active ∷ []))
+  -- what the files of a disk that tells open as is seen, whatever batches lead up to it
+  pub read : OnDisk old (λ d. IsTrue (content d).tells → (o : Opened) × OpenAs (content d).files o
+      × ((below : List (List ℕ)) → LeadsTo below o.local_start → Shows content new (read_behind o below)))
   -- one incarnation on, at least
   pub seen : Goes content old new (λ s s'. Opens end s s' × (s.incarnation < s'.incarnation))

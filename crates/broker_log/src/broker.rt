@@ -21,7 +21,7 @@ ghost use Rattle.local_log.specs.declared.refusal.AppendRefusal.TheVariants as a
 ghost use Rattle.local_log.specs.declared.refusal.RollRefusal.TheVariants as roll;
 ghost use Rattle.local_log.specs.declared.refusal.ReadRefusal.TheVariants as reading;
 ghost use Rattle.local_log.specs.declared.refusal.OpenRefusal.TheVariants as opening;
-ghost use Rattle.broker_log.specs.Seen.{Seen, Shows, Goes, Stays, WhileUp, OnDisk, Lasting, Faulted, is_up, end_in, stable_in, line_in, local_in, incarnation_in, closed_in, layout_in, settings_in};
+ghost use Rattle.broker_log.specs.Seen.{Seen, Down, Shows, Goes, Stays, WhileUp, OnDisk, Lasting, Faulted, is_up, end_in, stable_in, line_in, local_in, incarnation_in, closed_in, layout_in, settings_in};
 ghost use Rattle.broker_log.specs.Turns.{IsFirst, Appends, Settles, Cuts, MayCut, cut_back, Drops, DropBreaks, Restarts, RestartBreaks, IsSegmentOf, Breaks, BreaksIf, BreaksUnsaved, loosened, torn, IsEndUpTo, Rolls, Reads, Misreads, Unopened, IsSpent, Stops, ComesUp};
 ghost use Rattle.log_steps.specs.Fronts.{Each};
 ghost use Rattle.local_log.specs.Dropping.{IsFirstStable};
@@ -54,7 +54,7 @@ impl<D: Disk> Model for BrokerLog<D> {
 
     ghost view = { kept_in };
 
-    ghost invariant = { IsWellPlaced D.content };
+    ghost invariant = { IsWellPlaced };
 }
 
 impl<D: Disk> BrokerLog<D> {
@@ -77,6 +77,17 @@ impl<D: Disk> BrokerLog<D> {
                 place: Place::Up(log),
             }),
             Err(refused) => Err(refused),
+        }
+    }
+
+    /// The log of a broker that is down, over any disk.
+    pub fn from_disk(alloc: Global, disk: D, settings: Settings) -> BrokerLog<D>
+        requires { AreSettings settings }
+        ensures { result ≡ Down settings disk }
+    {
+        BrokerLog {
+            alloc,
+            place: Place::Down(settings, disk),
         }
     }
 
@@ -432,10 +443,10 @@ impl<D: Disk> BrokerLog<D> {
         }
     }
 
-    /// Gives the disk back. A log can be opened from it again.
+    /// Gives the disk back. From that of a log that is open or seen a log can be opened again, also after a crash.
     pub fn close(self) -> D
         ensures disk { OnDisk self (λ d. result ≡ d) }
-        ensures again { Reopens (D.content result) }
+        ensures again { IsTrue (is_up self) ⊎ ((s : Seen) × Shows D.content self s) → Reopens (D.content result) }
     {
         match self.place {
             Place::Up(log) => log.close(),
@@ -462,7 +473,7 @@ impl<D: Disk> BrokerLog<D> {
         ensures refused { OnErr result (is_up self.new ≡ false) }
         ensures stays { OnErr result (Stays D.content self.old self.new) }
 
-        // Each cause, by what the disk handed last. Of a disk that tells nothing is damaged.
+        // Each cause, by what the disk handed last. Where the log is seen, or the files open, nothing is damaged.
         ensures damaged { (name : FileName) (at : ℕ) → IsErrOf result (opening.Damaged name at)
             → Unopened D.content D.control self.old self.new name at }
         ensures last { IsErrOf result opening.LastIncarnation → IsSpent D.content D.control self.old self.new }

@@ -42,4 +42,3 @@ pub mod Halving
 pub mod Admitted
 pub mod Settled
 pub mod OneWay
-pub mod Crashed

@@ -17,12 +17,12 @@ use Rattle.log_manifest.specs.Rules.{AreSegments}
 use Rattle.segment_file.specs.Growing.{Grown}
 use Rattle.log_steps.specs.Fronts.{log_at, Each, Agrees}
 use Rattle.log_steps.specs.Opens.{IsRead, Segments}
-use Rattle.log_steps.specs.Reopens.{Reopens, raised}
+use Rattle.log_steps.specs.Reopens.{Reopens}
 use Rattle.log_steps.specs.Rewrites.{Rewrites, IsUnlisted}
 use Rattle.log_steps.specs.Stands.{Stands}
 use Rattle.log_steps.proofs.Lists.{each_map, each_both, each_left, each_right}
-use Rattle.log_steps.proofs.Reading.{held_opens, opens_like}
-use Rattle.log_steps.proofs.Opening.{next_files, next_sizes, next_stands, next_reads}
+use Rattle.log_steps.proofs.Reading.{read_moved, held_opens, opens_like, stands_reopens}
+use Rattle.log_steps.proofs.Opening.{next_files, next_sizes, next_was, next_stands}
 use Rattle.local_log.specs.declared.opening.Plan.{Plan}
 use Rattle.local_log.specs.declared.opening.Parts.{Parts}
 use Rattle.local_log.specs.Stored.{all_batches, size_of, end_of, extent_of, AreChained, chain_end, IsStored}
@@ -33,8 +33,7 @@ use Rattle.local_log.proofs.Pieces.{stored_segments, consecutive_segments, all_e
 use Rattle.local_log.proofs.Lines.{cut_cut, placed_same}
 use Rattle.local_log.proofs.Listed.{chain_up}
 use Rattle.local_log.proofs.Listings.{listed_all}
-use Rattle.local_log.proofs.OneReading.{read_one}
-use Rattle.local_log.proofs.Planned.{Way, present_of, way, reading_next}
+use Rattle.local_log.proofs.Planned.{reading_next, plan_was}
 
 -- a segment by a line that is cut past the log's end
 stored_cut : (f : Files) (line : List (ℕ × ℕ)) (n : ℕ) (g : Grown) → IsLine line → end_of g ≤ n → IsStored f line g → IsStored f (cut_end line (n + 1)) g
@@ -74,17 +73,19 @@ unlisted : (b : ℕ) (gs : List Grown) → Each (λ (g : Grown). b ≢ g.base) g
 unlisted b [] h = tt
 unlisted b (g ∷ gs) h = (h.0, unlisted b gs h.1)
 
-module _ (d : Content) (laws : Lawful d) (reopens : Reopens d) (plan : Plan) (p : IsPlanOf d plan)
-    (names : List FileName) (named : IsTrue d.tells → Names d.files names) (fate : Fate) (went : fate ≡ Went) (d1 : Content) (laws1 : Lawful d1)
+-- segments that are stored have whole fronts
+all_long : (f : Files) (line : List (ℕ × ℕ)) (gs : List Grown) → Each (IsStored f line) gs → Each (λ (e : Extent). e.len ≤ length (log_at f e)) (map extent_of gs)
+all_long f line [] h = tt
+all_long f line (g ∷ gs) h = (h.0.stands.long, all_long f line gs h.1)
+
+module _ (d : Content) (plan : Plan) (p : IsPlanOf d plan)
+    (names : List FileName) (named : IsTrue d.tells → Names d.files names) (fate : Fate) (went : fate ≡ Went) (d1 : Content)
     (rewrites : Rewrites plan.present plan.manifest.segments names fate d d1) (d2 : Content) (k : Keeps d1 d2)
     (M : Bool → Type 0) (d3 : Content) (laws3 : Lawful d3) (change : Changes file.Manifest (replaced plan.next.items) (Swapped plan.next.items) M d2 d3)
     (sure : (c : Files) → Image d3 c → c file.Manifest ≡ Some plan.next.items)
     (interval : ℕ) (parts : Parts) (read : AreRead d1 plan.manifest.line interval plan.manifest.local_start plan.manifest.segments (parts.closed.items ++ parts.active ∷ []))
     (incarnation_is : parts.incarnation ≡ plan.manifest.incarnation) (start_is : parts.local_start ≡ plan.manifest.local_start)
     (line_is : parts.line ≡ cut_end plan.manifest.line (end_of parts.active + 1)) where
-  abbrev w : Way d plan
-  w = way d laws reopens plan p
-
   abbrev m : Manifest
   m = plan.manifest
 
@@ -103,19 +104,23 @@ module _ (d : Content) (laws : Lawful d) (reopens : Reopens d) (plan : Plan) (p 
   told1 : IsTrue d3.tells → IsTrue d1.tells
   told1 t = subst IsTrue (change.tells ∙ k.tells) t
 
+  -- each listed file was read whole
+  whole : IsTrue d1.tells → Each (λ (e : Extent). e.len ≤ length (log_at d1.files e)) m.segments
+  whole t = subst (Each (λ (e : Extent). e.len ≤ length (log_at d1.files e))) read.are (all_long d1.files m.line segments (read.stored t))
+
   -- the files after it
   same_files : IsTrue d.tells → (b : ℕ) → d3.files (file.Log b) ≡ d1.files (file.Log b)
-  same_files = next_files d laws reopens plan.present plan.next.items (present_of plan w.number) m w.now (raised w.first) w.first w.reading (reading_next d laws reopens plan p) refl w.opens w.reads w.reads_next w.first_is refl w.agree names fate d1 laws1 rewrites went d2 k M d3 laws3 change
+  same_files = next_files d d1 d2 d3 laws3 plan.present plan.next.items m.segments names fate went rewrites k M change whole
 
   sizes : IsTrue d.tells → Each (λ e. length (log_at d3.files e) ≡ e.len) m.segments
-  sizes = next_sizes d laws reopens plan.present plan.next.items (present_of plan w.number) m w.now (raised w.first) w.first w.reading (reading_next d laws reopens plan p) refl w.opens w.reads w.reads_next w.first_is refl w.agree names fate d1 laws1 rewrites went d2 k M d3 laws3 change
+  sizes = next_sizes d d1 d2 d3 laws3 plan.present plan.next.items m.segments names fate went rewrites k M change whole
 
-  was_read : IsTrue d.tells → IsRead m d3.files (raised w.first)
-  was_read = next_reads d laws reopens plan.present plan.next.items (present_of plan w.number) m w.now (raised w.first) w.first w.reading (reading_next d laws reopens plan p) refl w.opens w.reads w.reads_next w.first_is refl w.agree names fate d1 laws1 rewrites went d2 k M d3 laws3 change
+  fronts_before : IsTrue d.tells → Each (Agrees d.files d3.files) m.segments
+  fronts_before = next_was d d1 d2 d3 laws3 plan.present plan.next.items m.segments names fate went rewrites k M change whole
 
   stands : Stands d3 plan.next.items m.segments (map extent_of parts.closed.items)
   stands =
-      next_stands d laws reopens plan.present plan.next.items (present_of plan w.number) m w.now (raised w.first) w.first w.reading (reading_next d laws reopens plan p) refl w.opens w.reads w.reads_next w.first_is refl w.agree names fate d1 laws1 rewrites went d2 k M d3 laws3 change
+      next_stands d d1 d2 d3 laws3 plan.present plan.next.items m.segments names fate went rewrites k M change whole
       sure (map extent_of parts.closed.items)
       (λ c a. each_left (Agrees c d3.files) (map extent_of parts.closed.items) (map extent_of (parts.active ∷ []))
       (subst (Each (Agrees c d3.files)) (sym read.are ∙ map-append extent_of parts.closed.items (parts.active ∷ [])) a))
@@ -210,9 +215,13 @@ module _ (d : Content) (laws : Lawful d) (reopens : Reopens d) (plan : Plan) (p 
     line = subst IsLine (sym line_is) (IsLine-filter (λ e. nat_lt e.1 (end + 1)) m.line p.is.rules.line);
     line_within = subst (Each (λ (entry : ℕ × ℕ). entry.1 ≤ end)) (sym line_is) (within_cut m.line end);
     has = opened_has;
-    was = λ t. (let t3 = subst IsTrue (sym tells_is) t in (w.first, w.opens t, read_one d3.files m (whole_of d3.files parts) (raised w.first) (read_now t3) (was_read t)));
-    durable = λ c now. held_opens c d3.files plan.next.items m (map extent_of parts.closed.items) (whole_of d3.files parts) (reading_next d laws reopens plan p) (stands c now) (read_now (laws3.told c now));
+    was = λ t. (let t3 = subst IsTrue (sym tells_is) t in plan_was d plan p t (whole_of d3.files parts) (read_moved d.files d3.files m (whole_of d3.files parts) (fronts_before t) (read_now t3)));
+    durable = λ c now. held_opens c d3.files plan.next.items m (map extent_of parts.closed.items) (whole_of d3.files parts) (reading_next d plan p) (stands c now) (read_now (laws3.told c now));
   }
+
+  -- it can be opened again
+  pub opened_again : Reopens d3
+  opened_again = stands_reopens d3 laws3 plan.next.items m (map extent_of parts.closed.items) (whole_of d3.files parts) (reading_next d plan p) stands read_now
 
 -- of the disk before a call that changed no file
 pub opened_kept : (d m d' : Content) (interval : ℕ) (parts : Parts) → Keeps d m → IsOpened m d' interval parts → IsOpened d d' interval parts

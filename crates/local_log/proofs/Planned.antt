@@ -1,4 +1,4 @@
--- What a plan of an opening says of a disk that can be opened.
+-- What a plan of an opening says of a disk, and of one that can be opened.
 use Rattle.std.proofs.Common.{◌≡◌, ◌⊎◌, ◌∙◌, ◌^◌, ap, sym, subst, refl, inl, inr, ℕ, ◌+◌, ◌<◌, Bool, true, false, List, [], length, take, Option, Some, None, Ok, IsTrue, arith}
 use Rattle.std.specs.Prelude.{◌↔◌, IsSome}
 use Rattle.std.proofs.lemmas.List.{length-take-le, take-take}
@@ -18,10 +18,11 @@ use Rattle.log_steps.specs.Opens.{Opened, IsRead, OpensFrom, Opens, Segments, no
 use Rattle.log_steps.specs.Reopens.{Reopens, raised, Opening}
 use Rattle.log_steps.specs.Rewrites.{Rewrites}
 use Rattle.log_steps.proofs.Lists.{each_both}
-use Rattle.log_steps.proofs.Reading.{opened_by, read_moved}
+use Rattle.log_steps.proofs.Reading.{opens_by, opened_by, segments_moved, segments_whole}
 use Rattle.log_steps.proofs.Opening.{reopens_kept, rewrite_leaves, rewrite_reopens, read_leaves, next_leaves, next_reopens}
 use Rattle.local_log.specs.declared.opening.Plan.{Plan}
-use Rattle.local_log.specs.Planning.{first_manifest, IsPlan, IsPlanOf}
+use Rattle.local_log.specs.Planning.{first_manifest, PlansFrom, IsPlan, IsPlanOf}
+use Rattle.local_log.proofs.OneReading.{read_one}
 
 -- what a disk reads opens as this
 record Seen (d : Content) : Type 0 where
@@ -56,6 +57,63 @@ rewrites_same now now' es es' names names' fate d d1 a b c r =
 abbrev pub present_of : Plan → ℕ → Manifest
 present_of plan number = record plan.manifest { incarnation = number }
 
+-- the bytes of the next manifest say it
+pub reading_next : (d : Content) (plan : Plan) → IsPlanOf d plan → manifest_in plan.next.items ≡ Ok plan.manifest
+reading_next d plan p = ap manifest_in p.is.next_is ∙ manifest_again plan.manifest p.is.rules p.is.fits
+
+-- a manifest of one empty segment at 0 is read so on any files
+read_first : (f : Files) → IsRead first_manifest f (raised nothing)
+read_first f = record {
+  incarnation = refl;
+  local_start = refl;
+  batches = ([], [], refl, refl, record { long = omega arith; bytes = refl; placed = tt; consecutive = tt }, refl);
+  line = refl;
+}
+
+module _ (d : Content) (plan : Plan) (p : IsPlanOf d plan) (told : IsTrue d.tells) where
+  -- what is read by the next manifest opened before, under the incarnation before
+  pub plan_was : (o : Opened) → IsRead plan.manifest d.files o → (x : Opened) × Opens d.files x × (o ≡ raised x)
+  plan_was o r = go p.held (p.told told) p.is.from
+    where
+      go : (held : Option (List ℕ)) → d.files file.Manifest ≡ held → PlansFrom held plan → (x : Opened) × Opens d.files x × (o ≡ raised x)
+      go None is from = (
+        nothing,
+        subst (λ (y : Option (List ℕ)). OpensFrom y d.files nothing) (sym is) refl,
+        read_one d.files first_manifest o (raised nothing) (subst (λ (m : Manifest). IsRead m d.files o) from.1 r) (read_first d.files),
+      )
+      go (Some bytes) is from =
+          let number = from.1.0 in
+          let x : Opened = record { incarnation = number; local_start = o.local_start; batches = o.batches; line = o.line } in
+          let reads : IsRead (present_of plan number) d.files x = record { incarnation = refl; local_start = r.local_start; batches = r.batches; line = r.line } in
+          let under : ℕ → Opened = λ n. record { incarnation = n; local_start = o.local_start; batches = o.batches; line = o.line } in
+          (x, opens_by d.files bytes (present_of plan number) x is from.1.1 reads, ap under (r.incarnation ∙ from.1.2))
+
+  -- what opens has the segments that the next manifest lists
+  pub plan_segments : (o : Opened) → Opens d.files o → (batches : List (List ℕ)) × Segments d.files plan.manifest.line plan.manifest.local_start plan.manifest.segments batches
+  plan_segments o opens = go p.held (p.told told) p.is.from
+    where
+      go : (held : Option (List ℕ)) → d.files file.Manifest ≡ held → PlansFrom held plan → (batches : List (List ℕ)) × Segments d.files plan.manifest.line plan.manifest.local_start plan.manifest.segments batches
+      go None is from = (nothing.batches, subst (λ (m : Manifest). Segments d.files m.line m.local_start m.segments nothing.batches) (sym from.1) (read_first d.files).batches)
+      go (Some bytes) is from = (o.batches, (opened_by d.files bytes (present_of plan from.1.0) o is from.1.1 opens).batches)
+
+  -- and has them still when the files are cut
+  module _ (names : List FileName) (fate : Fate) (went : fate ≡ Went) (d1 : Content) (rewrites : Rewrites plan.present plan.manifest.segments names fate d d1) where
+    agrees_cut : Each (Agrees d.files d.files) plan.manifest.segments → Each (Agrees d1.files d.files) plan.manifest.segments
+    agrees_cut whole =
+        each_both
+        (λ e is a. record {
+          long = (let size = ap length is ∙ length-take-le e.len (log_at d.files e) a.long in omega (arith, size));
+          same = ap (take e.len) is ∙ take-take e.len e.len (log_at d.files e) (omega arith);
+        })
+        plan.manifest.segments (rewrites.files went told) whole
+
+    pub plan_reads : (o : Opened) → Opens d.files o → (batches : List (List ℕ)) × Segments d1.files plan.manifest.line plan.manifest.local_start plan.manifest.segments batches
+    plan_reads o opens =
+        let m = plan.manifest in
+        let s = plan_segments o opens in
+        let whole = segments_whole d.files m.line m.local_start m.segments s.0 s.1 in
+        (s.0, segments_moved d1.files d.files m.line m.local_start m.segments s.0 (agrees_cut whole) s.1)
+
 -- what reads, by both manifests
 pub record Way (d : Content) (plan : Plan) : Type 0 where
   pub number : ℕ
@@ -86,15 +144,6 @@ module _ (d : Content) (laws : Lawful d) (reopens : Reopens d) (plan : Plan) whe
         agree = λ t c image. reopens.fronts c d.files (present_of plan number) image (laws.reads t) (record { bytes = bytes; there = told t; reading = reading });
       }
 
-  -- a manifest of one empty segment at 0 is read so on any files
-  read_first : (f : Files) → IsRead first_manifest f (raised nothing)
-  read_first f = record {
-    incarnation = refl;
-    local_start = refl;
-    batches = ([], [], refl, refl, record { long = omega arith; bytes = refl; placed = tt; consecutive = tt }, refl);
-    line = refl;
-  }
-
   way_first : (IsTrue d.tells → d.files file.Manifest ≡ None) → plan.present ≡ plan.next.items → plan.manifest ≡ first_manifest → plan.next.items ≡ manifest_bytes plan.manifest
       → IsManifest plan.manifest → plan.manifest.incarnation < 2 ^ 32 → Way d plan
   way_first told present is next rules fits = record {
@@ -120,37 +169,19 @@ module _ (d : Content) (laws : Lawful d) (reopens : Reopens d) (plan : Plan) whe
     abbrev w : Way d plan
     w = way p
 
-    pub reading_next : manifest_in plan.next.items ≡ Ok plan.manifest
-    reading_next = ap manifest_in p.is.next_is ∙ manifest_again plan.manifest p.is.rules p.is.fits
-
     -- the manifest is written again, and the files are cut
     module _ (names : List FileName) (fate : Fate) (d1 : Content) (laws1 : Lawful d1) (rewrites : Rewrites plan.present plan.manifest.segments names fate d d1) where
       pub plan_rewritten : LeavesOnly d d1 (Opening d)
-      plan_rewritten = rewrite_leaves d laws reopens plan.present plan.next.items (present_of plan w.number) plan.manifest w.now (raised w.first) w.first w.reading reading_next refl w.opens w.reads w.reads_next w.first_is refl w.agree names fate d1 laws1 rewrites
+      plan_rewritten = rewrite_leaves d laws reopens plan.present plan.next.items (present_of plan w.number) plan.manifest w.now (raised w.first) w.first w.reading (reading_next d plan p) refl w.opens w.reads w.reads_next w.first_is refl w.agree names fate d1 laws1 rewrites
 
       pub plan_reopens : Reopens d1
-      plan_reopens = rewrite_reopens d laws reopens plan.present plan.next.items (present_of plan w.number) plan.manifest w.now (raised w.first) w.first w.reading reading_next refl w.opens w.reads w.reads_next w.first_is refl w.agree names fate d1 laws1 rewrites
+      plan_reopens = rewrite_reopens d laws reopens plan.present plan.next.items (present_of plan w.number) plan.manifest w.now (raised w.first) w.first w.reading (reading_next d plan p) refl w.opens w.reads w.reads_next w.first_is refl w.agree names fate d1 laws1 rewrites
 
       module _ (went : fate ≡ Went) where
-        agrees_cut : IsTrue d.tells → Each (Agrees d1.files d.files) plan.manifest.segments
-        agrees_cut t =
-            each_both
-            (λ e is a. record {
-              long = (let size = ap length is ∙ length-take-le e.len (log_at d.files e) a.long in omega (arith, size));
-              same = ap (take e.len) is ∙ take-take e.len e.len (log_at d.files e) (omega arith);
-            })
-            plan.manifest.segments (rewrites.files went t) (w.agree t d.files (laws.reads t))
-
-        -- the files are read as before
-        pub plan_reads : IsTrue d1.tells → Segments d1.files plan.manifest.line plan.manifest.local_start plan.manifest.segments (raised w.first).batches
-        plan_reads t =
-            let t0 = subst IsTrue rewrites.tells t in
-            (read_moved d1.files d.files plan.manifest (raised w.first) (agrees_cut t0) (w.reads_next t0)).batches
-
         -- they are read
         module _ (d2 : Content) (k : Keeps d1 d2) where
           pub plan_read : LeavesOnly d d2 (Opening d)
-          plan_read = read_leaves d laws reopens plan.present plan.next.items (present_of plan w.number) plan.manifest w.now (raised w.first) w.first w.reading reading_next refl w.opens w.reads w.reads_next w.first_is refl w.agree names fate d1 laws1 rewrites went d2 k
+          plan_read = read_leaves d laws reopens plan.present plan.next.items (present_of plan w.number) plan.manifest w.now (raised w.first) w.first w.reading (reading_next d plan p) refl w.opens w.reads w.reads_next w.first_is refl w.agree names fate d1 laws1 rewrites went d2 k
 
           pub plan_reopens_read : Reopens d2
           plan_reopens_read = reopens_kept d1 d2 k plan_reopens
@@ -158,7 +189,7 @@ module _ (d : Content) (laws : Lawful d) (reopens : Reopens d) (plan : Plan) whe
           -- the next manifest is written
           module _ (M : Bool → Type 0) (d3 : Content) (laws3 : Lawful d3) (change : Changes file.Manifest (replaced plan.next.items) (Swapped plan.next.items) M d2 d3) where
             pub plan_written : LeavesOnly d d3 (Opening d)
-            plan_written = next_leaves d laws reopens plan.present plan.next.items (present_of plan w.number) plan.manifest w.now (raised w.first) w.first w.reading reading_next refl w.opens w.reads w.reads_next w.first_is refl w.agree names fate d1 laws1 rewrites went d2 k M d3 laws3 change
+            plan_written = next_leaves d laws reopens plan.present plan.next.items (present_of plan w.number) plan.manifest w.now (raised w.first) w.first w.reading (reading_next d plan p) refl w.opens w.reads w.reads_next w.first_is refl w.agree names fate d1 laws1 rewrites went d2 k M d3 laws3 change
 
             pub plan_reopens_written : Reopens d3
-            plan_reopens_written = next_reopens d laws reopens plan.present plan.next.items (present_of plan w.number) plan.manifest w.now (raised w.first) w.first w.reading reading_next refl w.opens w.reads w.reads_next w.first_is refl w.agree names fate d1 laws1 rewrites went d2 k M d3 laws3 change
+            plan_reopens_written = next_reopens d laws reopens plan.present plan.next.items (present_of plan w.number) plan.manifest w.now (raised w.first) w.first w.reading (reading_next d plan p) refl w.opens w.reads w.reads_next w.first_is refl w.agree names fate d1 laws1 rewrites went d2 k M d3 laws3 change

@@ -19,7 +19,7 @@ use Rattle.log_steps.specs.Rewrites.{Rewritten}
 use Rattle.log_steps.proofs.Lists.{each_map, each_both}
 use Rattle.log_steps.proofs.Moments.{started, goes_on, leaves_weaker, leaves_then}
 use Rattle.log_steps.proofs.Published.{undone_files}
-use Rattle.log_steps.proofs.Removed.{kept_same}
+use Rattle.log_steps.proofs.Restored.{kept_same}
 use Rattle.log_steps.proofs.Restored.{manifest_other}
 use Rattle.log_steps.proofs.Rewritten.{log_no_manifest}
 use Rattle.log_steps.proofs.Standing.{agrees_then, same_kept}

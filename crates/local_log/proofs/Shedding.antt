@@ -18,8 +18,7 @@ use Rattle.log_steps.specs.Opens.{Opened, Opens}
 use Rattle.log_steps.specs.Reopens.{Reopens}
 use Rattle.log_steps.proofs.Lists.{each_map, each_both, each_join, each_left, each_right}
 use Rattle.log_steps.proofs.Moments.{leaves_weaker}
-use Rattle.log_steps.proofs.Removed.{kept_same}
-use Rattle.log_steps.proofs.Restored.{cut_agrees, manifest_other, log_differs}
+use Rattle.log_steps.proofs.Restored.{kept_same, cut_agrees, manifest_other, log_differs}
 use Rattle.log_steps.proofs.Standing.{agrees_then, both_agree}
 use Rattle.log_steps.proofs.Reading.{opens_as, opened_by, read_moved, reopens_two}
 use Rattle.local_log.specs.Stored.{bytes_of, batches_of, all_batches, size_of, end_of, extent_of, IsStored}

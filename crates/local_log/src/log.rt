@@ -120,15 +120,15 @@ impl<D: Disk> LocalLog<D> {
         }
     }
 
-    /// Opens the log that the disk's manifest gives, under the next incarnation. A disk without a manifest gives the empty
-    /// log at 0. The disk is read before the first change, and a manifest without a reading is never written again.
+    /// Opens the log that the disk's manifest gives, under the next incarnation, whatever else the disk holds. A disk without
+    /// a manifest gives the empty log at 0. The disk is read before the first change, and a manifest without a reading is
+    /// never written again.
     pub fn open_at(
         alloc: Global,
         disk: D,
         settings: Settings,
     ) -> Result<LocalLog<D>, (D, OpenRefusal)>
         requires settings { AreSettings settings }
-        requires reopens { Reopens (D.content disk) }
         ensures log { IfOk result (λ log. IsOpenLog settings log) }
         ensures tells { IfOk result (λ log. (D.content log.disk).tells ≡ (D.content disk).tells) }
         ensures tells_err { IfErr result (λ e. (D.content e.0).tells ≡ (D.content disk).tells) }
@@ -136,15 +136,19 @@ impl<D: Disk> LocalLog<D> {
             → (o : Opened) × Opens (D.content disk).files o × IsOf o log) }
         ensures durable { IfOk result (λ log. (c : Files) → Image (D.content log.disk) c → Opens c (whole_log log)) }
 
-        // A crash at any moment of the call leaves what it might have left before, or what was read, perhaps under the
-        // next incarnation.
-        ensures any_moment { IfOk result (λ log. LeavesOnly (D.content disk) (D.content log.disk) (Opening (D.content disk))) }
-        ensures any_moment_err { IfErr result (λ e. LeavesOnly (D.content disk) (D.content e.0) (Opening (D.content disk))) }
-        ensures again { IfErr result (λ e. Reopens (D.content e.0)) }
+        // Where a log could be opened after any crash before, a crash at any moment of the call leaves what it might have
+        // left before, or what was read, perhaps under the next incarnation.
+        ensures any_moment { IfOk result (λ log. Reopens (D.content disk)
+            → LeavesOnly (D.content disk) (D.content log.disk) (Opening (D.content disk))) }
+        ensures any_moment_err { IfErr result (λ e. Reopens (D.content disk)
+            → LeavesOnly (D.content disk) (D.content e.0) (Opening (D.content disk))) }
+        ensures again { IfErr result (λ e. Reopens (D.content disk) → Reopens (D.content e.0)) }
 
-        // Each cause, by what the disk handed last. A fault of the manifest is told before the first change.
+        // Each cause, by what the disk handed last. A fault of the manifest is told before the first change, and none of what
+        // the disk handed where what it reads opens.
         ensures err { IfErr result (λ e. OpenFails (D.control e.0).handed e.1) }
-        ensures sound { IfErr result (λ e. IsTrue (D.content disk).tells → IsSoundCause e.1) }
+        ensures sound { IfErr result (λ e. IsTrue (D.content disk).tells
+            → (o : Opened) → Opens (D.content disk).files o → IsSoundCause e.1) }
         ensures last { IfErr result (λ e. e.1 ≡ opening.LastIncarnation → IsTrue (D.content disk).tells
             → HoldsLast (D.content disk).files) }
         ensures unchanged { IfErr result (λ e. IsOfManifest e.1 → Keeps (D.content disk) (D.content e.0)) }

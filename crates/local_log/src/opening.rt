@@ -2,7 +2,7 @@
 //!
 //! The manifest is written again as it was read before a file is cut or removed, so that no crash brings an older one back
 //! that lists more than stands. Then the segments are read and checked, and the manifest is written under the next
-//! incarnation.
+//! incarnation. What was read was synced before, so each image then opens as it, whatever the disk held.
 
 ghost use Rattle.std.specs.Prelude.{◌≡◌, ◌≢◌, ◌+◌, ◌*◌, ◌<◌, ◌≤◌, ◌^◌, ◌++◌, ◌∷◌, ℕ, List, [], length, Some, None, Ok, IfOk, IfErr, OnOk, IsErrOf, IsTrue};
 ghost use Rattle.tier_base.specs.Counts.{Rose};
@@ -56,14 +56,16 @@ pub(crate) fn open_log<D: Disk>(
     disk: &mut D,
     interval: u32,
 ) -> Result<Parts, OpenRefusal>
-    requires { Reopens (D.content disk.old) }
     ensures opened { IfOk result (λ parts. IsOpened (D.content disk.old) (D.content disk.new) interval parts) }
     ensures tells { (D.content disk.new).tells ≡ (D.content disk.old).tells }
-    ensures leaves { LeavesOnly (D.content disk.old) (D.content disk.new) (Opening (D.content disk.old)) }
-    ensures again { Reopens (D.content disk.new) }
+    ensures leaves { Reopens (D.content disk.old)
+        → LeavesOnly (D.content disk.old) (D.content disk.new) (Opening (D.content disk.old)) }
+    ensures again { Reopens (D.content disk.old) → Reopens (D.content disk.new) }
+    ensures reopens { OnOk result (Reopens (D.content disk.new)) }
     ensures unchanged { IfErr result (λ e. IsOfManifest e → Keeps (D.content disk.old) (D.content disk.new)) }
     ensures err { IfErr result (λ e. OpenFails (D.control disk.new).handed e) }
-    ensures sound { IfErr result (λ e. IsTrue (D.content disk.old).tells → IsSoundCause e) }
+    ensures sound { IfErr result (λ e. IsTrue (D.content disk.old).tells
+        → (o : Opened) → Opens (D.content disk.old).files o → IsSoundCause e) }
     ensures last { IsErrOf result LastIncarnation → IsTrue (D.content disk.old).tells → HoldsLast (D.content disk.old).files }
     ensures control { Lasts (D.control disk.old) (D.control disk.new) }
     ensures cause { IsErrOf result DiskFault → Rose (D.control disk.old).faults (D.control disk.new).faults }

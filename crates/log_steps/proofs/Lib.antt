@@ -7,5 +7,6 @@ pub mod Restored
 pub mod Removed
 pub mod Rewritten
 pub mod Standing
+pub mod Synced
 pub mod Reading
 pub mod Opening

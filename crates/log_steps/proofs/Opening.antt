@@ -1,6 +1,6 @@
 -- What an opening leaves, step by step.
 use Rattle.std.proofs.Common.{◌≡◌, ◌⊎◌, ℕ, ◌≤◌, arith, Bool, List, length, take, Option, Some, Ok, sym, ◌∙◌, ap, subst, inl, inr, ⊎_elim, IsTrue}
-use Rattle.std.proofs.lemmas.List.{length-take-le, take-take}
+use Rattle.std.proofs.lemmas.List.{length-take, take-take}
 use Rattle.tier_base.specs.declared.plain.FileName.{FileName}
 use Rattle.tier_base.specs.declared.plain.FileName.TheVariants.{Log}
 use Rattle.tier_base.specs.declared.plain.FileName.TheVariants as file
@@ -20,7 +20,7 @@ use Rattle.log_steps.proofs.Moments.{started, goes_on, leaves_weaker, leaves_the
 use Rattle.log_steps.proofs.Rewritten.{log_no_manifest}
 use Rattle.log_steps.proofs.Standing.{agrees_then, agrees_read, both_agree, same_kept}
 use Rattle.disk_model.proofs.Names.{cases_name}
-use Rattle.log_steps.proofs.Reading.{read_moved, opens_as, opens_like, says_is, reopens_two}
+use Rattle.log_steps.proofs.Reading.{opens_as, opens_like, says_is, reopens_two}
 
 -- a read before
 pub reopens_kept : (d m : Content) → Keeps d m → Reopens d → Reopens m
@@ -41,6 +41,14 @@ studied_leaves d m r k = goes_on d d m (Opening d) (started d (Opening d) (still
 
 pub leaves_all : (d m d' : Content) → Reopens d → Keeps d m → LeavesOnly m d' (Opening m) → LeavesOnly d d' (Opening d)
 leaves_all d m d' r k h = leaves_then d m d' (Opening d) (studied_leaves d m r k) (leaves_weaker m d' (Opening m) (Opening d) (opening_kept d m k) h)
+
+-- a front that is whole
+front_size : (n : ℕ) (l k : List ℕ) → k ≡ take n l → n ≤ length k → length k ≡ n
+front_size n l k is long = let size = ap length is in grind (arith, length-take, size, long)
+
+-- what it is the front of is as long
+front_long : (n : ℕ) (l k : List ℕ) → k ≡ take n l → n ≤ length k → n ≤ length l
+front_long n l k is long = let size = ap length is in grind (arith, length-take, size, long)
 
 -- `now` is written first and lists `m.segments`; `next` lists the same. What reads opens as `o`, by `now` as `p`, by `next` as `q`
 module _ (d : Content) (laws : Lawful d) (reopens : Reopens d) (now next : List ℕ) (m n : Manifest) (p q o : Opened)
@@ -148,28 +156,54 @@ module _ (d : Content) (laws : Lawful d) (reopens : Reopens d) (now next : List 
             (λ c left. (let w = two c left in (w.0, w.1, subst (Each (Agrees c d.files)) (sym same_segments) w.1)))
             (λ c left. (let t = told_before (laws3.told c left) in (reads t, reads' t)))
 
-        -- the log's files after it
-        pub next_files : IsTrue d.tells → (b : ℕ) → d3.files (Log b) ≡ d1.files (Log b)
-        next_files t b =
-            let t2 = subst IsTrue (sym (k.tells ∙ rewrites.tells)) t in
-            (change.files t2).2.others (Log b) (log_no_manifest b) ∙ k.files (Log b)
+-- where each listed file was read whole, whatever images there were before
+module _ (d d1 d2 d3 : Content) (laws3 : Lawful d3) (now next : List ℕ) (es : List Extent) (names : List FileName)
+    (fate : Fate) (went : fate ≡ Went) (rewrites : Rewrites now es names fate d d1) (k : Keeps d1 d2)
+    (M : Bool → Type 0) (change : Changes file.Manifest (replaced next) (Swapped next) M d2 d3)
+    (whole : IsTrue d1.tells → Each (λ e. e.len ≤ length (log_at d1.files e)) es) where
+  told1 : IsTrue d.tells → IsTrue d1.tells
+  told1 t = subst IsTrue (sym rewrites.tells) t
 
-        pub next_fronts : IsTrue d.tells → Each (λ e. front d3.files e ≡ front d.files e) es
-        next_fronts t =
-            each_map (λ e is. ap (λ (y : Option (List ℕ)). take e.len (bytes_in y)) (next_files t e.base) ∙ ap (λ (l : List ℕ). take e.len l) is ∙ take-take e.len e.len (log_at d.files e) (omega arith)) es (rewrites.files went t)
+  told_first : IsTrue d3.tells → IsTrue d.tells
+  told_first t = subst IsTrue (change.tells ∙ k.tells ∙ rewrites.tells) t
 
-        -- each file has its listed length
-        pub next_sizes : IsTrue d.tells → Each (λ e. length (log_at d3.files e) ≡ e.len) es
-        next_sizes t =
-            each_both (λ e is a. ap (λ (y : Option (List ℕ)). length (bytes_in y)) (next_files t e.base) ∙ ap length is ∙ length-take-le e.len (log_at d.files e) a.long) es (rewrites.files went t) (agree t d.files (laws.reads t))
+  -- the log's files after it
+  pub next_files : IsTrue d.tells → (b : ℕ) → d3.files (Log b) ≡ d1.files (Log b)
+  next_files t b =
+      let t2 = subst IsTrue (sym (k.tells ∙ rewrites.tells)) t in
+      (change.files t2).2.others (Log b) (log_no_manifest b) ∙ k.files (Log b)
 
-        pub next_stands : ((c : Files) → Image d3 c → c file.Manifest ≡ Some next) → (closed : List Extent) → ((c : Files) → Each (Agrees c d3.files) es → Each (Agrees c d3.files) closed) → Stands d3 next n.segments closed
-        next_stands sure closed part c left =
-            let t = told_before (laws3.told c left) in
-            let a = each_both (λ e is h. agrees_read c d.files d3.files e is h) es (next_fronts t) (two c left).1 in
-            record { manifest = sure c left; listed_fronts = subst (Each (Agrees c d3.files)) (sym same_segments) a; closed_fronts = part c a }
+  -- a listed file is the front of what it was
+  next_logs : IsTrue d.tells → Each (λ e. log_at d3.files e ≡ front d.files e) es
+  next_logs t = each_map (λ e is. ap bytes_in (next_files t e.base) ∙ is) es (rewrites.files went t)
 
-        pub next_reads : IsTrue d.tells → IsRead n d3.files q
-        next_reads t =
-            let a = each_both (λ e is h. record { long = subst (λ (k : ℕ). e.len ≤ k) (sym h) (omega arith); same = is }) es (next_fronts t) (next_sizes t) in
-            read_moved d3.files d.files n q (subst (Each (Agrees d3.files d.files)) (sym same_segments) a) (reads' t)
+  next_whole : IsTrue d.tells → Each (λ e. e.len ≤ length (log_at d3.files e)) es
+  next_whole t = each_map (λ e long. subst (λ (o : Option (List ℕ)). e.len ≤ length (bytes_in o)) (sym (next_files t e.base)) long) es (whole (told1 t))
+
+  -- each file has its listed length
+  pub next_sizes : IsTrue d.tells → Each (λ e. length (log_at d3.files e) ≡ e.len) es
+  next_sizes t = each_both (λ e is long. front_size e.len (log_at d.files e) (log_at d3.files e) is long) es (next_logs t) (next_whole t)
+
+  -- what was read before has the fronts that read now
+  pub next_was : IsTrue d.tells → Each (Agrees d.files d3.files) es
+  next_was t =
+      each_both
+      (λ e is long. record {
+        long = front_long e.len (log_at d.files e) (log_at d3.files e) is long;
+        same = sym (ap (take e.len) is ∙ take-take e.len e.len (log_at d.files e) (omega arith));
+      })
+      es (next_logs t) (next_whole t)
+
+  -- and so has each image
+  next_agree : (c : Files) → Image d3 c → Each (Agrees c d3.files) es
+  next_agree c left =
+      let x = change.images c left in
+      let t = told_first (laws3.told c left) in
+      each_both
+      (λ e kept long. agrees_read c d1.files d3.files e (ap (λ (o : Option (List ℕ)). take e.len (bytes_in o)) (next_files t e.base)) (agrees_then x.0 c d1.files e (same_kept x.0 c x.2.others e) (kept long)))
+      es (rewrites.synced went x.0 (k.images x.0 x.1)) (whole (told1 t))
+
+  pub next_stands : ((c : Files) → Image d3 c → c file.Manifest ≡ Some next) → (closed : List Extent) → ((c : Files) → Each (Agrees c d3.files) es → Each (Agrees c d3.files) closed) → Stands d3 next es closed
+  next_stands sure closed part c left =
+      let a = next_agree c left in
+      record { manifest = sure c left; listed_fronts = a; closed_fronts = part c a }

@@ -1,23 +1,16 @@
 -- Log files that aren't listed are removed.
-use Rattle.std.proofs.Common.{◌≡◌, ◌≢◌, ◌⊎◌, ℕ, ◌≤◌, Bool, cond, List, [], ◌∷◌, ◌++◌, length, take, Option, None, refl, sym, ◌∙◌, ap, subst, inl, inr, ⊎_elim, IsTrue}
+use Rattle.std.proofs.Common.{◌≡◌, ◌≢◌, ◌⊎◌, ℕ, Bool, cond, List, [], ◌∷◌, ◌++◌, Option, None, refl, sym, ◌∙◌, ap, subst, inl, inr, ⊎_elim, IsTrue}
 use Rattle.tier_base.specs.declared.plain.FileName.{FileName}
 use Rattle.tier_base.specs.declared.plain.FileName.TheVariants.{Manifest, Log, Notes, Gate}
 use Rattle.disk_model.proofs.Names.{cases_name}
 use Rattle.tier_base.specs.Told.{OnlyAt, In, removed, bytes_in}
 use Rattle.disk_model.specs.Content.{Content, Lawful, Files, Changes, LeavesOnly, Gone}
 use Rattle.log_manifest.specs.declared.manifest.Extent.{Extent}
-use Rattle.log_steps.specs.Fronts.{Each, Kept}
+use Rattle.log_steps.specs.Fronts.{Each}
 use Rattle.log_steps.specs.Rewrites.{KeepsFronts, AfterCuts, IsUnlisted, IsOther, RemovesOne, Removes}
 use Rattle.log_steps.proofs.Lists.{each_map, each_both, each_all, each_from}
 use Rattle.log_steps.proofs.Moments.{started, goes_on, leaves_weaker, leaves_then}
-use Rattle.log_steps.proofs.Restored.{kept_twice, manifest_other, log_differs}
-
--- the same file is there
-pub kept_same : (d c : Files) (e : Extent) → c (Log e.base) ≡ d (Log e.base) → Kept d c e
-kept_same d c e is long = record {
-  long = subst (λ (o : Option (List ℕ)). e.len ≤ length (bytes_in o)) (sym is) long;
-  same = ap (λ (o : Option (List ℕ)). take e.len (bytes_in o)) is;
-}
+use Rattle.log_steps.proofs.Restored.{kept_same, kept_twice, manifest_other, log_differs}
 
 pub none_kept : (es : List Extent) (c : Files) → KeepsFronts es c c
 none_kept es c = record { manifest = refl; fronts = each_all (λ e. kept_same c c e refl) es }

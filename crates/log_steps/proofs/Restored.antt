@@ -6,7 +6,7 @@ use Rattle.tier_base.specs.declared.plain.FileName.TheVariants.{Manifest, Log}
 use Rattle.disk_model.proofs.Names.{cases_name}
 use Rattle.tier_base.specs.Device.{Fate, Went}
 use Rattle.tier_base.specs.Told.{OnlyAt, bytes_in}
-use Rattle.disk_model.specs.Content.{Content, Lawful, Files, LeavesOnly, CutBack}
+use Rattle.disk_model.specs.Content.{Content, Lawful, Files, Image, LeavesOnly, CutBack}
 use Rattle.log_manifest.specs.declared.manifest.Extent.{Extent}
 use Rattle.log_steps.specs.Fronts.{log_at, front, Each, Agrees, Kept, Rising}
 use Rattle.log_steps.specs.Rewrites.{AfterCut, Restores, KeepsFronts, AfterCuts, IsUnlisted, RestoresAll}
@@ -71,6 +71,19 @@ IsUnlisted_at b es = IsUnlisted es b
 log_apart : (a b : ℕ) → (a < b) ⊎ (b < a) → Log a ≢ Log b
 log_apart a b lt e = let is : a ≡ b = cc in ⊎_elim (λ l. absurd (omega arith)) (λ l. absurd (omega arith)) lt
 
+-- the same file is there
+pub kept_same : (d c : Files) (e : Extent) → c (Log e.base) ≡ d (Log e.base) → Kept d c e
+kept_same d c e is long = record {
+  long = subst (λ (o : Option (List ℕ)). e.len ≤ length (bytes_in o)) (sym is) long;
+  same = ap (λ (o : Option (List ℕ)). take e.len (bytes_in o)) is;
+}
+
+-- it is kept of what has the same bytes
+pub kept_read : (f g c : Files) (e : Extent) → log_at g e ≡ log_at f e → Kept f c e → Kept g c e
+kept_read f g c e is kept long =
+    let a = kept (subst (λ (l : List ℕ). e.len ≤ length l) is long) in
+    record { long = a.long; same = a.same ∙ ap (take e.len) (sym is) }
+
 pub then_kept : (a b c : Files) (x : Extent) → Kept a b x → Kept b c x → Kept a c x
 then_kept a b c x f g long = (let y = f long in let z = g y.long in record { long = z.long; same = z.same ∙ y.same })
 
@@ -102,8 +115,17 @@ module _ (es done : List Extent) (e : Extent) (rest : List Extent) (is : es ≡ 
   other_log : IsTrue d.tells → (x : Extent) → (x.base < e.base) ⊎ (e.base < x.base) → log_at d'.files x ≡ log_at m.files x
   other_log t x apart = ap bytes_in (step.others (subst IsTrue (sym so_far.tells) t) (Log x.base) (log_apart x.base e.base apart))
 
-  pub step_done : fate ≡ Went → RestoresAll es (done ++ e ∷ []) rest d d'
-  step_done went = record {
+  -- what was synced before is so still
+  synced_before : Lawful d' → (c : Files) → Image d' c → Each (Kept d'.files c) done
+  synced_before laws' c now =
+      let x = step.since.each c (laws'.earlier m.moment d'.moment c step.since.later now) in
+      let t = subst IsTrue so_far.tells (laws.told x.0 x.1) in
+      each_both
+      (λ y lt kept. kept_read m.files d'.files c y (other_log t y (inl lt)) (then_kept m.files x.0 c y kept (kept_same x.0 c y (x.2.others (Log y.base) (log_apart y.base e.base (inl lt))))))
+      done (rising_left done e rest rises) (so_far.synced x.0 x.1)
+
+  pub step_done : Lawful d' → fate ≡ Went → RestoresAll es (done ++ e ∷ []) rest d d'
+  step_done laws' went = record {
     tells = step.tells ∙ so_far.tells;
     since = step_leaves;
     kept = λ t n other. step.others (subst IsTrue (sym so_far.tells) t) n (other e.base) ∙ so_far.kept t n other;
@@ -112,6 +134,7 @@ module _ (es done : List Extent) (e : Extent) (rest : List Extent) (is : es ≡ 
         (each_both (λ x lt h. other_log t x (inl lt) ∙ h) done (rising_left done e rest rises) (so_far.cut t))
         (step.cut went (subst IsTrue (sym so_far.tells) t) ∙ ap (λ (l : List ℕ). take e.len l) (so_far.same t).0, tt);
     same = λ t. each_both (λ x lt h. other_log t x (inr lt) ∙ h) rest (rising_right done e rest rises) (so_far.same t).1;
+    synced = λ c now. each_join (Kept d'.files c) done (e ∷ []) (synced_before laws' c now) (step.synced went c now, tt);
   }
 
 -- before the first
@@ -131,4 +154,5 @@ none_done es d = record {
   absent = λ t b other. refl;
   cut = λ t. tt;
   same = λ t. none_same d.files es;
+  synced = λ c now. tt;
 }

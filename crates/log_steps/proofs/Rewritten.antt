@@ -11,8 +11,7 @@ use Rattle.log_steps.specs.Fronts.{Each, Kept}
 use Rattle.log_steps.specs.Rewrites.{AfterCuts, RestoresAll, Removes, Underway, Rewriting, Rewrites}
 use Rattle.log_steps.proofs.Lists.{each_both, each_all}
 use Rattle.log_steps.proofs.Moments.{started, goes_on, leaves_weaker, leaves_then}
-use Rattle.log_steps.proofs.Restored.{then_kept, manifest_other}
-use Rattle.log_steps.proofs.Removed.{kept_same}
+use Rattle.log_steps.proofs.Restored.{kept_same, kept_read, then_kept, manifest_other}
 
 pub log_no_manifest : (b : ℕ) → Log b ≢ Manifest
 log_no_manifest b e = cc
@@ -45,6 +44,7 @@ module _ (now : List ℕ) (es : List Extent) (names : List FileName) (d d1 : Con
     files = λ went. absurd (not went);
     absent = λ went. absurd (not went);
     gone = λ went. absurd (not went);
+    synced = λ went. absurd (not went);
     phase = inl (λ c left. (let x = change.images c left in record { image = x.0; was = x.1; others = x.2.others; manifest = x.2.there }));
   }
 
@@ -83,6 +83,7 @@ module _ (now : List ℕ) (es : List Extent) (names : List FileName) (d d1 : Con
         files = λ went. absurd (not went);
         absent = λ went. absurd (not went);
         gone = λ went. absurd (not went);
+        synced = λ went. absurd (not went);
         phase = inr second;
       }
 
@@ -99,6 +100,13 @@ module _ (now : List ℕ) (es : List Extent) (names : List FileName) (d d1 : Con
         unchanged : IsTrue d.tells → (b : ℕ) → d1.files (Log b) ≡ d.files (Log b)
         unchanged t b = (change.files t).2.others (Log b) (log_no_manifest b)
 
+        -- a removal of others leaves the fronts in each image
+        synced_still : (c : Files) → Image d2 c → Each (Kept d2.files c) es
+        synced_still c left =
+            let x = removed.since.each c (laws2.earlier d0.moment d2.moment c removed.since.later left) in
+            let t = subst IsTrue removed.tells (laws2.told c left) in
+            each_both (λ e same kept. kept_read d0.files d2.files c e same kept) es (removed.listed t) (each_both (λ e f g. then_kept d0.files x.0 c e f g) es (restored.synced x.0 x.1) x.2.fronts)
+
         pub rewritten : (fate : Fate) → Rewrites now es names fate d d2
         rewritten fate = record {
           tells = tells2 ∙ change.tells;
@@ -108,5 +116,6 @@ module _ (now : List ℕ) (es : List Extent) (names : List FileName) (d d1 : Con
           files = λ went t. each_both (λ e r h. r ∙ h ∙ ap (λ (o : Option (List ℕ)). take e.len (bytes_in o)) (unchanged t e.base)) es (removed.listed (told0 t)) (restored.cut (told1 t));
           absent = λ went t b other was. removed.absent (told0 t) b (restored.absent (told1 t) b other ∙ unchanged t b ∙ was);
           gone = λ went t b other named. removed.gone (told0 t) b other named;
+          synced = λ went. synced_still;
           phase = inr second;
         }

@@ -19,6 +19,8 @@ pub record Restores (e : Extent) (fate : Fate) (old new : Content) : Type 0 wher
   pub since : LeavesOnly old new (AfterCut e old)
   pub others : IsTrue old.tells → (n : FileName) → n ≢ file.Log e.base → new.files n ≡ old.files n
   pub cut : fate ≡ Went → IsTrue old.tells → log_at new.files e ≡ front old.files e
+  -- each image has its front as it reads
+  pub synced : fate ≡ Went → (c : Files) → Image new c → Kept new.files c e
 
 -- the same manifest, and each front that was there
 pub record KeepsFronts (es : List Extent) (d c : Files) : Type 0 where
@@ -37,6 +39,8 @@ pub record RestoresAll (es done rest : List Extent) (old new : Content) : Type 0
   pub absent : IsTrue old.tells → (b : ℕ) → Each (λ e. b ≢ e.base) es → new.files (file.Log b) ≡ old.files (file.Log b)
   pub cut : IsTrue old.tells → Each (λ e. log_at new.files e ≡ front old.files e) done
   pub same : IsTrue old.tells → Each (λ e. log_at new.files e ≡ log_at old.files e) rest
+  -- each image has their fronts as they read
+  pub synced : (c : Files) → Image new c → Each (Kept new.files c) done
 
 -- no segment has this base
 abbrev pub IsUnlisted : List Extent → ℕ → Type 0
@@ -91,5 +95,7 @@ pub record Rewrites (now : List ℕ) (es : List Extent) (names : List FileName) 
   pub absent : fate ≡ Went → IsTrue old.tells → (b : ℕ) → IsUnlisted es b → old.files (file.Log b) ≡ None
       → new.files (file.Log b) ≡ None
   pub gone : fate ≡ Went → IsTrue old.tells → (b : ℕ) → IsUnlisted es b → In (file.Log b) names → new.files (file.Log b) ≡ None
+  -- each image has the fronts as they read
+  pub synced : fate ≡ Went → (c : Files) → Image new c → Each (Kept new.files c) es
   -- no file was cut, or each image has the manifest
   pub phase : ((c : Files) → Image new c → Rewritten now old c) ⊎ ((c : Files) → Image new c → Underway now es old c)

@@ -204,12 +204,27 @@ fn run(alloc: Global, log: &mut Log, turns: &[Turn]) -> Option<usize> {
     None
 }
 
-/// The number of the first turn that comes to something else. The log is closed then.
+/// Whether a broker that is down over this disk comes up.
+fn comes_up(alloc: Global, disk: MemoryDisk) -> bool {
+    let settings = Settings {
+        segment_bytes: 100,
+        index_interval: 0,
+    };
+    let mut log = BrokerLog::from_disk(alloc, disk, settings);
+    let end = up(&mut log);
+    log.close();
+    end.is_some()
+}
+
+/// The number of the first turn that comes to something else. The log is closed then, and opened over its disk again.
 fn run_and_close(alloc: Global, log: Log, turns: &[Turn]) -> Option<usize> {
     let mut log = log;
     let wrong = run(alloc, &mut log, turns);
-    log.close();
-    wrong
+    if comes_up(alloc, log.close()) {
+        wrong
+    } else {
+        Some(turns.len())
+    }
 }
 
 /// The number of the first turn of a new log that comes to something else.

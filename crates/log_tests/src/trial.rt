@@ -3,7 +3,6 @@
 
 ghost use Rattle.std.specs.Prelude.{◌≡◌, ◌≤◌, None, IsTrue};
 ghost use Rattle.tier_base.specs.declared.plain.FileName.{FileName};
-ghost use Rattle.log_steps.specs.Reopens.{Reopens};
 ghost use Rattle.local_log.specs.Dropping.{IsFirstStable};
 ghost use Rattle.local_log.specs.Log.{AreSettings};
 

@@ -33,10 +33,11 @@ loop-extent-preserved g c =
     let lt : i < length es = omega arith in
     let m = content c.loop-extent.disk in
     let laws : Lawful m = g.met.D.Disk.lawful c.loop-extent.disk in
+    let laws' : Lawful (content c.restore.new.disk) = g.met.D.Disk.lawful c.restore.new.disk in
     let so_far = subst (λ (l : List Extent). RestoresAll es (take i es) l (content c.args.disk.now) m) (drop_more es i none lt) c.loop-extent.invariant.content in
     record {
       content = subst (λ (l : List Extent). RestoresAll es l (drop (i + 1) es) (content c.args.disk.now) (content c.restore.new.disk)) (sym (take_more es i none lt))
-          (step_done es (take i es) (get_or es i none) (drop (i + 1) es) (split_at es i lt) c.requires.rising (content c.args.disk.now) m (content c.restore.new.disk) laws _ so_far c.in_ok-restore.ensures.content refl);
+          (step_done es (take i es) (get_or es i none) (drop (i + 1) es) (split_at es i lt) c.requires.rising (content c.args.disk.now) m (content c.restore.new.disk) laws _ so_far c.in_ok-restore.ensures.content laws' refl);
       room = omega (arith, c.loop-extent.invariant.room, c.in_ok-restore.ensures.room);
       control = lasts_then _ _ _ c.loop-extent.invariant.control c.in_ok-restore.ensures.control.lasts;
     }

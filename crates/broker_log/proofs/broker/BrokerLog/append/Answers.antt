@@ -12,8 +12,8 @@ invariant_of-self g c =
     let o = c.taken-log.result in
     let n = c.append-outcome.new.self in
     let r = c.append-outcome.result in
-    let well = well_up content c.self.inside.place o c.taken-log.ensures c.self.invariant in
-    place_well content c.placed.result c.settings-settings.result.now n c.is_append_fault.result c.settings-settings.ensures.fit c.placed.ensures.up c.placed.ensures.down c.placed.ensures.again
+    let well = well_up c.self.inside.place o c.taken-log.ensures c.self.invariant in
+    place_well c.placed.result c.settings-settings.result.now n c.is_append_fault.result c.settings-settings.ensures.fit c.placed.ensures.up c.placed.ensures.down
     (λ clear. whole_by _ _ _ _ r c.append-outcome.ensures.ok c.append-outcome.ensures.others
     (λ answer a. appended_whole content o n c.args.run.now answer a ∙ well)
     (λ kept. ap (λ (l : Log g.row.D.Denot). l.broken) (c.append-outcome.ensures.unchanged kept) ∙ well)
@@ -26,7 +26,7 @@ returns-clause-ok g c =
     let o = c.taken-log.result in
     let n = c.append-outcome.new.self in
     let r = c.append-outcome.result in
-    let well = well_up content c.self.inside.place o c.taken-log.ensures c.self.invariant in
+    let well = well_up c.self.inside.place o c.taken-log.ensures c.self.invariant in
     let now_is : c.args.self.now ≡ Up o = sym c.self.view_is ∙ c.taken-log.ensures in
     ok_open _ r c.is_append_fault.result c.is_append_fault.ensures (λ clear.
     rw (now_is, c.placed.ensures.up clear) (ok_both _ _ _ r
@@ -52,4 +52,4 @@ returns-clause-fault g c =
     let now_is : c.args.self.now ≡ Up o = sym c.self.view_is ∙ c.taken-log.ensures in
     λ fault.
     rw (now_is, c.placed.ensures.down (c.is_append_fault.ensures.1 fault), c.settings-settings.ensures.are)
-    (breaks_unsaved content o n (g.met.D.Disk.lawful n.disk) (c.append-outcome.ensures.broken fault).tells c.append-outcome.ensures.opens)
+    (breaks_unsaved content o n (g.met.D.Disk.lawful n.disk) (c.placed.ensures.again (c.is_append_fault.ensures.1 fault)) (c.append-outcome.ensures.broken fault).tells c.append-outcome.ensures.opens)

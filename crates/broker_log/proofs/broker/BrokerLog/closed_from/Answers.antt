@@ -10,7 +10,7 @@ returns-clause-part g c =
     let content = g.D.Disk.content in
     let o = c.taken-log.result in
     let now_is : c.args.self.now ≡ Up o = sym c.self.view_is ∙ c.taken-log.ensures in
-    let well = well_up content c.self.inside.place o c.taken-log.ensures c.self.invariant in
+    let well = well_up c.self.inside.place o c.taken-log.ensures c.self.invariant in
     rw now_is (ok_more _ _ c.closed_from-outcome.result
     (λ segment told s h. some_more _ _ segment (λ whole part. segment_of content o s h (c.coheres.ensures well h.told).are whole part) (told h.told))
     c.closed_from-outcome.ensures.part)

@@ -12,7 +12,7 @@ returns-clause-ok g c =
     let o = c.taken-log.result in
     let n = c.drop_first-outcome.new.self in
     let r = c.drop_first-outcome.result in
-    let well = well_up content c.self.inside.place o c.taken-log.ensures c.self.invariant in
+    let well = well_up c.self.inside.place o c.taken-log.ensures c.self.invariant in
     let now_is : c.args.self.now ≡ Up o = sym c.self.view_is ∙ c.taken-log.ensures in
     let some : IsFirstStable o.stable o.closed = subst (λ (k : Kept g.row.D.Denot). WhileUp k (λ log. IsFirstStable log.stable log.closed)) now_is c.requires in
     ok_open _ r c.is_fault.result c.is_fault.ensures (λ clear.
@@ -26,7 +26,7 @@ returns-clause-no_memory g c =
     let o = c.taken-log.result in
     let n = c.drop_first-outcome.new.self in
     let r = c.drop_first-outcome.result in
-    let well = well_up content c.self.inside.place o c.taken-log.ensures c.self.invariant in
+    let well = well_up c.self.inside.place o c.taken-log.ensures c.self.invariant in
     let now_is : c.args.self.now ≡ Up o = sym c.self.view_is ∙ c.taken-log.ensures in
     λ dry.
     let clear = dry_open r c.is_fault.result c.is_fault.ensures dry (λ e. cc e) in
@@ -38,9 +38,9 @@ returns-clause-fault g c =
     let o = c.taken-log.result in
     let n = c.drop_first-outcome.new.self in
     let r = c.drop_first-outcome.result in
-    let well = well_up content c.self.inside.place o c.taken-log.ensures c.self.invariant in
+    let well = well_up c.self.inside.place o c.taken-log.ensures c.self.invariant in
     let now_is : c.args.self.now ≡ Up o = sym c.self.view_is ∙ c.taken-log.ensures in
     let some : IsFirstStable o.stable o.closed = subst (λ (k : Kept g.row.D.Denot). WhileUp k (λ log. IsFirstStable log.stable log.closed)) now_is c.requires in
     λ fault.
     rw (now_is, c.placed.ensures.down (c.is_fault.ensures.1 fault), c.settings-settings.ensures.are)
-    (drop_breaks content o some (c.coheres.ensures well) n c.drop_first-outcome.ensures.tells (g.met.D.Disk.lawful n.disk) c.drop_first-outcome.ensures.opens)
+    (drop_breaks content o some (c.coheres.ensures well) n c.drop_first-outcome.ensures.tells (g.met.D.Disk.lawful n.disk) (c.placed.ensures.again (c.is_fault.ensures.1 fault)) c.drop_first-outcome.ensures.opens)

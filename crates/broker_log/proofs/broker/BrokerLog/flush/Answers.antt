@@ -10,11 +10,11 @@ returns-clause-fault g c =
     let content = g.D.Disk.content in
     let o = c.taken-log.result in
     let n = c.flush-outcome.new.self in
-    let well = well_up content c.self.inside.place o c.taken-log.ensures c.self.invariant in
+    let well = well_up c.self.inside.place o c.taken-log.ensures c.self.invariant in
     let now_is : c.args.self.now ≡ Up o = sym c.self.view_is ∙ c.taken-log.ensures in
     λ fault.
     rw (now_is, c.placed.ensures.down (c.is_fault.ensures.1 fault), c.settings-settings.ensures.are)
-    (breaks_settling content o n (g.met.D.Disk.lawful n.disk) (λ line k. line) (λ t. (c.coheres.ensures well t).line_within) (c.flush-outcome.ensures.broken fault).tells c.flush-outcome.ensures.opens)
+    (breaks_settling content o n (g.met.D.Disk.lawful n.disk) (c.placed.ensures.again (c.is_fault.ensures.1 fault)) (λ line k. line) (λ t. (c.coheres.ensures well t).line_within) (c.flush-outcome.ensures.broken fault).tells c.flush-outcome.ensures.opens)
 
 pub returns-clause-ok : goal.returns-clause-ok
 returns-clause-ok g c =
@@ -22,7 +22,7 @@ returns-clause-ok g c =
     let o = c.taken-log.result in
     let n = c.flush-outcome.new.self in
     let r = c.flush-outcome.result in
-    let well = well_up content c.self.inside.place o c.taken-log.ensures c.self.invariant in
+    let well = well_up c.self.inside.place o c.taken-log.ensures c.self.invariant in
     let now_is : c.args.self.now ≡ Up o = sym c.self.view_is ∙ c.taken-log.ensures in
     ok_open _ r c.is_fault.result c.is_fault.ensures (λ clear.
     rw (now_is, c.placed.ensures.up clear) (ok_told _ _ r
@@ -35,7 +35,7 @@ returns-clause-no_memory g c =
     let o = c.taken-log.result in
     let n = c.flush-outcome.new.self in
     let r = c.flush-outcome.result in
-    let well = well_up content c.self.inside.place o c.taken-log.ensures c.self.invariant in
+    let well = well_up c.self.inside.place o c.taken-log.ensures c.self.invariant in
     let now_is : c.args.self.now ≡ Up o = sym c.self.view_is ∙ c.taken-log.ensures in
     λ dry.
     let clear = dry_open r c.is_fault.result c.is_fault.ensures dry (λ e. cc e) in

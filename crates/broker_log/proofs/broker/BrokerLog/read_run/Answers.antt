@@ -10,7 +10,7 @@ returns-clause-ok g c =
     let o = c.taken-log.result in
     let n = c.read_run-outcome.new.self in
     let e = c.read_run-outcome.ensures in
-    let well = well_up content c.self.inside.place o c.taken-log.ensures c.self.invariant in
+    let well = well_up c.self.inside.place o c.taken-log.ensures c.self.invariant in
     let now_is : c.args.self.now ≡ Up o = sym c.self.view_is ∙ c.taken-log.ensures in
     let from : o.local_start ≤ c.args.offset = subst (λ (k : Kept g.row.D.Denot). WhileUp k (λ log. log.local_start ≤ c.args.offset)) now_is c.requires.start in
     rw now_is (ok_three _ _ _ _ c.read_run-outcome.result

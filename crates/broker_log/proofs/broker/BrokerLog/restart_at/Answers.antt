@@ -11,7 +11,7 @@ returns-clause-ok g c =
     let o = c.taken-log.result in
     let n = c.restart_at-outcome.new.self in
     let r = c.restart_at-outcome.result in
-    let well = well_up content c.self.inside.place o c.taken-log.ensures c.self.invariant in
+    let well = well_up c.self.inside.place o c.taken-log.ensures c.self.invariant in
     let now_is : c.args.self.now ≡ Up o = sym c.self.view_is ∙ c.taken-log.ensures in
     on_open _ r c.is_fault.result c.is_fault.ensures (λ clear.
     rw (now_is, c.placed.ensures.up clear) (on_both _ _ _ r
@@ -24,7 +24,7 @@ returns-clause-no_memory g c =
     let o = c.taken-log.result in
     let n = c.restart_at-outcome.new.self in
     let r = c.restart_at-outcome.result in
-    let well = well_up content c.self.inside.place o c.taken-log.ensures c.self.invariant in
+    let well = well_up c.self.inside.place o c.taken-log.ensures c.self.invariant in
     let now_is : c.args.self.now ≡ Up o = sym c.self.view_is ∙ c.taken-log.ensures in
     λ dry.
     let clear = dry_open r c.is_fault.result c.is_fault.ensures dry (λ e. cc e) in
@@ -36,8 +36,8 @@ returns-clause-fault g c =
     let o = c.taken-log.result in
     let n = c.restart_at-outcome.new.self in
     let r = c.restart_at-outcome.result in
-    let well = well_up content c.self.inside.place o c.taken-log.ensures c.self.invariant in
+    let well = well_up c.self.inside.place o c.taken-log.ensures c.self.invariant in
     let now_is : c.args.self.now ≡ Up o = sym c.self.view_is ∙ c.taken-log.ensures in
     λ fault.
     rw (now_is, c.placed.ensures.down (c.is_fault.ensures.1 fault), c.settings-settings.ensures.are)
-    (restart_breaks content o c.args.start c.args.line n c.restart_at-outcome.ensures.tells (g.met.D.Disk.lawful n.disk) c.restart_at-outcome.ensures.opens)
+    (restart_breaks content o c.args.start c.args.line n c.restart_at-outcome.ensures.tells (g.met.D.Disk.lawful n.disk) (c.placed.ensures.again (c.is_fault.ensures.1 fault)) c.restart_at-outcome.ensures.opens)

@@ -6,4 +6,4 @@ use Rattle.broker_log.proofs.broker.BrokerLog.stop.Goals as goal
 pub returns-clause-stops : goal.returns-clause-stops
 returns-clause-stops g c =
     let now_is : c.args.self.now ≡ Up c.taken-log.result = sym c.self.view_is ∙ c.taken-log.ensures in
-    rw (now_is, c.placed.ensures.down refl, c.settings-settings.ensures.are) (stops_by g.D.Disk.content c.taken-log.result)
+    rw (now_is, c.placed.ensures.down refl, c.settings-settings.ensures.are) (stops_by g.D.Disk.content c.taken-log.result (c.placed.ensures.again refl))

@@ -1,6 +1,7 @@
 use Rattle.std.proofs.Common.{◌≡◌, ◌∙◌, sym, ap, Some}
+use Rattle.local_log.specs.declared.refusal.OpenRefusal.TheVariants.{Damaged}
 use Rattle.broker_log.specs.Seen.{Down}
-use Rattle.broker_log.proofs.Returning.{opens_by, intervals_of, stays_by_closing}
+use Rattle.broker_log.proofs.Returning.{opens_by, read_by, intervals_of, stays_by_closing, unopened}
 use Rattle.broker_log.proofs.broker.BrokerLog.up.Goals as goal
 
 pub returns-in-Ok-clause-ok : goal.returns-in-Ok-clause-ok
@@ -16,6 +17,7 @@ returns-in-Ok-clause-ok g c =
       stable_is = ap Some (e.log.stable ∙ sym c.end-end.ensures);
       settings = rw now_is (ap Some e.log.settings_are);
       intervals = intervals_of settings log e.log;
+      read = rw now_is (read_by content settings disk (g.met.D.Disk.lawful disk) log e.tells e.log.stable e.log.broken e.opened (c.coheres.ensures e.log.broken) e.durable);
       seen = rw (now_is, c.end-end.ensures) (opens_by content settings disk (g.met.D.Disk.lawful disk) log e.tells e.log.stable e.log.broken e.opened (c.coheres.ensures e.log.broken) e.durable);
     }
 
@@ -26,4 +28,14 @@ returns-in-Err-clause-stays g c =
     let disk = c.taken_disk-disk.result.1 in
     let e = c.in-Err.ensures in
     let now_is : c.args.self.now ≡ Down settings disk = sym c.self.view_is ∙ c.taken_disk-disk.ensures in
-    rw now_is (stays_by_closing content settings disk (g.met.D.Disk.lawful disk) c.in-Err.disk (g.met.D.Disk.lawful c.in-Err.disk) e.tells_err e.any_moment_err)
+    rw now_is (stays_by_closing content settings disk (g.met.D.Disk.lawful disk) c.in-Err.disk (g.met.D.Disk.lawful c.in-Err.disk) e.tells_err e.any_moment_err e.again)
+
+pub returns-in-Err-clause-damaged : goal.returns-in-Err-clause-damaged
+returns-in-Err-clause-damaged g c name at is =
+    let content = g.D.Disk.content in
+    let settings = c.taken_disk-disk.result.0 in
+    let disk = c.taken_disk-disk.result.1 in
+    let e = c.in-Err.ensures in
+    let now_is : c.args.self.now ≡ Down settings disk = sym c.self.view_is ∙ c.taken_disk-disk.ensures in
+    let why_is : c.in-Err.refusal ≡ Damaged name at = cc is in
+    rw now_is (unopened content settings disk (g.met.D.Disk.lawful disk) c.in-Err.disk (g.met.D.Disk.lawful c.in-Err.disk) e.tells_err e.any_moment_err e.again g.D.Disk.control c.in-Err.refusal name at why_is e.err e.sound)
