@@ -1,6 +1,7 @@
 //! A view of finished copies, one behind another, and the line of a log that has them all.
 
-ghost use Rattle.std.specs.Prelude.{◌≡◌, ◌≤◌, ◌*◌, ◌^◌, ◌∷◌, [], IfOk};
+ghost use Rattle.std.specs.Prelude.{◌≡◌, ◌≢◌, ◌≤◌, ◌*◌, ◌^◌, ◌∷◌, [], IfOk};
+ghost use Rattle.tier_base.specs.declared.plain.State.TheVariants.{CopyStarted};
 ghost use Rattle.segment_meta.specs.Rules.{IsNote};
 
 use epoch_line::Line;
@@ -62,15 +63,16 @@ fn started(alloc: Global, number: u32) -> Result<Note, AllocError>
     }))
 }
 
-/// A copy has finished.
-fn finished(number: u32) -> Note
+/// A copy comes to a state.
+fn comes_to(number: u32, state: State) -> Note
+    requires { state ≢ CopyStarted }
     ensures { IsNote result }
 {
     Note::Update {
         id: id_of(number),
         broker: BrokerId(0),
         event_ts: 0,
-        state: State::CopyFinished,
+        state,
         custom: None,
     }
 }
@@ -80,7 +82,16 @@ pub fn view_of(alloc: Global, copies: u32) -> Result<View, AllocError> {
     let mut view = View::new(alloc);
     for number in 0..copies {
         view.feed(&started(alloc, number)?)?;
-        view.feed(&finished(number))?;
+        view.feed(&comes_to(number, State::CopyFinished))?;
     }
     Ok(view)
+}
+
+/// Deletes so many copies, the first ones first.
+pub fn delete(view: &mut View, copies: u32) -> Result<(), AllocError> {
+    for number in 0..copies {
+        view.feed(&comes_to(number, State::DeleteStarted))?;
+        view.feed(&comes_to(number, State::DeleteFinished))?;
+    }
+    Ok(())
 }

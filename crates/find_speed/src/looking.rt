@@ -1,7 +1,7 @@
-//! Looking up offsets in no order, the same in each run.
+//! Looking up offsets in no order, the same in each run, and asking how far the copies go.
 
 use epoch_line::Line;
-use remote_find::find;
+use remote_find::{covered_to, find};
 use remote_view::View;
 
 /// The next number of a row in no order.
@@ -30,4 +30,15 @@ pub fn count_found(view: &View, line: &Line, log_end: u64, offsets: u32) -> u32 
         }
     }
     found
+}
+
+/// Asks so many times how far copies go from offsets in the first ten on, and counts where that is the log's end.
+pub fn count_covered(view: &View, line: &Line, log_end: u64, times: u32) -> u32 {
+    let mut whole = 0u32;
+    for time in 0..times {
+        if covered_to(view, line, log_end, u64::from(time) % 10) == log_end {
+            whole = whole.saturating_add(1);
+        }
+    }
+    whole
 }

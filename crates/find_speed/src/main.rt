@@ -1,9 +1,9 @@
 //! How long a look-up in the remote tier takes, by how many copies a view has.
 //!
 //! `find_speed [COPIES [OFFSETS [time]]]` feeds a view the notes of COPIES copies, each of ten offsets behind those of the one
-//! before and all of one epoch, looks up OFFSETS of their offsets in no order, and prints how many were found. With the word `time`
-//! the line also tells how long a copy's two notes and a look-up took in the mean. Only then does the output differ between
-//! runs.
+//! before and all of one epoch, looks up OFFSETS of their offsets in no order, and prints how many were found. Then it asks a
+//! thousand times how far the copies go, prints how often that was all of them, and feeds the notes by which they are deleted.
+//! With the word `time` a line more tells how long each took in the mean. Only then does the output differ between runs.
 #![tactic(auto)]
 
 mod copies;
@@ -15,22 +15,33 @@ use anyhow::Result;
 use pace::Pace;
 use std::time::Instant;
 
+/// How many times it is asked how far the copies go.
+const TIMES: u32 = 1000;
+
 fn main(rt: HostRuntime) -> Result<()> {
     let task = task::from_args(&rt)?;
     let alloc = rt.alloc();
     let start = Instant::now(&rt)?;
-    let view = copies::view_of(alloc, task.copies)?;
+    let mut view = copies::view_of(alloc, task.copies)?;
     let fed = Pace::new(start.elapsed(&rt)?, task.copies);
     let line = copies::line(alloc)?;
     let start = Instant::now(&rt)?;
     let found = looking::count_found(&view, &line, copies::end_of(task.copies), task.offsets);
     let looked_up = Pace::new(start.elapsed(&rt)?, task.offsets);
+    let start = Instant::now(&rt)?;
+    let whole = looking::count_covered(&view, &line, copies::end_of(task.copies), TIMES);
+    let asked = Pace::new(start.elapsed(&rt)?, TIMES);
+    let start = Instant::now(&rt)?;
+    copies::delete(&mut view, task.copies)?;
+    let deleted = Pace::new(start.elapsed(&rt)?, task.copies);
     println!(rt;
-        "{} copies, {found} of {} offsets found",
+        "{} copies, {found} of {} offsets found, all of them covered {whole} times",
         task.copies, task.offsets
     )?;
     if task.timed {
-        println!(rt; "a copy's notes {fed}, a look-up {looked_up}")?;
+        println!(rt;
+            "a copy's notes {fed}, a look-up {looked_up}, how far {asked}, a deletion's notes {deleted}"
+        )?;
     }
     Ok(())
 }

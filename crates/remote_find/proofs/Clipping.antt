@@ -105,7 +105,7 @@ span_grows (entry ∷ next ∷ line) epoch end later o up h = by (entry.0 == epo
     by false h more = more h
 
 -- where an epoch lies, the line gives it
-own_epoch : (line : List (ℕ × ℕ)) (epoch end o : ℕ) (span : Span) → IsLine line → span_of line epoch end ≡ Some span → span.from ≤ o → o < span.to → epoch_at line o ≡ Some epoch
+pub own_epoch : (line : List (ℕ × ℕ)) (epoch end o : ℕ) (span : Span) → IsLine line → span_of line epoch end ≡ Some span → span.from ≤ o → o < span.to → epoch_at line o ≡ Some epoch
 own_epoch line epoch end o span rises is low high =
     let inside : in_span (span_of line epoch end) o ≡ true = rw is (within_true span.from span.to o low high) in
     given epoch (epoch_at line o) (lies line epoch (max end (o + 1)) o rises (omega arith) ∙ span_grows line epoch end (max end (o + 1)) o (omega arith) inside)

@@ -1,6 +1,6 @@
 -- What pieces that follow one another cover.
-use Rattle.std.proofs.Common.{◌≡◌, ◌∙◌, refl, sym, ap, ℕ, zero, suc, ◌+◌, ◌-◌, ◌<◌, ◌≤◌, Bool, true, false, cond, List, [], ◌∷◌, length, Option, Some, None, arith, inl, inr}
-use Rattle.std.specs.Prelude.{nat_le, nat_lt, ◌⊎◌, filter, IsSome}
+use Rattle.std.proofs.Common.{◌≡◌, ◌∙◌, refl, sym, ℕ, zero, suc, ◌+◌, ◌-◌, ◌<◌, ◌≤◌, Bool, true, false, cond, List, [], ◌∷◌, length, Option, Some, None, arith, inl, inr}
+use Rattle.std.specs.Prelude.{nat_le, nat_lt, ◌⊎◌, IsSome}
 use Rattle.std.specs.Str.{bytes_eq}
 use Rattle.std.specs.List.{AllByRecursion}
 use Rattle.std.proofs.lemmas.Bool.{cases_lt, ltb-true, leb-true, lt-ltb, le-leb, both_ways}
@@ -10,30 +10,15 @@ use Rattle.tier_base.specs.declared.names.SegmentId.{SegmentId}
 use Rattle.segment_meta.specs.declared.note.Entry.{Entry}
 use Rattle.remote_view.specs.declared.spans.Span.{Span}
 use Rattle.remote_view.specs.Fold.{entry_of, IsKept, AreKept, AreDistinct}
-use Rattle.remote_view.specs.Lookup.{is_readable, is_epoch, covers, better_of, best_from, finished}
+use Rattle.remote_view.specs.Lookup.{is_readable, is_epoch, covers, finished}
 use Rattle.remote_view.specs.Laying.{gives}
 use Rattle.remote_view.specs.Stairs.{span_of}
 use Rattle.remote_view.proofs.Lying.{in_span, lies, map_lies}
-use Rattle.remote_view.proofs.Best.{Among, found_among, entry_found, readable_covers}
+use Rattle.remote_view.proofs.Best.{Among, found_among, entry_found, readable_covers, best_passing}
 use Rattle.remote_view.proofs.Keeping.{kept_found}
 use Rattle.remote_find.specs.declared.piece.Piece.{Piece}
 use Rattle.remote_find.specs.Pieces.{◌>>=◌, Pieces, clipped, piece_below, piece_at, IsPieceOf, beyond, reached, covered_to, and_behind, chained, chain, IsCovered, AreTouching, AreBelow, IsLongest}
 use Rattle.remote_find.proofs.Clipping.{shared, clipped_is, gives_it, piece_lies}
-
--- a best entry that there is stays, or gives way to another
-best_stays : (best : Option Entry) (es : List Entry) → IsSome best → IsSome (best_from best es)
-best_stays best [] some = some
-best_stays best (e ∷ es) some = best_stays (Some (better_of best e)) es refl
-
--- where an entry passes a test, there is a best one of those that do
-best_passing : (test : Entry → Bool) (best : Option Entry) (es : List Entry) (b : Entry) → Among b es → test b ≡ true → IsSome (best_from best (filter test es))
-best_passing test best [] b among is = absurd among
-best_passing test best (e ∷ es) b among is = by (test e) refl among (λ more. best_passing test best es b more is)
-  where
-    by : (t : Bool) → test e ≡ t → (b ≡ e) ⊎ Among b es → (Among b es → IsSome (best_from best (filter test es))) → IsSome (best_from best (cond t (e ∷ filter test es) (filter test es)))
-    by true here among more = best_stays (Some (better_of best e)) (filter test es) refl
-    by false here (inl same) more = absurd (let no : test b ≡ false = ap test same ∙ here in cc)
-    by false here (inr rest) more = more rest
 
 -- the entry of an id is among the entries
 among_held : (id : SegmentId) (es : List Entry) (e : Entry) → entry_of id es ≡ Some e → Among e es
@@ -66,18 +51,32 @@ clipped_there line log_end epoch o entry rises kept below at h =
     gives_there true is = sym (readable_covers epoch o entry true is) ∙ h
     gives_there false is = absurd (both_ways (covers epoch o entry) (readable_covers epoch o entry false is) h)
 
--- an offset that a finished copy covers has a piece
-piece_there : (entries : List Entry) (line : List (ℕ × ℕ)) (log_end epoch o : ℕ) (entry : Entry) → AreKept entries → AreDistinct entries → IsLine line → o < log_end
-    → epoch_at line o ≡ Some epoch → Among entry entries → covers epoch o entry ≡ true → IsSome (piece_at entries line log_end o)
-piece_there entries line log_end epoch o entry kept distinct rises below at among h =
+-- an offset has a piece where a copy is found there
+pub found_there : (entries : List Entry) (line : List (ℕ × ℕ)) (log_end epoch o : ℕ) → AreKept entries → AreDistinct entries → IsLine line → o < log_end
+    → epoch_at line o ≡ Some epoch → IsSome (finished epoch o entries) → IsSome (piece_at entries line log_end o)
+found_there entries line log_end epoch o kept distinct rises below at some =
     let inside : nat_lt o log_end ≡ true = lt-ltb o log_end below in
-    rw (inside, at) (by (finished epoch o entries) refl (best_passing (covers epoch o) None entries entry among h))
+    rw (inside, at) (by (finished epoch o entries) refl some)
   where
     by : (f : Option Entry) → finished epoch o entries ≡ f → IsSome f → IsSome (f >>= (λ entry. clipped line log_end epoch entry))
     by None is some = absurd (cc)
     by (Some best) is some =
         let found = found_among epoch o entries best is in
         clipped_there line log_end epoch o best rises (kept_found best.id entries best kept (entry_found entries best distinct found.1)) below at found.0
+
+-- and none where there is none
+pub found_nowhere : (entries : List Entry) (line : List (ℕ × ℕ)) (log_end epoch o : ℕ) → epoch_at line o ≡ Some epoch → finished epoch o entries ≡ None → piece_at entries line log_end o ≡ None
+found_nowhere entries line log_end epoch o at none = by (nat_lt o log_end)
+  where
+    by : (t : Bool) → cond t (piece_below entries line log_end o) None ≡ None
+    by true = rw (at, none) refl
+    by false = refl
+
+-- an offset that a finished copy covers has a piece
+piece_there : (entries : List Entry) (line : List (ℕ × ℕ)) (log_end epoch o : ℕ) (entry : Entry) → AreKept entries → AreDistinct entries → IsLine line → o < log_end
+    → epoch_at line o ≡ Some epoch → Among entry entries → covers epoch o entry ≡ true → IsSome (piece_at entries line log_end o)
+piece_there entries line log_end epoch o entry kept distinct rises below at among h =
+    found_there entries line log_end epoch o kept distinct rises below at (best_passing (covers epoch o) None entries entry among h)
 
 -- so has each offset behind one whose piece it is in
 pub piece_goes_on : (entries : List Entry) (line : List (ℕ × ℕ)) (log_end o q : ℕ) (piece : Piece) → AreKept entries → AreDistinct entries → IsLine line

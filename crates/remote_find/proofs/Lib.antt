@@ -1,3 +1,4 @@
 pub mod Clipping
 pub mod Covering
+pub mod Epochs
 pub mod Following

@@ -7,9 +7,11 @@
 mod laws;
 mod piece;
 mod pieces;
+mod reaching;
 
 pub use laws::{
     a_chain_is_the_longest, a_piece_lies_in_one_copy_and_epoch, what_is_covered_has_pieces,
 };
 pub use piece::Piece;
-pub use pieces::{chain, covered_to, find};
+pub use pieces::{chain, find};
+pub use reaching::covered_to;

@@ -43,8 +43,8 @@ fn clipped(entry: &Entry, line: &Line, log_end: u64, epoch: u32) -> Option<Piece
     })
 }
 
-/// The end that pieces reach from an offset on, one after another: the offset itself where it has none.
-pub fn covered_to(view: &View, line: &Line, log_end: u64, at: u64) -> u64
+/// The end that pieces reach from an offset on, found one after another.
+pub(crate) fn followed(view: &View, line: &Line, log_end: u64, at: u64) -> u64
     ensures { result ≡ covered_to view.now.entries line.now log_end at }
 {
     let mut place = at;

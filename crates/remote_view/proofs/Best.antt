@@ -1,6 +1,6 @@
 -- The best of the entries that give an epoch at an offset, and how it changes with the entries.
 use Rattle.std.proofs.Common.{◌≡◌, ◌≢◌, ◌∙◌, refl, sym, ap, ℕ, ℤ, Bool, true, false, cond, List, [], ◌∷◌, ◌++◌, Option, Some, None, arith, inl, inr}
-use Rattle.std.specs.Prelude.{filter, option_map, not, nat_lt, ◌==◌, ◌&&◌, ◌||◌, ◌⊎◌}
+use Rattle.std.specs.Prelude.{filter, option_map, not, nat_lt, ◌==◌, ◌&&◌, ◌||◌, ◌⊎◌, IsSome}
 use Rattle.std.specs.Str.{bytes_eq}
 use Rattle.std.specs.List.{AllByRecursion}
 use Rattle.std.proofs.lemmas.Bool.{both_ways}
@@ -147,7 +147,7 @@ insert_late best x [] h = refl
 insert_late best x (y ∷ es) h =
     ap (λ (b : Entry). best_from (Some b) es) (swap best x y h.0) ∙ insert_late (Some (better_of best y)) x es h.1
 
-others_filter : (test : Entry → Bool) (number : ℕ) (es : List Entry) → HaveOthers number es → HaveOthers number (filter test es)
+pub others_filter : (test : Entry → Bool) (number : ℕ) (es : List Entry) → HaveOthers number es → HaveOthers number (filter test es)
 others_filter test number [] h = tt
 others_filter test number (e ∷ es) h = by (test e) (others_filter test number es h.1)
   where
@@ -165,6 +165,28 @@ other_numbers id [] is kept none = tt
 other_numbers id (e ∷ es) is kept none =
     let parts = absent (bytes_eq e.id.0 id.0) e (entry_of id es) none in
     (λ same. both_ways (bytes_eq e.id.0 id.0) parts.0 (let one : id ≡ e.id = same_number id e.id is kept.0.id same in rw one (bytes_self e.id.0)), other_numbers id es is kept.1 parts.1)
+
+-- a best entry that there is stays, or gives way to another
+best_stays : (best : Option Entry) (es : List Entry) → IsSome best → IsSome (best_from best es)
+best_stays best [] some = some
+best_stays best (e ∷ es) some = best_stays (Some (better_of best e)) es refl
+
+-- where an entry passes a test, there is a best one of those that do
+pub best_passing : (test : Entry → Bool) (best : Option Entry) (es : List Entry) (b : Entry) → Among b es → test b ≡ true → IsSome (best_from best (filter test es))
+best_passing test best [] b among is = absurd among
+best_passing test best (e ∷ es) b among is = by (test e) refl among (λ more. best_passing test best es b more is)
+  where
+    by : (t : Bool) → test e ≡ t → (b ≡ e) ⊎ Among b es → (Among b es → IsSome (best_from best (filter test es))) → IsSome (best_from best (cond t (e ∷ filter test es) (filter test es)))
+    by true here among more = best_stays (Some (better_of best e)) (filter test es) refl
+    by false here (inl same) more = absurd (let no : test b ≡ false = ap test same ∙ here in cc)
+    by false here (inr rest) more = more rest
+
+-- nothing else has the id
+pub no_others : (id : SegmentId) (es : List Entry) → entry_of id es ≡ None → others id es ≡ es
+no_others id [] none = refl
+no_others id (e ∷ es) none =
+    let parts = absent (bytes_eq e.id.0 id.0) e (entry_of id es) none in
+    rw parts.0 (ap (λ (l : List Entry). e ∷ l) (no_others id es parts.1))
 
 module _ (broker : BrokerId) (event_ts : ℤ) (state : State) (custom : Option (List ℕ)) where
   -- an entry that counts only when it is changed
@@ -213,13 +235,6 @@ module _ (broker : BrokerId) (event_ts : ℤ) (state : State) (custom : Option (
           → filter test (cond t (updated broker event_ts state custom e ∷ es) (e ∷ changed x.id (updated broker event_ts state custom) es)) ≡ cond (test e) (e ∷ filter test es) (filter test es)
       by true is more = let same : e ≡ x = cc in rw (same, out, out') refl
       by false is more = ap (λ (l : List Entry). cond (test e) (e ∷ l) l) (more is)
-
-  -- nothing else has the id
-  no_others : (id : SegmentId) (es : List Entry) → entry_of id es ≡ None → others id es ≡ es
-  no_others id [] none = refl
-  no_others id (e ∷ es) none =
-      let parts = absent (bytes_eq e.id.0 id.0) e (entry_of id es) none in
-      rw parts.0 (ap (λ (l : List Entry). e ∷ l) (no_others id es parts.1))
 
   -- an entry that no longer counts is as good as none
   pub gone_filter : (test : Entry → Bool) (id : SegmentId) (es : List Entry) → AreDistinct es → ((e : Entry) → test (updated broker event_ts state custom e) ≡ false)

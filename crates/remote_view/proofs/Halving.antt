@@ -39,7 +39,7 @@ pub nothing_behind : (stair : List Tread) (o i : ℕ) → length stair ≤ i →
 nothing_behind stair o i past l h =
     let none : drop i stair ≡ [] = drop_all i stair past in sym (front stair o i l h ∙ (rw none refl))
 
-rises_drop : (stair : List Tread) (i : ℕ) → Rises stair → Rises (drop i stair)
+pub rises_drop : (stair : List Tread) (i : ℕ) → Rises stair → Rises (drop i stair)
 rises_drop stair zero h = h
 rises_drop [] (suc i) h = tt
 rises_drop (x ∷ stair) (suc i) h = rises_drop stair i h.2

@@ -17,7 +17,7 @@ use Rattle.remote_view.specs.Lookup.{is_readable, covers, is_better, better_of, 
 use Rattle.remote_view.specs.Stairs.{span_of, id_at, Rises, IsStair}
 use Rattle.remote_view.specs.Laying.{held, gives, IsLaid, IsLaidIn}
 use Rattle.remote_view.proofs.Lying.{in_span, IsSpanIn, span_bounds, map_lies}
-use Rattle.remote_view.proofs.Best.{Among, among_filter, held_found, readable_covers, finished_push, finish_best, same_filter, gone_filter, append_nil}
+use Rattle.remote_view.proofs.Best.{Among, among_filter, held_found, readable_covers, finished_push, finish_best, same_filter, gone_filter}
 
 -- where an epoch lies in an entry that was kept
 pub kept_span : (entry : Entry) (epoch : ℕ) → IsKept entry → IfSome (span_of entry.map epoch (entry.end + 1)) (IsSpanIn entry.start entry.end)
@@ -67,7 +67,7 @@ better_id broker event_ts state custom (Some b) x = by (is_better x b)
     by true = refl
     by false = refl
 
-id_of : (t : Bool) (better : Entry) (best : Option Entry) → option_map (λ e. e.id) (cond t (Some better) best) ≡ cond t (Some better.id) (option_map (λ e. e.id) best)
+pub id_of : (t : Bool) (better : Entry) (best : Option Entry) → option_map (λ e. e.id) (cond t (Some better) best) ≡ cond t (Some better.id) (option_map (λ e. e.id) best)
 id_of true better best = refl
 id_of false better best = refl
 
@@ -84,17 +84,6 @@ finish_right broker event_ts state custom es x q stair laid distinct kept here o
       ∙ ap (λ (t : Bool). cond t (Some (better_of (finished q o es) (updated broker event_ts state custom x))) (finished q o es)) (readable_covers q o (updated broker event_ts state custom x) true into)))));
 }
 
--- an entry more that can be read
-pub push_right : (es sub : List Entry) (x : Entry) (q : ℕ) (stair laid : List Tread) → AreDistinct es → ((b : Entry) → Among b sub → Among b es) → is_readable x.state ≡ true
-    → IsStair sub q stair → IsLaidIn es x q stair laid → IsStair (sub ++ x ∷ []) q laid
-push_right es sub x q stair laid distinct within readable right h = record {
-  rises = h.rises;
-  best = λ o.
-      laid_says es sub x q stair laid o distinct within right h
-      ∙ (sym (id_of (gives q o x) (better_of (finished q o sub) x) (finished q o sub))
-      ∙ ap (option_map (λ e. e.id)) (sym (finished_push q o sub x ∙ ap (λ (t : Bool). cond t (Some (better_of (finished q o sub) x)) (finished q o sub)) (readable_covers q o x true readable))));
-}
-
 -- a stair over other entries that give the same
 pub same_right : (es new : List Entry) (q : ℕ) (stair : List Tread) → ((o : ℕ) → finished q o new ≡ finished q o es) → IsStair es q stair → IsStair new q stair
 same_right es new q stair same right = record { rises = right.rises; best = λ o. right.best o ∙ ap (option_map (λ e. e.id)) (sym (same o)) }
@@ -104,10 +93,6 @@ pub skip_right : (sub : List Entry) (x : Entry) (q : ℕ) (stair : List Tread) �
 skip_right sub x q stair out right =
     same_right sub (sub ++ x ∷ []) q stair
     (λ o. finished_push q o sub x ∙ ap (λ (t : Bool). cond t (Some (better_of (finished q o sub) x)) (finished q o sub)) (readable_covers q o x false out)) right
-
--- no entries at all
-pub none_right : (id : SegmentId) (es : List Entry) (q : ℕ) (stair : List Tread) → stair ≡ [] → IsStair (others id (take 0 es)) q stair
-none_right id es q stair none = rw none (record { rises = tt; best = λ o. refl })
 
 among_take : (n : ℕ) (es : List Entry) (b : Entry) → Among b (take n es) → Among b es
 among_take zero es b h = absurd h
@@ -119,30 +104,11 @@ pub among_others : (id : SegmentId) (n : ℕ) (es : List Entry) (b : Entry) → 
 among_others id n es b h = among_take n es b (among_filter (λ e. not (bytes_eq e.id.0 id.0)) (take n es) b h).1
 
 -- the others of one entry more
-others_more : (id : SegmentId) (es : List Entry) (i : ℕ) (x : Entry) → i < length es → x ≡ get_or es i x
+pub others_more : (id : SegmentId) (es : List Entry) (i : ℕ) (x : Entry) → i < length es → x ≡ get_or es i x
     → others id (take (i + 1) es) ≡ others id (take i es) ++ cond (not (bytes_eq x.id.0 id.0)) (x ∷ []) []
 others_more id es i x below is =
     filter_more (λ e. not (bytes_eq e.id.0 id.0)) es i x below
     ∙ ap (λ (y : Entry). others id (take i es) ++ cond (not (bytes_eq y.id.0 id.0)) (y ∷ []) []) (sym is)
-
--- the stair over the others, with one entry more
-pub more_laid : (id : SegmentId) (es : List Entry) (i : ℕ) (x : Entry) (q : ℕ) (stair laid : List Tread) → i < length es → x ≡ get_or es i x → AreDistinct es
-    → is_readable x.state ≡ true → bytes_eq x.id.0 id.0 ≡ false → IsStair (others id (take i es)) q stair → IsLaidIn es x q stair laid → IsStair (others id (take (i + 1) es)) q laid
-more_laid id es i x q stair laid below is distinct readable other right h =
-    let new : IsStair (others id (take i es) ++ x ∷ []) q laid = push_right es (others id (take i es)) x q stair laid distinct (among_others id i es) readable right h in
-    rw (others_more id es i x below is, other) new
-
-pub more_skipped : (id : SegmentId) (es : List Entry) (i : ℕ) (x : Entry) (q : ℕ) (stair : List Tread) → i < length es → x ≡ get_or es i x
-    → is_readable x.state ≡ false → IsStair (others id (take i es)) q stair → IsStair (others id (take (i + 1) es)) q stair
-more_skipped id es i x q stair below is out right = rw (others_more id es i x below is) (by (bytes_eq x.id.0 id.0))
-  where
-    by : (t : Bool) → IsStair (others id (take i es) ++ cond (not t) (x ∷ []) []) q stair
-    by true = rw (append_nil (others id (take i es))) right
-    by false = skip_right (others id (take i es)) x q stair out right
-
-pub more_left_out : (id : SegmentId) (es : List Entry) (i : ℕ) (x : Entry) (q : ℕ) (stair : List Tread) → i < length es → x ≡ get_or es i x
-    → bytes_eq x.id.0 id.0 ≡ true → IsStair (others id (take i es)) q stair → IsStair (others id (take (i + 1) es)) q stair
-more_left_out id es i x q stair below is one right = rw (others_more id es i x below is, one, append_nil (others id (take i es))) right
 
 -- an entry that can't be read any more
 pub gone_right : (broker : BrokerId) (event_ts : ℤ) (state : State) (custom : Option (List ℕ)) (es : List Entry) (id : SegmentId) (q : ℕ) (stair : List Tread) → AreDistinct es → is_readable state ≡ false

@@ -1,12 +1,17 @@
+pub mod Baring
 pub mod Best
 pub mod Changes
 pub mod Finding
 pub mod Folding
+pub mod Gone
 pub mod Halving
 pub mod Ids
 pub mod Keeping
+pub mod Lifted
 pub mod Lying
 pub mod Overlay
 pub mod Placing
+pub mod Reaching
 pub mod Renewing
+pub mod Running
 pub mod Treads

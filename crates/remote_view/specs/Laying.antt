@@ -1,13 +1,14 @@
 -- How a stair is made of another, from its front to its end.
-use Rattle.std.specs.Prelude.{◌≡◌, ℕ, ◌≤◌, ◌&&◌, nat_le, Bool, if◌then◌else◌, List, Option, Some, None}
+use Rattle.std.specs.Prelude.{◌≡◌, ℕ, ◌≤◌, ◌&&◌, nat_le, not, Bool, if◌then◌else◌, List, Option, Some, None}
 use Rattle.std.specs.List.{AllByRecursion}
+use Rattle.std.specs.Str.{bytes_eq}
 use Rattle.log_terms.specs.Line.{epoch_at}
 use Rattle.tier_base.specs.declared.names.SegmentId.{SegmentId}
 use Rattle.segment_meta.specs.declared.note.Entry.{Entry}
 use Rattle.remote_view.specs.declared.spans.Span.{Span}
 use Rattle.remote_view.specs.declared.tread.Tread.{Tread}
 use Rattle.remote_view.specs.Fold.{entry_of}
-use Rattle.remote_view.specs.Lookup.{is_epoch, better_of}
+use Rattle.remote_view.specs.Lookup.{is_readable, is_epoch, better_of}
 use Rattle.remote_view.specs.Stairs.{is_within, id_at, Rises}
 
 -- no tread goes past an offset
@@ -46,6 +47,26 @@ overlaid entries entry span stair offset =
 pub record IsLaid (entries : List Entry) (entry : Entry) (span : Span) (old new : List Tread) : Type 0 where
   pub rises : Rises new
   pub says : (offset : ℕ) → id_at new offset ≡ overlaid entries entry span old offset
+
+-- a tread is of another segment
+abbrev pub of_others : SegmentId → Tread → Bool
+of_others id tread = not (bytes_eq tread.id.0 id.0)
+
+-- what there may be, with something else in a segment's place
+abbrev pub in_place : SegmentId → Option SegmentId → Option SegmentId → Option SegmentId
+in_place id other None = None
+in_place id other (Some given) = if bytes_eq given.0 id.0 then other else Some given
+
+-- a segment's treads were taken out of a stair
+pub record IsLifted (id : SegmentId) (old new : List Tread) : Type 0 where
+  pub rises : Rises new
+  pub says : (offset : ℕ) → id_at new offset ≡ in_place id None (id_at old offset)
+
+-- another entry can be read, and shares an offset with one
+abbrev pub lies_under : Entry → Entry → Bool
+lies_under entry other =
+    is_readable other.state && not (bytes_eq other.id.0 entry.id.0) && nat_le other.start entry.end
+    && nat_le entry.start other.end
 
 -- the offset is in a segment, and its map gives this epoch there
 abbrev pub gives : ℕ → ℕ → Entry → Bool

@@ -1,6 +1,6 @@
 -- What is looked up in a view.
-use Rattle.std.specs.Prelude.{◌≡◌, ℕ, ◌==◌, ◌&&◌, ◌||◌, nat_lt, nat_le, not, Bool, true, false, if◌then◌else◌, List}
-use Rattle.std.specs.Prelude.{[], ◌∷◌, filter, All, Contains, Option, Some, None}
+use Rattle.std.specs.Prelude.{◌≡◌, ℕ, ◌<◌, ◌≤◌, ◌==◌, ◌&&◌, ◌||◌, nat_lt, nat_le, not, Bool, true, false, if◌then◌else◌, List}
+use Rattle.std.specs.Prelude.{[], ◌∷◌, filter, All, Contains, Option, Some, None, IsSome}
 use Rattle.std.specs.Int.{w128, from_be_bytes}
 use Rattle.log_terms.specs.Line.{epoch_at}
 use Rattle.tier_base.specs.declared.names.SegmentId.{SegmentId}
@@ -59,6 +59,12 @@ pub record IsBest (epoch offset : ℕ) (entries : List Entry) (best : Entry) : T
   pub holds : covers epoch offset best ≡ true
   pub none_better : All (λ entry. covers epoch offset entry ≡ true → is_better entry best ≡ false) entries
   pub of_id : entry_of best.id entries ≡ Some best
+
+-- from an offset on up to an end each one is found in a copy, and at the end none is
+pub record IsReach (epoch : ℕ) (entries : List Entry) (at end : ℕ) : Type 0 where
+  pub from : at ≤ end
+  pub each : (offset : ℕ) → at ≤ offset → offset < end → IsSome (finished epoch offset entries)
+  pub none : finished epoch end entries ≡ None
 
 -- an entry ends below a log start, and its objects may still stand
 abbrev pub is_due : ℕ → Entry → Bool

@@ -3,7 +3,7 @@
 -- An epoch's stair is a list of treads, which rise. What it gives at an offset is the best copy there, so that one
 -- search in it answers what a pass over all entries would.
 use Rattle.std.specs.Prelude.{◌≡◌, ℕ, ◌<◌, ◌≤◌, ◌==◌, ◌&&◌, nat_lt, nat_le, Bool, false, if◌then◌else◌, List, [], ◌∷◌}
-use Rattle.std.specs.Prelude.{Option, Some, None, option_map}
+use Rattle.std.specs.Prelude.{Option, Some, None, IsSome, option_map}
 use Rattle.std.specs.Str.{bytes_eq}
 use Rattle.epoch_line.specs.Line.{start_or}
 use Rattle.tier_base.specs.declared.names.SegmentId.{SegmentId}
@@ -37,6 +37,21 @@ IsUnder tread (next ∷ stair) =
 abbrev pub Rises : List Tread → Type 0
 Rises [] = Unit {0}
 Rises (tread ∷ stair) = (tread.from < tread.to) × IsUnder tread stair × Rises stair
+
+-- each offset of a range has a tread
+abbrev pub HasAll : ℕ → ℕ → List Tread → Type 0
+HasAll from to stair = (offset : ℕ) → from ≤ offset → offset < to → IsSome (id_at stair offset)
+
+-- each offset from one on up to an end has a tread, and the end has none
+pub record IsEndFrom (stair : List Tread) (at end : ℕ) : Type 0 where
+  pub from : at ≤ end
+  pub each : HasAll at end stair
+  pub none : id_at stair end ≡ None
+
+-- where treads end that touch one another, from a place on
+abbrev pub end_of_touching : List Tread → ℕ → ℕ
+end_of_touching [] at = at
+end_of_touching (tread ∷ stair) at = if nat_lt at tread.from then at else end_of_touching stair tread.to
 
 -- the stair of an epoch over entries: at each offset it gives the best copy's segment, if there is one
 pub record IsStair (entries : List Entry) (epoch : ℕ) (stair : List Tread) : Type 0 where

@@ -1,12 +1,11 @@
 //! Changes of entries.
 
-ghost use Rattle.std.specs.Prelude.{◌≡◌, IfOk};
+ghost use Rattle.std.specs.Prelude.{◌≡◌};
 ghost use Rattle.std.specs.Str.{bytes_eq};
 ghost use Rattle.tier_base.specs.Key.{IsId};
 ghost use Rattle.remote_view.specs.Fold.{updated};
 
-use segment_meta::{Entry, copied_custom};
-use std::alloc::{AllocError, Global};
+use segment_meta::Entry;
 use tier_base::{Blob, BrokerId, SegmentId, State};
 
 /// Whether two ids are one.
@@ -14,26 +13,6 @@ pub(crate) fn is_same(one: &SegmentId, other: &SegmentId) -> bool
     ensures { result ≡ bytes_eq one.now.0 other.now.0 }
 {
     one.as_bytes() == other.as_bytes()
-}
-
-/// An entry of the same fields.
-pub(crate) fn copied(alloc: Global, entry: &Entry) -> Result<Entry, AllocError>
-    ensures { IfOk result (λ copy. copy ≡ entry.now) }
-{
-    Ok(Entry {
-        id: entry.id,
-        partition: entry.partition,
-        start: entry.start,
-        end: entry.end,
-        max_ts: entry.max_ts,
-        broker: entry.broker,
-        event_ts: entry.event_ts,
-        size: entry.size,
-        state: entry.state,
-        map: entry.map.copy(alloc)?,
-        packed: entry.packed,
-        custom: copied_custom(alloc, &entry.custom)?,
-    })
 }
 
 /// Sets what an update tells.

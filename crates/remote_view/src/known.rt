@@ -1,10 +1,15 @@
 //! Entries in the order of their first notes, each found by its id.
+//!
+//! Deletions mostly come in that order too. So a count of entries in front, whose objects are all gone, spares the search for
+//! what is due a walk over them.
 
-ghost use Rattle.std.specs.Prelude.{◌≡◌, [], ◌∷◌, ◌++◌, None, OnOk, OnErr};
+ghost use Rattle.std.specs.Prelude.{◌≡◌, [], ◌∷◌, ◌++◌, false, None, OnOk, OnErr, IfSome};
 ghost use Rattle.std.specs.Option.{option_map};
 ghost use Rattle.remote_view.specs.Fold.{entry_of, changed, updated};
+ghost use Rattle.remote_view.specs.Lookup.{is_gone, due};
 
 use crate::changing::update;
+use crate::lookup::{due_in, gone_from};
 use segment_meta::Entry;
 use std::alloc::{AllocError, Global};
 use std::collections::BTreeMap;
@@ -16,20 +21,19 @@ use tier_base::{Blob, BrokerId, SegmentId, State};
 pub(crate) struct Known {
     entries: Vec<Entry>,
     places: BTreeMap<SegmentId, usize>,
+    gone: usize,
 }
 
 impl Model for Known {
-    ghost use Rattle.std.specs.Prelude.{◌≡◌, List};
-    ghost use Rattle.std.specs.BTreeMap.{get};
-    ghost use Rattle.tier_base.specs.declared.names.SegmentId.{SegmentId};
+    ghost use Rattle.std.specs.Prelude.{List};
     ghost use Rattle.segment_meta.specs.declared.note.Entry.{Entry};
-    ghost use Rattle.remote_view.specs.Places.{id_cmp, place_of};
+    ghost use Rattle.remote_view.specs.Places.{IsOrdered};
 
     ghost Value = { List Entry };
 
     ghost view = { λ k. k.entries.items };
 
-    ghost invariant = { λ k. (id : SegmentId) → get id_cmp k.places id ≡ place_of id k.entries.items };
+    ghost invariant = { λ k. IsOrdered k.places k.gone k.entries.items };
 }
 
 impl Known {
@@ -40,6 +44,7 @@ impl Known {
         Known {
             entries: Vec::new(alloc),
             places: BTreeMap::new(alloc),
+            gone: 0,
         }
     }
 
@@ -60,6 +65,13 @@ impl Known {
         }
     }
 
+    /// The first entry that is due.
+    pub fn due(&self, start: u64) -> Option<&Entry>
+        ensures { option_map (λ e. e.now) result ≡ due start self.now }
+    {
+        due_in(self.entries.as_slice().split_at(self.gone).1, start)
+    }
+
     /// Adds an entry of a new id.
     pub fn add(&mut self, entry: Entry) -> Result<(), AllocError>
         requires { entry_of entry.id self.old ≡ None }
@@ -72,7 +84,7 @@ impl Known {
         Ok(())
     }
 
-    /// Updates an id's entry.
+    /// Updates an id's entry, whose objects aren't gone yet.
     pub fn change(
         &mut self,
         id: &SegmentId,
@@ -81,10 +93,12 @@ impl Known {
         state: State,
         custom: Option<Blob>,
     )
+        requires { IfSome (entry_of id.now self.old) (λ e. is_gone e.state ≡ false) }
         ensures { self.new ≡ changed id.now (updated broker event_ts state custom) self.old }
     {
         if let Some(place) = self.places.get(id).copied() {
             update(&mut self.entries[place], broker, event_ts, state, custom);
+            self.gone = gone_from(self.entries.as_slice(), self.gone);
         }
     }
 }

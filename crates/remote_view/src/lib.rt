@@ -5,13 +5,16 @@
 //!
 //! Beside its entries a view keeps a stair for each epoch: which copy is the best at an offset, by ranges of offsets. So a
 //! look-up is a search by halving, and a copy that finishes, or whose deletion starts, changes the stairs of its epochs.
-//! The module Stairs of specs/ says what a stair is.
+//! The module Stairs of specs/ says what a stair is. Where a row of copies ends that follow one another without a gap, a
+//! stair knows by itself.
 #![tactic(auto)]
 
 mod changing;
+mod flight;
 mod known;
 mod laws;
 mod laying;
+mod lifting;
 mod lookup;
 mod seeking;
 mod spans;

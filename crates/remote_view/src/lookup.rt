@@ -2,7 +2,8 @@
 
 ghost use Rattle.std.specs.Prelude.{◌≡◌};
 ghost use Rattle.std.specs.Option.{option_map};
-ghost use Rattle.remote_view.specs.Lookup.{is_readable, is_better, better_of, is_due, due};
+ghost use Rattle.remote_view.specs.Lookup.{is_readable, is_gone, is_better, better_of, is_due, due};
+ghost use Rattle.remote_view.specs.Places.{BeginsGone};
 
 use segment_meta::Entry;
 use tier_base::State;
@@ -12,6 +13,13 @@ pub(crate) fn is_readable(state: State) -> bool
     ensures { result ≡ is_readable state }
 {
     state == State::CopyFinished
+}
+
+/// Whether a segment's objects are gone.
+fn is_gone(state: State) -> bool
+    ensures { result ≡ is_gone state }
+{
+    state == State::DeleteFinished
 }
 
 /// Whether one ends later than the other, or with it and has the lesser id.
@@ -48,4 +56,16 @@ pub(crate) fn due_in(entries: &[Entry], start: u64) -> Option<&Entry>
         }
     }
     None
+}
+
+/// Counts the entries in front whose objects are gone, from a count of such on.
+pub(crate) fn gone_from(entries: &[Entry], count: usize) -> usize
+    requires { BeginsGone count entries.now }
+    ensures { BeginsGone result entries.now }
+{
+    let mut gone = count;
+    while gone < entries.len() && is_gone(entries[gone].state) {
+        gone += 1;
+    }
+    gone
 }

@@ -3,25 +3,28 @@
 //! What replaces a stair is put where room was made for it before, which takes no memory. So all the stairs that a note
 //! changes are made first, and then they replace the old ones together.
 
-ghost use Rattle.std.specs.Prelude.{◌≡◌, ℕ, [], true, OnOk, if◌then◌else◌, ◌==◌};
+ghost use Rattle.std.specs.Prelude.{◌≡◌, ◌≤◌, ℕ, [], true, None, OnOk, IfOk, if◌then◌else◌, ◌==◌};
+ghost use Rattle.remote_view.specs.Stairs.{id_at, Rises, IsEndFrom};
+ghost use Rattle.remote_view.specs.Laying.{in_place, IsLifted};
 ghost use Rattle.remote_view.specs.Storing.{stair_on, has_room, replaced, HaveRoom};
 
+use crate::flight::Flight;
 use crate::tread::Tread;
 use std::alloc::{AllocError, Global};
 use std::collections::BTreeMap;
-use tier_base::Row;
+use tier_base::{Row, SegmentId};
 
 /// An epoch's stair.
 #[derive(Drop)]
 pub(crate) struct Stair {
     pub epoch: u32,
-    pub treads: Row<Tread>,
+    pub treads: Flight,
 }
 
 /// The stairs.
 #[derive(Drop)]
 pub(crate) struct Stairs {
-    treads: BTreeMap<u32, Row<Tread>>,
+    treads: BTreeMap<u32, Flight>,
 }
 
 impl Stairs {
@@ -39,8 +42,48 @@ impl Stairs {
         ensures { result.now ≡ stair_on self.now epoch }
     {
         match self.treads.get(&epoch) {
-            Some(stair) => stair.as_slice(),
+            Some(stair) => stair.treads(),
             None => &[],
+        }
+    }
+
+    /// A copy of an epoch's stair.
+    pub fn copy(&self, alloc: Global, epoch: u32) -> Result<Flight, AllocError>
+        ensures { IfOk result (λ copy. copy ≡ stair_on self.now epoch) }
+    {
+        match self.treads.get(&epoch) {
+            Some(stair) => stair.copy(alloc),
+            None => Ok(Flight::new(alloc)),
+        }
+    }
+
+    /// An epoch's stair without the treads of a segment, which end at an offset or before.
+    pub fn lifted(
+        &self,
+        alloc: Global,
+        epoch: u32,
+        id: &SegmentId,
+        end: u64,
+    ) -> Result<Flight, AllocError>
+        requires rises { Rises (stair_on self.now epoch) }
+        requires ends { (o : ℕ) → end ≤ o
+            → in_place id.now None (id_at (stair_on self.now epoch) o) ≡ id_at (stair_on self.now epoch) o }
+        ensures { IfOk result (λ lifted. IsLifted id.now (stair_on self.now epoch) lifted) }
+    {
+        match self.treads.get(&epoch) {
+            Some(stair) => stair.lifted(alloc, id, end),
+            None => Ok(Flight::new(alloc)),
+        }
+    }
+
+    /// The first offset from one on that an epoch's stair has no tread for.
+    pub fn end_from(&self, epoch: u32, at: u64) -> u64
+        requires { Rises (stair_on self.now epoch) }
+        ensures { IsEndFrom (stair_on self.now epoch) at result }
+    {
+        match self.treads.get(&epoch) {
+            Some(stair) => stair.end_from(at),
+            None => at,
         }
     }
 
@@ -53,7 +96,7 @@ impl Stairs {
         if self.treads.contains_key(&epoch) {
             return Ok(());
         }
-        self.treads.insert(epoch, Row::new(alloc))?;
+        self.treads.insert(epoch, Flight::new(alloc))?;
         Ok(())
     }
 

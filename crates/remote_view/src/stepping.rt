@@ -1,7 +1,7 @@
 //! The stairs after a note: those that an entry's step changes are made anew, and nothing else changes.
 //!
 //! A copy that finishes is laid over the stairs of its epochs. One whose deletion starts leaves them, and what lay under
-//! it shows again: those stairs are made of the other entries.
+//! it shows again: its treads go, and the other entries are laid where it lay.
 
 ghost use Rattle.std.specs.Prelude.{◌≡◌, ℕ, ℤ, true, List, Option, Some, is_some, OnOk, IfOk};
 ghost use Rattle.tier_base.specs.declared.names.BrokerId.{BrokerId};
@@ -11,50 +11,52 @@ ghost use Rattle.remote_view.specs.Stairs.{Rises, IsStair};
 ghost use Rattle.remote_view.specs.Laying.{IsLaidIn};
 ghost use Rattle.remote_view.specs.Storing.{stair_on, IsFresh};
 
-use crate::changing::is_same;
+use crate::flight::Flight;
 use crate::known::Known;
-use crate::laying::lay;
+use crate::lifting::lies_under;
 use crate::lookup::is_readable;
 use crate::spans::span_of;
 use crate::stairs::{Stair, Stairs};
-use crate::tread::Tread;
 use segment_meta::Entry;
 use std::alloc::{AllocError, Global};
-use tier_base::{Row, SegmentId, State};
+use tier_base::{Row, State};
 
 /// Lays an entry over a stair where it gives the stair's epoch.
 fn lay_in(
     alloc: Global,
     known: &Known,
-    stair: Row<Tread>,
+    stair: Flight,
     entry: &Entry,
     epoch: u32,
-) -> Result<Row<Tread>, AllocError>
+) -> Result<Flight, AllocError>
     requires kept { IsKept entry.now }
     requires rises { Rises stair }
     ensures { IfOk result (λ laid. IsLaidIn known.now entry.now epoch stair laid) }
 {
     match span_of(entry.map.entries(), epoch, entry.end + 1) {
-        Some(span) => lay(alloc, known, stair, entry, span),
+        Some(span) => stair.lay(alloc, known, entry, span),
         None => Ok(stair),
     }
 }
 
-/// The stair of an epoch over all entries but an id's.
-fn rebuilt(
+/// The stair of an epoch over all entries but one.
+fn bared(
     alloc: Global,
     known: &Known,
-    id: &SegmentId,
+    stairs: &Stairs,
+    entry: &Entry,
     epoch: u32,
-) -> Result<Row<Tread>, AllocError>
+) -> Result<Flight, AllocError>
     requires kept { AreKept known.now }
     requires distinct { AreDistinct known.now }
-    ensures { IfOk result (λ stair. IsStair (others id.now known.now) epoch stair) }
+    requires stair { IsStair known.now epoch (stair_on stairs.now epoch) }
+    requires here { entry_of entry.now.id known.now ≡ Some entry.now }
+    ensures { IfOk result (λ stair. IsStair (others entry.now.id known.now) epoch stair) }
 {
-    let mut stair = Row::new(alloc);
-    for entry in known.entries() {
-        if is_readable(entry.state) && !is_same(&entry.id, id) {
-            stair = lay_in(alloc, known, stair, entry, epoch)?;
+    let mut stair = stairs.lifted(alloc, epoch, &entry.id, entry.end + 1)?;
+    for other in known.entries() {
+        if lies_under(entry, other) {
+            stair = lay_in(alloc, known, stair, other, epoch)?;
         }
     }
     Ok(stair)
@@ -64,24 +66,24 @@ fn rebuilt(
 fn anew(
     alloc: Global,
     known: &Known,
-    stair: &[Tread],
+    stairs: &Stairs,
     entry: &Entry,
     state: State,
     epoch: u32,
-) -> Result<Row<Tread>, AllocError>
+) -> Result<Flight, AllocError>
     requires kept { AreKept known.now }
     requires distinct { AreDistinct known.now }
-    requires stair { IsStair known.now epoch stair.now }
+    requires stair { IsStair known.now epoch (stair_on stairs.now epoch) }
     requires here { entry_of entry.now.id known.now ≡ Some entry.now }
     requires step { is_some (next_state (Some entry.now.state) state) ≡ true }
     ensures { IfOk result (λ laid. (broker : BrokerId) (event_ts : ℤ) (custom : Option (List ℕ))
         → IsStair (changed entry.now.id (updated broker event_ts state custom) known.now) epoch laid) }
 {
     if is_readable(state) {
-        let stair = Row::from_vec(Vec::from_slice(alloc, stair)?);
+        let stair = stairs.copy(alloc, epoch)?;
         lay_in(alloc, known, stair, entry, epoch)
     } else {
-        rebuilt(alloc, known, &entry.id, epoch)
+        bared(alloc, known, stairs, entry, epoch)
     }
 }
 
@@ -109,7 +111,7 @@ pub(crate) fn fresh(
     for pair in entry.map.entries() {
         let epoch = pair.0;
         stairs.reserve(alloc, epoch)?;
-        let treads = anew(alloc, known, stairs.stair(epoch), entry, state, epoch)?;
+        let treads = anew(alloc, known, stairs, entry, state, epoch)?;
         fresh.push(Stair { epoch, treads })?;
     }
     Ok(fresh)

@@ -9,12 +9,11 @@ ghost use Rattle.tier_base.specs.declared.plain.State.TheVariants.{CopyStarted};
 ghost use Rattle.segment_meta.specs.declared.note.Note.TheVariants.{Add, Update};
 ghost use Rattle.segment_meta.specs.Rules.{IsNote, IsAdded};
 ghost use Rattle.remote_view.specs.Fold.{IsKept, AreKept, AreDistinct, entry_of, state_of, noted, fed};
-ghost use Rattle.remote_view.specs.Lookup.{finished, due};
+ghost use Rattle.remote_view.specs.Lookup.{finished, due, IsReach};
 ghost use Rattle.remote_view.specs.Stairs.{IsStair};
 
-use crate::changing::{copied, has_id};
+use crate::changing::has_id;
 use crate::known::Known;
-use crate::lookup::due_in;
 use crate::seeking::id_at;
 use crate::stairs::Stairs;
 use crate::stepping::fresh;
@@ -119,6 +118,13 @@ impl View {
         self.stairs.stair(epoch)
     }
 
+    /// The first offset from one on that no copy holds in an epoch.
+    pub fn reach(&self, epoch: u32, at: u64) -> u64
+        ensures { IsReach epoch self.now.entries at result }
+    {
+        self.stairs.end_from(epoch, at)
+    }
+
     /// All entries, in the order of their first notes.
     pub fn entries(&self) -> &[Entry]
         ensures entries { result.now ≡ self.now.entries }
@@ -132,7 +138,7 @@ impl View {
     pub fn due(&self, start: u64) -> Option<&Entry>
         ensures { option_map (λ e. e.now) result ≡ due start self.now.entries }
     {
-        due_in(self.entries(), start)
+        self.known.due(start)
     }
 
     /// Adds an entry, where its id is new.
@@ -145,7 +151,7 @@ impl View {
             return Ok(());
         }
         has_id(entry);
-        self.known.add(copied(self.alloc, entry)?)
+        self.known.add(entry.copy(self.alloc)?)
     }
 
     /// Updates an entry, where that is a step.

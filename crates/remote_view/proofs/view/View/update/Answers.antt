@@ -1,12 +1,20 @@
-use Rattle.std.proofs.Common.{◌≡◌, ◌∙◌, ap, sym, w64, to_z, of_z, rules}
+use Rattle.std.proofs.Common.{◌≡◌, ◌∙◌, ap, sym, true, Some, w64, to_z, of_z, rules}
+use Rattle.std.specs.Prelude.{is_some}
 use Rattle.tier_base.specs.declared.names.SegmentId.{SegmentId}
+use Rattle.segment_meta.specs.Steps.{next_state}
 use Rattle.remote_view.specs.Fold.{entry_of}
+use Rattle.remote_view.proofs.Gone.{found_stands}
 use Rattle.remote_view.proofs.Changes.{found_id, viewed_update}
 use Rattle.remote_view.proofs.view.View.update.Goals as goal
 
 pub fresh-requires-clause-here : goal.fresh-requires-clause-here
 fresh-requires-clause-here c =
     ap (λ (id : SegmentId). entry_of id c.self.inside.known) (found_id c.args.id.now c.self.inside.known c.in-Some.entry.now (sym c.in-Some.ensures)) ∙ sym c.in-Some.ensures
+
+pub change-requires : goal.change-requires
+change-requires c =
+    let step : is_some (next_state (Some c.in-Some.entry.now.state) c.args.state) ≡ true = search rules in
+    found_stands (entry_of c.args.id.now c.self.inside.known) c.in-Some.entry.now c.args.state (sym c.in-Some.ensures) step
 
 pub replace_all-requires : goal.replace_all-requires
 replace_all-requires c = (c.in_ok-fresh.ensures.ok c.args.broker c.args.event_ts c.args.custom.now).room

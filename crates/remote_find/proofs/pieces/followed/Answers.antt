@@ -1,7 +1,7 @@
 use Rattle.std.proofs.Common.{◌≡◌, ◌-◌, sym, refl, arith}
 use Rattle.remote_find.specs.Pieces.{piece_at}
 use Rattle.remote_find.proofs.Following.{reached_none, reached_some, reached_all}
-use Rattle.remote_find.proofs.pieces.covered_to.Goals as goal
+use Rattle.remote_find.proofs.pieces.followed.Goals as goal
 
 pub loop-init : goal.loop-init
 loop-init c =

@@ -1,6 +1,6 @@
 use Rattle.std.proofs.Common.{◌≡◌, ◌-◌}
 use Rattle.remote_find.specs.Pieces.{piece_at, reached, covered_to}
-use Rattle.remote_find.proofs.pieces.covered_to.Given as goal
+use Rattle.remote_find.proofs.pieces.followed.Given as goal
 
 -- the end so far, and the pieces to come
 abbrev pub invariant-loop : goal.invariant-loop

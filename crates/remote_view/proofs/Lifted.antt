@@ -1,0 +1,89 @@
+-- A stair without the treads of one segment.
+use Rattle.std.proofs.Common.{◌≡◌, ◌∙◌, refl, ℕ, ◌<◌, ◌≤◌, Bool, true, false, cond, List, [], ◌∷◌, Some, None, arith}
+use Rattle.std.specs.Prelude.{filter, not, max}
+use Rattle.std.specs.List.{AllByRecursion}
+use Rattle.std.specs.Str.{bytes_eq}
+use Rattle.tier_base.specs.declared.names.SegmentId.{SegmentId}
+use Rattle.remote_view.specs.declared.tread.Tread.{Tread}
+use Rattle.remote_view.specs.Stairs.{is_within, id_at, IsUnder, Rises, HasAll}
+use Rattle.remote_view.specs.Laying.{in_place, of_others, IsLifted}
+use Rattle.remote_view.proofs.Lying.{within_says, within_below}
+
+-- each tread starts at an offset or behind it
+abbrev Behind : ℕ → List Tread → Type 0
+Behind at stair = AllByRecursion (λ tread. at ≤ tread.from) stair
+
+behind_weaker : (stair : List Tread) (at later : ℕ) → at ≤ later → Behind later stair → Behind at stair
+behind_weaker [] at later up h = tt
+behind_weaker (x ∷ stair) at later up h = (omega (arith, up, h.0), behind_weaker stair at later up h.1)
+
+-- treads lie behind the one before
+rises_behind : (tread : Tread) (stair : List Tread) → Rises (tread ∷ stair) → Behind tread.to stair
+rises_behind tread [] rises = tt
+rises_behind tread (next ∷ stair) rises =
+    let rest = rises_behind next stair rises.2 in
+    (rises.1.0, behind_weaker stair tread.to next.to (omega (arith, rises.1.0, rises.2.0)) rest)
+
+filter_behind : (test : Tread → Bool) (stair : List Tread) (at : ℕ) → Behind at stair → Behind at (filter test stair)
+filter_behind test [] at h = tt
+filter_behind test (x ∷ stair) at h = by (test x) (filter_behind test stair at h.1)
+  where
+    by : (t : Bool) → Behind at (filter test stair) → Behind at (cond t (x ∷ filter test stair) (filter test stair))
+    by true rest = (h.0, rest)
+    by false rest = rest
+
+-- so none of them is where the one before lies
+nothing_before : (stair : List Tread) (at o : ℕ) → Behind at stair → o < at → id_at stair o ≡ None
+nothing_before [] at o h low = refl
+nothing_before (x ∷ stair) at o h low = rw (within_below x.from x.to o (omega (arith, h.0, low))) (nothing_before stair at o h.1 low)
+
+-- treads that lie apart from one don't touch it
+under_far : (tread : Tread) (stair : List Tread) (at : ℕ) → tread.to < at → Behind at stair → IsUnder tread stair
+under_far tread [] at low h = tt
+under_far tread (x ∷ stair) at low h = (omega (arith, low, h.0), λ touch. absurd (omega (arith, touch, low, h.0)))
+
+module _ (id : SegmentId) where
+  under_lifted : (tread : Tread) (stair : List Tread) → Rises (tread ∷ stair) → IsUnder tread (filter (of_others id) stair)
+  under_lifted tread [] rises = tt
+  under_lifted tread (next ∷ stair) rises = by (of_others id next)
+    where
+      by : (t : Bool) → IsUnder tread (cond t (next ∷ filter (of_others id) stair) (filter (of_others id) stair))
+      by true = rises.1
+      by false =
+          under_far tread (filter (of_others id) stair) next.to (omega (arith, rises.1.0, rises.2.0))
+          (filter_behind (of_others id) stair next.to (rises_behind next stair rises.2))
+
+  lifted_rises : (stair : List Tread) → Rises stair → Rises (filter (of_others id) stair)
+  lifted_rises [] rises = tt
+  lifted_rises (tread ∷ stair) rises = by (of_others id tread) (lifted_rises stair rises.2)
+    where
+      by : (t : Bool) → Rises (filter (of_others id) stair) → Rises (cond t (tread ∷ filter (of_others id) stair) (filter (of_others id) stair))
+      by true rest = (rises.0, under_lifted tread stair rises, rest)
+      by false rest = rest
+
+  lifted_says : (stair : List Tread) → Rises stair → (o : ℕ) → id_at (filter (of_others id) stair) o ≡ in_place id None (id_at stair o)
+  lifted_says [] rises o = refl
+  lifted_says (tread ∷ stair) rises o = by (bytes_eq tread.id.0 id.0) (is_within tread.from tread.to o) refl refl (lifted_says stair rises.2 o)
+    where
+      by : (same t : Bool) → bytes_eq tread.id.0 id.0 ≡ same → is_within tread.from tread.to o ≡ t → id_at (filter (of_others id) stair) o ≡ in_place id None (id_at stair o)
+          → id_at (cond (not same) (tread ∷ filter (of_others id) stair) (filter (of_others id) stair)) o ≡ in_place id None (cond t (Some tread.id) (id_at stair o))
+      by true true is here rest =
+          let low = (within_says tread.from tread.to o here).1 in
+          rw is (nothing_before (filter (of_others id) stair) tread.to o (filter_behind (of_others id) stair tread.to (rises_behind tread stair rises)) low)
+      by true false is here rest = rest
+      by false true is here rest = rw (here, is) refl
+      by false false is here rest = rw here rest
+
+  -- without its treads a stair gives nothing in the segment's place
+  pub is_lifted : (stair new : List Tread) → Rises stair → new ≡ filter (of_others id) stair → IsLifted id stair new
+  is_lifted stair new rises is = rw is (record { rises = lifted_rises stair rises; says = lifted_says stair rises })
+
+-- a run behind the segment keeps its treads
+pub lifted_run : (id : SegmentId) (stair new : List Tread) (from to later end : ℕ) → Rises stair → new ≡ filter (of_others id) stair → later ≡ max from end
+    → ((o : ℕ) → end ≤ o → in_place id None (id_at stair o) ≡ id_at stair o) → HasAll from to stair → HasAll later to new
+lifted_run id stair new from to later end rises is start own all o low high =
+    let says : id_at new o ≡ id_at stair o = (is_lifted id stair new rises is).says o ∙ own o (omega (arith, start, low)) in
+    rw says (all o (omega (arith, start, low)) high)
+
+pub none_lifted : (id : SegmentId) (stair new : List Tread) → stair ≡ [] → new ≡ [] → IsLifted id stair new
+none_lifted id stair new none same = rw (none, same) (record { rises = tt; says = λ o. refl })

@@ -1,0 +1,24 @@
+-- A run of offsets that all have a tread, as a stair is laid over.
+use Rattle.std.proofs.Common.{refl, ℕ, ◌<◌, ◌≤◌, Bool, true, false, cond, List, Option, Some, inl, inr}
+use Rattle.std.specs.Prelude.{IsSome, ◌⊎◌}
+use Rattle.tier_base.specs.declared.names.SegmentId.{SegmentId}
+use Rattle.segment_meta.specs.declared.note.Entry.{Entry}
+use Rattle.remote_view.specs.declared.spans.Span.{Span}
+use Rattle.remote_view.specs.declared.tread.Tread.{Tread}
+use Rattle.remote_view.specs.Lookup.{better_of}
+use Rattle.remote_view.specs.Stairs.{is_within, id_at, HasAll}
+use Rattle.remote_view.specs.Laying.{held, IsLaid}
+use Rattle.remote_view.proofs.Lying.{within_true}
+
+-- what is laid leaves no offset without a tread, and gives one to each of its range
+pub runs_on : (es : List Entry) (entry : Entry) (run span grown : Span) (old new : List Tread) → HasAll run.from run.to old
+    → ((o : ℕ) → grown.from ≤ o → o < grown.to → ((run.from ≤ o) × (o < run.to)) ⊎ ((span.from ≤ o) × (o < span.to)))
+    → IsLaid es entry span old new → HasAll grown.from grown.to new
+runs_on es entry run span grown old new all parts laid o low high = elim (parts o low high) [
+  | inl before ↦ rw (laid.says o) (stays (better_of (held es (id_at old o)) entry).id (is_within span.from span.to o) (id_at old o) (all o before.0 before.1))
+  | inr now ↦ rw (laid.says o, within_true span.from span.to o now.0 now.1) refl
+]
+  where
+    stays : (w : SegmentId) (t : Bool) (id : Option SegmentId) → IsSome id → IsSome (cond t (Some w) id)
+    stays w true id some = refl
+    stays w false id some = some
