@@ -33,7 +33,7 @@ use Rattle.partition_seen.specs.Seen.{Back, Node, Held}
 use Rattle.partition_seen.specs.Held.{broker_of, put_node, back_of, torn, the_leader}
 use Rattle.partition_seen.specs.Central.{HeldStands, AreTaken, RunStands, RebuildStands}
 use Rattle.partition_seen.specs.Sound.{NodeSound}
-use Rattle.partition_seen.specs.RowsOfFollowers.{IsStale, IsFresh, IsMeet, cut_node, cut_back, JoinRow, FollowRow}
+use Rattle.partition_seen.specs.RowsOfFollowers.{IsStale, IsCurrent, IsMeet, cut_node, cut_back, JoinRow, FollowRow}
 use Rattle.partition_seen.proofs.Meets.{meet_common}
 use Rattle.partition_seen.proofs.BoolTests.{some_of, and_true, not_false, when_true, eq_same, eq_differs, le_true, lt_true, lt_false}
 use Rattle.partition_seen.proofs.NodeLaw.{joined_is, none_back, node_cut, torn_below, torn_above, node_torn}
@@ -114,7 +114,7 @@ stale_false h p (Some e) st new = elim (cases_lt e h.registry.epoch) [
   | inr more ↦ lt_false e p.registry.epoch (omega (arith, more, ap (λ (r : Registry). r.epoch) st.registry))
 ]
 
-current_true : (h : Held) (p : State) (x : Node) (o : Option ℕ) → HeldStands h p → x.up ≡ true → IsFresh h o → is_current p (broker_of x) o ≡ true
+current_true : (h : Held) (p : State) (x : Node) (o : Option ℕ) → HeldStands h p → x.up ≡ true → IsCurrent h o → is_current p (broker_of x) o ≡ true
 current_true h p x o st up w =
     let e = some_of _ o w in
     and_true _ _ (and_true _ _ up (rw e.1 refl)) (rw e.1 (rw (lt_false e.0 p.registry.epoch (omega (arith, e.2, ap (λ (r : Registry). r.epoch) st.registry))) refl))
@@ -139,8 +139,8 @@ now h p b x s e st is le =
       other = st.lines.followers b x st.at (is ∙ ap (λ (n : ℕ). Some n) same);
     }
 
-fresh_of : (h : Held) (o : Option ℕ) → IsFresh h o → (e : ℕ) × (o ≡ Some e) × (h.registry.epoch ≤ e)
-fresh_of h o w = some_of _ o w
+current_of : (h : Held) (o : Option ℕ) → IsCurrent h o → (e : ℕ) × (o ≡ Some e) × (h.registry.epoch ≤ e)
+current_of h o w = some_of _ o w
 
 -- join
 
@@ -286,14 +286,14 @@ join_allowed h p b x s NoLeader h' st w =
     silent h p b x s None Join NoLeader h' st (when_true _ p (and_true _ _ (current_true h p x (followed x.role) st.held w.0 w.1) (not_false _ (leader_none h p st.held w.2)))) w.3
 join_allowed h p b x s (Cut n) h' st w =
     let y = some_of _ (the_leader h) w.2 in
-    let o = fresh_of h (followed x.role) w.1 in
+    let o = current_of h (followed x.role) w.1 in
     let k = y.2 in
     let one : o.0 ≡ k.0 = cc (o.1, k.2) in
     let cut = cuts h p b x s y.0 k.0 k.1 n st (leading h p b x s y.0 st y.1) w.0 k.2 (omega (arith, o.2, one)) k.3 k.4 in
     join_cut h p b x s k.0 k.1 n h' st w.0 cut k.4 k.6
 join_allowed h p b x s (DiskFaultAt n) h' st w =
     let y = some_of _ (the_leader h) w.2 in
-    let o = fresh_of h (followed x.role) w.1 in
+    let o = current_of h (followed x.role) w.1 in
     let k = y.2 in
     let one : o.0 ≡ k.0 = cc (o.1, k.2) in
     let cut = cuts h p b x s y.0 k.0 k.1 n st (leading h p b x s y.0 st y.1) w.0 k.2 (omega (arith, o.2, one)) k.3 k.4 in
@@ -316,7 +316,7 @@ pub record JoinStarts (h : Held) (p : State) (b : ℕ) (x : Node) (s : Replica) 
 pub join_starts : (h : Held) (p : State) (b : ℕ) (x : Node) (s : Replica) (g : Begun) (h' : Held) → Standing h p b x s → JoinRow h b x (Begins g) h' → JoinStarts h p b x s g h'
 join_starts h p b x s g h' st w =
     let y = some_of _ (the_leader h) w.2 in
-    let o = fresh_of h (followed x.role) w.1 in
+    let o = current_of h (followed x.role) w.1 in
     let k = y.2 in
     let wants = k.4 in
     let one : o.0 ≡ k.0 = cc (o.1, k.2) in
@@ -384,7 +384,7 @@ begins_leader h p b x s y e st l is le =
 leader_ends : (h : Held) (p : State) (y : Node) → IsLeading h p y → leader_end p ≡ end_of y.log.batches
 leader_ends h p y l = rw l.is refl
 
-follow_true : (h : Held) (p : State) (x y : Node) → HeldStands h p → IsLeading h p y → x.up ≡ true → IsFresh h (joined x.role) → may_follow p (broker_of x) ≡ true
+follow_true : (h : Held) (p : State) (x y : Node) → HeldStands h p → IsLeading h p y → x.up ≡ true → IsCurrent h (joined x.role) → may_follow p (broker_of x) ≡ true
 follow_true h p x y st l up w = and_true _ _ (current_true h p x (joined x.role) st up w) (leader_some h p y l)
 
 pub follow_allowed : (h : Held) (p : State) (b : ℕ) (x : Node) (s : Replica) (limit : ℕ) (answer : Answer) (h' : Held) → Standing h p b x s → FollowRow h b x limit (Answers answer) h'
@@ -400,7 +400,7 @@ follow_allowed h p b x s limit NoLeader h' st w =
 follow_allowed h p b x s limit Level h' st w =
     let y = some_of _ (the_leader h) w.2 in
     let l = leading h p b x s y.0 st y.1 in
-    let o = fresh_of h (joined x.role) w.1 in
+    let o = current_of h (joined x.role) w.1 in
     let front = begins_leader h p b x s y.0 o.0 st l o.1 o.2 in
     let low = prefix_end x.log.batches y.0.log.batches (st.lines.each h.registry.leader.0 y.0 l.at).sound.log.consecutive front in
     let ends : end_of x.log.batches ≡ leader_end p = omega (arith, low, y.2, leader_ends h p y.0 l) in
@@ -444,7 +444,7 @@ pub follow_starts : (h : Held) (p : State) (b : ℕ) (x : Node) (s : Replica) (l
 follow_starts h p b x s limit g h' st w =
     let y = some_of _ (the_leader h) w.2 in
     let l = leading h p b x s y.0 st y.1 in
-    let o = fresh_of h (joined x.role) w.1 in
+    let o = current_of h (joined x.role) w.1 in
     let k = now h p b x s o.0 st (joined_followed x.role o.0 o.1) o.2 in
     let front = begins_leader h p b x s y.0 o.0 st l o.1 o.2 in
     let log = (st.lines.each h.registry.leader.0 y.0 l.at).sound.log in

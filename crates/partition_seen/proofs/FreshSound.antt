@@ -1,16 +1,12 @@
--- A fresh world has what its turns need.
-use Rattle.std.proofs.Common.{◌≡◌, ◌∙◌, ap, subst, refl, inl, inr, ℕ, zero, suc, ◌≤◌, ◌+◌, ◌-◌, ◌++◌, List, [], ◌∷◌, length, slice_get, Some, arith}
+-- The nodes of a fresh partition are sound.
+use Rattle.std.proofs.Common.{◌≡◌, ap, subst, refl, inl, inr, ℕ, zero, suc, ◌≤◌, ◌-◌, [], ◌∷◌, length, slice_get, Some, arith}
 use Rattle.std.specs.Prelude.{replicate}
-use Rattle.std.proofs.lemmas.List.{replicate_more}
 use Rattle.log_terms.proofs.Logs.{ends_at_zero}
 use Rattle.registry.specs.Replicas.{fresh_replica}
-use Rattle.plain_log.specs.declared.command.ActorList.{ActorList}
 use Rattle.plain_log.specs.declared.state.Role.TheVariants.{Leads, Joined}
 use Rattle.partition_seen.specs.Seen.{Node}
-use Rattle.partition_seen.specs.declared.seat.Seat.{Seat}
-use Rattle.partition_seen.specs.Fresh.{fresh_held, fresh_node, fresh_seat}
-use Rattle.partition_seen.specs.Sound.{NodeSound, HeldSound, turns_left}
-use Rattle.partition_seen.proofs.Lists.{turns_all}
+use Rattle.partition_seen.specs.Fresh.{fresh_held, fresh_node}
+use Rattle.partition_seen.specs.Sound.{NodeSound, HeldSound}
 
 pub length_replicate : {A : Type 0} (n : ℕ) (x : A) → length (replicate n x) ≡ n
 length_replicate zero x = refl
@@ -62,15 +58,3 @@ fresh_sound n some = record {
   epoch = omega arith;
   nodes = node_sound n;
 }
-
-pub fresh_seats : (lists : List ActorList) (n : ℕ) (desk : List Seat) → n ≡ length lists → desk ≡ replicate n fresh_seat → length desk ≡ length lists
-fresh_seats lists n desk many is = ap (λ (k : List Seat). length k) is ∙ (length_replicate n fresh_seat ∙ many)
-
-pub fresh_left : (lists : List ActorList) (n : ℕ) (desk : List Seat) → desk ≡ replicate n fresh_seat → turns_left lists desk ≡ turns_left lists []
-fresh_left lists n desk is = ap (λ (k : List Seat). turns_left lists k) is ∙ turns_all lists n
-
--- one node more
-pub nodes_more : (first x y : Node) (xs ys : List Node) (i : ℕ) → 1 ≤ i → xs ≡ first ∷ replicate (i - 1) x → y ≡ x → ys ≡ xs ++ y ∷ [] → ys ≡ first ∷ replicate (i + 1 - 1) x
-nodes_more first x y xs ys i some is same more =
-    let count : (i - 1) + 1 ≡ i + 1 - 1 = omega (arith, some) in
-    more ∙ (rw (is, same) (ap (λ (l : List Node). first ∷ l) (replicate_more (i - 1) x)) ∙ ap (λ (n : ℕ). first ∷ replicate n x) count)

@@ -111,12 +111,6 @@ pub consecutive_back : (n : ℕ) (xs ys : List (List ℕ)) → IsConsecutive n (
 consecutive_back n [] ys c = c
 consecutive_back n (x ∷ xs) ys c = consecutive_back (last_of x + 1) xs ys c.1
 
--- a log's line begins with that of its beginning
-pub line_append : (xs ys : List (List ℕ)) → (rest : List (ℕ × ℕ)) × (line_of (xs ++ ys) ≡ line_of xs ++ rest)
-line_append [] ys = (line_of ys, refl)
-line_append (x ∷ xs) ys =
-    (line_after (epoch_after (epoch_of x) xs) ys, ap (λ (l : List (ℕ × ℕ)). (epoch_of x, base_of x) ∷ l) (after_append (epoch_of x) xs ys))
-
 -- the line of a beginning is what of the log's starts before its end
 cut_front : (xs ys : List (List ℕ)) → IsConsecutive 0 (xs ++ ys) → cut_end (line_of (xs ++ ys)) (end_of xs) ≡ line_of xs
 cut_front [] [] c = refl

@@ -4,9 +4,6 @@ use Rattle.std.proofs.lemmas.Bool.Decides.{nat_tests}
 use Rattle.std.proofs.lemmas.Option.{slice_get-get_or}
 use Rattle.std.specs.Prelude.{is_some, ◌*◌, ◌-◌, if◌then◌else◌, replicate, None}
 use Rattle.plain_log.specs.declared.command.ActorList.{ActorList}
-use Rattle.plain_log.specs.declared.command.Command.{Command}
-use Rattle.plain_log.specs.declared.command.Command.TheVariants.{Follow, Offset}
-use Rattle.plain_log.specs.declared.command.Which.TheVariants.{LatestTiered, At}
 use Rattle.plain_log.specs.declared.command.Order.{Order}
 use Rattle.plain_log.specs.Orders.{AreRising}
 use Rattle.plain_log.specs.Runs.{orders_of}
@@ -14,13 +11,9 @@ use Rattle.partition_seen.specs.declared.seat.Seat.{Seat}
 use Rattle.partition_seen.specs.declared.begun.Begun.{Begun}
 use Rattle.partition_seen.specs.declared.begun.Turned.{Turned}
 use Rattle.partition_seen.specs.declared.begun.Turned.TheVariants.{Answers, Begins}
-use Rattle.partition_seen.specs.Seen.{Node, Held}
-use Rattle.partition_seen.specs.Held.{AtNode}
-use Rattle.partition_seen.specs.Rows.{Row, LaterRow}
 use Rattle.partition_seen.specs.Fresh.{fresh_seat}
 use Rattle.partition_seen.specs.Sound.{turns_of, turns_left}
-use Rattle.partition_seen.specs.Whole.{Whole}
-use Rattle.partition_seen.specs.Turn.{IsSeat, IsAtEnd, seat_after}
+use Rattle.partition_seen.specs.Turn.{seat_after}
 
 rising_rest : (l : ActorList) (lists : List ActorList) → AreRising (l ∷ lists) → AreRising lists
 rising_rest l [] r = tt
@@ -71,30 +64,10 @@ list_or_none (k ∷ lists) a = go (k.actor.0 == a) refl (list_or_none lists a)
     go false t (inl h) = inl (suc h.0, h.1, h.2, h.3)
     go false t (inr h) = inr (rw t h)
 
--- only a first turn begins
-
-later_answers : (h : Held) (b : ℕ) (x : Node) (command : Command) (k g : Begun) (h' : Held) → LaterRow h b x command k (Begins g) h' → ⊥
-later_answers h b x (Follow limit) k g h' r = r
-later_answers h b x (Offset LatestTiered) k g h' r = r
-later_answers h b x (Offset (At ts)) k g h' r = r
-later_answers h b x other k g h' r = r
-
-begun_none : (h : Held) (b : ℕ) (x : Node) (o : Option Begun) (command : Command) (g : Begun) (h' : Held) → Row h b x o command (Begins g) h' → o ≡ None
-begun_none h b x None command g h' r = refl
-begun_none h b x (Some k) command g h' r = absurd (later_answers h b x command k g h' r)
-
 -- the seat may take such a turn: none begins that has begun
 abbrev pub MayTurn : Seat → Turned → Type 0
 MayTurn seat (Answers answer) = Unit {0}
 MayTurn seat (Begins g) = seat.begun ≡ None
-
-pub may_turn : (h : Held) (b : ℕ) (seat : Seat) (command : Command) (turned : Turned) (h' : Held) → AtNode h b (λ x. Row h b x seat.begun command turned h') → MayTurn seat turned
-may_turn h b seat command (Answers answer) h' r = tt
-may_turn h b seat command (Begins g) h' r = go (slice_get h.nodes b) r
-  where
-    go : (o : Option Node) → IsSomeAnd o (λ x. Row h b x seat.begun command (Begins g) h') → seat.begun ≡ None
-    go None w = absurd w
-    go (Some x) w = begun_none h b x seat.begun command g h' w
 
 -- the turns that are left
 
@@ -151,14 +124,6 @@ turns_all (k ∷ lists) (suc n) = let rest = turns_all lists n in omega (arith, 
 -- what holds of what stands at a place holds of what is read there
 pub some_at : {A : Type 0} (P : A → Type 0) (xs : List A) (i : ℕ) (x : A) → IsSomeAnd (slice_get xs i) P → slice_get xs i ≡ Some x → P x
 some_at {A} P xs i x w at = subst (λ (o : Option A). IsSomeAnd o P) at w
-
--- an actor whose list is at its end is at its end
-pub at_end : (w : Whole) (a place : ℕ) (l : ActorList) (seat : Seat) → AreRising w.lists → IsSeat w a place l seat → length l.orders ≤ seat.number → IsAtEnd w a
-at_end w a place l seat r s le = λ place2 l2 seat2 s2.
-    let same : place2 ≡ place = one_list w.lists place2 place l2 l r s2.list s.list (s2.actor ∙ sym s.actor) in
-    let one : l2 ≡ l = cc (s2.list, s.list, ap (λ (k : ℕ). slice_get w.lists k) same) in
-    let two : seat2 ≡ seat = cc (s2.seat_is, s.seat_is, ap (λ (k : ℕ). slice_get w.desk k) same) in
-    omega (arith, le, ap (λ (k : ActorList). length k.orders) one, ap (λ (k : Seat). k.number) two)
 
 -- what an index gives stands at its place
 pub got : {A : Type 0} (xs : List A) (i : ℕ) (x : A) → i < length xs → x ≡ get_or xs i x → slice_get xs i ≡ Some x

@@ -5,7 +5,6 @@ use Rattle.log_terms.specs.Log.{joined}
 use Rattle.record_batch.specs.Check.{checked}
 use Rattle.plain_log.specs.declared.command.ActorList.{ActorList}
 use Rattle.plain_log.specs.declared.command.Config.{Config}
-use Rattle.plain_log.specs.declared.command.Pace.{Pace}
 use Rattle.plain_log.specs.Fresh.{fresh}
 use Rattle.plain_log.specs.Orders.{AreListsFor, IsConfig}
 use Rattle.plain_log.specs.Runs.{IsPlainRun, IsComplete}
@@ -14,8 +13,6 @@ use Rattle.partition_seen.specs.Whole.{Whole}
 use Rattle.partition_seen.specs.Turn.{Steps, IsAtEnd}
 use Rattle.partition_seen.specs.Central.{IsCentral, KeepsCentral}
 use Rattle.partition_seen.specs.Fresh.{IsFresh}
-use Rattle.partition_seen.specs.Later.{IsLater}
-use Rattle.partition_seen.specs.Reaches.{Reaches}
 use Rattle.partition_seen.specs.Taken.{parts}
 
 -- each step keeps the central fact
@@ -26,10 +23,6 @@ StepsKeepCentral = (w : Whole) (a : ℕ) (stepped : Stepped) (w' : Whole) → St
 abbrev pub FreshIsCentral : Type 0
 FreshIsCentral = (partition : PartitionId) (config : Config) (lists : List ActorList) (w : Whole) → IsConfig config
     → AreListsFor config lists → IsFresh partition config lists w → IsCentral (fresh config) w
-
--- a world that a schedule reaches is a later one
-abbrev pub ReachesLater : Type 0
-ReachesLater = (w : Whole) (schedule : List Pace) (w' : Whole) → Reaches w schedule w' → IsLater w w'
 
 -- where it holds and each actor is at its end, the journal is a complete run of the plain log
 pub record IsCompleteRun (w : Whole) : Type 0 where

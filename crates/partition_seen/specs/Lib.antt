@@ -12,7 +12,5 @@ pub mod Sound
 pub mod Whole
 pub mod Turn
 pub mod Central
-pub mod Later
-pub mod Reaches
 pub mod Fresh
 pub mod Laws

@@ -31,8 +31,8 @@ abbrev pub IsStale : Held → Option ℕ → Type 0
 IsStale h e = IsSomeAnd e (λ e. e < h.registry.epoch)
 
 -- it isn't
-abbrev pub IsFresh : Held → Option ℕ → Type 0
-IsFresh h e = IsSomeAnd e (λ e. h.registry.epoch ≤ e)
+abbrev pub IsCurrent : Held → Option ℕ → Type 0
+IsCurrent h e = IsSomeAnd e (λ e. h.registry.epoch ≤ e)
 
 -- where the logs of two nodes meet: the greatest offset up to both ends to which their lines agree
 abbrev pub IsMeet : Node → Node → ℕ → Type 0
@@ -69,14 +69,14 @@ abbrev pub JoinRow : Held → ℕ → Node → Turned → Held → Type 0
 JoinRow h b x (Answers Down) h' = (x.up ≡ false) × (h' ≡ h)
 JoinRow h b x (Answers NotFollower) h' = (x.up ≡ true) × (followed x.role ≡ None) × (h' ≡ h)
 JoinRow h b x (Answers (StaleEpoch n)) h' = (x.up ≡ true) × IsStale h (followed x.role) × (n ≡ h.registry.epoch) × (h' ≡ h)
-JoinRow h b x (Answers NoLeader) h' = (x.up ≡ true) × IsFresh h (followed x.role) × (the_leader h ≡ None) × (h' ≡ h)
-JoinRow h b x (Answers (Cut n)) h' = (x.up ≡ true) × IsFresh h (followed x.role) × IsSomeAnd (the_leader h) (λ y.
+JoinRow h b x (Answers NoLeader) h' = (x.up ≡ true) × IsCurrent h (followed x.role) × (the_leader h ≡ None) × (h' ≡ h)
+JoinRow h b x (Answers (Cut n)) h' = (x.up ≡ true) × IsCurrent h (followed x.role) × IsSomeAnd (the_leader h) (λ y.
     (e m : ℕ) × (followed x.role ≡ Some e) × IsMeet x y m × (n ≡ end_of (up_to m x.log.batches)) × (y.local ≤ n)
     × (h' ≡ put_node h b (cut_node x e m)))
-JoinRow h b x (Answers (DiskFaultAt n)) h' = (x.up ≡ true) × IsFresh h (followed x.role) × IsSomeAnd (the_leader h) (λ y.
+JoinRow h b x (Answers (DiskFaultAt n)) h' = (x.up ≡ true) × IsCurrent h (followed x.role) × IsSomeAnd (the_leader h) (λ y.
     (e m : ℕ) × (followed x.role ≡ Some e) × IsMeet x y m × (n ≡ end_of (up_to m x.log.batches))
     × (h' ≡ put_node h b (torn x (cut_back x m))))
-JoinRow h b x (Begins g) h' = (x.up ≡ true) × IsFresh h (followed x.role) × IsSomeAnd (the_leader h) (λ y.
+JoinRow h b x (Begins g) h' = (x.up ≡ true) × IsCurrent h (followed x.role) × IsSomeAnd (the_leader h) (λ y.
     (e m : ℕ) × (followed x.role ≡ Some e) × IsMeet x y m × Wants h (cut_node x e m) y g
     × (h' ≡ put_node h b (cut_node x e m)))
 JoinRow h b x other h' = ⊥
@@ -167,14 +167,14 @@ abbrev pub FollowRow : Held → ℕ → Node → ℕ → Turned → Held → Typ
 FollowRow h b x limit (Answers Down) h' = (x.up ≡ false) × (h' ≡ h)
 FollowRow h b x limit (Answers NotJoined) h' = (x.up ≡ true) × (joined x.role ≡ None) × (h' ≡ h)
 FollowRow h b x limit (Answers (StaleEpoch n)) h' = (x.up ≡ true) × IsStale h (joined x.role) × (n ≡ h.registry.epoch) × (h' ≡ h)
-FollowRow h b x limit (Answers NoLeader) h' = (x.up ≡ true) × IsFresh h (joined x.role) × (the_leader h ≡ None) × (h' ≡ h)
-FollowRow h b x limit (Answers Level) h' = (x.up ≡ true) × IsFresh h (joined x.role)
+FollowRow h b x limit (Answers NoLeader) h' = (x.up ≡ true) × IsCurrent h (joined x.role) × (the_leader h ≡ None) × (h' ≡ h)
+FollowRow h b x limit (Answers Level) h' = (x.up ≡ true) × IsCurrent h (joined x.role)
     × IsSomeAnd (the_leader h) (λ y. end_of y.log.batches ≤ end_of x.log.batches) × (h' ≡ h)
-FollowRow h b x limit (Answers (Moved n)) h' = (x.up ≡ true) × IsFresh h (joined x.role)
+FollowRow h b x limit (Answers (Moved n)) h' = (x.up ≡ true) × IsCurrent h (joined x.role)
     × IsSomeAnd (the_leader h) (λ y. (end_of x.log.batches < end_of y.log.batches) × (end_of x.log.batches < y.local) × (n ≡ y.local)) × (h' ≡ h)
-FollowRow h b x limit (Answers DiskFault) h' = (x.up ≡ true) × IsFresh h (joined x.role)
+FollowRow h b x limit (Answers DiskFault) h' = (x.up ≡ true) × IsCurrent h (joined x.role)
     × IsSomeAnd (the_leader h) (λ y. (end_of x.log.batches < end_of y.log.batches) × (y.local ≤ end_of x.log.batches)) × (h' ≡ h)
-FollowRow h b x limit (Begins g) h' = (x.up ≡ true) × IsFresh h (joined x.role)
+FollowRow h b x limit (Begins g) h' = (x.up ≡ true) × IsCurrent h (joined x.role)
     × IsSomeAnd (the_leader h) (λ y. (end_of x.log.batches < end_of y.log.batches) × (y.local ≤ end_of x.log.batches)
     × Takes h x y limit g) × (h' ≡ h)
 FollowRow h b x limit other h' = ⊥

@@ -1,12 +1,10 @@
--- What a world keeps, whatever its journal: what its turns need to be carried out.
+-- What a partition keeps whatever its journal, and how many turns are left of its lists.
 use Rattle.std.specs.Prelude.{◌≡◌, ℕ, ◌+◌, ◌-◌, ◌*◌, ◌^◌, ◌<◌, ◌≤◌, Some, None, true, false, List, [], ◌∷◌, length, slice_get, is_some, if◌then◌else◌}
 use Rattle.log_terms.specs.Log.{EndsAt, end_of, up_to}
 use Rattle.epoch_line.specs.Line.{IsLine, last_epoch}
 use Rattle.plain_log.specs.declared.command.ActorList.{ActorList}
-use Rattle.plain_log.specs.declared.command.Config.{Config}
 use Rattle.plain_log.specs.declared.command.Order.{Order}
 use Rattle.plain_log.specs.declared.state.Role.TheVariants.{Leads, Idle}
-use Rattle.plain_log.specs.Orders.{AreListsFor, IsConfig}
 use Rattle.partition_seen.specs.Seen.{Back, Node, Held}
 use Rattle.partition_seen.specs.declared.seat.Seat.{Seat}
 use Rattle.partition_seen.specs.Log.{IsLog, IsLineFor}
@@ -53,11 +51,3 @@ abbrev pub turns_left : List ActorList → List Seat → ℕ
 turns_left [] desk = 0
 turns_left (l ∷ lists) [] = 2 * length l.orders + turns_left lists []
 turns_left (l ∷ lists) (seat ∷ desk) = turns_of l.orders seat + turns_left lists desk
-
--- the whole world: its lists can be run, and the journal has room for an entry of each turn that is left
-pub record IsSound (config : Config) (lists : List ActorList) (h : Held) (desk : List Seat) (free : ℕ) : Type 0 where
-  pub config_fits : IsConfig config
-  pub fit : AreListsFor config lists
-  pub held : HeldSound config.brokers h
-  pub seats : length desk ≡ length lists
-  pub room : turns_left lists desk ≤ free

@@ -1,6 +1,6 @@
 //! Laws of worlds. Each is the contract of a function that does nothing: calling it cites the law.
 
-ghost use Rattle.partition_seen.specs.Laws.{StepsKeepCentral, FreshIsCentral, ReachesLater, EndsAreComplete, JoinedComeApart};
+ghost use Rattle.partition_seen.specs.Laws.{StepsKeepCentral, FreshIsCentral, EndsAreComplete, JoinedComeApart};
 
 /// Each step keeps the central fact, for each opening state.
 pub fn steps_keep_central()
@@ -10,11 +10,6 @@ pub fn steps_keep_central()
 /// A fresh world has it.
 pub fn fresh_is_central()
     ensures { FreshIsCentral }
-{}
-
-/// A world that a schedule reaches is a later one.
-pub fn reaches_later()
-    ensures { ReachesLater }
 {}
 
 /// Where each actor is at its end, the journal is a complete run of the plain log.

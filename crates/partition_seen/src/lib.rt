@@ -26,9 +26,7 @@ mod seat;
 mod taken;
 
 pub use begun::{Begun, Turned};
-pub use laws::{
-    ends_are_complete, fresh_is_central, joined_come_apart, reaches_later, steps_keep_central,
-};
+pub use laws::{ends_are_complete, fresh_is_central, joined_come_apart, steps_keep_central};
 pub use local_start::LocalStart;
 pub use seat::{Seat, Stepped};
 pub use taken::Taken;

@@ -18,7 +18,7 @@ use Rattle.partition_seen.specs.declared.begun.Begun.{Begun}
 use Rattle.partition_seen.specs.declared.begun.Turned.TheVariants.{Begins}
 use Rattle.partition_seen.specs.Seen.{Node, Held}
 use Rattle.partition_seen.specs.Held.{broker_of, the_leader, put_node}
-use Rattle.partition_seen.specs.RowsOfFollowers.{IsFresh, IsMeet, cut_node, Wants as WantsSeen, JoinRow}
+use Rattle.partition_seen.specs.RowsOfFollowers.{IsCurrent, IsMeet, cut_node, Wants as WantsSeen, JoinRow}
 use Rattle.partition_seen.proofs.BoolTests.{some_of}
 use Rattle.tier_safe.specs.Scene.{Free, Rebuilds, Scene}
 use Rattle.tier_safe.specs.Changes.{Wants, Steps, Moves, effect}
@@ -52,9 +52,9 @@ follows_below paths epoch e (Follows m) log k f = (let same : m ≡ e = cc (f) i
 follows_below paths epoch e (Joined m) log k f = (let same : m ≡ e = cc (f) in omega (arith, same, k.0))
 
 -- an epoch that isn't stale isn't below the registry's
-fresh_above : (h : Held) (o : Option ℕ) (e : ℕ) → IsFresh h o → o ≡ Some e → h.registry.epoch ≤ e
-fresh_above h None e k is = absurd cc
-fresh_above h (Some m) e k is = (let same : m ≡ e = cc (is) in omega (arith, same, k))
+current_above : (h : Held) (o : Option ℕ) (e : ℕ) → IsCurrent h o → o ≡ Some e → h.registry.epoch ≤ e
+current_above h None e k is = absurd cc
+current_above h (Some m) e k is = (let same : m ≡ e = cc (is) in omega (arith, same, k))
 
 -- the registry's leader, where it leads
 record IsLed (h : Held) (y : Node) : Type 0 where
@@ -115,7 +115,7 @@ begins brokers h h' p q x g order entry sides c a t safe shows step row seat = r
     epoch : h.registry.epoch ≡ e
     epoch =
         let high = follows_below p.paths p.registry.epoch e x.role x.log.batches (safe.brokers b (broker_of x) (broker_at h p b x t.before t.node)).role found.2.2 in
-        let low = fresh_above h (followed x.role) e row.1 found.2.2 in
+        let low = current_above h (followed x.role) e row.1 found.2.2 in
         omega (arith, high, low, ap (λ (r : Registry). r.epoch) t.before.registry)
 
     path : path_of q.paths h.registry.epoch ≡ Some y.log.batches

@@ -157,7 +157,7 @@ module _ {D : Type 0} (content : D → Content) (control : D → Control call_co
   unstale_shown : (h : Held D) (a : seen.Held) (e : Option ℕ) → ShowsHeld content h a → (IsStale h e → ⊥) → seen_rows.IsStale a e → ⊥
   unstale_shown h a e held k m = k (subst (λ (r : Registry). IsSomeAnd e (λ e. e < r.epoch)) held.registry m)
 
-  current_shown : (h : Held D) (a : seen.Held) (e : Option ℕ) → ShowsHeld content h a → IsCurrent h e → seen_rows.IsFresh a e
+  current_shown : (h : Held D) (a : seen.Held) (e : Option ℕ) → ShowsHeld content h a → IsCurrent h e → seen_rows.IsCurrent a e
   current_shown h a e held k = subst (λ (r : Registry). IsSomeAnd e (λ e. r.epoch ≤ e)) (sym held.registry) k
 
   epoch_shown : (h : Held D) (a : seen.Held) (n : ℕ) → ShowsHeld content h a → n ≡ h.registry.epoch → n ≡ a.registry.epoch

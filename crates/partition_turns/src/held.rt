@@ -21,7 +21,7 @@ use plain_log::{Answer, Command, Order, Registry, Role, Which};
 use std::alloc::{AllocError, Global};
 use tier_base::Row;
 
-/// A broker.
+/// A broker over a disk, which is up as long as its log is open.
 #[derive(Drop)]
 pub struct Node<D: Disk> {
     /// How often it has stopped.

@@ -1,6 +1,10 @@
 //! A remote segment's entry, and the notes that tell of it. The module Rules of specs/ has what a note must say.
 
+ghost use Rattle.std.specs.Prelude.{◌≡◌, IfOk};
+
+use crate::custom::copied_custom;
 use epoch_line::Line;
+use std::alloc::{AllocError, Global};
 use tier_base::{Blob, BrokerId, PartitionId, SegmentId, State};
 
 /// What is known of a remote segment (Kafka's RemoteLogSegmentMetadata).
@@ -27,6 +31,28 @@ pub struct Entry {
     pub packed: bool,
     /// What the store told of it (Kafka's CustomMetadata).
     pub custom: Option<Blob>,
+}
+
+impl Entry {
+    /// An entry of the same fields.
+    pub fn copy(&self, alloc: Global) -> Result<Entry, AllocError>
+        ensures { IfOk result (λ copy. copy ≡ self.now) }
+    {
+        Ok(Entry {
+            id: self.id,
+            partition: self.partition,
+            start: self.start,
+            end: self.end,
+            max_ts: self.max_ts,
+            broker: self.broker,
+            event_ts: self.event_ts,
+            size: self.size,
+            state: self.state,
+            map: self.map.copy(alloc)?,
+            packed: self.packed,
+            custom: copied_custom(alloc, &self.custom)?,
+        })
+    }
 }
 
 /// What the metadata log is told.

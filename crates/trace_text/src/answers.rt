@@ -5,7 +5,7 @@ ghost use Rattle.tier_base.specs.Key.{id_text, key_text};
 ghost use Rattle.trace_text.specs.Names.{file_name_text, cause_numbers};
 ghost use Rattle.trace_text.specs.Trace.{place_text, tier_words, fields_of, event_words, spaced};
 
-use crate::names::{cause_name, name, part_ending, state_name, stop_name};
+use crate::names::{answer_name, cause_name, part_ending, state_name, stop_name};
 use crate::page::Page;
 use plain_log::{Answer, Event, Place, Tier};
 use record_batch::BatchRefusal;
@@ -196,7 +196,7 @@ pub fn write_event(page: &mut Page, event: &Event) -> Result<(), AllocError>
         }
         Event::Answers(answer) => {
             page.word(" = ")?;
-            page.word(name(answer))?;
+            page.word(answer_name(answer))?;
             write_fields(page, answer)
         }
     }

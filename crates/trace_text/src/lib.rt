@@ -26,5 +26,6 @@ mod words;
 pub use laws::{one_text_one_trace, print_is_read};
 pub use line::PartJournal;
 pub use lines::read;
+pub use names::answer_name;
 pub use refusal::TraceRefusal;
 pub use trace::print;

@@ -62,8 +62,8 @@ pub fn part_ending(part: Part) -> &'static str
     }
 }
 
-/// Names an answer.
-pub fn name(answer: &Answer) -> &'static str
+/// Names an answer as a trace does.
+pub fn answer_name(answer: &Answer) -> &'static str
     ensures value { result.now ≡ name_of answer.now }
     ensures short { length result.now ≤ 15 }
 {

@@ -6,7 +6,7 @@ ghost use Rattle.std.specs.Prelude.{◌≤◌, ◌+◌, ◌-◌, ◌^◌, min, l
 ghost use Rattle.trace_text.specs.Names.{padded, file_name_text, cause_numbers};
 ghost use Rattle.trace_text.specs.Trace.{place_text, tier_words, fields_of, event_words, spaced, entry_line, journal_text};
 
-use crate::names::{cause_name, name};
+use crate::names::{answer_name, cause_name};
 use plain_log::{Answer, Event, JournalEntry, Place, Tier};
 use record_batch::BatchRefusal;
 use tier_base::{FileName, PartitionId};
@@ -144,7 +144,7 @@ fn event_room(event: &Event) -> usize
     match event {
         Event::Begins { cut: None } => 6,
         Event::Begins { cut: Some(end) } => 11 + digits(*end),
-        Event::Answers(answer) => fields_room(answer).saturating_add(3 + name(answer).len()),
+        Event::Answers(answer) => fields_room(answer).saturating_add(3 + answer_name(answer).len()),
     }
 }
 
