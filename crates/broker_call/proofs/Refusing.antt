@@ -1,5 +1,5 @@
 -- What a script without a reading comes to.
-use Rattle.std.proofs.Common.{◌≡◌, ◌∙◌, sym, ap, subst, refl, ℕ, ◌+◌, ◌<◌, ◌≤◌, List, length, Some, None, Err, Option, ◌++◌, append-nil, arith}
+use Rattle.std.proofs.Common.{◌≡◌, ◌∙◌, sym, ap, subst, refl, ℕ, ◌<◌, ◌≤◌, List, length, Some, None, Err, Option, ◌++◌, append-nil, arith}
 use Rattle.std.specs.Prelude.{IsOk}
 use Rattle.tier_base.specs.Counts.{counted}
 use Rattle.tier_base.specs.Stream.{ReadsWhole}

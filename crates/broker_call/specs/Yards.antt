@@ -12,7 +12,7 @@ use Rattle.disk_model.specs.declared.disk.Disk.{Ghosts as DiskGhosts}
 use Rattle.object_store.specs.declared.store.Store.{Ghosts as StoreGhosts}
 use Rattle.meta_log.specs.declared.log.MetaLog.{Ghosts as MetaGhosts}
 use Rattle.device_yard.specs.Control.{Control, Names}
-use Rattle.device_yard.specs.Held.{Held, IsFirst, IsName}
+use Rattle.device_yard.specs.Held.{Held, IsFirst, IsName, Same}
 use Rattle.script_lang.specs.declared.refusal.Why.{Why}
 use Rattle.script_lang.specs.declared.script.Script.{Script}
 use Rattle.script_lang.specs.Script.{script_in}
@@ -49,20 +49,24 @@ IsOfScript (ending.BadScript line why) = Unit {0}
 IsOfScript other = ⊥
 
 module _ {D S M : Type 0} (disk : DiskGhosts D) (store : StoreGhosts S) (meta : MetaGhosts M) where
-  -- why a script that was read isn't run to its end: the yard answered this first name and handed nothing out, or it failed,
-  -- or there was no memory
-  abbrev pub StopsOver : Held D S M → Control → Control → Status → Type 0
-  StopsOver held control control' (ending.NotEmpty name) =
-      Names (Ok (Some name)) control control' × (IsTrue held.tells → IsFirst (IsName disk.content store.content meta.content held) (Some name))
-  StopsOver held control control' ending.YardFault = Rose control.faults control'.faults
-  StopsOver held control control' ending.NoMemory = Unit {0}
-  StopsOver held control control' other = ⊥
+  -- the yard answered this name and handed nothing out, what it holds is the same, and over one that tells the name is its first
+  pub record AnswersName (name : List ℕ) (held held' : Held D S M) (control control' : Control) : Type 0 where
+    pub names : Names (Ok (Some name)) control control'
+    pub same : Same disk.content store.content meta.content held held'
+    pub first : IsTrue held.tells → IsFirst (IsName disk.content store.content meta.content held) (Some name)
 
-  -- why there is no trace of a script with this reading: it has none, and then the yard isn't asked, or it isn't run to its end
-  abbrev pub HasNoTrace : Result Script (ℕ × Why) → Held D S M → Control → Control → Status → Type 0
-  HasNoTrace reading held control control' (ending.BadScript line why) = (reading ≡ Err (line, why)) × (control' ≡ control)
-  HasNoTrace reading held control control' ending.NoMemory = Unit {0}
-  HasNoTrace reading held control control' other = IsOk reading × StopsOver held control control' other
+  -- why a script that was read isn't run to its end: the yard has a name, or it failed, or there was no memory
+  abbrev pub StopsOver : Held D S M → Held D S M → Control → Control → Status → Type 0
+  StopsOver held held' control control' (ending.NotEmpty name) = AnswersName name held held' control control'
+  StopsOver held held' control control' ending.YardFault = Rose control.faults control'.faults
+  StopsOver held held' control control' ending.NoMemory = Unit {0}
+  StopsOver held held' control control' other = ⊥
+
+  -- why there is no trace of a script with this reading: it has none, or it isn't run to its end
+  abbrev pub HasNoTrace : Result Script (ℕ × Why) → Held D S M → Held D S M → Control → Control → Status → Type 0
+  HasNoTrace reading held held' control control' (ending.BadScript line why) = reading ≡ Err (line, why)
+  HasNoTrace reading held held' control control' ending.NoMemory = Unit {0}
+  HasNoTrace reading held held' control control' other = IsOk reading × StopsOver held held' control control' other
 
   -- the yard names nothing, and then the text is the trace of a run of each partition of the script over the yard's devices,
   -- which are all back
@@ -117,9 +121,8 @@ module _ {D S M R W : Type 0} (disk : DiskGhosts D) (store : StoreGhosts S) (met
     pub not_long : status ≢ ending.TooLong → source.given script' ≤ source.given script + script_limit
     pub bad : (line : ℕ) (why : Why) → status ≡ ending.BadScript line why
         → ReadsBad (source.left script) (source.left script') line why
-    pub not_empty : (name : List ℕ) → status ≡ ending.NotEmpty name → Names (Ok (Some name)) control control'
-    pub first : (name : List ℕ) → status ≡ ending.NotEmpty name → IsTrue held.tells
-        → IsFirst (IsName disk.content store.content meta.content held) (Some name)
+    pub not_empty : (name : List ℕ) → status ≡ ending.NotEmpty name
+        → AnswersName disk store meta name held held' control control'
     pub yard_fault : status ≡ ending.YardFault → Rose control.faults control'.faults
     pub write_fault : status ≡ ending.WriteFault → Rose (sink.faults out) (sink.faults out')
     pub front : status ≡ ending.WriteFault
@@ -136,8 +139,7 @@ module _ {D S M R W : Type 0} (disk : DiskGhosts D) (store : StoreGhosts S) (met
     -- and one of more bytes is too long
     pub over : ¬ Rose (source.faults script) (source.faults script')
         → (bytes : List ℕ) → source.left script ≡ Some bytes → script_limit < length bytes → IsTooLongOrNoMemory status
-    -- the yard is asked only behind a script that has a reading
-    pub unasked : IsOfScript status → control' ≡ control
+    -- the yard's statuses come only behind a script that has a reading
     pub asked : IsOfYard status → ReadsGood (source.left script) (source.left script')
     -- nothing else touches the sink
     pub unwritten : status ≢ ending.Ok → status ≢ ending.WriteFault → out' ≡ out

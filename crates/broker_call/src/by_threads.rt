@@ -13,7 +13,7 @@ ghost use Rattle.broker_call.specs.Headline.{IsTraceByThreads};
 ghost use Rattle.broker_call.specs.Threads.{AddsThreadedRun, IsTextByThreads};
 ghost use Rattle.broker_call.specs.Endings.{Simulates};
 
-use crate::sim::{SCRIPT_LIMIT, joined, trace_of};
+use crate::sim::{SCRIPT_LIMIT, trace_of};
 use crate::status::Status;
 use bytes::Bytes;
 use disk_model::{Disk, MemoryDisk};
@@ -28,6 +28,7 @@ use std::thread::Threads;
 use thread_run::{Gate, Traced, run_threads};
 use tier_base::{ReadRefusal, Sink, Source, read_all, write_all};
 use trace_text::print;
+use yard_run::joined;
 
 /// A partition's run over devices in memory.
 type Run = Traced<MemoryDisk, MemoryStore, MemoryLog>;

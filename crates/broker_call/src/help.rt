@@ -2,7 +2,7 @@
 
 /// What `--help` prints.
 const HELP: &str = "\
-tiered: a partition's log, run by a script
+tiered: logs in a local and a remote tier, run by a script
 
 usage:
   tiered sim      reads a script from standard input, runs it, and writes the trace to standard output

@@ -1,14 +1,15 @@
 //! What `run` does: a script's bytes in, the trace's bytes out, and the devices those of a yard.
 //!
-//! The script is read, and the yard is asked for its first name, before the first device is handed out: so nothing is touched
-//! where the script has no reading or something stands in the yard. The trace is made whole before its first byte is written.
+//! The script is read before the yard is asked for its first name, and that before the first device is handed out: so the yard
+//! is as it was where the script has no reading, and holds what it held where it answers a name. The trace is made whole before
+//! its first byte is written.
 
 ghost use Rattle.std.specs.Prelude.{◌≡◌, ◌<◌, ◌-◌, ◌^◌, Ok, None, length, IfOk, IfErr, OnOk, IsTrue};
 ghost use Rattle.script_lang.specs.Fit.{IsFit};
 ghost use Rattle.script_lang.specs.Script.{script_in};
 ghost use Rattle.device_yard.specs.Control.{Names};
 ghost use Rattle.device_yard.specs.Held.{IsFirst, IsName, IsUnusedFrom};
-ghost use Rattle.broker_call.specs.Yards.{StopsOver, HasNoTrace, RunsOver, IsTraceOver, RunsInYard};
+ghost use Rattle.broker_call.specs.Yards.{IsOfScript, StopsOver, HasNoTrace, RunsOver, IsTraceOver, RunsInYard};
 
 use crate::sim::SCRIPT_LIMIT;
 use crate::status::Status;
@@ -25,7 +26,7 @@ fn ask<Y: Yard>(yard: &mut Y) -> Result<(), Status>
         → IsFirst (IsName Y.D.content Y.S.content Y.M.content (Y.held yard.old)) None) }
     ensures unused { OnOk result (IsTrue (Y.held yard.new).tells
         → IsUnusedFrom Y.D.content Y.S.content Y.M.content 0 (Y.held yard.new)) }
-    ensures stops { IfErr result (StopsOver Y.D.Disk Y.S.Store Y.M.MetaLog (Y.held yard.old)
+    ensures stops { IfErr result (StopsOver Y.D.Disk Y.S.Store Y.M.MetaLog (Y.held yard.old) (Y.held yard.new)
         (Y.control yard.old) (Y.control yard.new)) }
     ensures out { (Y.control yard.new).out ≡ (Y.control yard.old).out }
     ensures tells { (Y.held yard.new).tells ≡ (Y.held yard.old).tells }
@@ -45,7 +46,7 @@ fn run_over<Y: Yard>(alloc: Global, script: Script, yard: &mut Y) -> Result<Vec<
     requires { IsFit script }
     ensures runs { IfOk result (λ text. RunsOver Y.D.Disk Y.S.Store Y.M.MetaLog script text.items
         (Y.held yard.old) (Y.held yard.new) (Y.control yard.old) (Y.control yard.new)) }
-    ensures stops { IfErr result (StopsOver Y.D.Disk Y.S.Store Y.M.MetaLog (Y.held yard.old)
+    ensures stops { IfErr result (StopsOver Y.D.Disk Y.S.Store Y.M.MetaLog (Y.held yard.old) (Y.held yard.new)
         (Y.control yard.old) (Y.control yard.new)) }
     ensures out { (Y.control yard.new).out ≡ (Y.control yard.old).out }
     ensures tells { (Y.held yard.new).tells ≡ (Y.held yard.old).tells }
@@ -63,8 +64,9 @@ fn trace_over<Y: Yard>(alloc: Global, script: &[u8], yard: &mut Y) -> Result<Vec
     requires { length script.now < 2 ^ 32 - 1 }
     ensures trace { IfOk result (λ text. IsTraceOver Y.D.Disk Y.S.Store Y.M.MetaLog script.now text.items
         (Y.held yard.old) (Y.held yard.new) (Y.control yard.old) (Y.control yard.new)) }
-    ensures cause { IfErr result (HasNoTrace Y.D.Disk Y.S.Store Y.M.MetaLog (script_in script.now) (Y.held yard.old)
-        (Y.control yard.old) (Y.control yard.new)) }
+    ensures cause { IfErr result (HasNoTrace Y.D.Disk Y.S.Store Y.M.MetaLog (script_in script.now)
+        (Y.held yard.old) (Y.held yard.new) (Y.control yard.old) (Y.control yard.new)) }
+    ensures unasked { IfErr result (λ status. IsOfScript status → yard.new ≡ yard.old) }
     ensures out { (Y.control yard.new).out ≡ (Y.control yard.old).out }
     ensures tells { (Y.held yard.new).tells ≡ (Y.held yard.old).tells }
 {
@@ -83,8 +85,9 @@ pub fn run<R: Source, Y: Yard, W: Sink>(
     yard: &mut Y,
     out: &mut W,
 ) -> Status
-    ensures { RunsInYard Y.D.Disk Y.S.Store Y.M.MetaLog R.Source W.Sink script.old script.new
+    ensures runs { RunsInYard Y.D.Disk Y.S.Store Y.M.MetaLog R.Source W.Sink script.old script.new
         (Y.held yard.old) (Y.held yard.new) (Y.control yard.old) (Y.control yard.new) out.old out.new result }
+    ensures unasked { IsOfScript result → yard.new ≡ yard.old }
 {
     let bytes = match read_all(alloc, script, SCRIPT_LIMIT) {
         Ok(bytes) => bytes,

@@ -3,7 +3,7 @@
 //! The trace is made whole before its first byte is written, so that nothing is written where the script has no reading
 //! or memory runs out.
 
-ghost use Rattle.std.specs.Prelude.{◌≡◌, ℕ, ◌-◌, ◌<◌, ◌^◌, ◌++◌, All, Err, length, IfOk, IsErrOf};
+ghost use Rattle.std.specs.Prelude.{◌≡◌, ℕ, ◌-◌, ◌<◌, ◌^◌, All, Err, length, IfOk, IsErrOf};
 ghost use Rattle.plain_log.specs.Orders.{AreListsFor, IsConfig};
 ghost use Rattle.script_lang.specs.declared.refusal.Why.{Why};
 ghost use Rattle.script_lang.specs.Fit.{StepsToEnds};
@@ -22,6 +22,7 @@ use script_lang::{PartScript, ScriptRefusal, Why, parse};
 use std::alloc::{AllocError, Global};
 use tier_base::{ReadRefusal, Row, Sink, Source, read_all, write_all};
 use trace_text::print;
+use yard_run::joined;
 
 /// The most bytes that a script may have.
 pub const SCRIPT_LIMIT: usize = 16_777_216;
@@ -43,18 +44,6 @@ fn run_part(
     let world = run_partition(alloc, config, part)?;
     let printed = print(alloc, partition, world.journal())?;
     joined(text, printed)
-}
-
-/// Puts a text behind another.
-pub(crate) fn joined(front: Vec<u8>, back: Vec<u8>) -> Result<Vec<u8>, AllocError>
-    ensures { IfOk result (λ text. text.items ≡ front.items ++ back.items) }
-{
-    if front.is_empty() {
-        return Ok(back);
-    }
-    let mut text = front;
-    text.extend_from_slice(back.as_slice())?;
-    Ok(text)
 }
 
 /// Runs each partition, in rising order.

@@ -7,7 +7,7 @@ use tier_base::{Blob, PartitionId};
 /// How a call ends. The tests are made in this order: words, source, length, script, yard, sink.
 #[derive(Debug, Drop)]
 pub enum Status {
-    /// The script was read to its end, every command was answered, and the whole trace was written.
+    /// All was done: a script run and its trace written, a load summed up, or each tier gone over and told.
     Ok,
     /// The words have none of the forms.
     Usage,

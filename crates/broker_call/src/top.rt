@@ -6,7 +6,7 @@ ghost use Rattle.broker_call.specs.Words.{form_of as form_is};
 ghost use Rattle.broker_call.specs.Headline.{IsTrace, IsTraceByThreads};
 ghost use Rattle.broker_call.specs.Endings.{Simulates, Generates};
 ghost use Rattle.broker_call.specs.Rounds.{AuditsYard, SweepsYard};
-ghost use Rattle.broker_call.specs.Yards.{RunsInYard};
+ghost use Rattle.broker_call.specs.Yards.{IsOfScript, RunsInYard};
 
 use crate::by_threads::simulate_by_threads;
 use crate::load::generate;
@@ -48,6 +48,7 @@ pub fn tiered<H: AllocGlobal + Threads + Wait + Sync, R: Source, Y: Yard, W: Sin
     ensures runs { form_is words.now ≡ Some Form.Run
         → RunsInYard Y.D.Disk Y.S.Store Y.M.MetaLog R.Source W.Sink script.old script.new
         (Y.held yard.old) (Y.held yard.new) (Y.control yard.old) (Y.control yard.new) out.old out.new result }
+    ensures unasked { form_is words.now ≡ Some Form.Run → IsOfScript result → yard.new ≡ yard.old }
 
     // The remote tier of each partition in a yard is audited, or swept, and what was found or went is written.
     ensures audits { form_is words.now ≡ Some Form.Audit
@@ -91,6 +92,7 @@ pub fn tiered_in_order<H: AllocGlobal, R: Source, Y: Yard, W: Sink>(
     ensures runs { form_is words.now ≡ Some Form.Run
         → RunsInYard Y.D.Disk Y.S.Store Y.M.MetaLog R.Source W.Sink script.old script.new
         (Y.held yard.old) (Y.held yard.new) (Y.control yard.old) (Y.control yard.new) out.old out.new result }
+    ensures unasked { form_is words.now ≡ Some Form.Run → IsOfScript result → yard.new ≡ yard.old }
     ensures audits { form_is words.now ≡ Some Form.Audit
         → AuditsYard Y.D.Disk Y.S.Store Y.M.MetaLog W.Sink (Y.held yard.old) (Y.held yard.new)
         (Y.control yard.old) (Y.control yard.new) out.old out.new result }

@@ -18,4 +18,4 @@ mod runs;
 
 pub use refusal::{RunRefusal, YardRefusal};
 pub use running::run_on;
-pub use runs::run_in_yard;
+pub use runs::{joined, run_in_yard};

@@ -51,7 +51,7 @@ fn run_part<Y: Yard>(
 }
 
 /// Puts a text behind another.
-fn joined(front: Vec<u8>, back: Vec<u8>) -> Result<Vec<u8>, AllocError>
+pub fn joined(front: Vec<u8>, back: Vec<u8>) -> Result<Vec<u8>, AllocError>
     ensures { IfOk result (λ text. text.items ≡ front.items ++ back.items) }
 {
     if front.is_empty() {

@@ -1,4 +1,4 @@
-use Rattle.std.proofs.Common.{◌≡◌, ◌+◌, ◌++◌, length, List}
+use Rattle.std.proofs.Common.{◌≡◌, ◌++◌, length, List}
 use Rattle.std.specs.Prelude.{vec_len}
 use Rattle.script_lang.specs.declared.script.PartScript.{PartScript}
 use Rattle.broker_call.proofs.by_threads.all_begun.Given as goal
