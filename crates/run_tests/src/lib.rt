@@ -7,6 +7,8 @@
 #[cfg(test)]
 mod broker_tests;
 #[cfg(test)]
+mod fault_tests;
+#[cfg(test)]
 mod law_tests;
 #[cfg(test)]
 mod remote_tests;

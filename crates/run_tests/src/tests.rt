@@ -92,7 +92,7 @@ pub(crate) fn is_wanted(
 }
 
 /// What a call of the program comes to, with a yard over the folder that the words name.
-fn made(
+pub(crate) fn made(
     rt: HostRuntime,
     words: &[String],
     script: &mut MemorySource,

@@ -29,7 +29,7 @@ enum End {
 }
 
 /// Reads a script.
-fn read(alloc: Global, text: &str) -> Option<Script>
+pub(crate) fn read(alloc: Global, text: &str) -> Option<Script>
     ensures { IfSome result IsFit }
 {
     let bytes = text.as_bytes();
