@@ -1,4 +1,5 @@
-//! The program: runs a script of log commands, and writes what each was answered, or runs a load and sums it up.
+//! The program: runs a script of log commands, and writes what each was answered; or runs a load and sums it up; or audits or
+//! sweeps the remote tiers in a folder.
 //!
 //! `broker_call` has the call with the headline. What stands here hands it the words, standard input, a yard over the folder
 //! that the words name, standard output and a gate that holds nobody, prints the status's line to standard error and what

@@ -15,7 +15,8 @@ use meta_log::MetaLog;
 use object_store::Store;
 use tier_base::{Blob, BrokerId, PartitionId, Row, Trouble};
 
-/// A yard of devices.
+/// Where the devices of partitions come from, and where they come back to. A call that answers `Failed` has handed nothing out
+/// and leaves what is held as it was.
 pub trait Yard {
     type D: Disk;
 

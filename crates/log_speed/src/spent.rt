@@ -35,6 +35,7 @@ impl Spent {
 }
 
 impl Times {
+    /// Makes the times of no calls.
     pub fn new() -> Times {
         Times {
             appends: Spent::new(),

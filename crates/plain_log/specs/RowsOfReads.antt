@@ -6,7 +6,8 @@
 --            latest tiered, of a timestamp: first Down, NotLeader, MetaFault; then Stopped, NotLeader, Offset, NoOffset;
 --            of a timestamp also MetaFault, StoreFault, DiskFault, Damaged
 --
--- Nothing changes. A device's fault stands only where there would be a run, or an offset.
+-- Nothing changes. A device's fault stands only where there would be a run or, of a question of several turns, where the broker
+-- leads on.
 use Rattle.std.specs.Prelude.{ℕ, ◌==◌, ◌&&◌, not, nat_le, max, int_lt, ℤ, Bool, true, false, List, [], ◌∷◌, Option, Some, None, if◌then◌else◌}
 use Rattle.log_terms.specs.Batch.{base_of, max_ts_of}
 use Rattle.log_terms.specs.Log.{end_of, up_to, from_offset}
@@ -42,7 +43,7 @@ is_long LatestTiered = true
 is_long (At ts) = true
 is_long other = false
 
--- the base of the first batch with a record at or past the timestamp, or the log start where that is greater
+-- the base of the first batch whose greatest timestamp isn't earlier, or the log start where that is greater
 abbrev pub first_at : ℤ → ℕ → List (List ℕ) → Option ℕ
 first_at ts start [] = None
 first_at ts start (batch ∷ log) = if int_lt (max_ts_of batch) ts then first_at ts start log else Some (max (base_of batch) start)

@@ -86,7 +86,7 @@ pub enum Answer {
     StoreFault,
     /// What was read there has no reading from this place on.
     Damaged(Place, u64),
-    /// The log was begun anew at this offset, what is below it being in the remote tier.
+    /// The log was begun anew at this offset, what is below it being in the remote tier or below the log start.
     Rebuilt(u64),
     /// The broker neither leads nor has joined the leader that it follows.
     NotJoined,
@@ -139,6 +139,6 @@ pub enum Answer {
     CopyOff,
     /// The offset that was asked for.
     Offset(u64),
-    /// No record is at or past the timestamp.
+    /// There is no such offset.
     NoOffset,
 }

@@ -1,4 +1,4 @@
-//! What a script asks of a partition: commands, each to a broker, in a list for each actor.
+//! What a script asks of a partition: commands, in a list for each actor.
 
 use bytes::Bytes;
 use record_batch::Rec;
@@ -24,15 +24,15 @@ pub enum Which {
     Earliest,
     /// The high watermark that the leader knows.
     Latest,
-    /// The first offset that the local log has.
+    /// Where the local log begins, or the log start where that is greater.
     EarliestLocal,
-    /// The last offset that a finished copy has.
+    /// The last offset that the remote tier has with all before it.
     LatestTiered,
-    /// That of the first record at or past this timestamp, in milliseconds.
+    /// That of the first batch whose greatest timestamp isn't below this one, in milliseconds.
     At(i64),
 }
 
-/// A command to a broker.
+/// A command to a broker, or to the whole partition (`Clock`, `Pack`, `Copying`).
 #[derive(Debug, Drop)]
 pub enum Command {
     /// The leader appends the batch of these records.
@@ -84,7 +84,7 @@ pub enum Command {
     Offset(Which),
 }
 
-/// A command, and the broker that it goes to.
+/// A command, and the broker that it goes to, or 0 where it goes to the whole partition.
 #[derive(Debug, Drop)]
 pub struct Order {
     pub broker: BrokerId,

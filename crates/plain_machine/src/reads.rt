@@ -186,7 +186,7 @@ pub(crate) fn takes_turns(which: &Which) -> bool
     matches!(which, Which::LatestTiered | Which::At(_))
 }
 
-/// The base of the first batch with a record at or past the timestamp, or the log start where that is greater.
+/// The base of the first batch whose greatest timestamp isn't earlier, or the log start where that is greater.
 fn first_offset(ts: i64, start: u64, log: &[Bytes]) -> Option<u64>
     ensures { result ≡ first_at ts start log.now }
 {

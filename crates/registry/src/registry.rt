@@ -21,7 +21,7 @@ pub struct Replica {
     pub acked: u64,
 }
 
-/// The registry of a partition.
+/// What the controller holds of a partition: who leads it, who is in sync, and between which offsets it can be read.
 #[derive(Debug, Drop)]
 pub struct Registry {
     /// The leader epoch.

@@ -109,7 +109,9 @@ placed a sought from c p m h site x is bx =
       seen = f.seen;
       piece = λ piece has leads low. f.piece piece has (record { stops = leads.stops; role = leads.role }) low;
       from = λ piece other has read leads low. (let same : other ≡ from = cc (read) in
-          subst (λ (n : ℕ). PositionStands p.paths (fold c.notes) piece.id sought.offset n) (sym same) (m.is piece has));
+          let one : piece ≡ m.piece = cc (has, m.found) in
+          subst (λ (q : Piece). PositionStands p.paths (fold c.notes) q.id sought.offset other) (sym one)
+          (subst (λ (n : ℕ). PositionStands p.paths (fold c.notes) m.piece.id sought.offset n) (sym same) m.is));
     }
 
 moved_fetch : (a : ℕ) (move : Move) (c : Scene) (p : Plain) → MayMove a move c p → TierSafe c p → FetchWork p.paths c.notes p.registry.start c.sites p.brokers (moved move)

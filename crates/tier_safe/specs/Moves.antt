@@ -101,11 +101,12 @@ pub record MaySkip (a : ℕ) (sought : Sought) (offset : ℕ) (c : Scene) (p : P
   pub gives : (x : Broker) → slice_get p.brokers sought.broker ≡ Some x → StillLeads sought x
       → p.registry.start ≤ offset → PieceStands c.notes x.log offset piece
 
--- the position is the one that the index of the piece's segment gives for the offset
+-- the position is the one that the index of the found piece's segment gives for the offset
 pub record MayRead (a : ℕ) (sought : Sought) (from : ℕ) (c : Scene) (p : Plain) : Type 0 where
   pub seat : slice_get c.desk a ≡ Some (Seeks sought)
-  pub is : (piece : Piece) → sought.piece ≡ Some piece
-      → PositionStands p.paths (fold c.notes) piece.id sought.offset from
+  pub piece : Piece
+  pub found : sought.piece ≡ Some piece
+  pub is : PositionStands p.paths (fold c.notes) piece.id sought.offset from
 
 -- the condition of a move; a command may always leave the desk
 abbrev pub MayMove : ℕ → Move → Scene → Plain → Type 0

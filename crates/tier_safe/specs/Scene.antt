@@ -41,7 +41,7 @@ pub record Rebuild : Type 0 where
   pub wanted : ℕ
   -- its view has taken in all notes since
   pub refreshed : Bool
-  -- the leader's line, and later that of a remote segment
+  -- the line that it has read beside a remote segment, once it has
   pub line : Option (List (ℕ × ℕ))
 
 -- a fetch below its leader's local start

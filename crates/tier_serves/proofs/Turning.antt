@@ -167,9 +167,9 @@ reads_on c p a b site stops epoch wanted piece index cache at seat are is =
     let d = effect (Caches b site (indexes_in cache)) c in
     let may : MayRead a sought from d p = record {
       seat = seat;
-      is = λ other has.
-          (let same : piece ≡ other = one_some (Some piece) piece other refl has in
-          subst (λ (q : Piece). PositionStands p.paths (fold c.notes) q.id wanted.offset from) same (λ entry there done. (index, is entry there done, refl)));
+      piece = piece;
+      found = refl;
+      is = λ entry there done. (index, is entry there done, refl);
     } in
     as_scene c (effect (Moves a (Reads sought from)) d) (after_fetch c a b site (fetch_work b stops epoch wanted.offset (reads_by wanted piece index)) c.objects c.notes site.view cache) p
     (scene_same _ _ refl refl refl refl refl)

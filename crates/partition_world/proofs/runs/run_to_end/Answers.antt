@@ -19,3 +19,7 @@ loop-place-preserved g c =
 
 pub returns-clause-ended : goal.returns-clause-ended
 returns-clause-ended g c = places_ended g.D.Disk g.S.Store g.M.MetaLog c.loop-place.world c.loop-place.place (omega (arith, c.loop-place.invariant.many, c.loop-place-test.false)) c.loop-place.invariant.ended
+
+pub returns-in_err-run_actor-clause-later : goal.returns-in_err-run_actor-clause-later
+returns-in_err-run_actor-clause-later g c =
+    later_more g.D.Disk g.S.Store g.M.MetaLog c.args.world.now c.loop-place.world c.run_actor.new.world c.loop-place.invariant.later c.in_err-run_actor.ensures.later
