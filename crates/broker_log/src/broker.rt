@@ -455,6 +455,16 @@ impl<D: Disk> BrokerLog<D> {
         }
     }
 
+    /// While the broker is up, its log can be opened again from the disk, also after a power cut. It does nothing when it runs, and
+    /// cites what the type of a log keeps.
+    pub fn reopens(&self)
+        ensures { IsTrue (is_up self.now) → OnDisk self.now (λ d. Reopens (D.content d)) }
+    {
+        if let Place::Up(log) = &self.place {
+            log.reopens();
+        }
+    }
+
     /// Closes the log: the broker is down.
     pub fn stop(&mut self)
         requires { IsTrue (is_up self.old) }

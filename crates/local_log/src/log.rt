@@ -194,6 +194,14 @@ impl<D: Disk> LocalLog<D> {
         let _ = &self.active;
     }
 
+    /// A log can be opened again from the disk, also after a power cut and where this one is broken. It does nothing when it runs,
+    /// and cites what the type keeps.
+    pub fn reopens(&self)
+        ensures { Reopens (D.content self.now.disk) }
+    {
+        let _ = &self.active;
+    }
+
     /// Gives the disk back. A log can be opened from it again, also where this one is broken.
     pub fn close(self) -> D
         ensures disk { result ≡ self.disk }

@@ -18,4 +18,4 @@ pub store_keeps_itself : (s : store.Content) → store.Keeps s s
 store_keeps_itself s = record { tells = refl; objects = λ k. refl }
 
 pub log_keeps_itself : (m : log.Content) → log.Keeps m m
-log_keeps_itself m = record { tells = refl; notes = refl }
+log_keeps_itself m = record { tells = refl; notes = refl; left = λ l at. at }

@@ -1,5 +1,6 @@
 pub mod Frames
 pub mod Telling
+pub mod Leaving
 pub mod Firsts
 pub mod Walks
 pub mod Moments

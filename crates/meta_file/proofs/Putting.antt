@@ -4,7 +4,7 @@ use Rattle.tier_base.specs.declared.plain.FileName.TheVariants as file
 use Rattle.tier_base.specs.Device.{Fate, Went, Fault, Dry}
 use Rattle.disk_model.specs.Content.{Content, Files, Image, Lawful, Keeps, LeavesOnly}
 use Rattle.segment_meta.specs.declared.note.Note.{Note}
-use Rattle.meta_log.specs.Content.{Grows}
+use Rattle.meta_log.specs.Content.{Left, Grows}
 use Rattle.meta_file.specs.declared.marks.Tail.{Tail}
 use Rattle.meta_file.specs.declared.marks.Tail.TheVariants.{Exact, Unsure}
 use Rattle.meta_file.specs.Notes.{framed, frames, IsTold, AreTold, Fronts, Opens}
@@ -17,7 +17,8 @@ use Rattle.meta_file.specs.Told.{notes_told, told_of}
 use Rattle.meta_file.proofs.Frames.{frames_more, told_append}
 use Rattle.meta_file.proofs.Walks.{ends_more}
 use Rattle.meta_file.proofs.Moments.{leaves_weaker, leaves_then}
-use Rattle.meta_file.proofs.Telling.{disk_told}
+use Rattle.meta_file.proofs.Telling.{disk_told, opens_once}
+use Rattle.meta_file.proofs.Leaving.{undone, opens_left, grows_left}
 use Rattle.meta_file.proofs.Holding.{note_choice, holds_opens, or_opens, last_end, ends_len}
 use Rattle.meta_file.proofs.Written.{leaves_started, leaves_on, sure_all, keeps_all}
 
@@ -90,8 +91,15 @@ extended_or notes note c h front = record { gate = inl h.gate; front = front }
 pub grows_not : (d e : Content) (laws_e : Lawful e) (ends : List ℕ) (notes : List Note) (note : Note) (next : ℕ) (fate : Fate) → Ready d ends notes note next → e.tells ≡ d.tells → AllHold e notes → (fate ≡ Went → ⊥) → Grows note (IsDone fate) (told_of d) (told_of e)
 grows_not d e laws_e ends notes note next fate r same all not = record {
   tells = same;
-  notes = λ tells. (false, record { went = λ went. absurd (not went); dry = λ dry. refl }, all_told e laws_e notes all r.told r.low (subst IsTrue (sym same) tells) ∙ sym (all_told d r.laws notes r.all r.told r.low tells));
+  notes = λ tells. (false, undone fate not, told tells ∙ sym (was tells));
+  left = λ tells l at. inl (undone fate not, inl (opens_left e notes (told tells) (λ c image. holds_opens notes c r.told r.low (all c image)) l at ∙ sym (was tells)));
 }
+  where
+    told : IsTrue d.tells → notes_told e ≡ notes
+    told tells = all_told e laws_e notes all r.told r.low (subst IsTrue (sym same) tells)
+
+    was : IsTrue d.tells → notes_told d ≡ notes
+    was tells = all_told d r.laws notes r.all r.told r.low tells
 
 pub committed_has : (d e n : Content) (ends now : List ℕ) (notes : List Note) (note : Note) (next : ℕ) (fate : Fate) → Ready d ends notes note next → Commits notes (notes ++ note ∷ []) fate e n → now ≡ ends → HasNotes n now (Unsure (Some next))
 committed_has d e n ends now notes note next fate r x same = record {
@@ -119,16 +127,38 @@ more_told d n laws_n ends notes note next r same h tells =
     let was = all_told d r.laws notes r.all r.told r.low tells in
     ⊎_elim (λ is. inl (now ∙ is ∙ sym was)) (λ is. inr (now ∙ is ∙ ap (λ (l : List Note). l ++ note ∷ []) (sym was))) o.one_of
 
+-- an image with these notes or more of them opens with the one or the other
+or_left : (d : Content) (ends : List ℕ) (notes : List Note) (note : Note) (next : ℕ) → Ready d ends notes note next → (c : Files) → HoldsOr notes (notes ++ note ∷ []) c → (l : List Note) → Opens c l → IsTrue d.tells
+    → (l ≡ notes_told d) ⊎ (l ≡ notes_told d ++ note ∷ [])
+or_left d ends notes note next r c h l o tells =
+    let choice = note_choice notes note r.told r.is (omega (arith, r.next_is, r.next_low)) in
+    let by = or_opens notes (notes ++ note ∷ []) c choice h in
+    let same = opens_once c l by.with o (by.each c h refl) in
+    let was = all_told d r.laws notes r.all r.told r.low tells in
+    ⊎_elim (λ is. inl (same ∙ is ∙ sym was)) (λ is. inr (same ∙ is ∙ ap (λ (k : List Note). k ++ note ∷ []) (sym was))) by.one_of
+
 pub grows_perhaps : (d e n : Content) (laws_n : Lawful n) (ends : List ℕ) (notes : List Note) (note : Note) (next : ℕ) (fate : Fate) → Ready d ends notes note next → n.tells ≡ d.tells → Commits notes (notes ++ note ∷ []) fate e n → (fate ≡ Went → ⊥) → Grows note (IsDone fate) (told_of d) (told_of n)
 grows_perhaps d e n laws_n ends notes note next Went r same x not = absurd (not refl)
 grows_perhaps d e n laws_n ends notes note next Dry r same x not = grows_not d n laws_n ends notes note next Dry r same (x.dry refl) not
 grows_perhaps d e n laws_n ends notes note next Fault r same x not = record {
   tells = same;
   notes = λ tells. ⊎_elim
-      (λ is. (false, record { went = λ went. absurd (not went); dry = λ dry. refl }, is))
+      (λ is. (false, undone Fault not, is))
       (λ is. (true, record { went = λ went. refl; dry = λ dry. cc }, is))
-      (more_told d n laws_n ends notes note next r same (x.images n.files (laws_n.reads (subst IsTrue (sym same) tells))) tells);
+      (told tells);
+  left = λ tells l at. either l (one tells l at);
 }
+  where
+    told : IsTrue d.tells → (notes_told n ≡ notes_told d) ⊎ (notes_told n ≡ notes_told d ++ note ∷ [])
+    told tells = more_told d n laws_n ends notes note next r same (x.images n.files (laws_n.reads (subst IsTrue (sym same) tells))) tells
+
+    one : IsTrue d.tells → (l : List Note) → Left (told_of n) l → (l ≡ notes_told d) ⊎ (l ≡ notes_told d ++ note ∷ [])
+    one tells l (inl is) = ⊎_elim (λ a. inl (is ∙ a)) (λ b. inr (is ∙ b)) (told tells)
+    one tells l (inr (c, image, o)) = or_left d ends notes note next r c (x.images c image) l o tells
+
+    either : (l : List Note) → (l ≡ notes_told d) ⊎ (l ≡ notes_told d ++ note ∷ []) → (IsDone Fault false × Left (told_of d) l) ⊎ (IsDone Fault true × (l ≡ notes_told d ++ note ∷ []))
+    either l (inl is) = inl (undone Fault not, inl is)
+    either l (inr is) = inr (record { went = λ went. refl; dry = λ dry. cc }, is)
 
 -- the note was appended
 pub put_has : (d m e n : Content) (ends now : List ℕ) (notes : List Note) (note : Note) (next : ℕ) → Ready d ends notes note next → Commits notes (notes ++ note ∷ []) Went e n → EndsWith n (notes ++ note ∷ []) → now ≡ ends ++ next ∷ [] → HasNotes n now Exact
@@ -152,13 +182,22 @@ put_durable d e n laws_n ends notes note next r same x c image =
 pub put_grows : (d e n : Content) (laws_n : Lawful n) (ends : List ℕ) (notes : List Note) (note : Note) (next : ℕ) → Ready d ends notes note next → n.tells ≡ d.tells → Commits notes (notes ++ note ∷ []) Went e n → Grows note (IsDone Went) (told_of d) (told_of n)
 put_grows d e n laws_n ends notes note next r same x = record {
   tells = same;
-  notes = λ tells. (
-    true,
-    record { went = λ went. refl; dry = λ dry. cc },
-    disk_told n (notes ++ note ∷ []) (subst IsTrue (sym same) tells) (put_opens d e n ends notes note next r x n.files (laws_n.reads (subst IsTrue (sym same) tells)))
-        ∙ ap (λ (l : List Note). l ++ note ∷ []) (sym (all_told d r.laws notes r.all r.told r.low tells)),
-  );
+  notes = λ tells. (true, done, now tells ∙ was tells);
+  left = λ tells l at. inr (done, opens_left n (notes ++ note ∷ []) (now tells) (put_opens d e n ends notes note next r x) l at ∙ was tells);
 }
+  where
+    done : IsDone Went true
+    done = record { went = λ went. refl; dry = λ dry. cc }
+
+    now : IsTrue d.tells → notes_told n ≡ notes ++ note ∷ []
+    now tells = disk_told n (notes ++ note ∷ []) (subst IsTrue (sym same) tells) (put_opens d e n ends notes note next r x n.files (laws_n.reads (subst IsTrue (sym same) tells)))
+
+    was : IsTrue d.tells → notes ++ note ∷ [] ≡ notes_told d ++ note ∷ []
+    was tells = ap (λ (l : List Note). l ++ note ∷ []) (sym (all_told d r.laws notes r.all r.told r.low tells))
+
+-- nothing was done
+pub grows_same : (d : Content) (note : Note) (fate : Fate) → (fate ≡ Went → ⊥) → Grows note (IsDone fate) (told_of d) (told_of d)
+grows_same d note fate not = grows_left d d note fate not refl refl (λ l at. at)
 
 -- its number
 pub put_place : (d : Content) (ends : List ℕ) (notes : List Note) (note : Note) (next : ℕ) → Ready d ends notes note next → IsTrue d.tells → length ends ≡ length (notes_told d)

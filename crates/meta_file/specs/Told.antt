@@ -9,6 +9,7 @@ use Rattle.segment_meta.specs.declared.note.Note.{Note}
 use Rattle.segment_meta.specs.declared.refusal.NoteRefusal.{NoteRefusal}
 use Rattle.segment_meta.specs.Reading.{note_in}
 use Rattle.meta_log.specs.Content.{Content}
+use Rattle.meta_file.specs.Notes.{Opens}
 
 -- a note that was read, and those behind it
 abbrev pub noted : Result Note NoteRefusal → List Note → List Note
@@ -42,6 +43,10 @@ notes_of c = notes_at (length (gated c)) (gated c)
 abbrev pub notes_told : disk.Content → List Note
 notes_told d = if d.tells then notes_of d.files else []
 
--- what the log tells whose disk has this content
+-- notes with which an image of a disk opens
+abbrev pub IsLeft : disk.Content → List Note → Type 0
+IsLeft d notes = (c : disk.Files) × disk.Image d c × Opens c notes
+
+-- what the log tells whose disk has this content: a power cut leaves an image of the disk
 abbrev pub told_of : disk.Content → Content
-told_of d = record { tells = d.tells; notes = notes_told d }
+told_of d = record { tells = d.tells; notes = notes_told d; besides = IsLeft d }

@@ -8,13 +8,13 @@ ghost use Rattle.segment_meta.specs.declared.note.Note.{Note};
 ghost use Rattle.segment_meta.specs.Rules.{IsNote};
 ghost use Rattle.meta_log.specs.declared.call.MetaCall.TheVariants.{Append, Read};
 ghost use Rattle.meta_log.specs.Call.{call_code};
-ghost use Rattle.meta_log.specs.Content.{AreNotes, Grows, Keeps};
+ghost use Rattle.meta_log.specs.Content.{AreNotes, Left, LeavesTold, Grows, Keeps};
 ghost use Rattle.device_tally.specs.Tally.{control_of, fails_as_planned};
 ghost use Rattle.meta_file.specs.declared.refusal.NotesRefusal.TheVariants.{Failed, Damaged};
 ghost use Rattle.meta_file.specs.Notes.{Opens};
 ghost use Rattle.meta_file.specs.Crash.{Reopens, OpensLike, Appending};
 ghost use Rattle.meta_file.specs.Reading.{IsDamage, IsStrangeGate, AreStrangeNotes};
-ghost use Rattle.meta_file.specs.Told.{told_of};
+ghost use Rattle.meta_file.specs.Told.{told_of, IsLeft};
 
 use crate::marks::Marks;
 use crate::opening::open_log;
@@ -62,6 +62,9 @@ impl<D: Disk> DiskLog<D> {
             → Opens (D.content disk).files (⟦<DiskLog<D> as MetaLog>⟧.content log).notes) }
         ensures durable { IfOk result (λ log. (c : Files) → Image (D.content log.disk) c
             → Opens c (⟦<DiskLog<D> as MetaLog>⟧.content log).notes) }
+        // A power cut then leaves no notes but those that one before may have left.
+        ensures left { IfOk result (λ log. IsTrue (D.content disk).tells → Reopens (D.content disk) → (notes : List Note)
+            → Left (⟦<DiskLog<D> as MetaLog>⟧.content log) notes → IsLeft (D.content disk) notes) }
         ensures control { IfOk result (λ log. Lasts (D.control disk) (D.control log.disk)) }
         ensures control_err { IfErr result (λ e. Lasts (D.control disk) (D.control e.0)) }
 
@@ -152,6 +155,8 @@ impl<D: Disk> MetaLog for DiskLog<D> {
             (⟦<DiskLog<D> as MetaLog>⟧.control self.old) (⟦<DiskLog<D> as MetaLog>⟧.control self.new) }
         ensures content { Keeps (⟦<DiskLog<D> as MetaLog>⟧.content self.old)
             (⟦<DiskLog<D> as MetaLog>⟧.content self.new) }
+        ensures left { IsTrue (⟦<DiskLog<D> as MetaLog>⟧.content self.old).tells
+            → OnOk result (LeavesTold (⟦<DiskLog<D> as MetaLog>⟧.content self.new)) }
         ensures notes { IsTrue (⟦<DiskLog<D> as MetaLog>⟧.content self.old).tells
             → IfOk result (λ notes. notes ≡ drop at (⟦<DiskLog<D> as MetaLog>⟧.content self.old).notes) }
         ensures rules { IfOk result AreNotes }

@@ -3,6 +3,6 @@ use Rattle.std.specs.Prelude.{true, List}
 use Rattle.segment_meta.specs.declared.note.Note.{Note}
 use Rattle.meta_log.specs.Content.{Content}
 
--- these notes
+-- these notes, and a power cut leaves them
 abbrev pub content_of : List Note → Content
-content_of notes = record { tells = true; notes = notes }
+content_of notes = record { tells = true; notes = notes; besides = λ l. ⊥ }

@@ -3,12 +3,12 @@
 //! A call is whole: it is done or not, and one that answers `Failed` may have been done. One that
 //! finds no memory changes nothing. No call hands bytes.
 
-ghost use Rattle.std.specs.Prelude.{◌≡◌, length, drop, IfOk, IsTrue};
+ghost use Rattle.std.specs.Prelude.{◌≡◌, length, drop, IfOk, OnOk, IsTrue};
 ghost use Rattle.tier_base.specs.Device.{Control, RanQuietly, MayBeDone, Arms, FailsAsPlanned, fate_of};
 ghost use Rattle.segment_meta.specs.Rules.{IsNote};
 ghost use Rattle.meta_log.specs.declared.call.MetaCall.TheVariants.{Append, Read};
 ghost use Rattle.meta_log.specs.Call.{call_code};
-ghost use Rattle.meta_log.specs.Content.{Content, AreNotes, Grows, Keeps};
+ghost use Rattle.meta_log.specs.Content.{Content, AreNotes, LeavesTold, Grows, Keeps};
 
 use segment_meta::Note;
 use tier_base::{Row, Trouble};
@@ -31,10 +31,11 @@ pub trait MetaLog: Drop {
         ensures place { IsTrue (content self.old).tells
             → IfOk result (λ at. at ≡ length (content self.old).notes) };
 
-    /// Gives the notes from a place on, none where the log ends there or before.
+    /// Gives the notes from a place on, none where the log ends there or before. A power cut then leaves the notes that it told.
     fn read(&mut self, at: u64) -> Result<Row<Note>, Trouble>
         ensures control { RanQuietly Read (fate_of result) (control self.old) (control self.new) }
         ensures content { Keeps (content self.old) (content self.new) }
+        ensures left { IsTrue (content self.old).tells → OnOk result (LeavesTold (content self.new)) }
         ensures notes { IsTrue (content self.old).tells
             → IfOk result (λ notes. notes ≡ drop at (content self.old).notes) }
         ensures rules { IfOk result AreNotes };

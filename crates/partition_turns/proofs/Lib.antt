@@ -21,3 +21,4 @@ pub mod FreshNodes
 pub mod FreshDisks
 pub mod Writes
 pub mod Begun
+pub mod Reopening

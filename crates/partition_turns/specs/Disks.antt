@@ -1,8 +1,10 @@
 -- What turns leave of the brokers' disks.
-use Rattle.std.specs.Prelude.{ℕ, List, [], ◌∷◌}
+use Rattle.std.specs.Prelude.{◌≡◌, ℕ, List, [], ◌∷◌, Some, IsTrue, slice_get}
+use Rattle.disk_model.specs.Content.{Content}
+use Rattle.log_steps.specs.Reopens.{Reopens}
 use Rattle.tier_base.specs.Device.{Control}
 use Rattle.disk_model.specs.Call.{call_code}
-use Rattle.broker_log.specs.Seen.{OnDisk, Lasting, Faulted}
+use Rattle.broker_log.specs.Seen.{OnDisk, Lasting, Faulted, is_up}
 use Rattle.partition_turns.specs.declared.held.Node.{Node}
 use Rattle.partition_turns.specs.declared.held.Held.{Held}
 use Rattle.partition_turns.specs.Held.{AtNode}
@@ -24,3 +26,12 @@ module _ {D : Type 0} (control : D → Control call_code) where
   -- a call of the broker's disk failed
   abbrev pub DiskFails : ℕ → Held D → Held D → Type 0
   DiskFails b h h' = AtNode h b (λ x. AtNode h' b (λ y. Faulted control x.log y.log))
+
+module _ {D : Type 0} (content : D → Content) where
+  -- the log of a broker that is up can be opened again from its disk, also after a power cut
+  abbrev pub WillReopen : Node D → Type 0
+  WillReopen x = IsTrue (is_up x.log) → OnDisk x.log (λ d. Reopens (content d))
+
+  -- each broker's
+  abbrev pub AllReopen : List (Node D) → Type 0
+  AllReopen nodes = (b : ℕ) (x : Node D) → slice_get nodes b ≡ Some x → WillReopen x

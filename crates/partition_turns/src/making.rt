@@ -9,6 +9,7 @@ ghost use Rattle.tier_base.specs.declared.plain.Settings.{Settings as Options};
 ghost use Rattle.broker_log.specs.Seen.{Shows, OnDisk, Lasting, Faulted, layout_in};
 ghost use Rattle.partition_turns.specs.declared.refusal.WorldRefusal.TheVariants as refusal;
 ghost use Rattle.partition_turns.specs.Held.{line_of};
+ghost use Rattle.partition_turns.specs.Disks.{AllReopen};
 ghost use Rattle.partition_turns.specs.Fresh.{IsFreshDisk, AreFreshDisks, DisksTell, IsFreshNode, IsMadeOver, AreMadeFrom, AreFreshFrom, IsFreshHeld, AllSeen, IsLaid, AreLaid, AddsNode, AreDisksOf, RefusesOver, Refuses, empty_seen};
 
 use crate::held::{Held, Node};
@@ -205,6 +206,15 @@ impl<D: Disk> Held<D> {
             copying: true,
             packed: false,
         })
+    }
+
+    /// The log of each broker that is up can be opened again from its disk, also after a power cut. It does nothing that is seen.
+    pub fn reopens(&self)
+        ensures { AllReopen D.content self.now.nodes }
+    {
+        for node in self.nodes.as_slice() {
+            node.log.reopens();
+        }
     }
 
     /// Gives the brokers' disks back, in their order, in the room that they came from.

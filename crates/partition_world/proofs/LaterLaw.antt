@@ -17,10 +17,11 @@ use Rattle.partition_world.specs.Turn.{IsTurn, IsAtEnd, StaysWhole, Steps}
 use Rattle.partition_world.proofs.Advancing.{turns_left, advances_at, turns_less}
 use Rattle.partition_world.specs.Central.{KeepsCentral}
 use Rattle.partition_world.specs.Later.{IsLater}
+use Rattle.partition_world.proofs.LeftLaw.{turn_keeps_left, steps_keep_left}
 
 module _ {D S M : Type 0} (disk : DiskGhosts D) (store : StoreGhosts S) (meta : MetaGhosts M) where
   pub later_same : (w : Whole D S M) → IsLater disk store meta w w
-  later_same w = record { partition = refl; config = refl; lists = refl; central = λ opening c. c; ends = λ a e. e }
+  later_same w = record { partition = refl; config = refl; lists = refl; central = λ opening c. c; left = λ opening c. c; ends = λ a e. e }
 
   pub later_more : (w v u : Whole D S M) → IsLater disk store meta w v → IsLater disk store meta v u → IsLater disk store meta w u
   later_more w v u a b = record {
@@ -28,6 +29,7 @@ module _ {D S M : Type 0} (disk : DiskGhosts D) (store : StoreGhosts S) (meta : 
     config = b.config ∙ a.config;
     lists = b.lists ∙ a.lists;
     central = λ opening c. b.central opening (a.central opening c);
+    left = λ opening c. b.left opening (a.left opening c);
     ends = λ n e. b.ends n (a.ends n e);
   }
 
@@ -62,6 +64,7 @@ module _ {D S M : Type 0} (disk : DiskGhosts D) (store : StoreGhosts S) (meta : 
     config = t.config;
     lists = t.lists;
     central = keeps;
+    left = turn_keeps_left disk store meta w a outcome w' t;
     ends = turn_ends w a outcome w' t;
   }
 
@@ -74,6 +77,7 @@ module _ {D S M : Type 0} (disk : DiskGhosts D) (store : StoreGhosts S) (meta : 
     config = ap (λ (k : Whole D S M). k.config) s.fields;
     lists = ap (λ (k : Whole D S M). k.lists) s.fields;
     central = keeps;
+    left = steps_keep_left disk store meta w a NoMemory w' s;
     ends = λ b e. subst (λ (k : Whole D S M). IsAtEnd k b) (sym s.fields) (λ place l seat at. e place l seat (record { list = at.list; actor = at.actor; seat_is = at.seat_is }));
   }
 

@@ -11,6 +11,9 @@ pub mod TurnSound
 pub mod WorldSound
 pub mod WorldFresh
 pub mod CentralLaw
+pub mod Resolving
+pub mod ResolvingTasks
+pub mod ResolvingTurns
 pub mod LaterLaw
 pub mod ReachesLaw
 pub mod InTurnLaw
@@ -24,6 +27,7 @@ pub mod LastingRuns
 pub mod CalmLaw
 pub mod Chains
 pub mod FreshLaw
+pub mod LeftLaw
 pub mod SceneParts
 pub mod Noting
 pub mod Dating

@@ -18,4 +18,5 @@ pub mod Later
 pub mod Lasting
 pub mod Reaches
 pub mod InTurn
+pub mod Left
 pub mod Laws

@@ -1,5 +1,6 @@
 //! Laws of worlds. Each is the contract of a function that does nothing: calling it cites the law.
 
+ghost use Rattle.partition_world.specs.Left.{StepsKeepCentralLeft, LeftIsCentral, FreshIsCentralLeft};
 ghost use Rattle.partition_world.specs.Laws.{StepsKeepCentral, FreshIsCentral, ReachesLater, EndsAreComplete, ReachesInTurn, EndsAreAnswered, ReachesLasting, ReachesUnfailing, FreshIsUnfailing};
 
 use disk_model::Disk;
@@ -11,9 +12,24 @@ pub fn steps_keep_central<D: Disk, S: Store, M: MetaLog>()
     ensures { StepsKeepCentral D.Disk S.Store M.MetaLog }
 {}
 
+/// Each step keeps the central fact with whatever notes a power cut may leave, for each opening state.
+pub fn steps_keep_left<D: Disk, S: Store, M: MetaLog>()
+    ensures { StepsKeepCentralLeft D.Disk S.Store M.MetaLog }
+{}
+
+/// Where it holds so, it holds with the notes that are told.
+pub fn left_is_central<D: Disk, S: Store, M: MetaLog>()
+    ensures { LeftIsCentral D.Disk S.Store M.MetaLog }
+{}
+
 /// A fresh world whose logs, objects and notes are seen has it.
 pub fn fresh_is_central<D: Disk, S: Store, M: MetaLog>()
     ensures { FreshIsCentral D.Disk S.Store M.MetaLog }
+{}
+
+/// A fresh world whose logs, objects and notes are seen has it with whatever notes a power cut may leave, where that is none.
+pub fn fresh_is_central_left<D: Disk, S: Store, M: MetaLog>()
+    ensures { FreshIsCentralLeft D.Disk S.Store M.MetaLog }
 {}
 
 /// A world that a schedule reaches is a later one.

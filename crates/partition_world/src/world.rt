@@ -11,10 +11,12 @@ ghost use Rattle.partition_turns.specs.declared.refusal.WorldRefusal.TheVariants
 ghost use Rattle.partition_world.specs.Fresh.{IsFresh, IsSeenEmpty, AreFreshBooks, fresh_side};
 ghost use Rattle.partition_world.specs.Turn.{Steps};
 ghost use Rattle.partition_world.specs.Central.{IsCentral, KeepsCentral};
+ghost use Rattle.partition_world.specs.Left.{IsCentralLeft, KeepsCentralLeft};
+ghost use Rattle.meta_log.specs.Content.{LeavesTold};
 ghost use Rattle.partition_world.specs.Reaches.{HasAnswered};
 
 use crate::desk::{count_entries, enter, fresh_desk, place_of};
-use crate::laws::{fresh_is_central, steps_keep_central};
+use crate::laws::{fresh_is_central, fresh_is_central_left, steps_keep_central, steps_keep_left};
 use crate::seat::Seat;
 use crate::tier::{Devices, Side, Tier};
 use disk_model::Disk;
@@ -86,6 +88,9 @@ impl<D: Disk, S: Store, M: MetaLog> World<D, S, M> {
         ensures told { IfOk result (λ w. DisksTell D.content devices.disks.items → AllSeen D.content w.held.nodes) }
         ensures central { IfOk result (λ w. IsSeenEmpty D.Disk S.Store M.MetaLog w
             → IsCentral D.Disk S.Store M.MetaLog (fresh_plain config) w) }
+        ensures central_left { IfOk result (λ w. IsSeenEmpty D.Disk S.Store M.MetaLog w
+            → LeavesTold (M.content w.tier.meta)
+            → IsCentralLeft D.Disk S.Store M.MetaLog (fresh_plain config) w) }
 
         // A refusal gives the devices back. Where no call of the disks can fail it was memory.
         ensures err { IfErr result (λ e. Refuses D.control devices.disks.items e.0.disks.items e.1) }
@@ -94,6 +99,7 @@ impl<D: Disk, S: Store, M: MetaLog> World<D, S, M> {
         ensures memory { AreCalmDisks D.control devices.disks.items → IfErr result (λ e. e.1 ≡ refusal.NoMemory) }
     {
         fresh_is_central::<D, S, M>();
+        fresh_is_central_left::<D, S, M>();
         Self::made(alloc, partition, config, lists, devices)
     }
 
@@ -200,8 +206,10 @@ impl<D: Disk, S: Store, M: MetaLog> World<D, S, M> {
     pub fn step(&mut self, alloc: Global, actor: ActorId) -> Stepped
         ensures steps { Steps D.Disk S.Store M.MetaLog self.old actor.0 result self.new }
         ensures central { KeepsCentral D.Disk S.Store M.MetaLog self.old self.new }
+        ensures left { KeepsCentralLeft D.Disk S.Store M.MetaLog self.old self.new }
     {
         steps_keep_central::<D, S, M>();
+        steps_keep_left::<D, S, M>();
         self.take_turn(alloc, actor)
     }
 

@@ -6,7 +6,7 @@
 --   Advances log old new       it has taken in some of those that the log has more, in their order
 --
 -- Of a log that doesn't tell, any notes may have been read.
-use Rattle.std.specs.Prelude.{◌≡◌, List, [], ◌∷◌, ◌++◌, drop, IsTrue, Ok, Err}
+use Rattle.std.specs.Prelude.{◌≡◌, ◌⊎◌, List, [], ◌∷◌, ◌++◌, drop, IsTrue, Ok, Err}
 use Rattle.std.specs.declared.result.Result.{Result}
 use Rattle.tier_base.specs.declared.fault.Trouble.{Trouble}
 use Rattle.tier_base.specs.declared.fault.Trouble.TheVariants.{Failed, NoMemory}
@@ -14,7 +14,7 @@ use Rattle.tier_base.specs.Device.{Control, RanQuietly, Went, Fault, Lasts}
 use Rattle.segment_meta.specs.declared.note.Note.{Note}
 use Rattle.meta_log.specs.declared.call.MetaCall.TheVariants.{Read}
 use Rattle.meta_log.specs.Call.{call_code}
-use Rattle.meta_log.specs.Content.{Content, AreNotes, Keeps}
+use Rattle.meta_log.specs.Content.{Content, AreNotes, LeavesTold, Keeps}
 use Rattle.remote_view.specs.Fold.{Seen, fed}
 
 -- the view after these notes
@@ -43,6 +43,13 @@ Takes (Ok x) log old new = Refreshes log old new
 Takes (Err Failed) log old new = new ≡ old
 Takes (Err NoMemory) log old new = Advances log old new
 
+-- what a power cut may leave of the log after a refresh: after one that was done what is told, and no other notes. Where memory was
+-- wanting that holds, or the view is as it was
+abbrev pub Leaves : {T : Type 0} → Result T Trouble → Seen → Seen → Content → Content → Type 0
+Leaves (Ok x) before after old new = IsTrue old.tells → LeavesTold new
+Leaves (Err Failed) before after old new = Unit {0}
+Leaves (Err NoMemory) before after old new = (after ≡ before) ⊎ (IsTrue old.tells → LeavesTold new)
+
 -- one call of the log, which reads
 abbrev pub Reads : {T : Type 0} → Result T Trouble → Control call_code → Control call_code → Type 0
 Reads (Ok x) old new = RanQuietly Read Went old new
@@ -56,6 +63,7 @@ module _ {M : Type 0} (notes : M → Content) (calls : M → Control call_code) 
     pub view : Refreshes (notes old) before after
     pub control : RanQuietly Read Went (calls old) (calls new)
     pub content : Keeps (notes old) (notes new)
+    pub told : IsTrue (notes old).tells → LeavesTold (notes new)
 
   -- the read failed
   pub record Unread (before after : Seen) (old new : M) : Type 0 where
@@ -68,3 +76,4 @@ module _ {M : Type 0} (notes : M → Content) (calls : M → Control call_code) 
     pub view : Advances (notes old) before after
     pub control : Lasts (calls old) (calls new)
     pub content : Keeps (notes old) (notes new)
+    pub moved : (after ≡ before) ⊎ (IsTrue (notes old).tells → LeavesTold (notes new))

@@ -2,12 +2,14 @@
 
 ghost use Rattle.std.specs.Prelude.{◌≡◌, ◌≤◌, ◌<◌, ◌^◌, ℕ, List, length, take, drop, IsTrue};
 ghost use Rattle.segment_meta.specs.declared.note.Note.{Note};
-ghost use Rattle.meta_log.specs.Content.{Content};
 ghost use Rattle.remote_view.specs.Fold.{Seen, view_of};
 ghost use Rattle.view_refresh.specs.Refreshing.{Refreshes};
 
+use meta_log::MetaLog;
+
 /// A view of the log's first notes is the view of all of them once it is refreshed.
-pub fn a_refreshed_view_is_the_fold()
-    ensures { (log : Content) (old new : Seen) (k : ℕ) → IsTrue log.tells → length log.notes < 2 ^ 64 → k ≤ length log.notes
-        → old ≡ view_of (take k log.notes) → Refreshes log old new → new ≡ view_of log.notes }
+pub fn a_refreshed_view_is_the_fold<M: MetaLog>()
+    ensures { (log : M) (old new : Seen) (k : ℕ) → IsTrue (M.content log).tells → length (M.content log).notes < 2 ^ 64
+        → k ≤ length (M.content log).notes → old ≡ view_of (take k (M.content log).notes) → Refreshes (M.content log) old new
+        → new ≡ view_of (M.content log).notes }
 {}

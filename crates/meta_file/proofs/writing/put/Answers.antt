@@ -1,9 +1,10 @@
 use Rattle.std.proofs.Common.{◌∙◌, ap, refl, arith, List, ℕ, ◌++◌, ◌∷◌, []}
 use Rattle.disk_model.specs.Content.{Files, Image}
-use Rattle.meta_file.proofs.Fates.{trouble_not_went}
+use Rattle.meta_file.proofs.Fates.{trouble_not_went, err_not_went}
 use Rattle.meta_file.proofs.Holding.{last_end}
 use Rattle.meta_file.proofs.Gating.{stands_kept}
 use Rattle.meta_file.proofs.Putting.{ready, extended_since, extended_has, extended_or, grows_not, committed_has, committed_since, grows_perhaps, put_has, put_durable, put_grows, put_place}
+use Rattle.meta_file.proofs.Leaving.{grows_kept}
 use Rattle.meta_file.proofs.writing.put.Goals as goal
 
 pub returns-in-Err-clause-has : goal.returns-in-Err-clause-has
@@ -234,3 +235,7 @@ returns-clause-durable g c =
     let or = λ (f : Files) (image : Image e f). extended_or h.notes note f (x.images f image) (x.stays refl f image) in
     let y = c.in_default-commit.ensures.content h.notes (h.notes ++ note ∷ []) x.images or r.next_is in
     put_durable d e n (g.met.D.Disk.lawful c.commit.new.disk) ends h.notes note next r (c.commit.ensures.tells ∙ c.extend.ensures.tells ∙ keeps.tells) y
+
+pub returns-in_err-reserve-2-clause-content : goal.returns-in_err-reserve-2-clause-content
+returns-in_err-reserve-2-clause-content g c =
+    grows_kept (g.D.Disk.content c.args.disk.now) (g.D.Disk.content c.reserve-2.new.self) c.args.note.now _ (err_not_went c.from_residual-in_err-reserve-2.result search) c.reserve-2.ensures.content

@@ -12,3 +12,7 @@ loop-pace-preserved g c = record {
 
 pub returns-clause-reaches : goal.returns-clause-reaches
 returns-clause-reaches g c = reaches_end g.D.Disk g.S.Store g.M.MetaLog c.args.world.now c.args.schedule.now c.loop-pace.pace-index c.loop-pace.world c.loop-pace.invariant.leads c.loop-pace-test.false
+
+pub returns-in_err-run_pace-clause-later : goal.returns-in_err-run_pace-clause-later
+returns-in_err-run_pace-clause-later g c =
+    later_more g.D.Disk g.S.Store g.M.MetaLog c.args.world.now c.loop-pace.world c.run_pace.new.world c.loop-pace.invariant.later c.run_pace.ensures.later

@@ -1,6 +1,7 @@
 use Rattle.std.proofs.Common.{sym, subst}
 use Rattle.meta_file.specs.Stands.{IsSure}
 use Rattle.meta_file.proofs.Confirmed.{sure_durable, opened_told}
+use Rattle.meta_file.proofs.Leaving.{open_left}
 use Rattle.meta_file.proofs.disk_log.DiskLog.open.Goals as goal
 
 pub returns-in-Ok-clause-opened : goal.returns-in-Ok-clause-opened
@@ -12,3 +13,10 @@ pub returns-in-Ok-clause-durable : goal.returns-in-Ok-clause-durable
 returns-in-Ok-clause-durable g c =
     let marks = c.in-Ok.marks in
     sure_durable (g.D.Disk.content c.open_log.new.disk) (g.met.D.Disk.lawful c.open_log.new.disk) marks.ends.items marks.tail c.in-Ok.ensures.has (subst IsSure (sym c.in-Ok.ensures.sure) tt)
+
+pub returns-in-Ok-clause-left : goal.returns-in-Ok-clause-left
+returns-in-Ok-clause-left g c = λ tells reopens.
+    let d = g.D.Disk.content c.args.disk in
+    let n = g.D.Disk.content c.open_log.new.disk in
+    let o = c.in-Ok.ensures.opened tells in
+    open_left d n (g.met.D.Disk.lawful c.args.disk) (g.met.D.Disk.lawful c.open_log.new.disk) tells (c.open_log.ensures.since reopens) (opened_told d n o.0 c.in-Ok.ensures.tells tells o.1 o.2)

@@ -1,0 +1,147 @@
+-- A power cut of everything between two turns.
+use Rattle.std.proofs.Common.{◌≡◌, ◌∙◌, inl, sym, ap, subst, refl, ℕ, zero, suc, ◌+◌, ◌<◌, List, [], ◌∷◌, length, slice_get, Some, None, Option}
+use Rattle.std.specs.Prelude.{◌^◌, pos, map, replicate}
+use Rattle.tier_base.specs.Roll.{Rolled}
+use Rattle.tier_base.specs.declared.plain.Settings.{Settings}
+use Rattle.disk_model.specs.Content.{Content}
+use Rattle.disk_model.specs.declared.disk.Disk.{Ghosts as DiskGhosts}
+use Rattle.object_store.specs.declared.store.Store.{Ghosts as StoreGhosts}
+use Rattle.segment_meta.specs.declared.note.Note.{Note}
+use Rattle.meta_log.specs.declared.log.MetaLog.{Ghosts as MetaGhosts}
+use Rattle.meta_log.specs.Content.{Left}
+use Rattle.broker_log.specs.Seen as log
+use Rattle.log_steps.specs.Reopens.{Reopens}
+use Rattle.plain_log.specs.declared.command.Config.{Config}
+use Rattle.broker_log.specs.Seen.{Kept, Up, Down, Away, Shows, ShowsClosed}
+use Rattle.broker_log.proofs.Breaking.{stops_by}
+use Rattle.plain_log.specs.declared.command.ActorList.{ActorList}
+use Rattle.plain_log.specs.declared.command.Order.{Order}
+use Rattle.plain_log.specs.declared.journal.JournalEntry.{JournalEntry}
+use Rattle.plain_log.specs.declared.state.State.{State}
+use Rattle.plain_log.specs.Orders.{AreRising}
+use Rattle.partition_seen.specs.Seen as seen
+use Rattle.partition_seen.specs.Central as seen_central
+use Rattle.partition_tier.specs.Sites.{Side as SideSeen, sites_of}
+use Rattle.partition_turns.specs.declared.held.Node.{Node}
+use Rattle.partition_turns.specs.Held.{ShowsNode, ShowNodes}
+use Rattle.tier_safe.specs.Scene.{Work as WorkSeen, Free}
+use Rattle.partition_world.specs.declared.seat.Seat.{Seat}
+use Rattle.partition_world.specs.declared.seat.Work.TheVariants.{Idle}
+use Rattle.partition_world.specs.declared.tier.Side.{Side}
+use Rattle.partition_world.specs.Central.{IsCentral, IsNoted, IsDated, sides_seen, side_seen, work_of, desk_of, notes_left}
+use Rattle.partition_world.specs.Fresh.{fresh_seat, fresh_side}
+use Rattle.partition_world.specs.Left.{IsCentralLeft, resolved, whole_with}
+use Rattle.partition_world.specs.Whole.{Whole, seen_as}
+use Rattle.partition_world.proofs.WorldFresh.{all_fresh}
+use Rattle.cold_start.specs.Cold.{cold_of, cold_site, cold_node, cold_held, cold_whole, cold_sides, cold_scene}
+use Rattle.cold_start.specs.Laws.{IsFree}
+use Rattle.cold_start.specs.ColdWorld.{IsCutDisk, IsCutStore, IsCutLog, LeavesDisk, LeaveDisks, cold_dev, reopened, plain_in}
+use Rattle.cold_start.proofs.ColdLaw.{cold_tier}
+use Rattle.cold_start.proofs.ColdSeen.{cold_central, cold_sites}
+
+-- a log can be opened from fewer images
+fewer_reopens : (d n : Content) → Reopens d → IsCutDisk d n → Reopens n
+fewer_reopens d n again cut = record { opens = λ c image. again.opens c (cut.images c image); fronts = λ c x m image other says. again.fronts c x m (cut.images c image) (cut.images x other) says }
+
+module _ {D : Type 0} (content : D → Content) (set : Settings) where
+  closed_shown : (old new : D) (s : log.Seen) → IsCutDisk (content old) (content new) → ShowsClosed content old s → ShowsClosed content new s
+  closed_shown old new s cut h = record { told = cut.tells h.told; kept = h.kept; images = λ c image. h.images c (cut.images c image); again = fewer_reopens (content old) (content new) h.again cut }
+
+  -- what is left of a log is seen as the log was
+  log_shown : (k : Kept D) (disk : D) (s : log.Seen) → LeavesDisk content k disk → Shows content k s → ShowsClosed content disk s
+  log_shown (Up l) disk s (again, cut) h = (let x = (stops_by content l again).seen s h in subst (ShowsClosed content disk) x.2 (closed_shown l.disk disk x.0 cut x.1))
+  log_shown (Down was old) disk s cut h = closed_shown old disk s cut h
+  log_shown Away disk s cut h = absurd h
+
+  node_shown : (x : Node D) (y : seen.Node) (disk : D) → LeavesDisk content x.log disk → ShowsNode content x y → ShowsNode content (cold_dev set disk) (cold_node y)
+  node_shown x y disk cut (s, h, is) = (s, log_shown x.log disk s cut h, ap cold_node is)
+
+  nodes_shown : (xs : List (Node D)) (ys : List seen.Node) (disks : List D) → LeaveDisks content xs disks → ShowNodes content xs ys → ShowNodes content (map (cold_dev set) disks) (map cold_node ys)
+  nodes_shown [] [] [] cut h = tt
+  nodes_shown (x ∷ xs) (y ∷ ys) (d ∷ disks) cut h = (node_shown x y d cut.0 h.0, nodes_shown xs ys disks cut.1 h.1)
+  nodes_shown [] (y ∷ ys) disks cut h = absurd h
+  nodes_shown (x ∷ xs) [] disks cut h = absurd h
+  nodes_shown [] [] (d ∷ disks) cut h = absurd cut
+  nodes_shown (x ∷ xs) (y ∷ ys) [] cut h = absurd cut
+
+-- the sides of a world that begins anew
+sides_cold : (sides : List Side) → cold_sides (sides_seen sides) ≡ sides_seen (map (λ side. fresh_side) sides)
+sides_cold [] = refl
+sides_cold (side ∷ sides) = ap (λ (l : List SideSeen). side_seen fresh_side ∷ l) (sides_cold sides)
+
+free : (o : Option Order) → work_of o Idle ≡ Free
+free None = refl
+free (Some order) = refl
+
+all_free : (lists : List ActorList) → replicate (length lists) Free ≡ desk_of lists (replicate (length lists) fresh_seat)
+all_free [] = refl
+all_free (l ∷ lists) =
+    ap (λ (ws : List WorkSeen). Free ∷ ws) (all_free lists)
+    ∙ ap (λ (w : WorkSeen). w ∷ desk_of lists (replicate (length lists) fresh_seat)) (sym (free (slice_get l.orders 0)))
+
+replicated : {A : Type 0} (n : ℕ) (x : A) (i : ℕ) (y : A) → slice_get (replicate n x) i ≡ Some y → x ≡ y
+replicated zero x i y e = absurd cc
+replicated (suc n) x zero y e = cc
+replicated (suc n) x (suc i) y e = replicated n x i y e
+
+is_free : (n : ℕ) → IsFree (replicate n Free)
+is_free n a work at = sym (replicated n Free a work at)
+
+idle_dated : (p : State) (order : Option Order) → IsDated p order Idle
+idle_dated p None = tt
+idle_dated p (Some order) = tt
+
+module _ {D S M : Type 0} (disk : DiskGhosts D) (store : StoreGhosts S) (meta : MetaGhosts M) where
+  module _ (opening : State) (config : Config) (w : Whole D S M) (lists : List ActorList) (journal : Rolled JournalEntry) (disks : List D) (s : S) (m : M) (l : List Note)
+      (cut : LeaveDisks disk.content w.held.nodes disks) (kept : IsCutStore (store.content w.tier.store) (store.content s)) (told : IsCutLog (meta.content w.tier.meta) (meta.content m))
+      (rising : AreRising lists) (empty : journal.items ≡ []) (low : length l + notes_left lists (replicate (length lists) fresh_seat) < 2 ^ 64)
+      (k : IsCentral disk store (resolved meta) opening (whole_with w l)) where
+    abbrev base : seen_central.IsCentral (cold_of k.central.plain) (cold_whole (seen_as (whole_with w l) k.partition) (pos 0) lists journal)
+    base = cold_central opening (seen_as (whole_with w l) k.partition) (pos 0) lists journal k.central rising empty
+
+    pub central_cut : IsCentral disk store (resolved meta) (cold_of k.central.plain) (whole_with (reopened config w lists journal disks s m) l)
+    central_cut = record {
+      partition = cold_held k.partition (pos 0);
+      shows = record { registry = k.shows.registry; nodes = nodes_shown disk.content config.settings w.held.nodes k.partition.nodes disks cut k.shows.nodes; clock = refl };
+      central = record {
+        plain = base.plain;
+        replays = base.replays;
+        safe = base.safe;
+        stands = record {
+          held = base.stands.held;
+          lines = base.stands.lines;
+          desk = λ place list seat at there. base.stands.desk place list seat at (ap (λ (d : List _). slice_get d place) (sym (all_fresh (length lists))) ∙ there);
+          rising = base.stands.rising;
+          seats = ap length (all_fresh (length lists)) ∙ base.stands.seats;
+        };
+      };
+      scene = cold_scene k.scene (replicate (length lists) Free);
+      shows_tier = record {
+        partition = k.shows_tier.partition;
+        store_tells = kept.tells k.shows_tier.store_tells;
+        objects = k.shows_tier.objects ∙ sym kept.objects;
+        meta_tells = told.tells k.shows_tier.meta_tells;
+        notes = k.shows_tier.notes;
+        sites = ap (map cold_site) k.shows_tier.sites ∙ sym (cold_sites k.partition.nodes (sides_seen w.tier.sides)) ∙ ap (sites_of (map cold_node k.partition.nodes)) (sides_cold w.tier.sides);
+        desk = all_free lists;
+      };
+      tier = cold_tier k.scene k.central.plain (replicate (length lists) Free) (is_free (length lists)) k.tier;
+      noted = λ place seat at. subst (λ (s : Seat). IsNoted s.work) (replicated (length lists) fresh_seat place seat at) tt;
+      dated = λ place list seat there at. subst (λ (s : Seat). IsDated (cold_of k.central.plain) (slice_get list.orders s.number) s.work) (replicated (length lists) fresh_seat place seat at) (idle_dated (cold_of k.central.plain) (slice_get list.orders 0));
+      few = subst (λ (notes : List Note). length notes + notes_left lists (replicate (length lists) fresh_seat) < 2 ^ 64) (sym k.shows_tier.notes) low;
+    }
+
+  -- the journal has come to one plain state, whatever notes are left
+  same_plain : (opening : State) (w : Whole D S M) (l x : List Note) (a : IsCentral disk store (resolved meta) opening (whole_with w l)) (b : IsCentral disk store (resolved meta) opening (whole_with w x))
+      → a.central.plain ≡ b.central.plain
+  same_plain opening w l x a b = let is : Some a.central.plain ≡ Some b.central.plain = sym a.central.replays ∙ b.central.replays in cc (is)
+
+  pub power_cut : (opening : State) (config : Config) (w : Whole D S M) (lists : List ActorList) (journal : Rolled JournalEntry) (disks : List D) (s : S) (m : M) (c : IsCentralLeft disk store meta opening w)
+      → LeaveDisks disk.content w.held.nodes disks → IsCutStore (store.content w.tier.store) (store.content s) → IsCutLog (meta.content w.tier.meta) (meta.content m)
+      → AreRising lists → journal.items ≡ [] → ((l : List Note) → Left (meta.content m) l → length l + notes_left lists (replicate (length lists) fresh_seat) < 2 ^ 64)
+      → IsCentralLeft disk store meta (cold_of (plain_in disk store meta opening w c)) (reopened config w lists journal disks s m)
+  power_cut opening config w lists journal disks s m c cut kept told rising empty low l left =
+      let now = c (meta.content w.tier.meta).notes (inl refl) in
+      let k = c l (told.left l left) in
+      subst (λ (p : State). IsCentral disk store (resolved meta) (cold_of p) (whole_with (reopened config w lists journal disks s m) l)) (same_plain opening w l (meta.content w.tier.meta).notes k now)
+      (central_cut opening config w lists journal disks s m l cut kept told rising empty (low l left) k)

@@ -1,0 +1,3 @@
+pub mod ColdLaw
+pub mod ColdSeen
+pub mod ColdWorldLaw

@@ -1,0 +1,88 @@
+-- What a power cut of everything leaves of a world, where it comes between two turns.
+use Rattle.std.specs.Prelude.{◌≡◌, ◌+◌, ◌^◌, ◌<◌, pos, true, false, List, [], ◌∷◌, length, map, replicate, IsTrue, refl}
+use Rattle.std.proofs.Common.{inl}
+use Rattle.tier_base.specs.Roll.{Rolled}
+use Rattle.tier_base.specs.declared.plain.Settings.{Settings}
+use Rattle.disk_model.specs.Content.{Content, Files, Image}
+use Rattle.disk_model.specs.declared.disk.Disk.{Ghosts as DiskGhosts}
+use Rattle.object_store.specs.declared.store.Store.{Ghosts as StoreGhosts}
+use Rattle.segment_meta.specs.declared.note.Note.{Note}
+use Rattle.meta_log.specs.declared.log.MetaLog.{Ghosts as MetaGhosts}
+use Rattle.meta_log.specs.Content.{Content as NotesContent, Left}
+use Rattle.object_store.specs.Content.{Content as StoreContent}
+use Rattle.plain_log.specs.declared.command.Config.{Config}
+use Rattle.log_steps.specs.Reopens.{Reopens}
+use Rattle.broker_log.specs.Seen.{Kept, Up, Down, Away}
+use Rattle.plain_log.specs.declared.command.ActorList.{ActorList}
+use Rattle.plain_log.specs.declared.journal.JournalEntry.{JournalEntry}
+use Rattle.plain_log.specs.declared.state.Role.TheVariants.{Idle}
+use Rattle.plain_log.specs.declared.state.State.{State}
+use Rattle.plain_log.specs.Orders.{AreRising}
+use Rattle.partition_turns.specs.declared.held.Node.{Node}
+use Rattle.partition_world.specs.Central.{notes_left}
+use Rattle.partition_world.specs.Fresh.{fresh_seat, fresh_side}
+use Rattle.partition_world.specs.Left.{IsCentralLeft}
+use Rattle.partition_world.specs.Whole.{Whole}
+use Rattle.cold_start.specs.Cold.{cold_of}
+
+-- a disk after a power cut: it has no images but those that it had
+pub record IsCutDisk (old new : Content) : Type 0 where
+  pub tells : IsTrue old.tells → IsTrue new.tells
+  pub images : (c : Files) → Image new c → Image old c
+
+-- a metadata log after it: it tells notes that were left, and no others are left
+pub record IsCutLog (old new : NotesContent) : Type 0 where
+  pub tells : IsTrue old.tells → IsTrue new.tells
+  pub left : (l : List Note) → Left new l → Left old l
+
+-- a store after it: it is as it was
+pub record IsCutStore (old new : StoreContent) : Type 0 where
+  pub tells : IsTrue old.tells → IsTrue new.tells
+  pub objects : new.objects ≡ old.objects
+
+module _ {D : Type 0} (content : D → Content) where
+  -- a broker's disk after it, which a log can be opened from where that is known
+  abbrev pub LeavesDisk : Kept D → D → Type 0
+  LeavesDisk (Up log) disk = Reopens (content log.disk) × IsCutDisk (content log.disk) (content disk)
+  LeavesDisk (Down was old) disk = IsCutDisk (content old) (content disk)
+  LeavesDisk Away disk = Unit {0}
+
+  -- each broker's
+  abbrev pub LeaveDisks : List (Node D) → List D → Type 0
+  LeaveDisks [] [] = Unit {0}
+  LeaveDisks (x ∷ xs) (d ∷ disks) = LeavesDisk x.log d × LeaveDisks xs disks
+  LeaveDisks [] (d ∷ disks) = ⊥
+  LeaveDisks (x ∷ xs) [] = ⊥
+
+module _ {D : Type 0} where
+  -- a broker that is down and has never stopped, over a disk
+  abbrev pub cold_dev : Settings → D → Node D
+  cold_dev set disk = record { stops = 0; role = Idle; log = Down set disk; known = 0 }
+
+module _ {D S M : Type 0} where
+  -- a world with a registry that begins over these devices, with these lists and this journal
+  abbrev pub reopened : Config → Whole D S M → List ActorList → Rolled JournalEntry → List D → S → M → Whole D S M
+  reopened config w lists journal disks s m = record {
+    partition = w.partition;
+    config = config;
+    lists = lists;
+    held = record { registry = w.held.registry; nodes = map (cold_dev config.settings) disks; clock = pos 0; copying = true; packed = false };
+    tier = record { store = s; meta = m; sides = map (λ side. fresh_side) w.tier.sides };
+    desk = replicate (length lists) fresh_seat;
+    journal = journal;
+  }
+
+module _ {D S M : Type 0} (disk : DiskGhosts D) (store : StoreGhosts S) (meta : MetaGhosts M) where
+  -- the plain state that the journal has come to
+  abbrev pub plain_in : (opening : State) (w : Whole D S M) → IsCentralLeft disk store meta opening w → State
+  plain_in opening w c = (c (meta.content w.tier.meta).notes (inl refl)).central.plain
+
+  -- after a power cut of everything between two turns a world that begins with the registry over what is left has the central fact
+  -- for what is left of the plain state
+  abbrev pub PowerCutKeepsCentral : Type 0
+  PowerCutKeepsCentral = (opening : State) (config : Config) (w : Whole D S M) (lists : List ActorList) (journal : Rolled JournalEntry)
+      (disks : List D) (s : S) (m : M) (c : IsCentralLeft disk store meta opening w) → LeaveDisks disk.content w.held.nodes disks
+      → IsCutStore (store.content w.tier.store) (store.content s) → IsCutLog (meta.content w.tier.meta) (meta.content m)
+      → AreRising lists → journal.items ≡ []
+      → ((l : List Note) → Left (meta.content m) l → length l + notes_left lists (replicate (length lists) fresh_seat) < 2 ^ 64)
+      → IsCentralLeft disk store meta (cold_of (plain_in opening w c)) (reopened config w lists journal disks s m)

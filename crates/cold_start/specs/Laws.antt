@@ -1,0 +1,36 @@
+-- The laws of what a power cut leaves.
+use Rattle.std.specs.Prelude.{◌≡◌, ℕ, ℤ, List, [], Some, slice_get, map}
+use Rattle.tier_base.specs.Roll.{Rolled}
+use Rattle.plain_log.specs.declared.command.ActorList.{ActorList}
+use Rattle.plain_log.specs.declared.journal.JournalEntry.{JournalEntry}
+use Rattle.plain_log.specs.Orders.{AreRising}
+use Rattle.partition_seen.specs.Seen.{Node}
+use Rattle.partition_seen.specs.Whole.{Whole}
+use Rattle.partition_seen.specs.Central.{IsCentral}
+use Rattle.partition_tier.specs.Sites.{Side, sites_of}
+use Rattle.plain_log.specs.declared.state.State.{State}
+use Rattle.plain_log.specs.Safe.{PlainSafe}
+use Rattle.tier_safe.specs.Scene.{Work, Free, Scene}
+use Rattle.tier_safe.specs.Safe.{TierSafe}
+use Rattle.cold_start.specs.Cold.{cold_of, cold_scene, cold_site, cold_node, cold_whole, cold_sides}
+
+-- the safety rules hold in what is left
+abbrev pub ColdStateIsSafe : Type 0
+ColdStateIsSafe = (p : State) → PlainSafe p → PlainSafe (cold_of p)
+
+-- nothing is on the desk
+abbrev pub IsFree : List Work → Type 0
+IsFree desk = (a : ℕ) (work : Work) → slice_get desk a ≡ Some work → work ≡ Free
+
+-- and so do those of the tier
+abbrev pub ColdTierIsSafe : Type 0
+ColdTierIsSafe = (c : Scene) (p : State) (desk : List Work) → IsFree desk → TierSafe c p → TierSafe (cold_scene c desk) (cold_of p)
+
+-- a partition that has the central fact for some opening state has it, as a power cut leaves it, for the state that is left
+abbrev pub ColdIsCentral : Type 0
+ColdIsCentral = (opening : State) (w : Whole) (clock : ℤ) (lists : List ActorList) (journal : Rolled JournalEntry) (c : IsCentral opening w)
+    → AreRising lists → journal.items ≡ [] → IsCentral (cold_of c.plain) (cold_whole w clock lists journal)
+
+-- the sides of the brokers that are left are those of the tier that is left
+abbrev pub ColdSidesAreSeen : Type 0
+ColdSidesAreSeen = (nodes : List Node) (sides : List Side) → sites_of (map cold_node nodes) (cold_sides sides) ≡ map cold_site (sites_of nodes sides)

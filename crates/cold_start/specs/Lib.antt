@@ -1,0 +1,3 @@
+pub mod Cold
+pub mod Laws
+pub mod ColdWorld

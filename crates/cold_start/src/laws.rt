@@ -1,0 +1,34 @@
+//! Laws of what a power cut leaves, each the contract of a function that does nothing.
+
+ghost use Rattle.cold_start.specs.ColdWorld.{PowerCutKeepsCentral};
+ghost use Rattle.cold_start.specs.Laws.{ColdStateIsSafe, ColdTierIsSafe, ColdIsCentral, ColdSidesAreSeen};
+
+use disk_model::Disk;
+use meta_log::MetaLog;
+use object_store::Store;
+
+/// A power cut of everything leaves a state in which the safety rules hold.
+pub fn a_cold_state_is_safe()
+    ensures { ColdStateIsSafe }
+{}
+
+/// It leaves a tier that keeps its rules beside that state.
+pub fn a_cold_tier_is_safe()
+    ensures { ColdTierIsSafe }
+{}
+
+/// A partition that is seen so, with new lists and an empty journal, has the central fact for that state.
+pub fn a_cold_partition_is_central()
+    ensures { ColdIsCentral }
+{}
+
+/// Its sides are those of the cold tier.
+pub fn cold_sides_are_seen()
+    ensures { ColdSidesAreSeen }
+{}
+
+/// A power cut of everything between two turns leaves devices over which a world that begins anew has the central fact for what is left
+/// of the plain state, with whatever notes it leaves.
+pub fn a_power_cut_keeps_central<D: Disk, S: Store, M: MetaLog>()
+    ensures { PowerCutKeepsCentral D.Disk S.Store M.MetaLog }
+{}

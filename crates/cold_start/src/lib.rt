@@ -1,0 +1,9 @@
+//! What a power cut of everything leaves of a partition.
+#![tactic(auto)]
+
+mod laws;
+
+pub use laws::{
+    a_cold_partition_is_central, a_cold_state_is_safe, a_cold_tier_is_safe,
+    a_power_cut_keeps_central, cold_sides_are_seen,
+};
