@@ -1,1 +1,4 @@
 mod Changing
+pub mod Eight
+mod Viewing
+mod Keeping

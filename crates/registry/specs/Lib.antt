@@ -1,3 +1,4 @@
 pub mod Replicas
 pub mod Registry
 pub mod Calls
+pub mod View

@@ -7,9 +7,16 @@
 //! what an election comes to once it is allowed, for a caller that has tested it.
 #![tactic(auto)]
 
+mod laws;
 mod refusal;
 mod registry;
 mod replicas;
+mod view;
 
+pub use laws::{
+    a_registry_comes_back_from_its_view, a_view_comes_back_from_its_registry,
+    a_view_keeps_the_rules_where_its_registry_does,
+};
 pub use refusal::RegRefusal;
 pub use registry::{Registry, Replica};
+pub use view::RegView;

@@ -1,0 +1,8 @@
+mod Ends
+mod Inverting
+mod Standing
+mod Again
+mod OneSpelling
+mod Faults
+mod FieldFaults
+mod FirstFault
