@@ -73,7 +73,7 @@ free : (o : Option Order) → work_of o Idle ≡ Free
 free None = refl
 free (Some order) = refl
 
-all_free : (lists : List ActorList) → replicate (length lists) Free ≡ desk_of lists (replicate (length lists) fresh_seat)
+pub all_free : (lists : List ActorList) → replicate (length lists) Free ≡ desk_of lists (replicate (length lists) fresh_seat)
 all_free [] = refl
 all_free (l ∷ lists) =
     ap (λ (ws : List WorkSeen). Free ∷ ws) (all_free lists)
@@ -84,7 +84,7 @@ replicated zero x i y e = absurd cc
 replicated (suc n) x zero y e = cc
 replicated (suc n) x (suc i) y e = replicated n x i y e
 
-is_free : (n : ℕ) → IsFree (replicate n Free)
+pub is_free : (n : ℕ) → IsFree (replicate n Free)
 is_free n a work at = sym (replicated n Free a work at)
 
 idle_dated : (p : State) (order : Option Order) → IsDated p order Idle

@@ -1,3 +1,4 @@
 pub mod ColdLaw
 pub mod ColdSeen
 pub mod ColdWorldLaw
+pub mod SweptWorldLaw

@@ -1,3 +1,4 @@
 pub mod Cold
 pub mod Laws
 pub mod ColdWorld
+pub mod SweptWorld

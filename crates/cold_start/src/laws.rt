@@ -1,6 +1,7 @@
 //! Laws of what a power cut leaves, each the contract of a function that does nothing.
 
 ghost use Rattle.cold_start.specs.ColdWorld.{PowerCutKeepsCentral};
+ghost use Rattle.cold_start.specs.SweptWorld.{SweepKeepsCentral, KeptStoreIsCut};
 ghost use Rattle.cold_start.specs.Laws.{ColdStateIsSafe, ColdTierIsSafe, ColdIsCentral, ColdSidesAreSeen};
 
 use disk_model::Disk;
@@ -31,4 +32,14 @@ pub fn cold_sides_are_seen()
 /// of the plain state, with whatever notes it leaves.
 pub fn a_power_cut_keeps_central<D: Disk, S: Store, M: MetaLog>()
     ensures { PowerCutKeepsCentral D.Disk S.Store M.MetaLog }
+{}
+
+/// A sweep between two runs, done or refused, leaves devices over which such a world has the central fact for the same opening state.
+pub fn a_sweep_keeps_central<D: Disk, S: Store, M: MetaLog>()
+    ensures { SweepKeepsCentral D.Disk S.Store M.MetaLog }
+{}
+
+/// A store that is handed out anew with each object that it had is as a power cut leaves it.
+pub fn a_kept_store_is_cut()
+    ensures { KeptStoreIsCut }
 {}

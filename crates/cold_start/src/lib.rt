@@ -4,6 +4,6 @@
 mod laws;
 
 pub use laws::{
-    a_cold_partition_is_central, a_cold_state_is_safe, a_cold_tier_is_safe,
-    a_power_cut_keeps_central, cold_sides_are_seen,
+    a_cold_partition_is_central, a_cold_state_is_safe, a_cold_tier_is_safe, a_kept_store_is_cut,
+    a_power_cut_keeps_central, a_sweep_keeps_central, cold_sides_are_seen,
 };

@@ -58,10 +58,11 @@ abbrev pub Rise : List PartitionId → Type 0
 Rise [] = Unit {0}
 Rise (p ∷ more) = ((q : PartitionId) → In q more → p.0 < q.0) × Rise more
 
--- a metadata log without notes
+-- a metadata log without notes, of which a power cut leaves none
 pub record IsEmptyLog (c : log.Content) : Type 0 where
   pub tells : IsTrue c.tells
   pub notes : c.notes ≡ []
+  pub left : log.LeavesTold c
 
 module _ {D S M : Type 0} where
   -- a disk is what is held now, or none, and the rest stays

@@ -1,3 +1,4 @@
 pub mod Within
 pub mod Held
 pub mod Resting
+pub mod Sweeping

@@ -29,7 +29,7 @@ use Rattle.tier_rests.proofs.Held.{held_readable, each_has}
 
 -- notes and entries
 
-notes_right : (notes : List Note) → AllByRecursion IsRight notes → AllByRecursion IsNote notes
+pub notes_right : (notes : List Note) → AllByRecursion IsRight notes → AllByRecursion IsNote notes
 notes_right [] h = tt
 notes_right (note ∷ notes) h = (h.0.is, notes_right notes h.1)
 

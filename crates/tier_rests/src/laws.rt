@@ -1,6 +1,6 @@
 //! Laws of tiers that a run leaves, each the contract of a function that does nothing.
 
-ghost use Rattle.tier_rests.specs.Laws.{SafeIsReadable, SafeHasLeftAtMost, SweptIsWhole};
+ghost use Rattle.tier_rests.specs.Laws.{SafeIsReadable, SafeHasLeftAtMost, SweptIsWhole, SweepKeepsCold, WholeSweepKeepsCold};
 
 /// In a tier that is safe each object's id has an entry, and each finished copy is readable.
 pub fn a_safe_tier_is_readable()
@@ -15,4 +15,14 @@ pub fn a_safe_tier_has_left_objects_at_most()
 /// What a sweep leaves of one is whole.
 pub fn a_swept_tier_is_whole()
     ensures { SweptIsWhole }
+{}
+
+/// Where no command is under way, what a sweep leaves that is under way or was refused keeps the rules of the tier.
+pub fn a_sweep_keeps_cold()
+    ensures { SweepKeepsCold }
+{}
+
+/// So does what a sweep leaves that was done.
+pub fn a_whole_sweep_keeps_cold()
+    ensures { WholeSweepKeepsCold }
 {}

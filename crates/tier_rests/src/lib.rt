@@ -8,5 +8,6 @@
 mod laws;
 
 pub use laws::{
-    a_safe_tier_has_left_objects_at_most, a_safe_tier_is_readable, a_swept_tier_is_whole,
+    a_safe_tier_has_left_objects_at_most, a_safe_tier_is_readable, a_sweep_keeps_cold,
+    a_swept_tier_is_whole, a_whole_sweep_keeps_cold,
 };

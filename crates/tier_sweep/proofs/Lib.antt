@@ -5,3 +5,4 @@ pub mod Rested
 pub mod Midway
 pub mod Sweeps
 pub mod Went
+pub mod Leaving

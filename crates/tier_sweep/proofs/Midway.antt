@@ -19,19 +19,19 @@ use Rattle.tier_sweep.specs.Sweeping.{is_copying, note_of, notes_of, starts_of, 
 use Rattle.tier_sweep.proofs.Rested.{folded_append, by_recursion, notes_distinct, entry_rested}
 
 -- a sweep tells this state
-abbrev is_going : State → Bool
+abbrev pub is_going : State → Bool
 is_going DeleteStarted = true
 is_going DeleteFinished = true
 is_going state = false
 
 -- a note that a sweep of these entries may tell
-record IsOf (es : List Entry) (note : Note) : Type 0 where
-  entry : Entry
-  state : State
-  there : entry_of entry.id es ≡ Some entry
-  under : is_under_way entry.state ≡ true
-  going : is_going state ≡ true
-  is : note ≡ note_of state entry
+pub record IsOf (es : List Entry) (note : Note) : Type 0 where
+  pub entry : Entry
+  pub state : State
+  pub there : entry_of entry.id es ≡ Some entry
+  pub under : is_under_way entry.state ≡ true
+  pub going : is_going state ≡ true
+  pub is : note ≡ note_of state entry
 
 -- what is of these entries is of one more
 of_more : (e : Entry) (es : List Entry) (note : Note) → entry_of e.id es ≡ None → IsOf es note → IsOf (e ∷ es) note
@@ -78,11 +78,11 @@ starts_are = notes_are is_copying DeleteStarted refl copying_under
 ends_are : (es : List Entry) → AreDistinct es → AllByRecursion (IsOf es) (ends_of es)
 ends_are = notes_are is_under_way DeleteFinished refl (λ t is. is)
 
-front : (P : Note → Type 0) (xs ys : List Note) → AllByRecursion P (xs ++ ys) → AllByRecursion P xs
+pub front : (P : Note → Type 0) (xs ys : List Note) → AllByRecursion P (xs ++ ys) → AllByRecursion P xs
 front P [] ys h = tt
 front P (x ∷ xs) ys h = (h.0, front P xs ys h.1)
 
-both : (P : Note → Type 0) (xs ys : List Note) → AllByRecursion P xs → AllByRecursion P ys → AllByRecursion P (xs ++ ys)
+pub both : (P : Note → Type 0) (xs ys : List Note) → AllByRecursion P xs → AllByRecursion P ys → AllByRecursion P (xs ++ ys)
 both P [] ys h h' = h'
 both P (x ∷ xs) ys h h' = (h.0, both P xs ys h.1 h')
 
@@ -97,7 +97,7 @@ bare_told : (t : State) → is_going t ≡ true → (packed : Bool) → MayTell 
 bare_told t is false = tt
 bare_told t is true = record { few = omega arith; bare = λ e. refl }
 
-are_notes : (es : List Entry) (notes : List Note) → AllByRecursion (IsOf es) notes → AllByRecursion IsNote notes
+pub are_notes : (es : List Entry) (notes : List Note) → AllByRecursion (IsOf es) notes → AllByRecursion IsNote notes
 are_notes es [] h = tt
 are_notes es (note ∷ notes) h =
     (subst IsNote (sym h.0.is) (going_starts_none h.0.state h.0.going, bare_told h.0.state h.0.going h.0.entry.packed), are_notes es notes h.1)
@@ -174,17 +174,17 @@ note_rests es xs note h same = subst (λ (n : Note). map rested (noted xs n) ≡
     by true = change_all h.entry.id (updated h.entry.broker h.entry.event_ts h.state (bare_custom h.entry.packed)) xs (λ x here. change_rests h.entry x h.state h.under h.going (found x here)) ∙ same
     by false = same
 
-notes_rest : (es xs : List Entry) (notes : List Note) → AllByRecursion (IsOf es) notes → map rested xs ≡ map rested es → map rested (folded_from xs notes) ≡ map rested es
+pub notes_rest : (es xs : List Entry) (notes : List Note) → AllByRecursion (IsOf es) notes → map rested xs ≡ map rested es → map rested (folded_from xs notes) ≡ map rested es
 notes_rest es xs [] h same = same
 notes_rest es xs (note ∷ notes) h same = notes_rest es (noted xs note) notes h.1 (note_rests es xs note h.0 same)
 
 -- what a refused sweep has told
-record IsTold (old new : Tier) : Type 0 where
-  notes : List Note
-  are : AllByRecursion (IsOf (fold old.notes)) notes
-  now : new.notes ≡ old.notes ++ notes
+pub record IsTold (old new : Tier) : Type 0 where
+  pub notes : List Note
+  pub are : AllByRecursion (IsOf (fold old.notes)) notes
+  pub now : new.notes ≡ old.notes ++ notes
 
-is_told : (old new : Tier) → AreDistinct (fold old.notes) → IsUnderSweep old new → IsTold old new
+pub is_told : (old new : Tier) → AreDistinct (fold old.notes) → IsUnderSweep old new → IsTold old new
 is_told old new apart (Starting h) = record {
   notes = h.notes.told;
   are = front (IsOf (fold old.notes)) h.notes.told h.notes.rest (subst (AllByRecursion (IsOf (fold old.notes))) (sym h.notes.are) (starts_are (fold old.notes) apart));
@@ -201,12 +201,16 @@ is_told old new apart (Ending h) = record {
     regroup : (a b c : List Note) → (a ++ b) ++ c ≡ a ++ (b ++ c)
     regroup a b c = simp append_assoc
 
+-- the entries come to rest as before after any such notes
+pub told_rests : (old notes : List Note) → AllByRecursion (IsOf (fold old)) notes → map rested (fold (old ++ notes)) ≡ map rested (fold old)
+told_rests old notes are = ap (λ (es : List Entry). map rested es) (folded_append [] old notes) ∙ notes_rest (fold old) (fold old) notes are refl
+
 -- the entries come to rest as before
 pub under_rests : (old new : Tier) → AreNotes old.notes → IsUnderSweep old new → map rested (fold new.notes) ≡ map rested (fold old.notes)
 under_rests old new are h =
     let told = is_told old new (notes_distinct old.notes are) h in
     ap (λ (ns : List Note). map rested (fold ns)) told.now
-    ∙ (ap (λ (es : List Entry). map rested es) (folded_append [] old.notes told.notes) ∙ notes_rest (fold old.notes) (fold old.notes) told.notes told.are refl)
+    ∙ told_rests old.notes told.notes told.are
 
 -- their ids are told apart
 pub under_distinct : (old new : Tier) → AreNotes old.notes → IsUnderSweep old new → AreDistinct (fold new.notes)

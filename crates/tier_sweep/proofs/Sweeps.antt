@@ -49,6 +49,26 @@ finished_rested x = by x.state refl
     by DeleteStarted is = simp is
     by DeleteFinished is = simp is
 
+-- entries that come to rest as others do have the same finished copies
+pub same_finished : (xs es : List Entry) → map rested xs ≡ map rested es → (q : SegmentId) (x : Entry) → entry_of q xs ≡ Some x → x.state ≡ CopyFinished → entry_of q es ≡ Some x
+same_finished xs es same q x there done = by (entry_of q es)
+    (sym (entry_rested q es) ∙ (ap (entry_of q) (sym same) ∙ (entry_rested q xs ∙ (ap (option_map rested) there ∙ ap Some (finished_rests x done)))))
+  where
+    by : (found : Option Entry) → option_map rested found ≡ Some x → found ≡ Some x
+    by None is = absurd (cc (is))
+    by (Some y) is =
+        let at : rested y ≡ x = cc (is) in
+        ap Some (sym (rests_finished y (ap (λ (e : Entry). e.state) at ∙ done)) ∙ at)
+
+-- and the same ids
+pub same_named : (xs es : List Entry) → map rested xs ≡ map rested es → (q : SegmentId) → IsSome (entry_of q xs) → IsSome (entry_of q es)
+same_named xs es same q is = by (entry_of q es) (entry_of q xs) (sym (entry_rested q es) ∙ (ap (entry_of q) (sym same) ∙ entry_rested q xs)) is
+  where
+    by : (found before : Option Entry) → option_map rested found ≡ option_map rested before → is_some before ≡ true → is_some found ≡ true
+    by found None same is = absurd (cc (is))
+    by None (Some x) same is = absurd (cc (same))
+    by (Some y) (Some x) same is = refl
+
 -- the same objects stay
 stays_rested : (es : List Entry) (q : SegmentId) → stays (map rested es) q ≡ stays es q
 stays_rested es q = ap (λ (found : Option Entry). is_finished (option_map (λ (e : Entry). e.state) found)) (entry_rested q es) ∙ by (entry_of q es)

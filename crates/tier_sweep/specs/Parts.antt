@@ -10,6 +10,7 @@ use Rattle.tier_base.specs.Told.{In, removed}
 use Rattle.segment_meta.specs.declared.note.Entry.{Entry}
 use Rattle.segment_meta.specs.declared.note.Note.{Note}
 use Rattle.object_store.specs.Content as store
+use Rattle.meta_log.specs.Content.{Content, Left}
 use Rattle.tier_sweep.specs.declared.refusal.SweepRefusal.{SweepRefusal}
 use Rattle.tier_sweep.specs.declared.refusal.SweepRefusal.TheVariants.{StoreFault, MetaFault}
 use Rattle.tier_sweep.specs.Rest.{stays}
@@ -48,6 +49,10 @@ pub record StoreRuns {T K : Type 0} {code : K → ℕ} (result : Result T SweepR
 abbrev pub Tells : {T : Type 0} → List Note → Result T SweepRefusal → List Note → List Note → Type 0
 Tells notes (Ok x) old new = new ≡ old ++ notes
 Tells notes (Err e) old new = IsTelling notes old new
+
+-- and so it is of each list of notes that a power cut may leave then
+abbrev pub LeavesTelling : {T : Type 0} → List Note → Result T SweepRefusal → List Note → Content → Type 0
+LeavesTelling notes result old new = (left : List Note) → Left new left → Tells notes result old left
 
 -- one object goes, or after a refusal it may have gone, and no other
 pub record Takes {T : Type 0} (key : ObjectKey) (result : Result T SweepRefusal) (old new : store.Objects) : Type 0 where

@@ -7,6 +7,7 @@
 --   form                    says
 --   IsSwept old new n       what a sweep leaves that took n objects away
 --   IsUnderSweep old new    what it may have come to before it was refused
+--   LeavesUnder s m s' m'   so is what a power cut afterwards may leave of the notes, from what it might have left before
 --
 -- Source: KIP-405, where a segment's metadata is updated as delete-started, its objects are deleted, and the metadata is updated as
 -- delete-finished.
@@ -77,9 +78,13 @@ pub record Tier : Type 0 where
   pub objects : store.Objects
   pub notes : List Note
 
+-- the tier of what a store tells and of these notes
+abbrev pub tier_with : store.Content → List Note → Tier
+tier_with store notes = record { objects = store.objects; notes = notes }
+
 -- the tier that a store and a metadata log tell
 abbrev pub tier_of : store.Content → meta.Content → Tier
-tier_of store log = record { objects = store.objects; notes = log.notes }
+tier_of store log = tier_with store log.notes
 
 -- a sweep's end
 pub record IsSwept (old new : Tier) (swept : ℕ) : Type 0 where
@@ -109,6 +114,11 @@ pub data IsUnderSweep (old new : Tier) : Type 0 where
   Starting : IsStarting old new → IsUnderSweep old new
   Taking : IsTaking old new → IsUnderSweep old new
   Ending : IsEnding old new → IsUnderSweep old new
+
+-- each list of notes that a power cut may leave afterwards is under the sweep from one that it might have left before
+abbrev pub LeavesUnder : store.Content → meta.Content → store.Content → meta.Content → Type 0
+LeavesUnder store log store_now log_now = (notes : List Note) → meta.Left log_now notes
+    → (before : List Note) × meta.Left log before × IsUnderSweep (tier_with store before) (tier_with store_now notes)
 
 -- a refusal for a fault has its cause: that device's count of faults has risen
 abbrev pub HasCause : {T : Type 0} → Result T SweepRefusal → ℕ → ℕ → ℕ → ℕ → Type 0

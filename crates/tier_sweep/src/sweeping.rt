@@ -9,7 +9,7 @@ ghost use Rattle.tier_base.specs.Device.{Lasts};
 ghost use Rattle.object_store.specs.Content as objects;
 ghost use Rattle.meta_log.specs.Content as notes;
 ghost use Rattle.remote_view.specs.Fold.{fold};
-ghost use Rattle.tier_sweep.specs.Sweeping.{IsSwept, IsUnderSweep, HasCause, tier_of};
+ghost use Rattle.tier_sweep.specs.Sweeping.{IsSwept, IsUnderSweep, LeavesUnder, HasCause, tier_of};
 ghost use Rattle.tier_sweep.specs.Parts.{MetaRuns, StoreRuns, AllWent};
 
 use crate::refusal::SweepRefusal;
@@ -33,6 +33,10 @@ pub fn sweep<S: Store, M: MetaLog>(
         (tier_of (S.content store.old) (M.content meta.old)) (tier_of (S.content store.new) (M.content meta.new))) }
     ensures err { IsTrue (S.content store.old).tells → IsTrue (M.content meta.old).tells → OnErr result (IsUnderSweep
         (tier_of (S.content store.old) (M.content meta.old)) (tier_of (S.content store.new) (M.content meta.new))) }
+    // What a power cut may leave afterwards, whatever the sweep answers; after one that was done no other notes than are told.
+    ensures left { IsTrue (S.content store.old).tells → IsTrue (M.content meta.old).tells → LeavesUnder
+        (S.content store.old) (M.content meta.old) (S.content store.new) (M.content meta.new) }
+    ensures told { IsTrue (M.content meta.old).tells → OnOk result (notes.LeavesTold (M.content meta.new)) }
     ensures cause { HasCause result (S.control store.old).faults (S.control store.new).faults
         (M.control meta.old).faults (M.control meta.new).faults }
 
@@ -57,6 +61,7 @@ fn read_view<M: MetaLog>(alloc: Global, meta: &mut M) -> Result<View, SweepRefus
     ensures entries { IsTrue (M.content meta.old).tells
         → IfOk result (λ view. view.entries ≡ fold (M.content meta.old).notes) }
     ensures content { notes.Keeps (M.content meta.old) (M.content meta.new) }
+    ensures told { IsTrue (M.content meta.old).tells → OnOk result (notes.LeavesTold (M.content meta.new)) }
     ensures calls { MetaRuns result (M.control meta.old) (M.control meta.new) }
 {
     let mut view = View::new(alloc);

@@ -4,9 +4,10 @@
 
 ghost use Rattle.std.specs.Prelude.{◌≡◌, ◌≢◌, ◌∷◌, [], IsTrue};
 ghost use Rattle.tier_base.specs.declared.plain.State.TheVariants.{CopyStarted};
+ghost use Rattle.meta_log.specs.Content.{LeavesTold};
 ghost use Rattle.tier_sweep.specs.Rest.{is_under_way};
 ghost use Rattle.tier_sweep.specs.Sweeping.{is_copying, note_of, starts_of, ends_of};
-ghost use Rattle.tier_sweep.specs.Parts.{MetaRuns, Tells};
+ghost use Rattle.tier_sweep.specs.Parts.{MetaRuns, Tells, LeavesTelling};
 
 use crate::refusal::SweepRefusal;
 use meta_log::MetaLog;
@@ -23,6 +24,8 @@ pub(crate) fn tell_starts<M: MetaLog>(
     ensures tells { (M.content meta.new).tells ≡ (M.content meta.old).tells }
     ensures notes { IsTrue (M.content meta.old).tells
         → Tells (starts_of entries.now) result (M.content meta.old).notes (M.content meta.new).notes }
+    ensures left { IsTrue (M.content meta.old).tells → LeavesTold (M.content meta.old)
+        → LeavesTelling (starts_of entries.now) result (M.content meta.old).notes (M.content meta.new) }
     ensures calls { MetaRuns result (M.control meta.old) (M.control meta.new) }
 {
     for entry in entries {
@@ -42,6 +45,8 @@ pub(crate) fn tell_ends<M: MetaLog>(
     ensures tells { (M.content meta.new).tells ≡ (M.content meta.old).tells }
     ensures notes { IsTrue (M.content meta.old).tells
         → Tells (ends_of entries.now) result (M.content meta.old).notes (M.content meta.new).notes }
+    ensures left { IsTrue (M.content meta.old).tells → LeavesTold (M.content meta.old)
+        → LeavesTelling (ends_of entries.now) result (M.content meta.old).notes (M.content meta.new) }
     ensures calls { MetaRuns result (M.control meta.old) (M.control meta.new) }
 {
     for entry in entries {
@@ -63,6 +68,8 @@ fn tell<M: MetaLog>(
     ensures tells { (M.content meta.new).tells ≡ (M.content meta.old).tells }
     ensures notes { IsTrue (M.content meta.old).tells
         → Tells (note_of state entry.now ∷ []) result (M.content meta.old).notes (M.content meta.new).notes }
+    ensures left { IsTrue (M.content meta.old).tells → LeavesTold (M.content meta.old)
+        → LeavesTelling (note_of state entry.now ∷ []) result (M.content meta.old).notes (M.content meta.new) }
     ensures calls { MetaRuns result (M.control meta.old) (M.control meta.new) }
 {
     match meta.append(&note_of(alloc, state, entry)) {

@@ -1,31 +1,26 @@
 -- A round of sweeps, partition by partition.
-use Rattle.std.proofs.Common.{◌≡◌, ◌≢◌, ◌⊎◌, inl, inr, ◌∙◌, sym, ap, subst, refl, ℕ, ◌<◌, List, [], ◌∷◌, ◌++◌, IsTrue, append-nil}
+use Rattle.std.proofs.Common.{◌≡◌, ◌≢◌, ◌⊎◌, inl, inr, ◌∙◌, sym, ap, subst, refl, ℕ, ◌<◌, List, [], ◌∷◌, ◌++◌, Option, Some, IsTrue, append-nil}
 use Rattle.std.specs.List.{AllByRecursion}
 use Rattle.tier_base.specs.declared.names.PartitionId.{PartitionId}
 use Rattle.tier_base.specs.declared.object_key.ObjectKey.{ObjectKey}
 use Rattle.tier_base.specs.Told.{In}
 use Rattle.disk_model.specs.Content as disk
+use Rattle.segment_meta.specs.declared.note.Note.{Note}
 use Rattle.object_store.specs.Content as store
 use Rattle.meta_log.specs.Content as log
 use Rattle.remote_view.specs.Fold.{fold}
 use Rattle.device_yard.specs.Control.{Control}
-use Rattle.device_yard.specs.Held.{Held, Rise}
-use Rattle.tier_sweep.specs.Sweeping.{Tier, IsSwept, IsUnderSweep, starts_of, ends_of}
-use Rattle.tier_sweep.specs.Sweeping.IsUnderSweep.{Starting, Ending}
+use Rattle.device_yard.specs.Held.{Held, Rise, HandsStore, HandsLog}
+use Rattle.tier_sweep.specs.Sweeping.{Tier, IsUnderSweep, LeavesUnder, tier_with, starts_of}
+use Rattle.tier_sweep.specs.Sweeping.IsUnderSweep.{Starting}
+use Rattle.tier_sweep.proofs.Leaving.{swept_under}
 use Rattle.yard_audit.specs.Lines.{swept_text, line_of, lines_of}
-use Rattle.yard_audit.specs.Rounds.{partitions_of, AreAll, AreSwept, IsSweptIn, IsUnderSweepIn}
-use Rattle.yard_audit.specs.Tiers.{object_on, notes_on, AllRest, OthersRest, DisksRest, IsBack, HoldsTier}
-use Rattle.yard_audit.proofs.Tiers.{is_or_not, below_is_other, held_still, held_before, back_then}
+use Rattle.yard_audit.specs.Rounds.{partitions_of, AreAll, AreSwept, IsSweptIn, IsUnderSweepIn, LeavesUnderIn, HandedLeavesUnder}
+use Rattle.yard_audit.specs.Tiers.{object_on, notes_on, left_on, LeavesNoMore, AllRest, OthersRest, DisksRest, IsBack, HoldsTier, TierIs}
+use Rattle.yard_audit.proofs.Tiers.{is_or_not, below_is_other, held_still, held_before, back_then, handed_objects, handed_left}
 use Rattle.yard_audit.proofs.Audits.{lines_snoc, partitions_snoc, all_snoc}
 
--- a sweep's end is the last that it may have come to
-pub swept_under : (old new : Tier) (count : ℕ) → IsSwept old new count → IsUnderSweep old new
-swept_under old new count swept = Ending (record {
-  notes = record { told = ends_of (fold old.notes); rest = []; are = append-nil (ends_of (fold old.notes)); now = swept.notes };
-  objects = swept.objects;
-})
-
--- and the first is that it hasn't begun
+-- the first that a sweep may have come to is that it hasn't begun
 pub unbegun : (tier new : Tier) → ((key : ObjectKey) → new.objects key ≡ tier.objects key) → new.notes ≡ tier.notes → IsUnderSweep tier new
 unbegun tier new objects notes = Starting (record {
   notes = record { told = []; rest = starts_of (fold tier.notes); are = refl; now = notes ∙ sym (append-nil tier.notes) };
@@ -73,6 +68,67 @@ module _ {D S M : Type 0} (files : D → disk.Content) (objects : S → store.Co
         is = unbegun before after (rests.objects_rest q) (rests.notes_rest q);
       }
 
+  -- nor is what a power cut may leave of it
+  abbrev pub AreLeft : Held D S M → Held D S M → Type 0
+  AreLeft h0 h = (q : PartitionId) → LeavesUnderIn objects notes h0 h q
+
+  pub all_left : (h0 h : Held D S M) → AllRest files objects notes h0 h → AreLeft h0 h
+  all_left h0 h rests q l at =
+      let before : Tier = record { objects = object_on objects (h0.stores q); notes = l } in
+      let after : Tier = record { objects = object_on objects (h.stores q); notes = l } in record {
+        before = before;
+        after = after;
+        held_so = record { objects_are = λ key. refl; notes_are = rests.left_rests q l at };
+        left_so = record { objects_are = λ key. refl; notes_are = at };
+        notes_are = refl;
+        is = unbegun before after (rests.objects_rest q) refl;
+      }
+
+  -- what a sweep leaves that was handed what is held, once its devices are back
+  pub swept_left : (h0 h1 h : Held D S M) (p : PartitionId) (s s' : S) (m m' : M) → HandsStore objects (h0.stores p) (objects s) → HandsLog notes (h0.logs p) (notes m)
+      → TierIs p (Some s') (Some m') h1 h → LeavesUnder (objects s) (notes m) (objects s') (notes m') → LeavesUnderIn objects notes h0 h p
+  swept_left h0 h1 h p s s' m m' gives says is under l at =
+      let u = under l (subst (λ (o : Option M). left_on notes o l) is.log_is at) in record {
+        before = tier_with (objects s) u.0;
+        after = tier_with (objects s') l;
+        held_so = record { objects_are = handed_objects objects (h0.stores p) (objects s) gives; notes_are = handed_left notes (h0.logs p) (notes m) says u.0 u.1 };
+        left_so = record { objects_are = λ key. sym (ap (λ (held : Option S). object_on objects held key) is.store_is); notes_are = at };
+        notes_are = refl;
+        is = u.2;
+      }
+
+  -- and of what is handed out then
+  pub handed_under : HandedLeavesUnder files objects notes
+  handed_under old new p s s' m m' store_is log_is gives says under l at =
+      let x = under l (handed_left notes (new.logs p) (notes m') says l at) in
+      let was : (key : ObjectKey) → x.before.objects key ≡ (objects s).objects key = λ key. x.held_so.objects_are key ∙ ap (λ (o : Option S). object_on objects o key) store_is in
+      let now : (key : ObjectKey) → x.after.objects key ≡ (objects s').objects key = λ key. x.left_so.objects_are key ∙ sym (handed_objects objects (new.stores p) (objects s') gives key) in
+      let before : x.before ≡ tier_with (objects s) x.before.notes = ap (λ (o : store.Objects). (let t : Tier = record { objects = o; notes = x.before.notes } in t)) (λ i key. was key i) in
+      let after : x.after ≡ tier_with (objects s') l =
+      ap (λ (o : store.Objects). (let t : Tier = record { objects = o; notes = x.after.notes } in t)) (λ i key. now key i)
+      ∙ ap (λ (ns : List Note). (let t : Tier = record { objects = (objects s').objects; notes = ns } in t)) x.notes_are in (
+        x.before.notes,
+        subst (λ (o : Option M). left_on notes o x.before.notes) log_is x.held_so.notes_are,
+        subst (λ (t : Tier). IsUnderSweep t (tier_with (objects s') l)) before (subst (IsUnderSweep x.before) after x.is),
+      )
+
+  -- what is left of another partition
+  one_left : (h0 h h' : Held D S M) (p : PartitionId) → AreLeft h0 h → OthersRest files objects notes p h h' → LeavesUnderIn objects notes h0 h' p → AreLeft h0 h'
+  one_left h0 h h' p under others this q = by_case (is_or_not p q)
+    where
+      by_case : (p ≡ q) ⊎ (p ≢ q) → LeavesUnderIn objects notes h0 h' q
+      by_case (inl same) = subst (λ (r : PartitionId). LeavesUnderIn objects notes h0 h' r) same this
+      by_case (inr other) = λ l at.
+          let apart : q ≢ p = λ same. other (sym same) in
+          let is = under q l (others.left_rests q apart l at) in record {
+            before = is.before;
+            after = is.after;
+            held_so = is.held_so;
+            left_so = record { objects_are = λ key. is.left_so.objects_are key ∙ sym (others.objects_rest q apart key); notes_are = subst (left_on notes (h'.logs q)) (sym is.notes_are) at };
+            notes_are = is.notes_are;
+            is = is.is;
+          }
+
   -- one partition more has begun
   pub one_under : (h0 h h' : Held D S M) (p : PartitionId) → AreUnder h0 h → OthersRest files objects notes p h h' → IsUnderSweepIn objects notes h0 h' p → AreUnder h0 h'
   one_under h0 h h' p under others this q = by_case (is_or_not p q)
@@ -93,6 +149,7 @@ module _ {D S M : Type 0} (files : D → disk.Content) (objects : S → store.Co
   pub record Rests (h0 h : Held D S M) (p : PartitionId) : Type 0 where
     pub objects_rest : (key : ObjectKey) → object_on objects (h.stores p) key ≡ object_on objects (h0.stores p) key
     pub notes_rest : notes_on notes (h.logs p) ≡ notes_on notes (h0.logs p)
+    pub left_rests : LeavesNoMore notes (h0.logs p) (h.logs p)
 
   -- the partitions that were swept, and those that are left
   pub record SoFar (rest : List PartitionId) (h0 h : Held D S M) (c0 c : Control) (text : List ℕ) : Type 0 where
@@ -103,6 +160,7 @@ module _ {D S M : Type 0} (files : D → disk.Content) (objects : S → store.Co
     pub swept : IsTrue h0.tells → AllByRecursion (IsSweptIn objects notes h0 h) found
     pub left : IsTrue h0.tells → (q : PartitionId) → In q rest → Rests h0 h q
     pub under : IsTrue h0.tells → AreUnder h0 h
+    pub lists : IsTrue h0.tells → AreLeft h0 h
     pub disks : IsTrue h0.tells → DisksRest files h0 h
     pub text_is : text ≡ lines_of swept_text found
     pub tells : h.tells ≡ h0.tells
@@ -116,8 +174,9 @@ module _ {D S M : Type 0} (files : D → disk.Content) (objects : S → store.Co
     rise = subst Rise (sym is) all.rise;
     below = record {};
     swept = λ t. record {};
-    left = λ t q there. record { objects_rest = (rests t).objects_rest q; notes_rest = (rests t).notes_rest q };
+    left = λ t q there. record { objects_rest = (rests t).objects_rest q; notes_rest = (rests t).notes_rest q; left_rests = (rests t).left_rests q };
     under = λ t. all_unbegun h0 h (rests t);
+    lists = λ t. all_left h0 h (rests t);
     disks = λ t. (rests t).disks_rest;
     text_is = empty;
     tells = tells;
@@ -146,6 +205,17 @@ module _ {D S M : Type 0} (files : D → disk.Content) (objects : S → store.Co
     is = is.is;
   }
 
+  pub left_from_begin : (h0 h h' : Held D S M) (p : PartitionId) → Rests h0 h p → LeavesUnderIn objects notes h h' p → LeavesUnderIn objects notes h0 h' p
+  left_from_begin h0 h h' p rests under l at =
+      let is = under l at in record {
+        before = is.before;
+        after = is.after;
+        held_so = record { objects_are = λ key. is.held_so.objects_are key ∙ rests.objects_rest key; notes_are = rests.left_rests is.before.notes is.held_so.notes_are };
+        left_so = is.left_so;
+        notes_are = is.notes_are;
+        is = is.is;
+      }
+
   pub swept_is_under : (h0 h' : Held D S M) (p : PartitionId) (count : ℕ) → IsSweptIn objects notes h0 h' (p, count) → IsUnderSweepIn objects notes h0 h' p
   swept_is_under h0 h' p count is = record {
     before = is.before;
@@ -168,14 +238,22 @@ module _ {D S M : Type 0} (files : D → disk.Content) (objects : S → store.Co
         let here : In p before = subst (In p) (sym steps) (inl refl) in
         one_under h0 h h' p (so.under t) (others now) (under_from_begin h0 h h' p (so.left t p here) (under now))
 
+    -- nor is what a power cut may leave of it
+    pub left_more : (before : List PartitionId) (text : List ℕ) → before ≡ p ∷ rest → SoFar before h0 h c0 c text
+        → (IsTrue h.tells → LeavesUnderIn objects notes h h' p) → (IsTrue h.tells → OthersRest files objects notes p h h') → IsTrue h0.tells → AreLeft h0 h'
+    left_more before text steps so leaves others t =
+        let now = subst IsTrue (sym so.tells) t in
+        let here : In p before = subst (In p) (sym steps) (inl refl) in
+        one_left h0 h h' p (so.lists t) (others now) (left_from_begin h0 h h' p (so.left t p here) (leaves now))
+
     pub swept_more : (before : List PartitionId) (text : List ℕ) (count : ℕ) → before ≡ p ∷ rest → SoFar before h0 h c0 c text
         → (IsTrue h.tells → IsSweptIn objects notes h h' (p, count)) → (IsTrue h.tells → OthersRest files objects notes p h h') → IsTrue h0.tells → AreUnder h0 h'
     swept_more before text count steps so swept others t =
         under_more before text steps so (λ now. swept_is_under h h' p count (swept now)) others t
 
     one_more : (c' : Control) (text : List ℕ) (count : ℕ) → SoFar (p ∷ rest) h0 h c0 c text → (IsTrue h.tells → IsSweptIn objects notes h h' (p, count))
-        → (IsTrue h.tells → OthersRest files objects notes p h h') → h'.tells ≡ h.tells → IsBack c c' → SoFar rest h0 h' c0 c' (text ++ line_of p (swept_text count))
-    one_more c' text count so swept others tells back = record {
+        → (IsTrue h.tells → LeavesUnderIn objects notes h h' p) → (IsTrue h.tells → OthersRest files objects notes p h h') → h'.tells ≡ h.tells → IsBack c c' → SoFar rest h0 h' c0 c' (text ++ line_of p (swept_text count))
+    one_more c' text count so swept leaves others tells back = record {
       found = so.found ++ (p, count) ∷ [];
       all = subst (AreAll files objects notes h0) (sym (partitions_snoc so.found p count rest)) so.all;
       rise = so.rise.1;
@@ -186,8 +264,10 @@ module _ {D S M : Type 0} (files : D → disk.Content) (objects : S → store.Co
           let was = so.left t q (inr there) in record {
             objects_rest = λ key. (others (now t)).objects_rest q other key ∙ was.objects_rest key;
             notes_rest = (others (now t)).notes_rest q other ∙ was.notes_rest;
+            left_rests = λ l at. was.left_rests l ((others (now t)).left_rests q other l at);
           };
       under = swept_more (p ∷ rest) text count refl so swept others;
+      lists = left_more (p ∷ rest) text refl so leaves others;
       disks = λ t. disks_then h0 h h' (so.disks t) (others (now t)).disks_rest;
       text_is = ap (λ (before : List ℕ). before ++ line_of p (swept_text count)) so.text_is ∙ sym (lines_snoc swept_text so.found p count);
       tells = tells ∙ so.tells;
@@ -198,11 +278,12 @@ module _ {D S M : Type 0} (files : D → disk.Content) (objects : S → store.Co
         now t = subst IsTrue (sym so.tells) t
 
     pub goes_on : (c' : Control) (before : List PartitionId) (text text' : List ℕ) (count : ℕ) → before ≡ p ∷ rest → text' ≡ text ++ line_of p (swept_text count)
-        → SoFar before h0 h c0 c text → (IsTrue h.tells → IsSweptIn objects notes h h' (p, count)) → (IsTrue h.tells → OthersRest files objects notes p h h')
+        → SoFar before h0 h c0 c text → (IsTrue h.tells → IsSweptIn objects notes h h' (p, count)) → (IsTrue h.tells → LeavesUnderIn objects notes h h' p)
+        → (IsTrue h.tells → OthersRest files objects notes p h h')
         → h'.tells ≡ h.tells → IsBack c c' → SoFar rest h0 h' c0 c' text'
-    goes_on c' before text text' count steps added so swept others tells back =
+    goes_on c' before text text' count steps added so swept leaves others tells back =
         subst (λ (t : List ℕ). SoFar rest h0 h' c0 c' t) (sym added)
-        (one_more c' text count (subst (λ (l : List PartitionId). SoFar l h0 h c0 c text) steps so) swept others tells back)
+        (one_more c' text count (subst (λ (l : List PartitionId). SoFar l h0 h c0 c text) steps so) swept leaves others tells back)
 
   pub ends : (h0 h : Held D S M) (c0 c : Control) (text : List ℕ)
       → (so : SoFar [] h0 h c0 c text) → AreSwept files objects notes h0 h so.found

@@ -1,5 +1,5 @@
 -- Tiers as they are handed out, rest, and come back.
-use Rattle.std.proofs.Common.{◌≡◌, ◌≢◌, ◌⊎◌, inl, inr, ◌∙◌, sym, ap, refl, ℕ, ◌==◌, ◌<◌, Bool, true, false, Option, Some, None, arith}
+use Rattle.std.proofs.Common.{◌≡◌, ◌≢◌, ◌⊎◌, inl, inr, ◌∙◌, sym, ap, subst, refl, ℕ, ◌==◌, ◌<◌, Bool, true, false, List, Option, Some, None, arith}
 use Rattle.std.proofs.lemmas.Bool.Decides.{Decides-eqb}
 use Rattle.tier_base.specs.declared.names.PartitionId.{PartitionId}
 use Rattle.tier_base.specs.declared.object_key.ObjectKey.{ObjectKey}
@@ -9,11 +9,12 @@ use Rattle.std.specs.declared.result.Result.{Result}
 use Rattle.tier_base.specs.Counts.{Rose}
 use Rattle.device_yard.specs.Control.{Control}
 use Rattle.disk_model.specs.Content as disk
+use Rattle.segment_meta.specs.declared.note.Note.{Note}
 use Rattle.object_store.specs.Content as store
 use Rattle.meta_log.specs.Content as log
 use Rattle.device_yard.specs.Held.{Held, Same, Both, HandsStore, HandsLog}
 use Rattle.tier_sweep.specs.Sweeping.{Tier, tier_of}
-use Rattle.yard_audit.specs.Tiers.{file_on, object_on, notes_on, HoldsTier, AllRest, TierIs, IsBack}
+use Rattle.yard_audit.specs.Tiers.{file_on, object_on, notes_on, left_on, LeavesNoMore, HoldsTier, AllRest, TierIs, IsBack}
 
 -- partitions of one number are one
 pub same_partition : (p q : PartitionId) → p.0 ≡ q.0 → p ≡ q
@@ -70,6 +71,16 @@ module _ {M : Type 0} (notes : M → log.Content) where
   same_notes (Some m) None both = absurd both
   same_notes (Some m) (Some n) both = both.notes
 
+  pub handed_left : (held : Option M) (c : log.Content) → HandsLog notes held c → (l : List Note) → log.Left c l → left_on notes held l
+  handed_left None c gives l at = gives.left l at ∙ gives.notes
+  handed_left (Some m) c gives l at = gives.left l at
+
+  pub same_left : (a b : Option M) → Both (λ m n. log.Keeps (notes m) (notes n)) a b → LeavesNoMore notes a b
+  same_left None None both l at = at
+  same_left None (Some n) both l at = absurd both
+  same_left (Some m) None both l at = absurd both
+  same_left (Some m) (Some n) both l at = both.left l at
+
 module _ {D : Type 0} (files : D → disk.Content) where
   pub same_files : (a b : Option D) → Both (λ d e. disk.Keeps (files d) (files e)) a b → (name : FileName) → file_on files b name ≡ file_on files a name
   same_files None None both name = refl
@@ -83,16 +94,18 @@ module _ {D S M : Type 0} (files : D → disk.Content) (objects : S → store.Co
   same_rests old new same = record {
     objects_rest = λ p. same_objects objects (old.stores p) (new.stores p) (same.stores p);
     notes_rest = λ p. same_notes notes (old.logs p) (new.logs p) (same.logs p);
+    left_rests = λ p. same_left notes (old.logs p) (new.logs p) (same.logs p);
     disks_rest = λ p b. same_files files (old.disks p b) (new.disks p b) (same.disks p b);
   }
 
   pub rests_none : (h : Held D S M) → AllRest files objects notes h h
-  rests_none h = record { objects_rest = λ p key. refl; notes_rest = λ p. refl; disks_rest = λ p b name. refl }
+  rests_none h = record { objects_rest = λ p key. refl; notes_rest = λ p. refl; left_rests = λ p l at. at; disks_rest = λ p b name. refl }
 
   pub rests_then : (h0 h h' : Held D S M) → AllRest files objects notes h0 h → AllRest files objects notes h h' → AllRest files objects notes h0 h'
   rests_then h0 h h' a b = record {
     objects_rest = λ p key. b.objects_rest p key ∙ a.objects_rest p key;
     notes_rest = λ p. b.notes_rest p ∙ a.notes_rest p;
+    left_rests = λ p l at. a.left_rests p l (b.left_rests p l at);
     disks_rest = λ p k name. b.disks_rest p k name ∙ a.disks_rest p k name;
   }
 
@@ -128,4 +141,26 @@ module _ {D S M : Type 0} (files : D → disk.Content) (objects : S → store.Co
   held_before old new p tier objects_rest notes_rest holds = record {
     objects_are = λ key. holds.objects_are key ∙ objects_rest key;
     notes_are = holds.notes_are ∙ notes_rest;
+  }
+
+  -- what is handed out and comes back with the content that it had rests
+  pub handed_back : (h0 h1 h : Held D S M) (p : PartitionId) (s s' : S) (m m' : M) → HandsStore objects (h0.stores p) (objects s) → HandsLog notes (h0.logs p) (notes m)
+      → store.Keeps (objects s) (objects s') → log.Keeps (notes m) (notes m') → TierIs p None None h0 h1 → TierIs p (Some s') (Some m') h1 h → AllRest files objects notes h0 h
+  handed_back h0 h1 h p s s' m m' gives says kept told out back = record {
+    objects_rest = λ q key. elim (is_or_not q p) [
+      | inl same ↦ subst (λ (r : PartitionId). object_on objects (h.stores r) key ≡ object_on objects (h0.stores r) key) (sym same)
+          (ap (λ (held : Option S). object_on objects held key) back.store_is ∙ (kept.objects key ∙ handed_objects objects (h0.stores p) (objects s) gives key))
+      | inr other ↦ ap (λ (held : Option S). object_on objects held key) (back.stores q other ∙ out.stores q other)
+    ];
+    notes_rest = λ q. elim (is_or_not q p) [
+      | inl same ↦ subst (λ (r : PartitionId). notes_on notes (h.logs r) ≡ notes_on notes (h0.logs r)) (sym same)
+          (ap (λ (held : Option M). notes_on notes held) back.log_is ∙ (told.notes ∙ handed_notes notes (h0.logs p) (notes m) says))
+      | inr other ↦ ap (λ (held : Option M). notes_on notes held) (back.logs q other ∙ out.logs q other)
+    ];
+    left_rests = λ q. elim (is_or_not q p) [
+      | inl same ↦ subst (λ (r : PartitionId). LeavesNoMore notes (h0.logs r) (h.logs r)) (sym same)
+          (λ l at. handed_left notes (h0.logs p) (notes m) says l (told.left l (subst (λ (held : Option M). left_on notes held l) back.log_is at)))
+      | inr other ↦ λ l at. subst (λ (held : Option M). left_on notes held l) (back.logs q other ∙ out.logs q other) at
+    ];
+    disks_rest = λ q b name. ap (λ (held : Option D). file_on files held name) (back.disks q b ∙ out.disks q b);
   }

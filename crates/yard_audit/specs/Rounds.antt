@@ -1,17 +1,17 @@
 -- What a round over the partitions of a yard finds, and what it leaves.
-use Rattle.std.specs.Prelude.{ℕ, List, map, IsTrue}
+use Rattle.std.specs.Prelude.{◌≡◌, ℕ, Some, List, map, IsTrue}
 use Rattle.std.specs.List.{AllByRecursion}
 use Rattle.tier_base.specs.declared.names.PartitionId.{PartitionId}
-use Rattle.tier_base.specs.Told.{In}
 use Rattle.disk_model.specs.Content as disk
+use Rattle.segment_meta.specs.declared.note.Note.{Note}
 use Rattle.object_store.specs.Content as store
 use Rattle.meta_log.specs.Content as log
 use Rattle.remote_view.specs.Fold.{fold}
-use Rattle.device_yard.specs.Held.{Held, AreUsed, Rise}
+use Rattle.device_yard.specs.Held.{Held, AreUsed, Rise, HandsStore, HandsLog}
 use Rattle.tier_audit.specs.declared.verdict.Verdict.{Verdict}
 use Rattle.tier_audit.specs.Flaws.{IsVerdict}
-use Rattle.tier_sweep.specs.Sweeping.{Tier, IsSwept, IsUnderSweep}
-use Rattle.yard_audit.specs.Tiers.{HoldsTier, DisksRest}
+use Rattle.tier_sweep.specs.Sweeping.{Tier, IsSwept, IsUnderSweep, LeavesUnder}
+use Rattle.yard_audit.specs.Tiers.{HoldsTier, MayLeave, left_on, DisksRest}
 
 -- the partitions of what was found
 abbrev pub partitions_of : {A : Type 0} → List (PartitionId × A) → List PartitionId
@@ -40,6 +40,20 @@ module _ {D S M : Type 0} (objects : S → store.Content) (notes : M → log.Con
     pub left_so : HoldsTier objects notes new p after
     pub is : IsUnderSweep before after
 
+  -- these notes, which a power cut may leave of the partition, have come so far in its sweep from some that it might have left before, or
+  -- it hasn't begun
+  pub record IsLeftIn (old new : Held D S M) (p : PartitionId) (left : List Note) : Type 0 where
+    pub before : Tier
+    pub after : Tier
+    pub held_so : MayLeave objects notes old p before
+    pub left_so : MayLeave objects notes new p after
+    pub notes_are : after.notes ≡ left
+    pub is : IsUnderSweep before after
+
+  -- and so have all that it may leave
+  abbrev pub LeavesUnderIn : Held D S M → Held D S M → PartitionId → Type 0
+  LeavesUnderIn old new p = (left : List Note) → left_on notes (new.logs p) left → IsLeftIn old new p left
+
 module _ {D S M : Type 0} (files : D → disk.Content) (objects : S → store.Content) (notes : M → log.Content) where
   -- these are the partitions of which something stands, in rising order
   pub record AreAll (held : Held D S M) (list : List PartitionId) : Type 0 where
@@ -56,3 +70,10 @@ module _ {D S M : Type 0} (files : D → disk.Content) (objects : S → store.Co
     pub all : AreAll old (partitions_of found)
     pub swept : IsTrue old.tells → AllByRecursion (IsSweptIn objects notes old new) found
     pub disks : IsTrue old.tells → DisksRest files old new
+
+  -- what a power cut may leave of the store and the metadata log that are handed out then is under a sweep from what it might have left of
+  -- those that were held
+  abbrev pub HandedLeavesUnder : Type 0
+  HandedLeavesUnder = (old new : Held D S M) (p : PartitionId) (s s' : S) (m m' : M) → old.stores p ≡ Some s → old.logs p ≡ Some m
+      → HandsStore objects (new.stores p) (objects s') → HandsLog notes (new.logs p) (notes m') → LeavesUnderIn objects notes old new p
+      → LeavesUnder (objects s) (notes m) (objects s') (notes m')

@@ -2,6 +2,7 @@
 --
 --   form                       says
 --   HoldsTier held p tier      the partition's store and metadata log hold this tier
+--   MayLeave held p tier       a power cut may leave this tier of them
 --   AllRest old new            each partition's tier is as it was, and each disk
 --   TierIs p s m old new       the partition's store and metadata log are these now, or none, and the rest is as it was
 use Rattle.std.specs.Prelude.{◌≡◌, ◌≢◌, ℕ, ◌+◌, ◌≤◌, List, [], Option, Some, None}
@@ -33,7 +34,21 @@ abbrev pub notes_on : {M : Type 0} → (M → log.Content) → Option M → List
 notes_on notes None = []
 notes_on notes (Some m) = (notes m).notes
 
+-- what a power cut may leave of a metadata log, no notes where there is no log
+abbrev pub left_on : {M : Type 0} → (M → log.Content) → Option M → List Note → Type 0
+left_on notes None left = left ≡ []
+left_on notes (Some m) left = log.Left (notes m) left
+
+-- it leaves nothing more than it might have left before
+abbrev pub LeavesNoMore : {M : Type 0} → (M → log.Content) → Option M → Option M → Type 0
+LeavesNoMore notes old new = (left : List Note) → left_on notes new left → left_on notes old left
+
 module _ {D S M : Type 0} (objects : S → store.Content) (notes : M → log.Content) where
+  -- a power cut may leave this tier of the partition's store and metadata log
+  pub record MayLeave (held : Held D S M) (p : PartitionId) (tier : Tier) : Type 0 where
+    pub objects_are : (key : ObjectKey) → tier.objects key ≡ object_on objects (held.stores p) key
+    pub notes_are : left_on notes (held.logs p) tier.notes
+
   -- the partition's store and metadata log hold this tier
   pub record HoldsTier (held : Held D S M) (p : PartitionId) (tier : Tier) : Type 0 where
     pub objects_are : (key : ObjectKey) → tier.objects key ≡ object_on objects (held.stores p) key
@@ -49,12 +64,14 @@ module _ {D S M : Type 0} (files : D → disk.Content) (objects : S → store.Co
   pub record AllRest (old new : Held D S M) : Type 0 where
     pub objects_rest : (p : PartitionId) (key : ObjectKey) → object_on objects (new.stores p) key ≡ object_on objects (old.stores p) key
     pub notes_rest : (p : PartitionId) → notes_on notes (new.logs p) ≡ notes_on notes (old.logs p)
+    pub left_rests : (p : PartitionId) → LeavesNoMore notes (old.logs p) (new.logs p)
     pub disks_rest : DisksRest files old new
 
   -- each other partition's tier is as it was, and each disk
   pub record OthersRest (p : PartitionId) (old new : Held D S M) : Type 0 where
     pub objects_rest : (q : PartitionId) → q ≢ p → (key : ObjectKey) → object_on objects (new.stores q) key ≡ object_on objects (old.stores q) key
     pub notes_rest : (q : PartitionId) → q ≢ p → notes_on notes (new.logs q) ≡ notes_on notes (old.logs q)
+    pub left_rests : (q : PartitionId) → q ≢ p → LeavesNoMore notes (old.logs q) (new.logs q)
     pub disks_rest : DisksRest files old new
 
 module _ {D S M : Type 0} where

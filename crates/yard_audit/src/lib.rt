@@ -8,10 +8,12 @@
 
 mod auditing;
 mod handing;
+mod laws;
 mod lines;
 mod refusal;
 mod sweeping;
 
 pub use auditing::{Audited, audit_all};
+pub use laws::what_is_handed_out_is_under_a_sweep;
 pub use refusal::RoundRefusal;
 pub use sweeping::sweep_all;

@@ -4,7 +4,7 @@ ghost use Rattle.std.specs.Prelude.{◌≡◌, IfOk, OnErr, OnOk, IsErrOf, IsTru
 ghost use Rattle.tier_base.specs.Counts.{Rose};
 ghost use Rattle.tier_base.specs.declared.names.PartitionId.{PartitionId as Partition};
 ghost use Rattle.yard_audit.specs.declared.refusal.RoundRefusal.TheVariants.{Fault};
-ghost use Rattle.yard_audit.specs.Rounds.{IsSweptIn, IsUnderSweepIn};
+ghost use Rattle.yard_audit.specs.Rounds.{IsSweptIn, IsUnderSweepIn, LeavesUnderIn};
 ghost use Rattle.yard_audit.specs.Reports.{TellsSweep};
 ghost use Rattle.yard_audit.specs.Tiers.{DisksRest, OthersRest, IsBack};
 
@@ -26,6 +26,8 @@ fn sweep_one<Y: Yard>(
         IsSweptIn Y.S.content Y.M.content (Y.held yard.old) (Y.held yard.new) (partition, count)) }
     ensures under { IsTrue (Y.held yard.old).tells → OnErr result
         (IsUnderSweepIn Y.S.content Y.M.content (Y.held yard.old) (Y.held yard.new) partition) }
+    ensures left { IsTrue (Y.held yard.old).tells
+        → LeavesUnderIn Y.S.content Y.M.content (Y.held yard.old) (Y.held yard.new) partition }
     ensures others { IsTrue (Y.held yard.old).tells
         → OthersRest Y.D.content Y.S.content Y.M.content partition (Y.held yard.old) (Y.held yard.new) }
     ensures tells { (Y.held yard.new).tells ≡ (Y.held yard.old).tells }
@@ -48,6 +50,8 @@ pub fn sweep_all<Y: Yard>(alloc: Global, yard: &mut Y) -> Result<Vec<u8>, RoundR
         (Y.held yard.old) (Y.held yard.new) text.items) }
     ensures under { IsTrue (Y.held yard.old).tells → (p : Partition)
         → IsUnderSweepIn Y.S.content Y.M.content (Y.held yard.old) (Y.held yard.new) p }
+    ensures left { IsTrue (Y.held yard.old).tells → (p : Partition)
+        → LeavesUnderIn Y.S.content Y.M.content (Y.held yard.old) (Y.held yard.new) p }
     ensures disks { IsTrue (Y.held yard.old).tells → DisksRest Y.D.content (Y.held yard.old) (Y.held yard.new) }
     ensures tells { (Y.held yard.new).tells ≡ (Y.held yard.old).tells }
     ensures back { IsBack (Y.control yard.old) (Y.control yard.new) }

@@ -1,4 +1,7 @@
-use Rattle.std.proofs.Common.{refl}
+use Rattle.std.proofs.Common.{refl, rules, IsTrue}
+use Rattle.meta_log.specs.Content.{LeavesTold}
+use Rattle.tier_sweep.specs.Sweeping.{IsSwept, tier_of}
+use Rattle.tier_sweep.proofs.Leaving.{none_under, whole_under}
 use Rattle.tier_sweep.proofs.Went.{went_then}
 use Rattle.tier_sweep.proofs.sweeping.sweep.Goals as goal
 
@@ -8,3 +11,16 @@ returns-clause-store_went g c = went_then _ _ _ (c.in_ok-keys.ensures.calls.went
 pub returns-clause-meta_went : goal.returns-clause-meta_went
 returns-clause-meta_went g c =
     went_then _ _ _ (went_then _ _ _ (c.in_ok-view.ensures.calls.went refl) (c.in_ok-tell_starts.ensures.calls.went refl)) (c.in_ok-tell_ends.ensures.calls.went refl)
+
+pub returns-in_err-view-clause-left : goal.returns-in_err-view-clause-left
+returns-in_err-view-clause-left g c = λ st mt. none_under (g.S.Store.content c.args.store.now) (g.M.MetaLog.content c.args.meta.now) (g.M.MetaLog.content c.read_view.new.meta) c.in_err-view.ensures.content
+
+pub returns-clause-left : goal.returns-clause-left
+returns-clause-left g c = λ st mt.
+    let s = g.S.Store.content c.args.store.now in
+    let n = g.S.Store.content c.take_all.new.store in
+    let old = g.M.MetaLog.content c.args.meta.now in
+    let new = g.M.MetaLog.content c.tell_ends.new.meta in
+    let swept : IsTrue s.tells → IsTrue old.tells → IsSwept (tier_of s old) (tier_of n new) c.in_ok-swept.swept = search rules in
+    let only : IsTrue old.tells → LeavesTold new = search rules in
+    whole_under s n old new c.in_ok-swept.swept (swept st mt) (only mt)

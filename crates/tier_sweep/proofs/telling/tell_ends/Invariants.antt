@@ -1,5 +1,6 @@
 use Rattle.std.proofs.Common.{◌≡◌, ◌++◌, take, IsTrue}
 use Rattle.tier_base.specs.Device.{Lasts}
+use Rattle.meta_log.specs.Content.{LeavesTold}
 use Rattle.tier_sweep.specs.Sweeping.{ends_of}
 use Rattle.tier_sweep.specs.Parts.{AllWent}
 use Rattle.tier_sweep.proofs.telling.tell_ends.Given as goal
@@ -12,6 +13,7 @@ invariant-loop-entry g l =
       tells : (content l.meta).tells ≡ (content l.fn.meta).tells;
       notes : IsTrue (content l.fn.meta).tells
           → (content l.meta).notes ≡ (content l.fn.meta).notes ++ ends_of (take l.entry-index l.entries);
+      left : IsTrue (content l.fn.meta).tells → LeavesTold (content l.fn.meta) → LeavesTold (content l.meta);
       calls : Lasts (g.M.MetaLog.control l.fn.meta) (g.M.MetaLog.control l.meta);
       went : AllWent (g.M.MetaLog.control l.fn.meta) (g.M.MetaLog.control l.meta);
     }
