@@ -44,11 +44,11 @@ fewer_reopens : (d n : Content) → Reopens d → IsCutDisk d n → Reopens n
 fewer_reopens d n again cut = record { opens = λ c image. again.opens c (cut.images c image); fronts = λ c x m image other says. again.fronts c x m (cut.images c image) (cut.images x other) says }
 
 module _ {D : Type 0} (content : D → Content) (set : Settings) where
-  closed_shown : (old new : D) (s : log.Seen) → IsCutDisk (content old) (content new) → ShowsClosed content old s → ShowsClosed content new s
+  pub closed_shown : (old new : D) (s : log.Seen) → IsCutDisk (content old) (content new) → ShowsClosed content old s → ShowsClosed content new s
   closed_shown old new s cut h = record { told = cut.tells h.told; kept = h.kept; images = λ c image. h.images c (cut.images c image); again = fewer_reopens (content old) (content new) h.again cut }
 
   -- what is left of a log is seen as the log was
-  log_shown : (k : Kept D) (disk : D) (s : log.Seen) → LeavesDisk content k disk → Shows content k s → ShowsClosed content disk s
+  pub log_shown : (k : Kept D) (disk : D) (s : log.Seen) → LeavesDisk content k disk → Shows content k s → ShowsClosed content disk s
   log_shown (Up l) disk s (again, cut) h = (let x = (stops_by content l again).seen s h in subst (ShowsClosed content disk) x.2 (closed_shown l.disk disk x.0 cut x.1))
   log_shown (Down was old) disk s cut h = closed_shown old disk s cut h
   log_shown Away disk s cut h = absurd h
@@ -132,7 +132,7 @@ module _ {D S M : Type 0} (disk : DiskGhosts D) (store : StoreGhosts S) (meta : 
     }
 
   -- the journal has come to one plain state, whatever notes are left
-  same_plain : (opening : State) (w : Whole D S M) (l x : List Note) (a : IsCentral disk store (resolved meta) opening (whole_with w l)) (b : IsCentral disk store (resolved meta) opening (whole_with w x))
+  pub same_plain : (opening : State) (w : Whole D S M) (l x : List Note) (a : IsCentral disk store (resolved meta) opening (whole_with w l)) (b : IsCentral disk store (resolved meta) opening (whole_with w x))
       → a.central.plain ≡ b.central.plain
   same_plain opening w l x a b = let is : Some a.central.plain ≡ Some b.central.plain = sym a.central.replays ∙ b.central.replays in cc (is)
 

@@ -17,10 +17,18 @@ use Rattle.plain_log.specs.declared.command.ActorList.{ActorList}
 use Rattle.plain_log.specs.declared.journal.JournalEntry.{JournalEntry}
 use Rattle.plain_log.specs.declared.state.Role.TheVariants.{Idle}
 use Rattle.plain_log.specs.declared.state.State.{State}
-use Rattle.plain_log.specs.Orders.{AreRising}
+use Rattle.plain_log.specs.Orders.{AreListsFor, AreRising}
 use Rattle.partition_turns.specs.declared.held.Node.{Node}
 use Rattle.partition_world.specs.Central.{notes_left}
 use Rattle.partition_world.specs.Fresh.{fresh_seat, fresh_side}
+use Rattle.tier_base.specs.declared.names.PartitionId.{PartitionId}
+use Rattle.registry.specs.declared.registry.Registry.{Registry}
+use Rattle.partition_turns.specs.Cold.{DisksReopen}
+use Rattle.partition_turns.specs.Fresh.{AreDisksOf}
+use Rattle.plain_log.specs.declared.command.Pace.{Pace}
+use Rattle.partition_world.specs.Cold.{IsReopened, StandCold}
+use Rattle.partition_world.specs.Laws.{IsRunFrom}
+use Rattle.partition_world.specs.Reaches.{Reaches}
 use Rattle.partition_world.specs.Left.{IsCentralLeft}
 use Rattle.partition_world.specs.Whole.{Whole}
 use Rattle.cold_start.specs.Cold.{cold_of}
@@ -54,6 +62,14 @@ module _ {D : Type 0} (content : D → Content) where
   LeaveDisks [] (d ∷ disks) = ⊥
   LeaveDisks (x ∷ xs) [] = ⊥
 
+module _ {D : Type 0} (content : D → Content) where
+  -- disks after it
+  abbrev pub AreCut : List D → List D → Type 0
+  AreCut [] [] = Unit {0}
+  AreCut (disk ∷ disks) (now ∷ nows) = IsCutDisk (content disk) (content now) × AreCut disks nows
+  AreCut [] (now ∷ nows) = ⊥
+  AreCut (disk ∷ disks) [] = ⊥
+
 module _ {D : Type 0} where
   -- a broker that is down and has never stopped, over a disk
   abbrev pub cold_dev : Settings → D → Node D
@@ -86,3 +102,35 @@ module _ {D S M : Type 0} (disk : DiskGhosts D) (store : StoreGhosts S) (meta : 
       → AreRising lists → journal.items ≡ []
       → ((l : List Note) → Left (meta.content m) l → length l + notes_left lists (replicate (length lists) fresh_seat) < 2 ^ 64)
       → IsCentralLeft disk store meta (cold_of (plain_in opening w c)) (reopened config w lists journal disks s m)
+
+  -- after a power cut of everything between two turns what is left of the devices stands for what is left of the plain state, with
+  -- whatever notes a further power cut may leave
+  abbrev pub PowerCutLeavesCold : Type 0
+  PowerCutLeavesCold = (opening : State) (w : Whole D S M) (disks : List D) (s : S) (m : M) (c : IsCentralLeft disk store meta opening w)
+      → LeaveDisks disk.content w.held.nodes disks → IsCutStore (store.content w.tier.store) (store.content s)
+      → IsCutLog (meta.content w.tier.meta) (meta.content m) → (l : List Note) → Left (meta.content m) l
+      → StandCold disk store meta w.partition w.held.registry disks s m (cold_of (plain_in opening w c)) l
+
+  -- a power cut of devices that stand for a plain state leaves devices that stand for it
+  abbrev pub PowerCutKeepsCold : Type 0
+  PowerCutKeepsCold = (partition : PartitionId) (registry : Registry) (disks nows : List D) (s : S) (m : M) (t : S) (n : M) (p : State)
+      → ((l : List Note) → Left (meta.content m) l → StandCold disk store meta partition registry disks s m p l)
+      → AreCut disk.content disks nows → IsCutStore (store.content s) (store.content t) → IsCutLog (meta.content m) (meta.content n)
+      → (l : List Note) → Left (meta.content n) l → StandCold disk store meta partition registry nows t n p l
+
+  -- A run goes on after a power cut of everything between two turns: over what is left of the devices, with the registry as it was, a
+  -- world begins anew, and whatever a schedule reaches from it has a journal that is a run of the plain log from what is left of the
+  -- plain state.
+  abbrev pub RunsGoOn : Type 0
+  RunsGoOn = (opening : State) (w : Whole D S M) (config : Config) (lists : List ActorList) (disks : List D) (s : S) (m : M)
+      (v : Whole D S M) (schedule : List Pace) (v' : Whole D S M) (c : IsCentralLeft disk store meta opening w)
+      → LeaveDisks disk.content w.held.nodes disks → IsCutStore (store.content w.tier.store) (store.content s)
+      → IsCutLog (meta.content w.tier.meta) (meta.content m) → ((l : List Note) → Left (meta.content m) l → length l < 2 ^ 63)
+      → AreListsFor config lists → IsReopened disk store meta w.partition config lists w.held.registry disks s m v
+      → Reaches disk store meta v schedule v' → IsRunFrom (cold_of (plain_in opening w c)) lists v'.journal.items
+
+module _ {D : Type 0} (disk : DiskGhosts D) where
+  -- the disks that a partition gives back are such as a power cut may leave, and so are those that a power cut leaves of them
+  abbrev pub ClosedAreLeft : Type 0
+  ClosedAreLeft = (nodes : List (Node D)) (disks nows : List D) → AreDisksOf nodes disks → DisksReopen disk.content nodes disks
+      → AreCut disk.content disks nows → LeaveDisks disk.content nodes nows

@@ -1,6 +1,6 @@
 //! Laws of what a power cut leaves, each the contract of a function that does nothing.
 
-ghost use Rattle.cold_start.specs.ColdWorld.{PowerCutKeepsCentral};
+ghost use Rattle.cold_start.specs.ColdWorld.{PowerCutKeepsCentral, PowerCutLeavesCold, PowerCutKeepsCold, RunsGoOn, ClosedAreLeft};
 ghost use Rattle.cold_start.specs.SweptWorld.{SweepKeepsCentral, KeptStoreIsCut};
 ghost use Rattle.cold_start.specs.Laws.{ColdStateIsSafe, ColdTierIsSafe, ColdIsCentral, ColdSidesAreSeen};
 
@@ -42,4 +42,24 @@ pub fn a_sweep_keeps_central<D: Disk, S: Store, M: MetaLog>()
 /// A store that is handed out anew with each object that it had is as a power cut leaves it.
 pub fn a_kept_store_is_cut()
     ensures { KeptStoreIsCut }
+{}
+
+/// It leaves devices that stand for what is left of the plain state, with whatever notes a further power cut leaves.
+pub fn a_power_cut_leaves_cold<D: Disk, S: Store, M: MetaLog>()
+    ensures { PowerCutLeavesCold D.Disk S.Store M.MetaLog }
+{}
+
+/// A power cut of devices that stand for a plain state leaves devices that do.
+pub fn a_power_cut_keeps_cold<D: Disk, S: Store, M: MetaLog>()
+    ensures { PowerCutKeepsCold D.Disk S.Store M.MetaLog }
+{}
+
+/// The disks that a partition gives back are such as a power cut may leave.
+pub fn closed_disks_are_left<D: Disk>()
+    ensures { ClosedAreLeft D.Disk }
+{}
+
+/// A run goes on after a power cut of everything between two turns: from what is left of the plain state.
+pub fn a_run_goes_on<D: Disk, S: Store, M: MetaLog>()
+    ensures { RunsGoOn D.Disk S.Store M.MetaLog }
 {}

@@ -137,7 +137,7 @@ module _ {D S M : Type 0} (disk : DiskGhosts D) (store : StoreGhosts S) (meta : 
     below : (g : Begun) (copy : Copied) (n : ℕ) → t.seat.work ≡ Copies g copy (Delete n) → copy.segment.last < w.held.registry.start
     below g copy n works =
         let has = (c.tier.copies.each t.place copy (Delete n) (at g copy (Delete n) works).seat).at in
-        let low = known.below copy.id has.entry (ap (λ (ns : List Note). entry_of copy.id (fold ns)) (sym c.shows_tier.notes) ∙ has.there) has.state in
+        let low = known.below t.list.actor.0 t.place t.list t.seat t.order g copy (Delete n) (record { at = record { list = t.at.list; actor = refl; seat_is = t.at.seat_is }; next = t.next }) works has.entry (ap (λ (ns : List Note). entry_of copy.id (fold ns)) (sym c.shows_tier.notes) ∙ has.there) has.state in
         subst (λ (m : ℕ). m < w.held.registry.start) has.is.end low
 
     took : (g : Begun) (copy : Copied) (notes : ℕ) (state : Option CopyState) (k : Answer) → IsSomeAnd state (λ s. is_deleted s ≡ true) → copy.segment.last < w.held.registry.start

@@ -1,5 +1,5 @@
 -- Of the devices' calls those have failed that their plans name: the devices last, and so does that their plans decide.
-use Rattle.std.proofs.Common.{◌≡◌, ◌∙◌, ap, sym, subst, ℕ, List, [], ◌∷◌, IsTrue}
+use Rattle.std.proofs.Common.{◌∙◌, ap, sym, subst, ℕ, List, [], ◌∷◌, IsTrue}
 use Rattle.tier_base.specs.Counts.{counted}
 use Rattle.tier_base.specs.Device.{Control, Lasts, FailsAsPlanned, met}
 use Rattle.tier_base.specs.declared.planned.Planned.{Planned}

@@ -2,7 +2,6 @@
 use Rattle.std.proofs.Common.{◌≡◌, inl, inr, ◌∙◌, sym, ap, subst, refl, ℕ, zero, suc, List, [], ◌∷◌, ◌++◌, slice_get, Some, None, Option, IsSomeAnd}
 use Rattle.std.specs.List.{AllByRecursion}
 use Rattle.tier_base.specs.Device.{Control}
-use Rattle.tier_base.specs.declared.names.PartitionId.{PartitionId}
 use Rattle.disk_model.specs.Call.{call_code}
 use Rattle.disk_model.specs.declared.disk.Disk.{Ghosts as DiskGhosts}
 use Rattle.object_store.specs.declared.store.Store.{Ghosts as StoreGhosts}
@@ -29,7 +28,7 @@ use Rattle.partition_turns.specs.Disks.{DisksLast, DiskFails}
 use Rattle.partition_turns.proofs.LastingDisks.{rose_from, rose_on, FailsFor, last_have, fails_after, fails_before}
 use Rattle.partition_turns.proofs.Shown.{some_at}
 use Rattle.partition_turns.proofs.Told.{Told, told_map}
-use Rattle.partition_world.specs.Fresh.{IsFresh}
+use Rattle.partition_world.specs.Fresh.{IsNew}
 use Rattle.partition_world.specs.Lasting.{HaveLasted}
 use Rattle.partition_world.specs.Reaches.{Goes as GoesOnce, GoesTimes, GoesUntil, Paces, Reaches}
 use Rattle.partition_world.specs.Seats.{told_of}
@@ -181,14 +180,13 @@ module _ {D S M : Type 0} (disk : DiskGhosts D) (store : StoreGhosts S) (meta : 
   reaches_since w v [] u r s = same_since w v u r s
   reaches_since w v (pace ∷ schedule) u r s = reaches_since w r.0 schedule u r.2 (paces_since w v pace r.0 r.1 s)
 
-  -- nothing has been told in a fresh world
+  -- nothing has been told in a new world
 
-  fresh_since : (partition : PartitionId) (config : Config) (lists : List ActorList) (disks : List D) (s : S) (m : M) (w : Whole D S M) → AreListsFor config lists
-      → IsFresh disk store meta partition config lists disks s m w → IsSince w w
-  fresh_since partition config lists disks s m w fit f = record {
+  new_since : (config : Config) (lists : List ActorList) (w : Whole D S M) → AreListsFor config lists → IsNew lists w → IsSince w w
+  new_since config lists w fit f = record {
     lists = refl;
     rising = subst AreRising (sym f.lists_are) fit.rising;
-    devices = reaches_lasting disk store meta partition config lists disks s m w [] w f refl;
+    devices = reaches_lasting disk store meta lists w [] w f refl;
     journal = subst (AllByRecursion (EntryTells w w)) (sym f.journal) tt;
   }
 
@@ -205,10 +203,10 @@ module _ {D S M : Type 0} (disk : DiskGhosts D) (store : StoreGhosts S) (meta : 
   failed_as w v order MetaFault t = t
   failed_as w v order other t = tt
 
-  pub reaches_counted : (partition : PartitionId) (config : Config) (lists : List ActorList) (disks : List D) (s : S) (m : M) (w : Whole D S M) (schedule : List Pace) (w' : Whole D S M)
-      → AreListsFor config lists → IsFresh disk store meta partition config lists disks s m w → Reaches disk store meta w schedule w' → FaultsAreCounted disk store meta w w'
-  reaches_counted partition config lists disks s m w schedule w' fit f r =
-      let k = reaches_since w w schedule w' r (fresh_since partition config lists disks s m w fit f) in
+  pub reaches_counted : (config : Config) (lists : List ActorList) (w : Whole D S M) (schedule : List Pace) (w' : Whole D S M) → AreListsFor config lists → IsNew lists w
+      → Reaches disk store meta w schedule w' → FaultsAreCounted disk store meta w w'
+  reaches_counted config lists w schedule w' fit f r =
+      let k = reaches_since w w schedule w' r (new_since config lists w fit f) in
       all_map (EntryTells w w') (IsCounted disk store meta w w') w'.journal.items
       (λ entry e.
       subst (λ (l : List ActorList). IsSomeAnd (order_of l entry) (λ order. (answer : Answer) → entry.event ≡ event.Answers answer → FailedAs disk store meta order answer w w')) (sym k.lists)

@@ -1,7 +1,6 @@
--- Each turn keeps what is known of deletions, and it is known of a fresh world.
-use Rattle.std.proofs.Common.{◌≡◌, ◌∙◌, inl, inr, sym, ap, subst, refl, ℕ, zero, suc, ◌+◌, ◌<◌, ◌≤◌, true, List, [], ◌∷◌, ◌++◌, length, Some, None, Option, Ok, slice_get, slice_set, arith}
+-- Each turn keeps what is known of deletions, and it is known of a new world.
+use Rattle.std.proofs.Common.{◌≡◌, ◌≢◌, ◌∙◌, inl, inr, sym, ap, subst, refl, ℕ, zero, suc, ◌+◌, ◌<◌, ◌≤◌, true, List, [], ◌∷◌, ◌++◌, length, Some, None, Option, Ok, slice_get, slice_set, arith}
 use Rattle.std.specs.Prelude.{IsSomeAnd, replicate}
-use Rattle.tier_base.specs.declared.names.PartitionId.{PartitionId}
 use Rattle.tier_base.specs.declared.names.SegmentId.{SegmentId}
 use Rattle.tier_base.specs.declared.plain.State.{State as CopyState}
 use Rattle.tier_base.specs.declared.plain.State.TheVariants.{CopyStarted, CopyFinished, DeleteStarted, DeleteFinished}
@@ -30,7 +29,6 @@ use Rattle.time_find.specs.declared.turn.Next.{Next as Dating}
 use Rattle.plain_log.specs.declared.command.ActorList.{ActorList}
 use Rattle.plain_log.specs.declared.command.Command.{Command}
 use Rattle.plain_log.specs.declared.command.Command.TheVariants.{Copy}
-use Rattle.plain_log.specs.declared.command.Config.{Config}
 use Rattle.plain_log.specs.declared.command.Order.{Order}
 use Rattle.plain_log.specs.declared.journal.JournalEntry.{JournalEntry}
 use Rattle.plain_log.specs.declared.state.State.{State}
@@ -43,6 +41,7 @@ use Rattle.partition_seen.specs.declared.begun.Begun.{Begun}
 use Rattle.partition_seen.proofs.Standing.{get_put}
 use Rattle.partition_turns.specs.declared.held.Node.{Node}
 use Rattle.tier_safe.specs.Copies.{is_deleted}
+use Rattle.tier_safe.specs.Scene.{Work as WorkSeen, Copies as CopiesSeen}
 use Rattle.tier_safe.proofs.Basics.{nat_cases, one_some}
 use Rattle.partition_world.specs.declared.tier.Side.{Side}
 use Rattle.partition_world.specs.declared.tier.Tier.{Tier}
@@ -52,13 +51,14 @@ use Rattle.partition_world.specs.declared.seat.Seat.{Seat}
 use Rattle.partition_world.specs.declared.seat.Work.{Work}
 use Rattle.partition_world.specs.declared.seat.Work.TheVariants.{Idle, Noted, Copies, Seeks, Dates, Expires, Rebuilds}
 use Rattle.partition_world.specs.Central.{IsCentral, work_of}
-use Rattle.partition_world.specs.Fresh.{IsFresh, IsSeenEmpty, fresh_seat}
+use Rattle.partition_world.specs.Fresh.{IsNew, fresh_seat}
 use Rattle.partition_world.specs.Seats.{chosen, moved, sought, dated, doomed, deleting, rebuilding, copy_outcome, seat_after, told_of}
 use Rattle.partition_world.specs.Turn.{IsNext, IsTurn}
 use Rattle.partition_world.specs.TurnsOfCopy.{GoesOnCopy, tiers_of, teller_of}
 use Rattle.partition_world.specs.Turns.{CopyingRow, Row}
 use Rattle.partition_world.specs.Whole.{Whole}
 use Rattle.partition_world.proofs.Begins.{row_of}
+use Rattle.partition_world.proofs.SceneParts.{seat_at}
 use Rattle.partition_world.proofs.CentralLaw.{turn_central}
 use Rattle.partition_world.proofs.Scenes.{place_of, shows_at}
 use Rattle.command_answers.specs.DeletionsKnown.{DeletedBelow, ShowsDeleted, DeletionsKnown}
@@ -104,28 +104,29 @@ work_same : (seat : Seat) (outcome : Outcome) → (seat_after seat outcome).work
 work_same seat (Answers answer) = refl
 work_same seat other = refl
 
-idle_never : {A : Type 0} (o : Outcome) (g : Begun) (copy : Copied) (n : ℕ) → work_after Idle o ≡ Copies g copy (Delete n) → A
+idle_never : {A : Type 0} (o : Outcome) (g : Begun) (copy : Copied) (further : Next) → work_after Idle o ≡ Copies g copy further → A
 idle_never (Answers answer) g copy n is = absurd (cc (is))
 idle_never other g copy n is = absurd (cc (is))
 
-noted_never : {A : Type 0} (f : Begun) (o : Outcome) (g : Begun) (copy : Copied) (n : ℕ) → work_after (Noted f) o ≡ Copies g copy (Delete n) → A
-noted_never f (Answers answer) g copy n is = absurd (cc (is))
-noted_never f other g copy n is = absurd (cc (is))
+noted_never : {A : Type 0} (f : Begun) (o : Outcome) (g : Begun) (copy : Copied) (further : Next) → further ≢ Start → work_after (Noted f) o ≡ Copies g copy further → A
+noted_never f (Answers answer) g copy further begun is = absurd (cc (is))
+noted_never f (Chose k) g copy further begun is = absurd (begun (let same : Start ≡ further = cc (is) in sym same))
+noted_never f other g copy further begun is = absurd (cc (is))
 
-seeks_never : {A : Type 0} (f : Begun) (next : Search) (o : Outcome) (g : Begun) (copy : Copied) (n : ℕ) → work_after (Seeks f next) o ≡ Copies g copy (Delete n) → A
+seeks_never : {A : Type 0} (f : Begun) (next : Search) (o : Outcome) (g : Begun) (copy : Copied) (further : Next) → work_after (Seeks f next) o ≡ Copies g copy further → A
 seeks_never f next (Answers answer) g copy n is = absurd (cc (is))
 seeks_never f next other g copy n is = absurd (cc (is))
 
-dates_never : {A : Type 0} (f : Begun) (cursor : ℕ) (next : Dating) (o : Outcome) (g : Begun) (copy : Copied) (n : ℕ)
-    → work_after (Dates f cursor next) o ≡ Copies g copy (Delete n) → A
+dates_never : {A : Type 0} (f : Begun) (cursor : ℕ) (next : Dating) (o : Outcome) (g : Begun) (copy : Copied) (further : Next)
+    → work_after (Dates f cursor next) o ≡ Copies g copy further → A
 dates_never f cursor next (Answers answer) g copy n is = absurd (cc (is))
 dates_never f cursor next other g copy n is = absurd (cc (is))
 
-expires_never : {A : Type 0} (f : Begun) (segment : Doomed) (next : Deletion) (o : Outcome) (g : Begun) (copy : Copied) (n : ℕ) → work_after (Expires f segment next) o ≡ Copies g copy (Delete n) → A
+expires_never : {A : Type 0} (f : Begun) (segment : Doomed) (next : Deletion) (o : Outcome) (g : Begun) (copy : Copied) (further : Next) → work_after (Expires f segment next) o ≡ Copies g copy further → A
 expires_never f segment next (Answers answer) g copy n is = absurd (cc (is))
 expires_never f segment next other g copy n is = absurd (cc (is))
 
-rebuilds_never : {A : Type 0} (f : Begun) (next : Rebuild) (o : Outcome) (g : Begun) (copy : Copied) (n : ℕ) → work_after (Rebuilds f next) o ≡ Copies g copy (Delete n) → A
+rebuilds_never : {A : Type 0} (f : Begun) (next : Rebuild) (o : Outcome) (g : Begun) (copy : Copied) (further : Next) → work_after (Rebuilds f next) o ≡ Copies g copy further → A
 rebuilds_never f next (Answers answer) g copy n is = absurd (cc (is))
 rebuilds_never f next other g copy n is = absurd (cc (is))
 
@@ -180,6 +181,17 @@ module _ {D S M : Type 0} (disk : DiskGhosts D) (store : StoreGhosts S) (meta : 
       let before = start_of opening w c in
       let after = start_of opening w' d in
       omega (arith, grows, before, after)
+
+  -- a copy that begins has no entry yet
+  start_below : (opening : State) (v : Whole D S M) → IsCentral disk store meta opening v → (d place : ℕ) (l : ActorList) (seat : Seat) (order : Order) (g : Begun) (copy : Copied) → IsNext v d place l seat order
+      → seat.work ≡ Copies g copy Start → DeletedBelow (fold (meta.content v.tier.meta).notes) v.held.registry.start copy.id
+  start_below opening v c d place l seat order g copy nx works entry there gone =
+      let desk : slice_get c.scene.desk place ≡ Some (CopiesSeen copy Start) =
+      ap (λ (k : List WorkSeen). slice_get k place) c.shows_tier.desk
+      ∙ (seat_at v.lists v.desk place l seat nx.at.list nx.at.seat_is ∙ (ap (λ (o : Option Order). Some (work_of o seat.work)) nx.next ∙ ap (λ (k : Work). Some (work_of (Some order) k)) works)) in
+      let none : entry_of copy.id (fold (meta.content v.tier.meta).notes) ≡ None =
+      ap (λ (ns : List Note). entry_of copy.id (fold ns)) (sym c.shows_tier.notes) ∙ (c.tier.copies.each place copy Start desk).at in
+      absurd (cc (there, none))
 
   -- the side of a broker after a turn
   module _ (w : Whole D S M) (a : ℕ) (outcome : Outcome) (w' : Whole D S M) (t : IsTurn disk store meta w a outcome w') (side : Side) (side_at : slice_get w.tier.sides t.order.broker.0 ≡ Some side)
@@ -251,8 +263,8 @@ module _ {D S M : Type 0} (disk : DiskGhosts D) (store : StoreGhosts S) (meta : 
 
     own_shown : (work : Work) → t.seat.work ≡ work → (o : Outcome) → Row disk store meta w.partition w.config w.held w.tier b x side work t.order.command o w'.held w'.tier → (g : Begun) (copy : Copied) (n : ℕ)
         → work_after work o ≡ Copies g copy (Delete n) → (new : Side) → slice_get w'.tier.sides b ≡ Some new → ShowsDeleted new.view.entries copy.id
-    own_shown Idle works o r g copy n is new at = idle_never o g copy n is
-    own_shown (Noted f) works o r g copy n is new at = noted_never f o g copy n is
+    own_shown Idle works o r g copy n is new at = idle_never o g copy (Delete n) is
+    own_shown (Noted f) works o r g copy n is new at = noted_never f o g copy (Delete n) (λ e. absurd (cc (e))) is
     own_shown (Copies f k before) works (Answers answer) r g copy n is new at = absurd (cc (is))
     own_shown (Copies f k before) works (Begins h) r g copy n is new at = absurd (cc (is))
     own_shown (Copies f k before) works (Chose j) r g copy n is new at = before_shown g copy n (works ∙ is) new at
@@ -265,22 +277,74 @@ module _ {D S M : Type 0} (disk : DiskGhosts D) (store : StoreGhosts S) (meta : 
     own_shown (Copies f k before) works (Dooms segment) r g copy n is new at = before_shown g copy n (works ∙ is) new at
     own_shown (Copies f k before) works (Deletes next) r g copy n is new at = before_shown g copy n (works ∙ is) new at
     own_shown (Copies f k before) works (Rebuilding next) r g copy n is new at = before_shown g copy n (works ∙ is) new at
-    own_shown (Seeks f before) works o r g copy n is new at = seeks_never f before o g copy n is
-    own_shown (Dates f cursor before) works o r g copy n is new at = dates_never f cursor before o g copy n is
-    own_shown (Expires f segment before) works o r g copy n is new at = expires_never f segment before o g copy n is
-    own_shown (Rebuilds f before) works o r g copy n is new at = rebuilds_never f before o g copy n is
+    own_shown (Seeks f before) works o r g copy n is new at = seeks_never f before o g copy (Delete n) is
+    own_shown (Dates f cursor before) works o r g copy n is new at = dates_never f cursor before o g copy (Delete n) is
+    own_shown (Expires f segment before) works o r g copy n is new at = expires_never f segment before o g copy (Delete n) is
+    own_shown (Rebuilds f before) works o r g copy n is new at = rebuilds_never f before o g copy (Delete n) is
 
-    told : DeletedBelow (fold (meta.content w'.tier.meta).notes) w.held.registry.start
-    told = elim goes.notes [
-      | inl same ↦ subst (λ (ns : List Note). DeletedBelow (fold ns) w.held.registry.start) (sym same) known.below
-      | inr (note, is, be) ↦ subst (λ (ns : List Note). DeletedBelow (fold ns) w.held.registry.start) (sym is) (told_below (meta.content w.tier.meta).notes note w.held.registry.start be known.below)
-    ]
-
-    still_below : DeletedBelow (fold (meta.content w'.tier.meta).notes) w'.held.registry.start
-    still_below id entry there gone =
-        let low = told id entry there gone in
+    told : (id : SegmentId) → DeletedBelow (fold (meta.content w.tier.meta).notes) w.held.registry.start id → DeletedBelow (fold (meta.content w'.tier.meta).notes) w'.held.registry.start id
+    told id below entry there gone =
+        let now : DeletedBelow (fold (meta.content w'.tier.meta).notes) w.held.registry.start id = elim goes.notes [
+          | inl same ↦ subst (λ (ns : List Note). DeletedBelow (fold ns) w.held.registry.start id) (sym same) below
+          | inr (note, is, be) ↦ subst (λ (ns : List Note). DeletedBelow (fold ns) w.held.registry.start id) (sym is) (told_below (meta.content w.tier.meta).notes note w.held.registry.start id be below)
+        ] in
+        let low = now entry there gone in
         let grows = start_later opening w a outcome w' t c in
         omega (arith, low, grows)
+
+    -- of a copy that went on before
+    before_below : (g : Begun) (copy : Copied) (next : Next) → t.seat.work ≡ Copies g copy next → (id : SegmentId) → copy.id ≡ id → DeletedBelow (fold (meta.content w'.tier.meta).notes) w'.held.registry.start id
+    before_below g copy next works id is =
+        told id (subst (DeletedBelow (fold (meta.content w.tier.meta).notes) w.held.registry.start) is
+        (known.below t.list.actor.0 t.place t.list t.seat t.order g copy next (record { at = record { list = t.at.list; actor = refl; seat_is = t.at.seat_is }; next = t.next }) works))
+
+    own_below : (work : Work) → t.seat.work ≡ work → (o : Outcome) (g : Begun) (copy : Copied) (next : Next) → next ≢ Start → work_after work o ≡ Copies g copy next
+        → DeletedBelow (fold (meta.content w'.tier.meta).notes) w'.held.registry.start copy.id
+    own_below Idle works o g copy next begun is = idle_never o g copy next is
+    own_below (Noted f) works o g copy next begun is = noted_never f o g copy next begun is
+    own_below (Copies f k before) works (Answers answer) g copy next begun is = absurd (cc (is))
+    own_below (Copies f k before) works (Begins h) g copy next begun is = absurd (cc (is))
+    own_below (Copies f k before) works (Goes then) g copy next begun is = before_below f k before works copy.id (let same : k ≡ copy = cc (is) in ap (λ (x : Copied). x.id) same)
+    own_below (Copies f k before) works other g copy next begun is = before_below f k before works copy.id (let same : k ≡ copy = cc (is) in ap (λ (x : Copied). x.id) same)
+    own_below (Seeks f before) works o g copy next begun is = seeks_never f before o g copy next is
+    own_below (Dates f cursor before) works o g copy next begun is = dates_never f cursor before o g copy next is
+    own_below (Expires f segment before) works o g copy next begun is = expires_never f segment before o g copy next is
+    own_below (Rebuilds f before) works o g copy next begun is = rebuilds_never f before o g copy next is
+
+    -- the seat of the turn
+    below_place : (place : ℕ) → t.place ≡ place → (d : ℕ) (l : ActorList) (seat : Seat) (order : Order) (g : Begun) (copy : Copied) (next : Next) → next ≢ Start → IsNext w' d place l seat order
+        → seat.work ≡ Copies g copy next → DeletedBelow (fold (meta.content w'.tier.meta).notes) w'.held.registry.start copy.id
+    below_place place same d l seat order g copy next begun nx works =
+        let after = seat_after t.seat outcome in
+        let there : slice_get w'.desk place ≡ Some after =
+        ap (λ (k : List Seat). slice_get k place) t.desk ∙ (ap (λ (k : ℕ). slice_get (slice_set w.desk t.place after) k) (sym same) ∙ get_put w.desk t.place t.seat after t.at.seat_is) in
+        let seat_is : after ≡ seat = one_some (slice_get w'.desk place) after seat there nx.at.seat_is in
+        let is : after.work ≡ Copies g copy next = ap (λ (k : Seat). k.work) seat_is ∙ works in
+        own_below t.seat.work refl outcome g copy next begun (sym (work_same t.seat outcome) ∙ is)
+
+    gone_on_below : (d place : ℕ) (l : ActorList) (seat : Seat) (order : Order) (g : Begun) (copy : Copied) (next : Next) → next ≢ Start → IsNext w' d place l seat order
+        → seat.work ≡ Copies g copy next → DeletedBelow (fold (meta.content w'.tier.meta).notes) w'.held.registry.start copy.id
+    gone_on_below d place l seat order g copy next begun nx works = elim (nat_cases t.place place) [
+      | inl same ↦ below_place place same d l seat order g copy next begun nx works
+      | inr other ↦
+          let before : IsNext w d place l seat order = record {
+            at = record {
+              list = ap (λ (k : List ActorList). slice_get k place) (sym t.lists) ∙ nx.at.list;
+              actor = nx.at.actor;
+              seat_is = sym (others_stay disk store meta w a outcome w' t place (λ e. other (sym e))) ∙ nx.at.seat_is;
+            };
+            next = nx.next;
+          } in
+          told copy.id (known.below d place l seat order g copy next before works)
+    ]
+
+    still_below : (d place : ℕ) (l : ActorList) (seat : Seat) (order : Order) (g : Begun) (copy : Copied) (next : Next) → IsNext w' d place l seat order
+        → seat.work ≡ Copies g copy next → DeletedBelow (fold (meta.content w'.tier.meta).notes) w'.held.registry.start copy.id
+    still_below d place l seat order g copy Start nx works = start_below opening w' (turn_central disk store meta opening w a outcome w' t c) d place l seat order g copy nx works
+    still_below d place l seat order g copy (Put n) nx works = gone_on_below d place l seat order g copy (Put n) (λ e. absurd (cc (e))) nx works
+    still_below d place l seat order g copy Finish nx works = gone_on_below d place l seat order g copy Finish (λ e. absurd (cc (e))) nx works
+    still_below d place l seat order g copy Check nx works = gone_on_below d place l seat order g copy Check (λ e. absurd (cc (e))) nx works
+    still_below d place l seat order g copy (Delete n) nx works = gone_on_below d place l seat order g copy (Delete n) (λ e. absurd (cc (e))) nx works
 
     -- the seat of the turn
     at_place : (place : ℕ) → t.place ≡ place → (d : ℕ) (l : ActorList) (seat : Seat) (order : Order) (g : Begun) (copy : Copied) (n : ℕ) (new : Side) → IsNext w' d place l seat order
@@ -321,12 +385,13 @@ module _ {D S M : Type 0} (disk : DiskGhosts D) (store : StoreGhosts S) (meta : 
       let r = row_of disk store meta w.partition w.config w.held w.tier t.order.broker.0 t.seat.work t.order.command outcome w'.held w'.tier t.row in
       record { below = still_below opening w a outcome w' t c known r.x r.at r.side r.side_at r.row; seen = still_seen opening w a outcome w' t c known r.x r.at r.side r.side_at r.row }
 
-  pub fresh_known : (partition : PartitionId) (config : Config) (lists : List ActorList) (disks : List D) (s : S) (m : M) (w : Whole D S M) → IsFresh disk store meta partition config lists disks s m w
-      → IsSeenEmpty disk store meta w → DeletionsKnown meta w
-  fresh_known partition config lists disks s m w f e = record {
-    below = λ id entry there gone. absurd (let none = ap (λ (ns : List Note). entry_of id (fold ns)) (e.notes e.meta_tells) in cc (there, none));
-    seen = λ a place l seat order g copy n side next works at.
-        absurd
-        (let is = ap (λ (k : Seat). k.work) (rep_get (length lists) place fresh_seat seat (ap (λ (d : List Seat). slice_get d place) (sym f.desk) ∙ next.at.seat_is)) in
-        cc (works, is));
+  pub new_known : (lists : List ActorList) (w : Whole D S M) → IsNew lists w → DeletionsKnown meta w
+  new_known lists w f = record {
+    below = λ a place l seat order g copy next nx works. absurd (idle place seat g copy next nx.at.seat_is works);
+    seen = λ a place l seat order g copy n side next works at. absurd (idle place seat g copy (Delete n) next.at.seat_is works);
   }
+    where
+      idle : (place : ℕ) (seat : Seat) (g : Begun) (copy : Copied) (next : Next) → slice_get w.desk place ≡ Some seat → seat.work ≡ Copies g copy next → ⊥
+      idle place seat g copy next at works =
+          let is = ap (λ (k : Seat). k.work) (rep_get (length lists) place fresh_seat seat (ap (λ (d : List Seat). slice_get d place) (sym f.desk) ∙ at)) in
+          absurd (cc (works, is))

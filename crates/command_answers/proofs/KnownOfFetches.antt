@@ -1,7 +1,6 @@
 -- Each turn keeps what is known of what fetches have found, and nothing is to be known of a fresh world.
 use Rattle.std.proofs.Common.{◌≡◌, ◌∙◌, inl, inr, sym, ap, subst, refl, ℕ, zero, suc, ◌<◌, List, length, Some, slice_get, slice_set, arith}
 use Rattle.std.specs.Prelude.{replicate, unwrap_or}
-use Rattle.tier_base.specs.declared.names.PartitionId.{PartitionId}
 use Rattle.disk_model.specs.declared.disk.Disk.{Ghosts as DiskGhosts}
 use Rattle.object_store.specs.declared.store.Store.{Ghosts as StoreGhosts}
 use Rattle.meta_log.specs.declared.log.MetaLog.{Ghosts as MetaGhosts}
@@ -13,7 +12,6 @@ use Rattle.tier_fetch.specs.declared.turn.Next.TheVariants.{Refresh, Index, Log}
 use Rattle.plain_log.specs.declared.command.ActorList.{ActorList}
 use Rattle.plain_log.specs.declared.command.Command.{Command}
 use Rattle.plain_log.specs.declared.command.Command.TheVariants.{Fetch}
-use Rattle.plain_log.specs.declared.command.Config.{Config}
 use Rattle.plain_log.specs.declared.command.Order.{Order}
 use Rattle.plain_log.specs.declared.state.State.{State}
 use Rattle.plain_log.specs.State.{leading}
@@ -30,7 +28,7 @@ use Rattle.partition_world.specs.declared.seat.Seat.{Seat}
 use Rattle.partition_world.specs.declared.seat.Work.{Work}
 use Rattle.partition_world.specs.declared.seat.Work.TheVariants.{Idle, Noted, Seeks}
 use Rattle.partition_world.specs.Central.{IsCentral, seeks_of, begun_of, work_of}
-use Rattle.partition_world.specs.Fresh.{IsFresh, fresh_seat}
+use Rattle.partition_world.specs.Fresh.{IsNew, fresh_seat}
 use Rattle.partition_world.specs.Seats.{noted_in, seat_after}
 use Rattle.partition_world.specs.Turn.{IsNext, IsTurn}
 use Rattle.partition_world.specs.TurnsOfFetch.{GoesOnFetch, Serves, fetch_tiers, wanted_of}
@@ -173,9 +171,8 @@ module _ {D S M : Type 0} (disk : DiskGhosts D) (store : StoreGhosts S) (meta : 
       let r = row_of disk store meta w.partition w.config w.held w.tier t.order.broker.0 t.seat.work t.order.command outcome w'.held w'.tier t.row in
       keeps opening w a outcome w' t c known r.x r.at r.side r.side_at r.row
 
-  pub fresh_spans : (opening : State) (partition : PartitionId) (config : Config) (lists : List ActorList) (disks : List D) (s : S) (m : M) (w : Whole D S M)
-      → IsFresh disk store meta partition config lists disks s m w → SpansKnown meta opening w
-  fresh_spans opening partition config lists disks s m w f p replays a place l seat order offset limit g next nx fetches works =
+  pub new_spans : (opening : State) (lists : List ActorList) (w : Whole D S M) → IsNew lists w → SpansKnown meta opening w
+  new_spans opening lists w f p replays a place l seat order offset limit g next nx fetches works =
       absurd
       (let is = ap (λ (k : Seat). k.work) (rep_get (length lists) place fresh_seat seat (ap (λ (d : List Seat). slice_get d place) (sym f.desk) ∙ nx.at.seat_is)) in
       cc (works, is))

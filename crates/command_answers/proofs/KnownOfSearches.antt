@@ -2,7 +2,6 @@
 use Rattle.std.proofs.Common.{◌≡◌, ◌∙◌, inl, inr, sym, ap, subst, refl, ℕ, ◌<◌, Bool, true, false, List, length, Some, slice_get, slice_set}
 use Rattle.std.specs.Prelude.{ℤ, unwrap_or}
 use mathlib.Core.List.{IsPrefix}
-use Rattle.tier_base.specs.declared.names.PartitionId.{PartitionId}
 use Rattle.disk_model.specs.declared.disk.Disk.{Ghosts as DiskGhosts}
 use Rattle.object_store.specs.declared.store.Store.{Ghosts as StoreGhosts}
 use Rattle.meta_log.specs.declared.log.MetaLog.{Ghosts as MetaGhosts}
@@ -17,7 +16,6 @@ use Rattle.plain_log.specs.declared.command.ActorList.{ActorList}
 use Rattle.plain_log.specs.declared.command.Command.{Command}
 use Rattle.plain_log.specs.declared.command.Command.TheVariants.{Offset}
 use Rattle.plain_log.specs.declared.command.Which.TheVariants.{At}
-use Rattle.plain_log.specs.declared.command.Config.{Config}
 use Rattle.plain_log.specs.declared.command.Order.{Order}
 use Rattle.plain_log.specs.declared.state.Path.{Path}
 use Rattle.plain_log.specs.declared.state.State.{State}
@@ -37,7 +35,7 @@ use Rattle.partition_world.specs.declared.seat.Seat.{Seat}
 use Rattle.partition_world.specs.declared.seat.Work.{Work}
 use Rattle.partition_world.specs.declared.seat.Work.TheVariants.{Idle, Noted, Dates}
 use Rattle.partition_world.specs.Central.{IsCentral}
-use Rattle.partition_world.specs.Fresh.{IsFresh, fresh_seat}
+use Rattle.partition_world.specs.Fresh.{IsNew, fresh_seat}
 use Rattle.partition_world.specs.Seats.{seat_after}
 use Rattle.partition_world.specs.Turn.{IsNext, IsTurn}
 use Rattle.partition_world.specs.TurnsOfCopy.{KeepsLead}
@@ -225,10 +223,8 @@ module _ {D S M : Type 0} (disk : DiskGhosts D) (store : StoreGhosts S) (meta : 
       w'.tier t.row in
       keeps opening w a outcome w' t c known r.x r.at r.side r.side_at r.row
 
-  pub fresh_searches : (opening : State) (partition : PartitionId) (config : Config) (lists : List ActorList) (disks : List D) (s : S)
-      (m : M) (w : Whole D S M)
-      → IsFresh disk store meta partition config lists disks s m w → SearchesKnown meta opening w
-  fresh_searches opening partition config lists disks s m w f p replays a place l seat order ts g cursor next nx asks works =
+  pub new_searches : (opening : State) (lists : List ActorList) (w : Whole D S M) → IsNew lists w → SearchesKnown meta opening w
+  new_searches opening lists w f p replays a place l seat order ts g cursor next nx asks works =
       absurd
       (let is = ap (λ (k : Seat). k.work) (rep_get (length lists) place fresh_seat seat
       (ap (λ (d : List Seat). slice_get d place) (sym f.desk) ∙ nx.at.seat_is)) in

@@ -58,13 +58,13 @@ finish_told broker event_ts custom x gone = by x.state gone
     by DeleteFinished gone = refl
 
 -- the entry of the note's own id
-own_below : (es : List Entry) (note : Note) (start : ℕ) (x : Entry) → LeavesBe es start note → DeletedBelow es start → entry_of (id_in note) (noted es note) ≡ Some x → is_deleted x.state ≡ true → x.end < start
+own_below : (es : List Entry) (note : Note) (start : ℕ) (x : Entry) → LeavesBe es start note → DeletedBelow es start (id_in note) → entry_of (id_in note) (noted es note) ≡ Some x → is_deleted x.state ≡ true → x.end < start
 own_below es (Add e) start x be h at gone = elim (some_or_none (entry_of e.id es)) [
   | inl none ↦
       let same : e ≡ x = one_some (entry_of e.id (noted es (Add e))) e x (add_entry es e be none) at in
       let state : x.state ≡ CopyStarted = ap (λ (y : Entry). y.state) (sym same) ∙ be in
       absurd (cc (gone, ap is_deleted state))
-  | inr (y, there) ↦ h e.id x (ap (entry_of e.id) (sym (add_known es e y be there)) ∙ at) gone
+  | inr (y, there) ↦ h x (ap (entry_of e.id) (sym (add_known es e y be there)) ∙ at) gone
 ]
 own_below es (Update id broker event_ts state custom) start x (inl be) h at gone = elim (some_or_none (entry_of id es)) [
   | inl none ↦ let is = ap (entry_of id) (sym (update_unknown es id broker event_ts state custom be none)) ∙ at in absurd (cc (none, is))
@@ -73,7 +73,7 @@ own_below es (Update id broker event_ts state custom) start x (inl be) h at gone
       let was : is_deleted y.state ≡ true =
       finish_told broker event_ts custom y (ap (λ (s : CopyState). is_deleted (told broker event_ts s custom y).state) (sym be) ∙ (ap (λ (e : Entry). is_deleted e.state) same ∙ gone)) in
       let end : x.end ≡ y.end = ap (λ (e : Entry). e.end) (sym same) ∙ (told_follows broker event_ts state custom y).end in
-      rw end (h id y there was)
+      rw end (h y there was)
 ]
 own_below es (Update id broker event_ts state custom) start x (inr low) h at gone =
     let y = some_of (λ (e : Entry). e.end < start) (entry_of id es) low in
@@ -81,14 +81,14 @@ own_below es (Update id broker event_ts state custom) start x (inr low) h at gon
     let end : x.end ≡ y.0.end = ap (λ (e : Entry). e.end) (sym same) ∙ (told_follows broker event_ts state custom y.0).end in
     rw end y.2
 
-one_below : (es : List Entry) (note : Note) (start : ℕ) → LeavesBe es start note → DeletedBelow es start → DeletedBelow (noted es note) start
-one_below es note start be h = λ id x at gone. elim (id_cases (id_in note) id) [
-  | inl own ↦ own_below es note start x be h (ap (λ (i : SegmentId). entry_of i (noted es note)) own ∙ at) gone
-  | inr other ↦ h id x (sym (other_entry es note id other) ∙ at) gone
+one_below : (es : List Entry) (note : Note) (start : ℕ) (id : SegmentId) → LeavesBe es start note → DeletedBelow es start id → DeletedBelow (noted es note) start id
+one_below es note start id be h = λ x at gone. elim (id_cases (id_in note) id) [
+  | inl own ↦ own_below es note start x be (subst (DeletedBelow es start) (sym own) h) (ap (λ (i : SegmentId). entry_of i (noted es note)) own ∙ at) gone
+  | inr other ↦ h x (sym (other_entry es note id other) ∙ at) gone
 ]
 
-pub told_below : (notes : List Note) (note : Note) (start : ℕ) → LeavesBe (fold notes) start note → DeletedBelow (fold notes) start → DeletedBelow (fold (notes ++ note ∷ [])) start
-told_below notes note start be h = subst (λ (es : List Entry). DeletedBelow es start) (sym (fold_push notes note)) (one_below (fold notes) note start be h)
+pub told_below : (notes : List Note) (note : Note) (start : ℕ) (id : SegmentId) → LeavesBe (fold notes) start note → DeletedBelow (fold notes) start id → DeletedBelow (fold (notes ++ note ∷ [])) start id
+told_below notes note start id be h = subst (λ (es : List Entry). DeletedBelow es start id) (sym (fold_push notes note)) (one_below (fold notes) note start id be h)
 
 -- a view that has taken in more shows what it has shown
 abbrev Shown : Option Entry → Type 0

@@ -1,7 +1,6 @@
 -- What a schedule reaches from a fresh world tells of no damage.
 use Rattle.std.proofs.Common.{◌≡◌, inl, inr, sym, subst, ℕ, zero, suc, List, [], ◌∷◌, ◌++◌}
 use Rattle.std.specs.List.{AllByRecursion}
-use Rattle.tier_base.specs.declared.names.PartitionId.{PartitionId}
 use Rattle.disk_model.specs.declared.disk.Disk.{Ghosts as DiskGhosts}
 use Rattle.object_store.specs.declared.store.Store.{Ghosts as StoreGhosts}
 use Rattle.meta_log.specs.declared.log.MetaLog.{Ghosts as MetaGhosts}
@@ -10,33 +9,29 @@ use Rattle.plain_log.specs.declared.answer.Answer.TheVariants.{Damaged}
 use Rattle.plain_log.specs.declared.command.ActorList.{ActorList}
 use Rattle.plain_log.specs.declared.command.Command.{Command}
 use Rattle.plain_log.specs.declared.command.Command.TheVariants.{Join}
-use Rattle.plain_log.specs.declared.command.Config.{Config}
 use Rattle.plain_log.specs.declared.command.Pace.{Pace}
 use Rattle.plain_log.specs.declared.command.Pace.TheVariants.{Until, Times}
 use Rattle.plain_log.specs.declared.journal.Event.TheVariants as event
 use Rattle.plain_log.specs.declared.journal.JournalEntry.{JournalEntry}
 use Rattle.plain_log.specs.declared.state.State.{State}
-use Rattle.plain_log.specs.Fresh.{fresh}
-use Rattle.plain_log.specs.Orders.{AreListsFor, IsConfig}
 use Rattle.partition_seen.specs.declared.begun.Begun.{Begun}
 use Rattle.partition_seen.specs.declared.begun.Turned.TheVariants as turned
 use Rattle.partition_seen.specs.Turn.{event_of}
 use Rattle.partition_world.specs.declared.seat.Outcome.{Outcome}
 use Rattle.partition_world.specs.declared.seat.Outcome.TheVariants.{Answers, Begins}
 use Rattle.partition_world.specs.Central.{IsCentral}
-use Rattle.partition_world.specs.Fresh.{IsFresh, IsSeenEmpty}
+use Rattle.partition_world.specs.Fresh.{IsNew}
 use Rattle.partition_world.specs.Reaches.{Goes, GoesTimes, GoesUntil, Paces, Reaches}
 use Rattle.partition_world.specs.Seats.{told_of}
 use Rattle.partition_world.specs.Turn.{IsTurn}
 use Rattle.partition_world.specs.Whole.{Whole}
 use Rattle.partition_world.proofs.CentralLaw.{turn_central}
-use Rattle.partition_world.proofs.FreshLaw.{fresh_is_central}
 use Rattle.command_answers.specs.DeletionsKnown.{DeletionsKnown}
-use Rattle.command_answers.proofs.KnownOfCopies.{keep_known, fresh_known}
+use Rattle.command_answers.proofs.KnownOfCopies.{keep_known, new_known}
 use Rattle.command_answers.specs.Found.{SpansKnown}
-use Rattle.command_answers.proofs.KnownOfFetches.{keep_spans, fresh_spans}
+use Rattle.command_answers.proofs.KnownOfFetches.{keep_spans, new_spans}
 use Rattle.command_answers.specs.FoundByTime.{SearchesKnown}
-use Rattle.command_answers.proofs.KnownOfSearches.{keep_searches, fresh_searches}
+use Rattle.command_answers.proofs.KnownOfSearches.{keep_searches, new_searches}
 use Rattle.command_answers.specs.Damage.{TellsNoDamage, MeetsNoDamage}
 use Rattle.command_answers.proofs.RowsWithoutDamage.{none_damaged}
 
@@ -100,15 +95,14 @@ module _ {D S M : Type 0} (disk : DiskGhosts D) (store : StoreGhosts S) (meta : 
     reaches_well w [] w' r h = subst Well (sym r) h
     reaches_well w (pace ∷ schedule) w' r h = reaches_well r.0 schedule w' r.2 (paces_well w pace r.0 r.1 h)
 
-  pub runs_meet_none : (partition : PartitionId) (config : Config) (lists : List ActorList) (disks : List D) (s : S) (m : M) (w : Whole D S M) (schedule : List Pace) (w' : Whole D S M)
-      → IsConfig config → AreListsFor config lists → IsFresh disk store meta partition config lists disks s m w → IsSeenEmpty disk store meta w → Reaches disk store meta w schedule w'
-      → MeetsNoDamage w'.journal.items
-  runs_meet_none partition config lists disks s m w schedule w' right fit f seen r =
-      (reaches_well (fresh config) w schedule w' r
+  pub runs_meet_none : (opening : State) (lists : List ActorList) (w : Whole D S M) (schedule : List Pace) (w' : Whole D S M) → IsNew lists w → IsCentral disk store meta opening w
+      → Reaches disk store meta w schedule w' → MeetsNoDamage w'.journal.items
+  runs_meet_none opening lists w schedule w' f c r =
+      (reaches_well opening w schedule w' r
       (record {
-        central = fresh_is_central disk store meta partition config lists disks s m w right fit f seen;
-        known = fresh_known disk store meta partition config lists disks s m w f seen;
-        spans = fresh_spans disk store meta (fresh config) partition config lists disks s m w f;
-        searches = fresh_searches disk store meta (fresh config) partition config lists disks s m w f;
+        central = c;
+        known = new_known disk store meta lists w f;
+        spans = new_spans disk store meta opening lists w f;
+        searches = new_searches disk store meta opening lists w f;
         meets = subst MeetsNoDamage (sym f.journal) tt;
       })).meets

@@ -10,6 +10,7 @@ use Rattle.segment_meta.specs.declared.note.Entry.{Entry}
 use Rattle.meta_log.specs.declared.log.MetaLog.{Ghosts as MetaGhosts}
 use Rattle.remote_view.specs.Fold.{entry_of, state_of, fold}
 use Rattle.copy_task.specs.Copying.{Copied}
+use Rattle.copy_task.specs.declared.turn.Next.{Next}
 use Rattle.copy_task.specs.declared.turn.Next.TheVariants.{Delete}
 use Rattle.plain_log.specs.declared.command.ActorList.{ActorList}
 use Rattle.plain_log.specs.declared.command.Order.{Order}
@@ -21,10 +22,9 @@ use Rattle.partition_world.specs.declared.tier.Side.{Side}
 use Rattle.partition_world.specs.Turn.{IsNext}
 use Rattle.partition_world.specs.Whole.{Whole}
 
--- each remote segment whose deletion has started ends below the log start
-abbrev pub DeletedBelow : List Entry → ℕ → Type 0
-DeletedBelow entries start =
-    (id : SegmentId) (entry : Entry) → entry_of id entries ≡ Some entry → is_deleted entry.state ≡ true → entry.end < start
+-- the remote segment with this id ends below the log start, where its deletion has started
+abbrev pub DeletedBelow : List Entry → ℕ → SegmentId → Type 0
+DeletedBelow entries start id = (entry : Entry) → entry_of id entries ≡ Some entry → is_deleted entry.state ≡ true → entry.end < start
 
 -- the entries have the id, and its deletion has started
 abbrev pub ShowsDeleted : List Entry → SegmentId → Type 0
@@ -38,7 +38,14 @@ module _ {D S M : Type 0} where
       → IsNext w a place l seat order → seat.work ≡ Copies g copy (Delete n) → slice_get w.tier.sides order.broker.0 ≡ Some side
       → ShowsDeleted side.view.entries copy.id
 
+  -- A segment that a copy on the desk copies ends below the log start, where its deletion has started. That isn't so of others: a
+  -- sweep between two runs deletes what was never finished, wherever it ends.
+  abbrev pub OvertakenBelow : MetaGhosts M → Whole D S M → Type 0
+  OvertakenBelow meta w =
+      (a place : ℕ) (l : ActorList) (seat : Seat) (order : Order) (g : Begun) (copy : Copied) (next : Next) → IsNext w a place l seat order
+      → seat.work ≡ Copies g copy next → DeletedBelow (fold (meta.content w.tier.meta).notes) w.held.registry.start copy.id
+
   -- what is known of deletions
   pub record DeletionsKnown (meta : MetaGhosts M) (w : Whole D S M) : Type 0 where
-    pub below : DeletedBelow (fold (meta.content w.tier.meta).notes) w.held.registry.start
+    pub below : OvertakenBelow meta w
     pub seen : OvertakenSeen w

@@ -1,6 +1,5 @@
 -- The laws of what a copy is answered.
 use Rattle.std.specs.Prelude.{◌≡◌, ◌≤◌, ℕ, true, List}
-use Rattle.tier_base.specs.declared.names.PartitionId.{PartitionId}
 use Rattle.tier_base.specs.declared.names.SegmentId.{SegmentId}
 use Rattle.disk_model.specs.declared.disk.Disk.{Ghosts as DiskGhosts}
 use Rattle.object_store.specs.declared.store.Store.{Ghosts as StoreGhosts}
@@ -11,7 +10,6 @@ use Rattle.plain_log.specs.declared.answer.Answer.{Answer}
 use Rattle.plain_log.specs.declared.answer.Answer.TheVariants.{CopiedSegment}
 use Rattle.plain_log.specs.declared.command.ActorList.{ActorList}
 use Rattle.plain_log.specs.declared.command.Command.TheVariants.{Copy}
-use Rattle.plain_log.specs.declared.command.Config.{Config}
 use Rattle.plain_log.specs.declared.command.Order.{Order}
 use Rattle.plain_log.specs.declared.command.Pace.{Pace}
 use Rattle.plain_log.specs.declared.state.State.{State}
@@ -23,7 +21,7 @@ use Rattle.partition_world.specs.declared.seat.Seat.{Seat}
 use Rattle.partition_world.specs.declared.seat.Work.TheVariants.{Copies}
 use Rattle.partition_world.specs.Calm.{IsUnfailing}
 use Rattle.partition_world.specs.Central.{IsCentral}
-use Rattle.partition_world.specs.Fresh.{IsFresh, IsSeenEmpty}
+use Rattle.partition_world.specs.Fresh.{IsNew}
 use Rattle.partition_world.specs.Reaches.{Reaches}
 use Rattle.partition_world.specs.Tier.{AtSide}
 use Rattle.partition_world.specs.Turn.{IsNext, IsTurn}
@@ -84,7 +82,5 @@ module _ {D S M : Type 0} (disk : DiskGhosts D) (store : StoreGhosts S) (meta : 
       → IsCentral disk store meta opening w → DeletionsKnown meta w → IsTurn disk store meta w a outcome w' → DeletionsKnown meta w'
 
   -- it is known where nothing has happened yet
-  abbrev pub FreshIsKnown : Type 0
-  FreshIsKnown = (partition : PartitionId) (config : Config) (lists : List ActorList) (disks : List D) (s : S) (m : M)
-      (w : Whole D S M) → IsFresh disk store meta partition config lists disks s m w → IsSeenEmpty disk store meta w
-      → DeletionsKnown meta w
+  abbrev pub NewIsKnown : Type 0
+  NewIsKnown = (lists : List ActorList) (w : Whole D S M) → IsNew lists w → DeletionsKnown meta w

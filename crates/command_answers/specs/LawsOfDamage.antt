@@ -1,19 +1,16 @@
 -- The laws of answers that are never `Damaged`.
 use Rattle.std.specs.Prelude.{ℕ, List}
-use Rattle.tier_base.specs.declared.names.PartitionId.{PartitionId}
 use Rattle.disk_model.specs.declared.disk.Disk.{Ghosts as DiskGhosts}
 use Rattle.object_store.specs.declared.store.Store.{Ghosts as StoreGhosts}
 use Rattle.meta_log.specs.declared.log.MetaLog.{Ghosts as MetaGhosts}
 use Rattle.plain_log.specs.declared.answer.Answer.TheVariants.{Damaged}
 use Rattle.plain_log.specs.declared.answer.Place.{Place}
 use Rattle.plain_log.specs.declared.command.ActorList.{ActorList}
-use Rattle.plain_log.specs.declared.command.Config.{Config}
 use Rattle.plain_log.specs.declared.command.Pace.{Pace}
 use Rattle.plain_log.specs.declared.state.State.{State}
-use Rattle.plain_log.specs.Orders.{AreListsFor, IsConfig}
 use Rattle.partition_world.specs.declared.seat.Outcome.TheVariants.{Answers}
 use Rattle.partition_world.specs.Central.{IsCentral}
-use Rattle.partition_world.specs.Fresh.{IsFresh, IsSeenEmpty}
+use Rattle.partition_world.specs.Fresh.{IsNew}
 use Rattle.partition_world.specs.Reaches.{Reaches}
 use Rattle.partition_world.specs.Turn.{IsTurn}
 use Rattle.partition_world.specs.Whole.{Whole}
@@ -29,9 +26,7 @@ module _ {D S M : Type 0} (disk : DiskGhosts D) (store : StoreGhosts S) (meta : 
       → IsCentral disk store meta opening w → DeletionsKnown meta w → SpansKnown meta opening w → SearchesKnown meta opening w
       → IsTurn disk store meta w a (Answers (Damaged place at)) w' → ⊥
 
-  -- nor is any in a world that a schedule reaches from a fresh one which is seen empty
+  -- nor is any in a world that a schedule reaches from a new one which has the central fact for some plain state
   abbrev pub RunsMeetNoDamage : Type 0
-  RunsMeetNoDamage = (partition : PartitionId) (config : Config) (lists : List ActorList) (disks : List D) (s : S) (m : M)
-      (w : Whole D S M) (schedule : List Pace) (w' : Whole D S M) → IsConfig config → AreListsFor config lists
-      → IsFresh disk store meta partition config lists disks s m w → IsSeenEmpty disk store meta w
-      → Reaches disk store meta w schedule w' → MeetsNoDamage w'.journal.items
+  RunsMeetNoDamage = (opening : State) (lists : List ActorList) (w : Whole D S M) (schedule : List Pace) (w' : Whole D S M)
+      → IsNew lists w → IsCentral disk store meta opening w → Reaches disk store meta w schedule w' → MeetsNoDamage w'.journal.items

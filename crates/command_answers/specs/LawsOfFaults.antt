@@ -1,6 +1,5 @@
 -- The laws of devices' faults in a run.
 use Rattle.std.specs.Prelude.{List}
-use Rattle.tier_base.specs.declared.names.PartitionId.{PartitionId}
 use Rattle.disk_model.specs.declared.disk.Disk.{Ghosts as DiskGhosts}
 use Rattle.object_store.specs.declared.store.Store.{Ghosts as StoreGhosts}
 use Rattle.meta_log.specs.declared.log.MetaLog.{Ghosts as MetaGhosts}
@@ -8,19 +7,17 @@ use Rattle.plain_log.specs.declared.command.ActorList.{ActorList}
 use Rattle.plain_log.specs.declared.command.Config.{Config}
 use Rattle.plain_log.specs.declared.command.Pace.{Pace}
 use Rattle.plain_log.specs.Orders.{AreListsFor}
-use Rattle.partition_world.specs.Fresh.{IsFresh}
+use Rattle.partition_world.specs.Fresh.{IsNew}
 use Rattle.partition_world.specs.Reaches.{Reaches}
 use Rattle.partition_world.specs.Whole.{Whole}
 use Rattle.command_answers.specs.Counted.{FaultsAreCounted}
 use Rattle.command_answers.specs.ByPlan.{AreRuled, HaveFailedByPlan}
 
 module _ {D S M : Type 0} (disk : DiskGhosts D) (store : StoreGhosts S) (meta : MetaGhosts M) where
-  -- whatever a schedule reaches from a fresh world, over any devices: each fault that is told is counted
+  -- whatever a schedule reaches from a new world, over any devices: each fault that is told is counted
   abbrev pub ReachesCounted : Type 0
-  ReachesCounted = (partition : PartitionId) (config : Config) (lists : List ActorList) (disks : List D) (s : S) (m : M)
-      (w : Whole D S M) (schedule : List Pace) (w' : Whole D S M) → AreListsFor config lists
-      → IsFresh disk store meta partition config lists disks s m w → Reaches disk store meta w schedule w'
-      → FaultsAreCounted disk store meta w w'
+  ReachesCounted = (config : Config) (lists : List ActorList) (w : Whole D S M) (schedule : List Pace) (w' : Whole D S M)
+      → AreListsFor config lists → IsNew lists w → Reaches disk store meta w schedule w' → FaultsAreCounted disk store meta w w'
 
   -- over devices of which the plans alone decide which calls fail: as many failed as they name of those that were made
   abbrev pub ReachesByPlan : Type 0

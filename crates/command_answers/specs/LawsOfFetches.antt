@@ -1,6 +1,5 @@
 -- The laws of what a fetch is answered.
 use Rattle.std.specs.Prelude.{◌≡◌, ◌≤◌, ℕ, List, Some}
-use Rattle.tier_base.specs.declared.names.PartitionId.{PartitionId}
 use Rattle.disk_model.specs.declared.disk.Disk.{Ghosts as DiskGhosts}
 use Rattle.object_store.specs.declared.store.Store.{Ghosts as StoreGhosts}
 use Rattle.object_store.specs.Content.{Objects}
@@ -12,7 +11,6 @@ use Rattle.plain_log.specs.declared.answer.Answer.TheVariants.{Damaged}
 use Rattle.plain_log.specs.declared.answer.Place.{Place}
 use Rattle.plain_log.specs.declared.command.ActorList.{ActorList}
 use Rattle.plain_log.specs.declared.command.Command.TheVariants.{Fetch}
-use Rattle.plain_log.specs.declared.command.Config.{Config}
 use Rattle.plain_log.specs.declared.command.Order.{Order}
 use Rattle.plain_log.specs.declared.command.Pace.{Pace}
 use Rattle.plain_log.specs.declared.state.State.{State}
@@ -28,7 +26,7 @@ use Rattle.partition_world.specs.declared.seat.Outcome.TheVariants.{Answers}
 use Rattle.partition_world.specs.declared.seat.Seat.{Seat}
 use Rattle.partition_world.specs.Calm.{IsUnfailing}
 use Rattle.partition_world.specs.Central.{IsCentral}
-use Rattle.partition_world.specs.Fresh.{IsFresh}
+use Rattle.partition_world.specs.Fresh.{IsNew}
 use Rattle.partition_world.specs.Reaches.{Reaches}
 use Rattle.partition_world.specs.Turn.{IsNext, IsTurn}
 use Rattle.partition_world.specs.Whole.{Whole}
@@ -89,6 +87,5 @@ module _ {D S M : Type 0} (disk : DiskGhosts D) (store : StoreGhosts S) (meta : 
       → SpansKnown meta opening w'
 
   -- it is known where nothing has happened yet
-  abbrev pub FreshHasSpans : Type 0
-  FreshHasSpans = (opening : State) (partition : PartitionId) (config : Config) (lists : List ActorList) (disks : List D) (s : S) (m : M)
-      (w : Whole D S M) → IsFresh disk store meta partition config lists disks s m w → SpansKnown meta opening w
+  abbrev pub NewHasSpans : Type 0
+  NewHasSpans = (opening : State) (lists : List ActorList) (w : Whole D S M) → IsNew lists w → SpansKnown meta opening w

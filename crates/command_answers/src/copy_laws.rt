@@ -4,7 +4,7 @@
 ghost use Rattle.command_answers.specs.LawsOfCopies.{CopiesHaveCauses, CopiesBeginWhereOn};
 ghost use Rattle.command_answers.specs.LawsOfCopies.{UnhinderedAreCopied};
 ghost use Rattle.command_answers.specs.LawsOfCopies.{ChosenAreCopied, UnfailingAreCopied};
-ghost use Rattle.command_answers.specs.LawsOfCopies.{ReachesKnown, TurnsKeepKnown, FreshIsKnown};
+ghost use Rattle.command_answers.specs.LawsOfCopies.{ReachesKnown, TurnsKeepKnown, NewIsKnown};
 
 use disk_model::Disk;
 use meta_log::MetaLog;
@@ -48,6 +48,6 @@ pub fn turns_keep_known<D: Disk, S: Store, M: MetaLog>()
 {}
 
 /// It is known of a fresh world.
-pub fn fresh_is_known<D: Disk, S: Store, M: MetaLog>()
-    ensures { FreshIsKnown D.Disk S.Store M.MetaLog }
+pub fn new_is_known<D: Disk, S: Store, M: MetaLog>()
+    ensures { NewIsKnown D.Disk S.Store M.MetaLog }
 {}

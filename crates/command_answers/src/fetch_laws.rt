@@ -3,7 +3,7 @@
 
 ghost use Rattle.command_answers.specs.LawsOfFetches.{PiecesEnd, FetchesHaveCauses, NoFetchIsDamaged};
 ghost use Rattle.command_answers.specs.LawsOfFetches.{UnhinderedAreServed, UnfailingAreServed};
-ghost use Rattle.command_answers.specs.LawsOfFetches.{ReachesSpans, TurnsKeepSpans, FreshHasSpans};
+ghost use Rattle.command_answers.specs.LawsOfFetches.{ReachesSpans, TurnsKeepSpans, NewHasSpans};
 
 use disk_model::Disk;
 use meta_log::MetaLog;
@@ -47,6 +47,6 @@ pub fn turns_keep_spans<D: Disk, S: Store, M: MetaLog>()
 {}
 
 /// It is known of a fresh world.
-pub fn fresh_has_spans<D: Disk, S: Store, M: MetaLog>()
-    ensures { FreshHasSpans D.Disk S.Store M.MetaLog }
+pub fn new_has_spans<D: Disk, S: Store, M: MetaLog>()
+    ensures { NewHasSpans D.Disk S.Store M.MetaLog }
 {}

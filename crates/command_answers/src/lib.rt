@@ -23,19 +23,19 @@ mod search_laws;
 mod turn_laws;
 
 pub use copy_laws::{
-    chosen_are_copied, copies_begin_where_on, copies_have_causes, fresh_is_known, reaches_known,
+    chosen_are_copied, copies_begin_where_on, copies_have_causes, new_is_known, reaches_known,
     turns_keep_known, unfailing_are_copied, unhindered_are_copied,
 };
 pub use damage_laws::{no_answer_is_damaged, runs_meet_no_damage};
 pub use fault_laws::{reaches_by_plan, reaches_counted};
 pub use fetch_laws::{
-    fetches_have_causes, fresh_has_spans, no_fetch_is_damaged, pieces_end, reaches_spans,
+    fetches_have_causes, new_has_spans, no_fetch_is_damaged, pieces_end, reaches_spans,
     turns_keep_spans, unfailing_are_served, unhindered_are_served,
 };
 pub use join_laws::{joins_have_causes, unfailing_are_joined, unhindered_are_joined};
 pub use offset_laws::offsets_have_causes;
 pub use search_laws::{
-    fresh_has_searches, marked_are_found, no_search_is_damaged, reaches_searches,
+    marked_are_found, new_has_searches, no_search_is_damaged, reaches_searches,
     searches_tell_dates, turns_keep_searches, unfailing_are_found, unhindered_are_found,
 };
 pub use turn_laws::{

@@ -3,7 +3,7 @@
 
 ghost use Rattle.command_answers.specs.LawsOfSearches.{SearchesTellDates, NoSearchIsDamaged};
 ghost use Rattle.command_answers.specs.LawsOfSearches.{UnhinderedAreFound, UnfailingAreFound, MarkedAreFound};
-ghost use Rattle.command_answers.specs.LawsOfSearches.{ReachesSearches, TurnsKeepSearches, FreshHasSearches};
+ghost use Rattle.command_answers.specs.LawsOfSearches.{ReachesSearches, TurnsKeepSearches, NewHasSearches};
 
 use disk_model::Disk;
 use meta_log::MetaLog;
@@ -47,6 +47,6 @@ pub fn turns_keep_searches<D: Disk, S: Store, M: MetaLog>()
 {}
 
 /// It is known of a fresh world.
-pub fn fresh_has_searches<D: Disk, S: Store, M: MetaLog>()
-    ensures { FreshHasSearches D.Disk S.Store M.MetaLog }
+pub fn new_has_searches<D: Disk, S: Store, M: MetaLog>()
+    ensures { NewHasSearches D.Disk S.Store M.MetaLog }
 {}

@@ -27,7 +27,7 @@ use Rattle.partition_world.specs.Laws.{EndsAreComplete, ReachesLater, ReachesInT
 use Rattle.partition_world.specs.Reaches.{GoesUntil, HasAnswered, Reaches}
 use Rattle.partition_seen.proofs.Lists.{one_list}
 use Rattle.partition_world.proofs.LaterLaw.{all_ended}
-use Rattle.partition_world.proofs.LastingRuns.{reaches_lasting}
+use Rattle.partition_world.proofs.LastingRuns.{reaches_lasting, fresh_new}
 use Rattle.script_lang.specs.Fit.{StepsTo, StepsToEnds}
 use Rattle.script_lang.specs.declared.script.PartScript.{PartScript}
 use Rattle.memory_run.specs.Planned.{FaultsArePlanned}
@@ -77,6 +77,7 @@ module _ {D S M : Type 0} (disk : DiskGhosts D) (store : StoreGhosts S) (meta : 
   ended_is_run_of config part w w' law goes turns opens keeps undamaged by_plan fits fit starts c reaches ended =
       let f = starts.fresh in
       let lists = part.lists in
+      let new = fresh_new disk store meta part.partition config lists starts.disks starts.objects starts.notes w f in
       let later = goes w part.schedule w' reaches in
       let same : w'.config ≡ config = later.config ∙ f.config_is in
       let its : w'.lists ≡ lists = later.lists ∙ f.lists_are in
@@ -85,20 +86,20 @@ module _ {D S M : Type 0} (disk : DiskGhosts D) (store : StoreGhosts S) (meta : 
       let run : IsPlainRun config lists w'.journal.items =
       subst (λ (k : Config). IsPlainRun k lists w'.journal.items) same (subst (λ (k : List ActorList). IsPlainRun w'.config k w'.journal.items) its whole.run) in
       let counted : FaultsAreCounted disk store meta w w' =
-      reaches_counted disk store meta part.partition config lists starts.disks starts.objects starts.notes w part.schedule w' fit f reaches in
+      reaches_counted disk store meta config lists w part.schedule w' fit new reaches in
       let safe : PlainSafe run.last = keeps lists (fresh config) w'.journal.items run.last run.replays (opens config) in
       record {
         partition = refl;
         plain = run;
         safe = safe;
         complete = subst (λ (k : List ActorList). IsComplete k w'.journal.items) its whole.complete;
-        in_turn = subst (λ (k : List ActorList). IsInTurn k w'.journal.items) its (turns part.partition config lists starts.disks starts.objects starts.notes w part.schedule w' fit f reaches);
+        in_turn = subst (λ (k : List ActorList). IsInTurn k w'.journal.items) its (turns config lists w part.schedule w' fit new reaches);
         led = replay_led lists (fresh config) w'.journal.items run.last run.replays (opens config);
         committed = λ clean. replay_runs lists (fresh config) w'.journal.items run.last run.replays (opens config) clean;
-        undamaged = undamaged part.partition config lists starts.disks starts.objects starts.notes w part.schedule w' fits fit f starts.empty reaches;
+        undamaged = undamaged (fresh config) lists w part.schedule w' new c reaches;
         planned = subst (λ (k : List ActorList). FaultsArePlanned k part.faults w'.journal.items) its
             (faults_planned disk store meta part.partition config lists part.faults w w' starts
-            (reaches_lasting disk store meta part.partition config lists starts.disks starts.objects starts.notes w part.schedule w' f reaches) counted);
+            (reaches_lasting disk store meta lists w part.schedule w' new reaches) counted);
         reached = record {
           first = w;
           last = w';

@@ -22,3 +22,4 @@ pub mod FreshDisks
 pub mod Writes
 pub mod Begun
 pub mod Reopening
+pub mod ColdDisks

@@ -10,3 +10,4 @@ pub mod Calm
 pub mod Fresh
 pub mod Shown
 pub mod Laws
+pub mod Cold

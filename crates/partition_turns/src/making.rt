@@ -3,13 +3,15 @@
 //! The disks' planned calls fail from the moment on at which all brokers are made, and nothing that can fail comes after
 //! that. So a refusal gives the disks back as they came, but for the calls that they were asked.
 
-ghost use Rattle.std.specs.Prelude.{◌≡◌, ◌≤◌, true, false, [], List, length, vec_capacity, IfOk, OnOk, IfErr, OnErr, IsErrOf, IsTrue};
+ghost use Rattle.std.specs.Prelude.{◌≡◌, ◌≤◌, ◌+◌, ◌++◌, map, true, false, [], List, length, vec_capacity, IfOk, OnOk, IfErr, OnErr, IsErrOf, IsTrue};
 ghost use Rattle.local_log.specs.Log.{AreSettings};
 ghost use Rattle.tier_base.specs.declared.plain.Settings.{Settings as Options};
-ghost use Rattle.broker_log.specs.Seen.{Shows, OnDisk, Lasting, Faulted, layout_in};
+ghost use Rattle.broker_log.specs.Seen.{Seen, Shows, OnDisk, Lasting, Faulted, layout_in};
 ghost use Rattle.partition_turns.specs.declared.refusal.WorldRefusal.TheVariants as refusal;
 ghost use Rattle.partition_turns.specs.Held.{line_of};
 ghost use Rattle.partition_turns.specs.Disks.{AllReopen};
+ghost use Rattle.partition_turns.specs.Cold.{ShowDisks, DisksReopen, AreColdOver, IsColdHeld, cold_node, held_back};
+ghost use Rattle.partition_turns.specs.Held.{ShowsHeld};
 ghost use Rattle.partition_turns.specs.Fresh.{IsFreshDisk, AreFreshDisks, DisksTell, IsFreshNode, IsMadeOver, AreMadeFrom, AreFreshFrom, IsFreshHeld, AllSeen, IsLaid, AreLaid, AddsNode, AreDisksOf, RefusesOver, Refuses, empty_seen};
 
 use crate::held::{Held, Node};
@@ -18,7 +20,7 @@ use broker_log::BrokerLog;
 use disk_model::Disk;
 use local_log::CreateRefusal;
 use plain_log::{Registry, Role};
-use std::alloc::Global;
+use std::alloc::{AllocError, Global};
 use tier_base::{Row, Settings, Trouble};
 
 /// A broker that is up and has joined epoch 0, with an empty log.
@@ -139,10 +141,38 @@ fn brokers<D: Disk>(
     }
 }
 
+/// Puts brokers that are down over these disks, in their order, behind the others, and none is left. No disk is asked anything.
+fn set_down<D: Disk>(
+    alloc: Global,
+    disks: &mut Vec<D>,
+    settings: Settings,
+    nodes: &mut Vec<Node<D>>,
+)
+    requires settings { AreSettings settings }
+    requires room { length nodes.old.items + length disks.old.items ≤ vec_capacity nodes.old }
+    ensures nodes { nodes.new.items ≡ nodes.old.items ++ map (cold_node settings) disks.old.items }
+    ensures none { disks.new.items ≡ [] }
+    ensures room { vec_capacity disks.new ≡ vec_capacity disks.old }
+    ensures nodes_room { vec_capacity nodes.new ≡ vec_capacity nodes.old }
+{
+    let Some(disk) = disks.pop() else {
+        return;
+    };
+    set_down(alloc, disks, settings, nodes);
+    nodes.push_reserved(Node {
+        stops: 0,
+        role: Role::Idle,
+        log: BrokerLog::from_disk(alloc, disk, settings),
+        known: 0,
+    });
+}
+
 /// Puts the plans of the brokers' disks in force.
 fn arm<D: Disk>(nodes: &mut Row<Node<D>>)
     ensures nodes { (disks : List D) → AreFreshDisks D.content D.control disks → AreMadeFrom D.control true disks nodes.old
         → AreFreshFrom D.control true disks nodes.new }
+    ensures cold { (settings : Options) (disks : List D) → nodes.old ≡ map (cold_node settings) disks
+        → AreColdOver D.content D.control settings disks nodes.new }
     ensures seen { AllSeen D.content nodes.old → AllSeen D.content nodes.new }
     ensures laid { (settings : Options) → AreLaid settings nodes.old → AreLaid settings nodes.new }
 {
@@ -208,6 +238,36 @@ impl<D: Disk> Held<D> {
         })
     }
 
+    /// Makes a partition with this registry whose brokers are down over these disks, and none is left there. The disks aren't
+    /// opened: what is seen of a log is what its disk tells. From then on the disks' planned calls fail. Where memory is wanting the
+    /// disks are as they were, and their plans aren't in force.
+    pub fn reopen(
+        alloc: Global,
+        disks: &mut Vec<D>,
+        settings: Settings,
+        registry: Registry,
+    ) -> Result<Held<D>, AllocError>
+        requires settings { AreSettings settings }
+        ensures held { IfOk result (IsColdHeld D.content D.control settings registry disks.old.items) }
+        ensures seen { IfOk result (λ held. (ss : List Seen) → ShowDisks D.content disks.old.items ss
+            → ShowsHeld D.content held (held_back registry ss)) }
+        ensures none { OnOk result (disks.new.items ≡ []) }
+        ensures same { OnErr result (disks.new.items ≡ disks.old.items) }
+        ensures room { vec_capacity disks.new ≡ vec_capacity disks.old }
+    {
+        let mut nodes = Vec::with_capacity(alloc, disks.len())?;
+        set_down(alloc, disks, settings, &mut nodes);
+        let mut nodes = Row::from_vec(nodes);
+        arm(&mut nodes);
+        Ok(Held {
+            registry,
+            nodes,
+            clock: 0,
+            copying: true,
+            packed: false,
+        })
+    }
+
     /// The log of each broker that is up can be opened again from its disk, also after a power cut. It does nothing that is seen.
     pub fn reopens(&self)
         ensures { AllReopen D.content self.now.nodes }
@@ -217,12 +277,15 @@ impl<D: Disk> Held<D> {
         }
     }
 
-    /// Gives the brokers' disks back, in their order, in the room that they came from.
+    /// Gives the brokers' disks back, in their order, in the room that they came from. From those of brokers that are up, or whose
+    /// logs are seen, a log can be opened again, also after a power cut.
     pub fn close(self, room: Vec<D>) -> Vec<D>
         requires none { room.items ≡ [] }
         requires room { length self.nodes ≤ vec_capacity room }
-        ensures { AreDisksOf self.nodes result.items }
+        ensures disks { AreDisksOf self.nodes result.items }
+        ensures again { DisksReopen D.content self.nodes result.items }
     {
+        self.reopens();
         let mut disks = room;
         give_back(self.nodes.into_vec(), &mut disks);
         disks

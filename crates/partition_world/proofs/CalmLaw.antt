@@ -29,6 +29,12 @@ use Rattle.partition_turns.proofs.Told.{told_none}
 use Rattle.partition_world.specs.declared.seat.Outcome.{Outcome}
 use Rattle.partition_world.specs.declared.seat.Outcome.TheVariants.{Answers, Begins, Chose, Goes, Seeks as Sought, Dates as Dated, Dooms, Deletes, Rebuilds as Rebuilding}
 use Rattle.partition_world.specs.Calm.{IsCalm, IsUnplanned, IsUnfailing}
+use Rattle.tier_base.specs.declared.plain.Settings.{Settings}
+use Rattle.disk_model.specs.Content.{Content}
+use Rattle.registry.specs.declared.registry.Registry.{Registry}
+use Rattle.broker_log.specs.Seen.{OnDisk}
+use Rattle.partition_turns.specs.Cold.{AreColdOver}
+use Rattle.partition_world.specs.Cold.{IsReopened}
 use Rattle.partition_world.specs.Fresh.{IsFresh}
 use Rattle.partition_world.specs.Seats.{told_of}
 use Rattle.partition_world.specs.Turn.{IsTurn}
@@ -132,7 +138,27 @@ module _ {D : Type 0} (control : D → Control call_code) where
     nodes_calm false disks xs f.1 u.3,
   )
 
+module _ {D : Type 0} (content : D → Content) (control : D → Control call_code) where
+  cold_calm : (settings : Settings) (disks : List D) (xs : List (Node D)) → AreColdOver content control settings disks xs → AreUnplanned control disks → AreCalm control xs
+  cold_calm settings [] [] f u = tt
+  cold_calm settings [] (x ∷ xs) f u = absurd f
+  cold_calm settings (d ∷ disks) [] f u = absurd f
+  cold_calm settings (d ∷ disks) (x ∷ xs) f u = (
+    subst (λ (y : Node D). OnDisk y.log (λ e. IsCalmDisk (control e))) (sym f.0.node)
+        (record { calm = f.0.arms.still_calm u.0 u.2.calm u.1; few = (let same = f.0.arms.faults in let few = u.2.few in omega (arith, same, few)) }),
+    cold_calm settings disks xs f.1 u.3,
+  )
+
 module _ {D S M : Type 0} (disk : DiskGhosts D) (store : StoreGhosts S) (meta : MetaGhosts M) where
+  pub reopened_is_unfailing : (partition : PartitionId) (config : Config) (lists : List ActorList) (registry : Registry) (disks : List D) (s : S) (m : M) (w : Whole D S M)
+      → IsReopened disk store meta partition config lists registry disks s m w → AreUnplanned disk.control disks → IsUnplanned (store.control s) → IsUnplanned (meta.control m) → IsUnfailing disk store meta w
+  reopened_is_unfailing partition config lists registry disks s m w f u us um = record {
+    calm = cold_calm disk.content disk.control config.settings disks w.held.nodes f.held.nodes u;
+    store_calm = armed_calm (store.control s) (store.control w.tier.store) f.tier.store_armed us;
+    meta_calm = armed_calm (meta.control m) (meta.control w.tier.meta) f.tier.meta_armed um;
+    journal = subst AreFaultless (sym f.journal) tt;
+  }
+
   pub fresh_is_unfailing : (partition : PartitionId) (config : Config) (lists : List ActorList) (disks : List D) (s : S) (m : M) (w : Whole D S M) → IsFresh disk store meta partition config lists disks s m w
       → AreUnplanned disk.control disks → IsUnplanned (store.control s) → IsUnplanned (meta.control m) → IsUnfailing disk store meta w
   fresh_is_unfailing partition config lists disks s m w f u us um = record {

@@ -26,7 +26,7 @@ use Rattle.time_find.specs.declared.turn.Asked.{Asked}
 use Rattle.time_find.specs.declared.turn.Next.{Next}
 use Rattle.time_find.specs.declared.turn.Next.TheVariants as search
 use Rattle.time_find.specs.declared.turn.TimeTurn.{TimeTurn}
-use Rattle.time_find.specs.declared.turn.TimeTurn.TheVariants.{Goes, Ends}
+use Rattle.time_find.specs.declared.turn.TimeTurn.TheVariants.{Goes}
 
 -- how many turns a search has taken at most for the piece that it has
 abbrev pub dated_before : Next → ℕ

@@ -80,7 +80,7 @@ use Rattle.partition_world.proofs.FetchCentral.{stopped_seen}
 use Rattle.partition_world.proofs.LineTells.{line_tells}
 use Rattle.partition_world.proofs.Noting.{GoesAsNoted}
 use Rattle.partition_world.proofs.Passing.{OwnComes, own_comes, own_rests}
-use Rattle.partition_world.proofs.Scenes.{Place, site, site_is, shows_at, scene_with, shows_with, work_after, answered_free, left_changed, same_sides, few_now}
+use Rattle.partition_world.proofs.Scenes.{Place, site, shows_at, scene_with, shows_with, work_after, answered_free, left_changed, same_sides, few_now}
 use Rattle.partition_world.proofs.Sides.{set_same}
 use Rattle.partition_world.proofs.TurnCentral.{after, shown, entered, stands, held_same, leads_first, silent_dated, untold, unseen}
 

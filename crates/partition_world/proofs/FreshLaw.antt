@@ -68,7 +68,7 @@ module _ {D : Type 0} (content : D → Content) (control : D → Control call_co
       )
 
 -- the brokers' sides are those of a fresh tier
-sides_fresh : (n : ℕ) → sides_seen (replicate n fresh_side) ≡ replicate n fresh_seen
+pub sides_fresh : (n : ℕ) → sides_seen (replicate n fresh_side) ≡ replicate n fresh_seen
 sides_fresh zero = refl
 sides_fresh (suc n) = ap (λ (l : List SideSeen). fresh_seen ∷ l) (sides_fresh n)
 
@@ -82,7 +82,7 @@ free : (o : Option Order) → work_of o Idle ≡ Free
 free None = refl
 free (Some order) = refl
 
-all_free : (lists : List ActorList) → replicate (length lists) Free ≡ desk_of lists (replicate (length lists) fresh_seat)
+pub all_free : (lists : List ActorList) → replicate (length lists) Free ≡ desk_of lists (replicate (length lists) fresh_seat)
 all_free [] = refl
 all_free (l ∷ lists) =
     ap (λ (ws : List WorkSeen). Free ∷ ws) (all_free lists)
@@ -102,6 +102,11 @@ few_notes config low (l ∷ m ∷ lists) from rising each =
     let one = each 0 l (omega arith) in
     let rest = few_notes config (l.actor.0 + 1) (m ∷ lists) (omega (arith, rising.0)) rising.1 (λ k d lt. each (suc k) d (omega (arith, lt))) in
     omega (arith, from, one.actor, one.few, rest)
+
+-- far fewer than a view can count
+pub far_fewer : (config : Config) (lists : List ActorList) → AreListsFor config lists → notes_left lists (replicate (length lists) fresh_seat) < 2 ^ 63
+far_fewer config [] fit = omega arith
+far_fewer config (l ∷ lists) fit = let few = few_notes config 0 (l ∷ lists) (omega arith) fit.rising fit.each in omega (arith, few)
 
 low_left : (config : Config) (lists : List ActorList) → AreListsFor config lists → notes_left lists (replicate (length lists) fresh_seat) < 2 ^ 64
 low_left config [] fit = omega arith
@@ -150,7 +155,7 @@ module _ {D S M : Type 0} (disk : DiskGhosts D) (store : StoreGhosts S) (meta : 
   idle_noted (suc n) zero seat at = let is : fresh_seat ≡ seat = cc (at) in subst (λ (k : Seat). IsNoted k.work) is tt
   idle_noted (suc n) (suc place) seat at = idle_noted n place seat at
 
-  fresh_noted : (n : ℕ) (desk : List Seat) → desk ≡ replicate n fresh_seat → AreNoted desk
+  pub fresh_noted : (n : ℕ) (desk : List Seat) → desk ≡ replicate n fresh_seat → AreNoted desk
   fresh_noted n desk is = λ place seat at. idle_noted n place seat (ap (λ (k : List Seat). slice_get k place) (sym is) ∙ at)
 
   idle_dated : (p : State) (order : Option Order) → IsDated p order Idle
@@ -162,7 +167,7 @@ module _ {D S M : Type 0} (disk : DiskGhosts D) (store : StoreGhosts S) (meta : 
   seats_idle (suc n) zero seat at = cc (at)
   seats_idle (suc n) (suc place) seat at = seats_idle n place seat at
 
-  fresh_dated : (p : State) (lists : List ActorList) (n : ℕ) (desk : List Seat) → desk ≡ replicate n fresh_seat → AreDated p lists desk
+  pub fresh_dated : (p : State) (lists : List ActorList) (n : ℕ) (desk : List Seat) → desk ≡ replicate n fresh_seat → AreDated p lists desk
   fresh_dated p lists n desk is = λ place l seat there at.
       let same = seats_idle n place seat (ap (λ (k : List Seat). slice_get k place) (sym is) ∙ at) in
       subst (λ (k : Seat). IsDated p (slice_get l.orders k.number) k.work) same (idle_dated p (slice_get l.orders 0))

@@ -1,7 +1,6 @@
 -- Over any devices each turn goes on with its actor's next command, and begins none that has begun.
 use Rattle.std.proofs.Common.{◌≡◌, ◌≢◌, inl, inr, ◌⊎◌, ◌∙◌, sym, ap, subst, refl, ℕ, zero, suc, ◌+◌, ◌<◌, ◌≤◌, ◌==◌, Bool, true, false, List, [], ◌∷◌, ◌++◌, length, replicate, Some, Option, IsSomeAnd, is_some, slice_get, slice_set, if◌then◌else◌, arith}
 use Rattle.log_terms.proofs.Lists.{get-set, look, within, length-slice_set}
-use Rattle.tier_base.specs.declared.names.PartitionId.{PartitionId}
 use Rattle.tier_base.specs.declared.names.ActorId.{ActorId}
 use Rattle.disk_model.specs.declared.disk.Disk.{Ghosts as DiskGhosts}
 use Rattle.object_store.specs.declared.store.Store.{Ghosts as StoreGhosts}
@@ -24,7 +23,7 @@ use Rattle.partition_seen.specs.Turn.{event_of}
 use Rattle.partition_seen.proofs.BoolTests.{some_of, eq_same, eq_differs}
 use Rattle.partition_seen.proofs.FreshSound.{length_replicate}
 use Rattle.partition_seen.proofs.Lists.{one_list, orders_at, list_or_none}
-use Rattle.partition_world.specs.Fresh.{IsFresh, fresh_seat}
+use Rattle.partition_world.specs.Fresh.{IsNew, fresh_seat}
 use Rattle.partition_world.specs.InTurn.{entries_of, next_after, AreInTurn, IsInTurn}
 use Rattle.partition_world.specs.Reaches.{Goes as GoesOnce, GoesTimes, GoesUntil, Paces, Reaches}
 use Rattle.partition_world.specs.Turn.{IsTurn, IsAtEnd}
@@ -250,14 +249,14 @@ module _ {D S M : Type 0} (disk : DiskGhosts D) (store : StoreGhosts S) (meta : 
   reaches_orderly w [] w' r o = same_orderly w w' r o
   reaches_orderly w (pace ∷ schedule) w' r o = reaches_orderly r.0 schedule w' r.2 (paces_orderly w pace r.0 r.1 o)
 
-  -- a fresh world has no entries
+  -- a new world has no entries
   replicated : {A : Type 0} (n : ℕ) (x : A) (i : ℕ) (y : A) → slice_get (replicate n x) i ≡ Some y → x ≡ y
   replicated zero x i y e = absurd cc
   replicated (suc n) x zero y e = cc
   replicated (suc n) x (suc i) y e = replicated n x i y e
 
-  fresh_orderly : (partition : PartitionId) (config : Config) (lists : List ActorList) (disks : List D) (s : S) (m : M) (w : Whole D S M) → AreListsFor config lists → IsFresh disk store meta partition config lists disks s m w → IsOrderly w
-  fresh_orderly partition config lists disks s m w fit f = record {
+  new_orderly : (config : Config) (lists : List ActorList) (w : Whole D S M) → AreListsFor config lists → IsNew lists w → IsOrderly w
+  new_orderly config lists w fit f = record {
     rising = subst AreRising (sym f.lists_are) fit.rising;
     seats = ap (λ (k : List Seat). length k) f.desk ∙ (length_replicate (length lists) fresh_seat ∙ ap (λ (k : List ActorList). length k) (sym f.lists_are));
     each = λ place l seat at to.
@@ -278,9 +277,9 @@ module _ {D S M : Type 0} (disk : DiskGhosts D) (store : StoreGhosts S) (meta : 
     | inr empty ↦ subst (λ (k : List JournalEntry). AreInTurn (length (orders_of w.lists a)) 0 false k) (sym (o.none a empty)) tt
   ]
 
-  pub reaches_in_turn : (partition : PartitionId) (config : Config) (lists : List ActorList) (disks : List D) (s : S) (m : M) (w : Whole D S M) (schedule : List Pace) (w' : Whole D S M) → AreListsFor config lists
-      → IsFresh disk store meta partition config lists disks s m w → Reaches disk store meta w schedule w' → IsInTurn w'.lists w'.journal.items
-  reaches_in_turn partition config lists disks s m w schedule w' fit f r = orderly_in_turn w' (reaches_orderly w schedule w' r (fresh_orderly partition config lists disks s m w fit f))
+  pub reaches_in_turn : (config : Config) (lists : List ActorList) (w : Whole D S M) (schedule : List Pace) (w' : Whole D S M) → AreListsFor config lists → IsNew lists w
+      → Reaches disk store meta w schedule w' → IsInTurn w'.lists w'.journal.items
+  reaches_in_turn config lists w schedule w' fit n r = orderly_in_turn w' (reaches_orderly w schedule w' r (new_orderly config lists w fit n))
 
   ended_complete : (w : Whole D S M) → IsOrderly w → ((a : ℕ) → IsAtEnd w a) → IsComplete w.lists w.journal.items
   ended_complete w o ends a = elim (list_or_none w.lists a) [
@@ -299,6 +298,6 @@ module _ {D S M : Type 0} (disk : DiskGhosts D) (store : StoreGhosts S) (meta : 
         r.are ∙ (ap (λ (k : ℕ). numbers_from 0 k) zeros ∙ ap (λ (k : List Order). numbers_from 0 (length k)) (sym empty))
   ]
 
-  pub ends_are_answered : (partition : PartitionId) (config : Config) (lists : List ActorList) (disks : List D) (s : S) (m : M) (w : Whole D S M) (schedule : List Pace) (w' : Whole D S M) → AreListsFor config lists
-      → IsFresh disk store meta partition config lists disks s m w → Reaches disk store meta w schedule w' → ((a : ℕ) → IsAtEnd w' a) → IsComplete w'.lists w'.journal.items
-  ends_are_answered partition config lists disks s m w schedule w' fit f r ends = ended_complete w' (reaches_orderly w schedule w' r (fresh_orderly partition config lists disks s m w fit f)) ends
+  pub ends_are_answered : (config : Config) (lists : List ActorList) (w : Whole D S M) (schedule : List Pace) (w' : Whole D S M) → AreListsFor config lists → IsNew lists w
+      → Reaches disk store meta w schedule w' → ((a : ℕ) → IsAtEnd w' a) → IsComplete w'.lists w'.journal.items
+  ends_are_answered config lists w schedule w' fit n r ends = ended_complete w' (reaches_orderly w schedule w' r (new_orderly config lists w fit n)) ends

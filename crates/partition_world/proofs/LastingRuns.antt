@@ -12,11 +12,17 @@ use Rattle.plain_log.specs.declared.command.Config.{Config}
 use Rattle.plain_log.specs.declared.command.Pace.{Pace}
 use Rattle.plain_log.specs.declared.command.Pace.TheVariants.{Until, Times}
 use Rattle.partition_turns.specs.declared.held.Node.{Node}
+use Rattle.tier_base.specs.declared.plain.Settings.{Settings}
+use Rattle.disk_model.specs.Content.{Content}
+use Rattle.registry.specs.declared.registry.Registry.{Registry}
+use Rattle.broker_log.specs.Seen.{OnDisk}
+use Rattle.partition_turns.specs.Cold.{AreColdOver}
 use Rattle.partition_turns.specs.Disks.{HaveDisks}
 use Rattle.partition_turns.specs.Fresh.{IsArmed, AreFreshFrom}
 use Rattle.partition_turns.proofs.LastingDisks.{disk_map, last_same, last_then, last_have}
 use Rattle.partition_world.specs.declared.seat.Outcome.{Outcome}
-use Rattle.partition_world.specs.Fresh.{IsFresh}
+use Rattle.partition_world.specs.Cold.{IsReopened}
+use Rattle.partition_world.specs.Fresh.{IsFresh, IsNew}
 use Rattle.partition_world.specs.Lasting.{HaveLasted}
 use Rattle.partition_world.specs.Reaches.{Goes, GoesTimes, GoesUntil, Paces, Reaches}
 use Rattle.partition_world.specs.Turn.{IsTurn}
@@ -31,6 +37,14 @@ module _ {D : Type 0} (control : D → Control call_code) where
   fresh_have leads (d ∷ disks) (x ∷ xs) f = (disk_map (λ e. IsArmed (control d) (control e)) (λ e. Unit {0}) x.log (λ e armed. tt) f.0.armed, fresh_have false disks xs f.1)
   fresh_have leads [] (x ∷ xs) f = absurd f
   fresh_have leads (d ∷ disks) [] f = absurd f
+
+module _ {D : Type 0} (content : D → Content) (control : D → Control call_code) where
+  -- and each of one that begins anew
+  cold_have : (settings : Settings) (disks : List D) (xs : List (Node D)) → AreColdOver content control settings disks xs → HaveDisks xs
+  cold_have settings [] [] f = tt
+  cold_have settings (d ∷ disks) (x ∷ xs) f = (subst (λ (y : Node D). OnDisk y.log (λ e. Unit {0})) (sym f.0.node) tt, cold_have settings disks xs f.1)
+  cold_have settings [] (x ∷ xs) f = absurd f
+  cold_have settings (d ∷ disks) [] f = absurd f
 
 module _ {D S M : Type 0} (disk : DiskGhosts D) (store : StoreGhosts S) (meta : MetaGhosts M) where
   lasted_none : (w w' : Whole D S M) → w' ≡ w → HaveDisks w.held.nodes → HaveLasted disk store meta w w'
@@ -82,6 +96,13 @@ module _ {D S M : Type 0} (disk : DiskGhosts D) (store : StoreGhosts S) (meta : 
       let one = paces_lasted w pace r.0 r.1 have in
       lasted_then w r.0 w' one (schedule_lasted r.0 schedule w' r.2 (lasted_have w r.0 one))
 
-  pub reaches_lasting : (partition : PartitionId) (config : Config) (lists : List ActorList) (disks : List D) (s : S) (m : M) (w : Whole D S M) (schedule : List Pace) (w' : Whole D S M)
-      → IsFresh disk store meta partition config lists disks s m w → Reaches disk store meta w schedule w' → HaveLasted disk store meta w w'
-  reaches_lasting partition config lists disks s m w schedule w' f r = schedule_lasted w schedule w' r (fresh_have disk.control true disks w.held.nodes f.held.nodes)
+  pub reaches_lasting : (lists : List ActorList) (w : Whole D S M) (schedule : List Pace) (w' : Whole D S M) → IsNew lists w → Reaches disk store meta w schedule w' → HaveLasted disk store meta w w'
+  reaches_lasting lists w schedule w' n r = schedule_lasted w schedule w' r n.disks
+
+  -- a fresh world is new, and one that begins anew is
+  pub fresh_new : (partition : PartitionId) (config : Config) (lists : List ActorList) (disks : List D) (s : S) (m : M) (w : Whole D S M) → IsFresh disk store meta partition config lists disks s m w → IsNew lists w
+  fresh_new partition config lists disks s m w f = record { lists_are = f.lists_are; desk = f.desk; journal = f.journal; disks = fresh_have disk.control true disks w.held.nodes f.held.nodes }
+
+  pub reopened_new : (partition : PartitionId) (config : Config) (lists : List ActorList) (registry : Registry) (disks : List D) (s : S) (m : M) (w : Whole D S M)
+      → IsReopened disk store meta partition config lists registry disks s m w → IsNew lists w
+  reopened_new partition config lists registry disks s m w f = record { lists_are = f.lists_are; desk = f.desk; journal = f.journal; disks = cold_have disk.content disk.control config.settings disks w.held.nodes f.held.nodes }

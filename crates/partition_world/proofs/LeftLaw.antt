@@ -1,8 +1,7 @@
 -- Each step keeps the central fact with whatever notes a power cut may leave.
-use Rattle.std.proofs.Common.{◌≡◌, ◌∙◌, inl, refl, ℕ, List}
+use Rattle.std.proofs.Common.{◌∙◌, inl, refl, ℕ, List}
 use Rattle.disk_model.specs.declared.disk.Disk.{Ghosts as DiskGhosts}
 use Rattle.object_store.specs.declared.store.Store.{Ghosts as StoreGhosts}
-use Rattle.segment_meta.specs.declared.note.Note.{Note}
 use Rattle.meta_log.specs.declared.log.MetaLog.{Ghosts as MetaGhosts}
 use Rattle.meta_log.specs.Content.{LeavesTold}
 use Rattle.tier_base.specs.declared.names.PartitionId.{PartitionId}

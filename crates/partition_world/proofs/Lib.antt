@@ -28,6 +28,7 @@ pub mod CalmLaw
 pub mod Chains
 pub mod FreshLaw
 pub mod LeftLaw
+pub mod ColdLaw
 pub mod SceneParts
 pub mod Noting
 pub mod Dating

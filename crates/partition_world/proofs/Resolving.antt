@@ -1,35 +1,18 @@
 -- A turn, and notes that a power cut may leave after it, give notes that one might have left before, and the same turn over the
 -- metadata log beside these.
-use Rattle.std.proofs.Common.{◌≡◌, ◌∙◌, ◌⊎◌, inl, inr, sym, ap, subst, refl, ℕ, Bool, true, false, List, [], ◌∷◌, ◌++◌, drop, Option, Some, None, Ok, Err, IsTrue, slice_get}
-use Rattle.std.specs.Prelude.{◌<◌, ◌≤◌, IsSomeAnd}
-use Rattle.std.specs.declared.result.Result.{Result}
-use Rattle.std.specs.declared.alloc.AllocError.{AllocError}
+use Rattle.std.proofs.Common.{◌≡◌, ◌∙◌, ◌⊎◌, inl, inr, sym, ap, subst, refl, Bool, true, false, List, [], ◌∷◌, ◌++◌, drop, Option, Some, None, IsTrue}
+use Rattle.std.specs.Prelude.{IsSomeAnd}
 use Rattle.std.proofs.lemmas.List.Elements.{All-nil}
-use Rattle.tier_base.specs.Device.{Fate, Went, Fault, Dry, MayBeDone}
-use Rattle.tier_base.specs.declared.names.PartitionId.{PartitionId}
-use Rattle.disk_model.specs.declared.disk.Disk.{Ghosts as DiskGhosts}
-use Rattle.object_store.specs.declared.store.Store.{Ghosts as StoreGhosts}
+use Rattle.tier_base.specs.Device.{Fate, MayBeDone}
 use Rattle.segment_meta.specs.declared.note.Note.{Note}
 use Rattle.segment_meta.specs.Rules.{IsNote}
 use Rattle.meta_log.specs.declared.log.MetaLog.{Ghosts as MetaGhosts}
-use Rattle.meta_log.specs.declared.teller.Teller.{Teller}
 use Rattle.meta_log.specs.declared.call.MetaCall.TheVariants.{Append}
 use Rattle.meta_log.specs.Calls.{Appends}
-use Rattle.meta_log.specs.Content.{Left, Grows, appended_if}
+use Rattle.meta_log.specs.Content.{Left, appended_if}
 use Rattle.remote_view.specs.Fold.{Seen}
 use Rattle.view_refresh.specs.Refreshing.{Refreshed, Unread, Halted, Advances}
-use Rattle.plain_log.specs.declared.answer.Answer.{Answer}
-use Rattle.plain_log.specs.declared.answer.Answer.TheVariants as answer
-use Rattle.copy_task.specs.Copying.{Copied, start_note, finish_note}
-use Rattle.copy_task.specs.Turns as copy
-use Rattle.copy_task.specs.declared.turn.CopyTurn.{CopyTurn}
-use Rattle.copy_task.specs.declared.turn.CopyTurn.TheVariants as copy_turn
-use Rattle.copy_task.specs.declared.turn.Next as copy_next
-use Rattle.copy_task.specs.declared.turn.Next.TheVariants as copying
-use Rattle.partition_world.specs.declared.tier.Side.{Side}
-use Rattle.partition_world.specs.declared.tier.Tier.{Tier}
-use Rattle.partition_world.specs.Tier.{Refreshes, FailsToRead, Halts}
-use Rattle.partition_world.specs.Left.{resolved, tier_with}
+use Rattle.partition_world.specs.Left.{resolved}
 
 -- what holds of one that is there holds of it with such notes
 pub with_some : {A : Type 0} (o : Option A) (P : A → Type 0) (L : List Note → Type 0) (Q : A → List Note → Type 0) → IsSomeAnd o P

@@ -1,5 +1,5 @@
 -- The rows of the tasks over a metadata log beside notes that a power cut may leave.
-use Rattle.std.proofs.Common.{◌≡◌, ◌⊎◌, inl, inr, ap, subst, ℕ, List, Option, Ok, Err}
+use Rattle.std.proofs.Common.{◌≡◌, inl, inr, ap, subst, ℕ, List, Ok, Err}
 use Rattle.std.specs.declared.result.Result.{Result}
 use Rattle.std.specs.declared.alloc.AllocError.{AllocError}
 use Rattle.tier_base.specs.Device.{Went, Fault, Dry}
@@ -10,7 +10,6 @@ use Rattle.meta_log.specs.declared.log.MetaLog.{Ghosts as MetaGhosts}
 use Rattle.meta_log.specs.declared.teller.Teller.{Teller}
 use Rattle.meta_log.specs.Content.{Left}
 use Rattle.remote_view.specs.Fold.{Seen}
-use Rattle.remote_find.specs.declared.piece.Piece.{Piece}
 use Rattle.plain_log.specs.declared.answer.Answer.TheVariants.{MetaFault}
 use Rattle.copy_task.specs.Copying.{Copied, start_note, finish_note}
 use Rattle.copy_task.specs.Turns as copy
@@ -24,7 +23,6 @@ use Rattle.expiry_task.specs.declared.turn.ExpiryTurn.{ExpiryTurn}
 use Rattle.expiry_task.specs.declared.turn.ExpiryTurn.TheVariants as expiry_turn
 use Rattle.expiry_task.specs.declared.turn.Next as expiry_next
 use Rattle.expiry_task.specs.declared.turn.Next.TheVariants as deleting
-use Rattle.tier_fetch.specs.declared.turn.Span.{Span}
 use Rattle.tier_fetch.specs.Turns as fetch
 use Rattle.tier_fetch.specs.declared.turn.FetchTurn.{FetchTurn}
 use Rattle.tier_fetch.specs.declared.turn.FetchTurn.TheVariants as fetch_turn

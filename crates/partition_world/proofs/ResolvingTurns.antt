@@ -1,6 +1,6 @@
 -- A turn of a world, and notes that a power cut may leave after it, give notes that one might have left before, and the same turn of
 -- the world with its metadata log beside these.
-use Rattle.std.proofs.Common.{◌≡◌, ◌⊎◌, inl, inr, sym, ap, subst, ℕ, Bool, true, false, List, slice_get, Some, None, IsTrue}
+use Rattle.std.proofs.Common.{◌≡◌, inl, inr, ap, subst, ℕ, Bool, true, false, List, slice_get}
 use Rattle.std.specs.Prelude.{ℤ}
 use Rattle.disk_model.specs.declared.disk.Disk.{Ghosts as DiskGhosts}
 use Rattle.object_store.specs.declared.store.Store.{Ghosts as StoreGhosts}
@@ -33,7 +33,7 @@ use Rattle.partition_turns.specs.Held.{line_of, local_of}
 use Rattle.partition_world.specs.declared.tier.Side.{Side}
 use Rattle.partition_world.specs.declared.tier.Tier.{Tier}
 use Rattle.partition_world.specs.declared.seat.Outcome.{Outcome}
-use Rattle.partition_world.specs.declared.seat.Outcome.TheVariants.{Answers, Begins, Chose, Goes, Seeks as Sought, Dates as Dated, Dooms, Deletes, Rebuilds as Rebuilding}
+use Rattle.partition_world.specs.declared.seat.Outcome.TheVariants.{Answers, Begins, Seeks as Sought, Dates as Dated, Rebuilds as Rebuilding}
 use Rattle.partition_world.specs.declared.seat.Seat.{Seat}
 use Rattle.partition_world.specs.declared.seat.Work.{Work}
 use Rattle.partition_world.specs.declared.seat.Work.TheVariants.{Idle, Noted, Copies, Seeks, Dates, Expires, Rebuilds}
@@ -50,18 +50,15 @@ use Rattle.segment_meta.specs.declared.note.Note.{Note}
 use Rattle.meta_log.specs.Content.{Left}
 use Rattle.partition_seen.specs.declared.seat.Stepped.{Stepped}
 use Rattle.partition_seen.specs.declared.seat.Stepped.TheVariants as stepped
-use Rattle.partition_world.specs.declared.seat.Outcome.TheVariants as outcomes
 use Rattle.partition_world.specs.Tier.{Refreshes, FailsToRead, Halts}
-use Rattle.partition_world.specs.TurnsOfCopy.{GoesOnCopy, WantsForCopy, ReadsNext}
-use Rattle.partition_world.specs.TurnsOfExpiry.{GoesOnDeletion, WantsForDeletion}
-use Rattle.partition_world.specs.TurnsOfFetch.{WantsForFetch}
-use Rattle.partition_world.specs.TurnsOfDate.{SearchesRemote, WantsForDate}
-use Rattle.partition_world.specs.TurnsOfRebuild.{EpochsOnRow, IsAnswered}
-use Rattle.partition_world.specs.Turn.{IsTurn, IsSeat, IsAtEnd, IsNext, StaysWhole, Steps}
+use Rattle.partition_world.specs.TurnsOfCopy.{GoesOnCopy}
+use Rattle.partition_world.specs.TurnsOfExpiry.{GoesOnDeletion}
+use Rattle.partition_world.specs.TurnsOfDate.{SearchesRemote}
+use Rattle.partition_world.specs.Turn.{IsTurn, IsSeat, StaysWhole, Steps}
 use Rattle.partition_world.specs.Turns.{TurnRow}
 use Rattle.partition_world.specs.Left.{resolved, tier_with, whole_with}
 use Rattle.partition_world.proofs.Resolving.{with_some, Before, Tells, refreshed_with, unread_with, halted_with}
-use Rattle.partition_world.proofs.ResolvingTasks.{copy_with, expiry_with, fetch_with, copy_row, expiry_row, fetch_row, time_row}
+use Rattle.partition_world.proofs.ResolvingTasks.{copy_row, expiry_row, fetch_row, time_row}
 
 module _ {D S M : Type 0} (disk : DiskGhosts D) (store : StoreGhosts S) (meta : MetaGhosts M) where
   -- the log is as it was

@@ -12,6 +12,7 @@ use Rattle.plain_log.specs.declared.command.ActorList.{ActorList}
 use Rattle.plain_log.specs.declared.command.Config.{Config}
 use Rattle.plain_log.specs.declared.journal.JournalEntry.{JournalEntry}
 use Rattle.partition_seen.specs.Sound.{turns_left as entries_left}
+use Rattle.partition_turns.specs.Disks.{HaveDisks}
 use Rattle.partition_turns.specs.Fresh.{IsFreshHeld, AreLaid, AllSeen}
 use Rattle.partition_world.specs.declared.seat.Seat.{Seat}
 use Rattle.partition_world.specs.declared.seat.Work.TheVariants.{Idle}
@@ -45,6 +46,13 @@ IsEmptyStore content = IsTrue content.tells → (key : ObjectKey) → content.ob
 -- no note stands in the metadata log
 abbrev pub IsEmptyLog : meta.Content → Type 0
 IsEmptyLog content = IsTrue content.tells → content.notes ≡ []
+
+-- nothing has happened yet, whatever the devices: each list is at its front, the journal is empty, and each broker has its disk
+pub record IsNew {D S M : Type 0} (lists : List ActorList) (w : Whole D S M) : Type 0 where
+  pub lists_are : w.lists ≡ lists
+  pub desk : w.desk ≡ replicate (length lists) fresh_seat
+  pub journal : w.journal.items ≡ []
+  pub disks : HaveDisks w.held.nodes
 
 module _ {D S M : Type 0} (disk : DiskGhosts D) (store : StoreGhosts S) (meta : MetaGhosts M) where
   -- nothing has happened

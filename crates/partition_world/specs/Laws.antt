@@ -1,5 +1,5 @@
 -- The laws of a world.
-use Rattle.std.specs.Prelude.{ℕ, List}
+use Rattle.std.specs.Prelude.{◌≡◌, ℕ, List, Some}
 use Rattle.tier_base.specs.declared.names.PartitionId.{PartitionId}
 use Rattle.disk_model.specs.declared.disk.Disk.{Ghosts as DiskGhosts}
 use Rattle.object_store.specs.declared.store.Store.{Ghosts as StoreGhosts}
@@ -9,18 +9,29 @@ use Rattle.plain_log.specs.declared.command.Config.{Config}
 use Rattle.plain_log.specs.declared.command.Pace.{Pace}
 use Rattle.plain_log.specs.Fresh.{fresh}
 use Rattle.plain_log.specs.Orders.{AreListsFor, IsConfig}
-use Rattle.plain_log.specs.Runs.{IsPlainRun, IsComplete}
+use Rattle.plain_log.specs.Runs.{IsPlainRun, IsComplete, replay}
+use Rattle.plain_log.specs.Safe.{PlainSafe}
+use Rattle.plain_log.specs.declared.journal.JournalEntry.{JournalEntry}
+use Rattle.plain_log.specs.declared.state.State.{State}
+use Rattle.registry.specs.declared.registry.Registry.{Registry}
 use Rattle.partition_seen.specs.declared.seat.Stepped.{Stepped}
 use Rattle.partition_turns.specs.Calm.{AreUnplanned}
 use Rattle.partition_world.specs.Calm.{IsUnplanned, IsUnfailing}
 use Rattle.partition_world.specs.Central.{IsCentral, KeepsCentral}
-use Rattle.partition_world.specs.Fresh.{IsFresh, IsSeenEmpty}
+use Rattle.partition_world.specs.Cold.{IsReopened, AreCold}
+use Rattle.partition_world.specs.Fresh.{IsFresh, IsNew, IsSeenEmpty}
 use Rattle.partition_world.specs.InTurn.{IsInTurn}
 use Rattle.partition_world.specs.Lasting.{HaveLasted}
 use Rattle.partition_world.specs.Later.{IsLater}
 use Rattle.partition_world.specs.Reaches.{Reaches}
 use Rattle.partition_world.specs.Turn.{Steps, IsAtEnd}
 use Rattle.partition_world.specs.Whole.{Whole}
+
+-- the journal is a run of the plain log from this state, and the safety rules hold in the state to which it leads
+pub record IsRunFrom (opening : State) (lists : List ActorList) (journal : List JournalEntry) : Type 0 where
+  pub last : State
+  pub replays : replay lists opening journal ≡ Some last
+  pub safe : PlainSafe last
 
 -- where it holds and each actor is at its end, the journal is a complete run of the plain log
 pub record IsCompleteRun {D S M : Type 0} (w : Whole D S M) : Type 0 where
@@ -49,10 +60,9 @@ module _ {D S M : Type 0} (disk : DiskGhosts D) (store : StoreGhosts S) (meta : 
   ReachesLater = (w : Whole D S M) (schedule : List Pace) (w' : Whole D S M) → Reaches disk store meta w schedule w'
       → IsLater disk store meta w w'
 
-  -- in whatever a schedule reaches from a fresh world, over any devices: each of them has lasted
+  -- in whatever a schedule reaches from a new world, over any devices: each of them has lasted
   abbrev pub ReachesLasting : Type 0
-  ReachesLasting = (partition : PartitionId) (config : Config) (lists : List ActorList) (disks : List D) (s : S) (m : M)
-      (w : Whole D S M) (schedule : List Pace) (w' : Whole D S M) → IsFresh disk store meta partition config lists disks s m w
+  ReachesLasting = (lists : List ActorList) (w : Whole D S M) (schedule : List Pace) (w' : Whole D S M) → IsNew lists w
       → Reaches disk store meta w schedule w' → HaveLasted disk store meta w w'
 
   -- over devices of which no call can fail no turn of a schedule is answered a fault
@@ -60,19 +70,31 @@ module _ {D S M : Type 0} (disk : DiskGhosts D) (store : StoreGhosts S) (meta : 
   ReachesUnfailing = (w : Whole D S M) (schedule : List Pace) (w' : Whole D S M) → Reaches disk store meta w schedule w'
       → IsUnfailing disk store meta w → IsUnfailing disk store meta w'
 
-  -- whatever a schedule reaches from a fresh world, over any devices: its journal tells each actor's commands in turn
+  -- whatever a schedule reaches from a new world, over any devices: its journal tells each actor's commands in turn
   abbrev pub ReachesInTurn : Type 0
-  ReachesInTurn = (partition : PartitionId) (config : Config) (lists : List ActorList) (disks : List D) (s : S) (m : M)
-      (w : Whole D S M) (schedule : List Pace) (w' : Whole D S M) → AreListsFor config lists
-      → IsFresh disk store meta partition config lists disks s m w → Reaches disk store meta w schedule w'
-      → IsInTurn w'.lists w'.journal.items
+  ReachesInTurn = (config : Config) (lists : List ActorList) (w : Whole D S M) (schedule : List Pace) (w' : Whole D S M)
+      → AreListsFor config lists → IsNew lists w → Reaches disk store meta w schedule w' → IsInTurn w'.lists w'.journal.items
 
   -- and where each actor is at its end, it answers every command of every list, once and in their order
   abbrev pub EndsAreAnswered : Type 0
-  EndsAreAnswered = (partition : PartitionId) (config : Config) (lists : List ActorList) (disks : List D) (s : S) (m : M)
-      (w : Whole D S M) (schedule : List Pace) (w' : Whole D S M) → AreListsFor config lists
-      → IsFresh disk store meta partition config lists disks s m w → Reaches disk store meta w schedule w'
-      → ((a : ℕ) → IsAtEnd w' a) → IsComplete w'.lists w'.journal.items
+  EndsAreAnswered = (config : Config) (lists : List ActorList) (w : Whole D S M) (schedule : List Pace) (w' : Whole D S M)
+      → AreListsFor config lists → IsNew lists w → Reaches disk store meta w schedule w' → ((a : ℕ) → IsAtEnd w' a)
+      → IsComplete w'.lists w'.journal.items
+
+  -- in a world that a schedule reaches from one that begins anew, the journal is a run of the plain log from each plain state that
+  -- the devices stood for
+  abbrev pub ReopenedRuns : Type 0
+  ReopenedRuns = (partition : PartitionId) (config : Config) (lists : List ActorList) (registry : Registry) (disks : List D) (s : S)
+      (m : M) (w : Whole D S M) (schedule : List Pace) (w' : Whole D S M) (p : State) → AreListsFor config lists
+      → IsReopened disk store meta partition config lists registry disks s m w
+      → AreCold disk store meta partition registry disks s m p → Reaches disk store meta w schedule w'
+      → IsRunFrom p lists w'.journal.items
+
+  -- a world that begins anew stands on devices of which no call can fail, where none is planned to
+  abbrev pub ReopenedIsUnfailing : Type 0
+  ReopenedIsUnfailing = (partition : PartitionId) (config : Config) (lists : List ActorList) (registry : Registry) (disks : List D)
+      (s : S) (m : M) (w : Whole D S M) → IsReopened disk store meta partition config lists registry disks s m w
+      → AreUnplanned disk.control disks → IsUnplanned (store.control s) → IsUnplanned (meta.control m) → IsUnfailing disk store meta w
 
   -- a fresh world stands on devices of which no call can fail, where none is planned to
   abbrev pub FreshIsUnfailing : Type 0

@@ -19,4 +19,5 @@ pub mod Lasting
 pub mod Reaches
 pub mod InTurn
 pub mod Left
+pub mod Cold
 pub mod Laws

@@ -1,7 +1,8 @@
 //! Laws of worlds. Each is the contract of a function that does nothing: calling it cites the law.
 
 ghost use Rattle.partition_world.specs.Left.{StepsKeepCentralLeft, LeftIsCentral, FreshIsCentralLeft};
-ghost use Rattle.partition_world.specs.Laws.{StepsKeepCentral, FreshIsCentral, ReachesLater, EndsAreComplete, ReachesInTurn, EndsAreAnswered, ReachesLasting, ReachesUnfailing, FreshIsUnfailing};
+ghost use Rattle.partition_world.specs.Cold.{ReopensCentral};
+ghost use Rattle.partition_world.specs.Laws.{StepsKeepCentral, FreshIsCentral, ReachesLater, EndsAreComplete, ReachesInTurn, EndsAreAnswered, ReopenedRuns, ReachesLasting, ReachesUnfailing, FreshIsUnfailing, ReopenedIsUnfailing};
 
 use disk_model::Disk;
 use meta_log::MetaLog;
@@ -32,6 +33,16 @@ pub fn fresh_is_central_left<D: Disk, S: Store, M: MetaLog>()
     ensures { FreshIsCentralLeft D.Disk S.Store M.MetaLog }
 {}
 
+/// A world that begins anew has it for each plain state that its devices stand for.
+pub fn reopens_central<D: Disk, S: Store, M: MetaLog>()
+    ensures { ReopensCentral D.Disk S.Store M.MetaLog }
+{}
+
+/// The journal of a world that a schedule reaches from such a world is a run of the plain log from each such state.
+pub fn reopened_runs<D: Disk, S: Store, M: MetaLog>()
+    ensures { ReopenedRuns D.Disk S.Store M.MetaLog }
+{}
+
 /// A world that a schedule reaches is a later one.
 pub fn reaches_later<D: Disk, S: Store, M: MetaLog>()
     ensures { ReachesLater D.Disk S.Store M.MetaLog }
@@ -42,7 +53,7 @@ pub fn ends_are_complete<D: Disk, S: Store, M: MetaLog>()
     ensures { EndsAreComplete D.Disk S.Store M.MetaLog }
 {}
 
-/// The journal of a world that a schedule reaches tells each actor's commands in turn, whatever the devices.
+/// The journal of a world that a schedule reaches from a new one tells each actor's commands in turn, whatever the devices.
 pub fn reaches_in_turn<D: Disk, S: Store, M: MetaLog>()
     ensures { ReachesInTurn D.Disk S.Store M.MetaLog }
 {}
@@ -52,7 +63,7 @@ pub fn ends_are_answered<D: Disk, S: Store, M: MetaLog>()
     ensures { EndsAreAnswered D.Disk S.Store M.MetaLog }
 {}
 
-/// In a world that a schedule reaches from a fresh one each device has lasted, whatever the devices.
+/// In a world that a schedule reaches from a new one each device has lasted, whatever the devices.
 pub fn reaches_lasting<D: Disk, S: Store, M: MetaLog>()
     ensures { ReachesLasting D.Disk S.Store M.MetaLog }
 {}
@@ -65,4 +76,9 @@ pub fn reaches_unfailing<D: Disk, S: Store, M: MetaLog>()
 /// A fresh world stands on such devices where no call is planned to fail.
 pub fn fresh_is_unfailing<D: Disk, S: Store, M: MetaLog>()
     ensures { FreshIsUnfailing D.Disk S.Store M.MetaLog }
+{}
+
+/// And so does one that begins anew.
+pub fn reopened_is_unfailing<D: Disk, S: Store, M: MetaLog>()
+    ensures { ReopenedIsUnfailing D.Disk S.Store M.MetaLog }
 {}

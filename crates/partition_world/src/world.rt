@@ -2,13 +2,17 @@
 //!
 //! The journal's room is made for all entries at the beginning, so a turn that finds no memory has entered nothing.
 
-ghost use Rattle.std.specs.Prelude.{◌≡◌, ◌<◌, ◌+◌, length, replicate, IfOk, IfErr, IsTrue, ◌↔◌};
+ghost use Rattle.std.specs.Prelude.{◌≡◌, ◌<◌, ◌+◌, ◌^◌, length, replicate, IfOk, IfErr, IsTrue, ◌↔◌};
 ghost use Rattle.tier_base.specs.Device.{Lasts};
 ghost use Rattle.plain_log.specs.Fresh.{fresh as fresh_plain};
 ghost use Rattle.plain_log.specs.Orders.{AreListsFor, IsConfig};
 ghost use Rattle.partition_turns.specs.Fresh.{AreFreshDisks, AreCalmDisks, AreDisksOf, DisksTell, AllSeen, Refuses};
 ghost use Rattle.partition_turns.specs.declared.refusal.WorldRefusal.TheVariants as refusal;
-ghost use Rattle.partition_world.specs.Fresh.{IsFresh, IsSeenEmpty, AreFreshBooks, fresh_side};
+ghost use Rattle.partition_world.specs.Fresh.{IsFresh, IsNew, IsSeenEmpty, AreFreshBooks, fresh_side};
+ghost use Rattle.plain_log.specs.declared.state.State.{State};
+ghost use Rattle.partition_turns.specs.Cold.{DisksReopen};
+ghost use Rattle.partition_turns.specs.Disks.{AllReopen};
+ghost use Rattle.partition_world.specs.Cold.{IsReopened, AreCold};
 ghost use Rattle.partition_world.specs.Turn.{Steps};
 ghost use Rattle.partition_world.specs.Central.{IsCentral, KeepsCentral};
 ghost use Rattle.partition_world.specs.Left.{IsCentralLeft, KeepsCentralLeft};
@@ -16,7 +20,9 @@ ghost use Rattle.meta_log.specs.Content.{LeavesTold};
 ghost use Rattle.partition_world.specs.Reaches.{HasAnswered};
 
 use crate::desk::{count_entries, enter, fresh_desk, place_of};
-use crate::laws::{fresh_is_central, fresh_is_central_left, steps_keep_central, steps_keep_left};
+use crate::laws::{
+    fresh_is_central, fresh_is_central_left, reopens_central, steps_keep_central, steps_keep_left,
+};
 use crate::seat::Seat;
 use crate::tier::{Devices, Side, Tier};
 use disk_model::Disk;
@@ -25,7 +31,7 @@ use meta_log::MetaLog;
 use object_store::Store;
 use partition_seen::Stepped;
 use partition_turns::{Held, WorldRefusal};
-use plain_log::{ActorList, Config, Journal};
+use plain_log::{ActorList, Config, Journal, Registry};
 use remote_view::View;
 use std::alloc::{AllocError, Global};
 use std::marker::Model;
@@ -85,6 +91,7 @@ impl<D: Disk, S: Store, M: MetaLog> World<D, S, M> {
         requires disks { AreFreshDisks D.content D.control devices.disks.items }
         ensures fresh { IfOk result (IsFresh D.Disk S.Store M.MetaLog partition config lists
             devices.disks.items devices.store devices.meta) }
+        ensures new { IfOk result (IsNew lists) }
         ensures told { IfOk result (λ w. DisksTell D.content devices.disks.items → AllSeen D.content w.held.nodes) }
         ensures central { IfOk result (λ w. IsSeenEmpty D.Disk S.Store M.MetaLog w
             → IsCentral D.Disk S.Store M.MetaLog (fresh_plain config) w) }
@@ -151,9 +158,109 @@ impl<D: Disk, S: Store, M: MetaLog> World<D, S, M> {
         })
     }
 
-    /// Gives the devices back, the disks in the list in which they came.
+    /// Makes a world that begins anew with this registry over devices that were used before. All brokers are down, no broker knows
+    /// anything of the remote tier, and no list has begun. No device is asked anything: the last act is to put their plans in force.
+    /// Where memory is wanting the devices are as they were.
+    pub fn reopen(
+        alloc: Global,
+        partition: PartitionId,
+        config: Config,
+        lists: Row<ActorList>,
+        devices: Devices<D, S, M>,
+        registry: Registry,
+    ) -> Result<World<D, S, M>, (Devices<D, S, M>, AllocError)>
+        requires brokers { IsConfig config }
+        requires fit { AreListsFor config lists }
+        requires count { length devices.disks.items ≡ config.brokers }
+        requires replicas { length registry.replicas ≡ config.brokers }
+        requires epoch { registry.epoch < 2 ^ 31 }
+        ensures reopened { IfOk result (IsReopened D.Disk S.Store M.MetaLog partition config lists registry
+            devices.disks.items devices.store devices.meta) }
+
+        ensures new { IfOk result (IsNew lists) }
+
+        // It has the central fact for each plain state that the devices stand for, with whatever notes a power cut may leave.
+        ensures central { IfOk result (λ w. (p : State) → AreCold D.Disk S.Store M.MetaLog partition registry
+            devices.disks.items devices.store devices.meta p → IsCentralLeft D.Disk S.Store M.MetaLog p w) }
+        ensures disks { IfErr result (λ e. e.0.disks.items ≡ devices.disks.items) }
+        ensures store { IfErr result (λ e. e.0.store ≡ devices.store) }
+        ensures meta { IfErr result (λ e. e.0.meta ≡ devices.meta) }
+    {
+        reopens_central::<D, S, M>();
+        Self::made_anew(alloc, partition, config, lists, devices, registry)
+    }
+
+    fn made_anew(
+        alloc: Global,
+        partition: PartitionId,
+        config: Config,
+        lists: Row<ActorList>,
+        devices: Devices<D, S, M>,
+        registry: Registry,
+    ) -> Result<World<D, S, M>, (Devices<D, S, M>, AllocError)>
+        requires brokers { IsConfig config }
+        requires fit { AreListsFor config lists }
+        requires count { length devices.disks.items ≡ config.brokers }
+        requires replicas { length registry.replicas ≡ config.brokers }
+        requires epoch { registry.epoch < 2 ^ 31 }
+        ensures reopened { IfOk result (IsReopened D.Disk S.Store M.MetaLog partition config lists registry
+            devices.disks.items devices.store devices.meta) }
+        ensures disks { IfErr result (λ e. e.0.disks.items ≡ devices.disks.items) }
+        ensures store { IfErr result (λ e. e.0.store ≡ devices.store) }
+        ensures meta { IfErr result (λ e. e.0.meta ≡ devices.meta) }
+    {
+        let Ok((journal, desk)) = fresh_books(alloc, lists.as_slice()) else {
+            return Err((devices, AllocError));
+        };
+        let Ok(sides) = fresh_sides(alloc, config.brokers) else {
+            return Err((devices, AllocError));
+        };
+        let Devices {
+            mut disks,
+            store,
+            meta,
+        } = devices;
+        // The devices' plans are in force once this is done.
+        let held = match Held::reopen(alloc, &mut disks, config.settings, registry) {
+            Ok(held) => held,
+            Err(why) => return Err((Devices { disks, store, meta }, why)),
+        };
+        let mut tier = Tier { store, meta, sides };
+        tier.arm();
+        Ok(World {
+            partition,
+            config,
+            lists,
+            held,
+            tier,
+            desk,
+            journal,
+            room: disks,
+        })
+    }
+
+    /// The log of each broker that is up can be opened again from its disk, also after a power cut, and each broker has its side of
+    /// the remote tier. It does nothing that is seen.
+    pub fn reopens(&self)
+        ensures disks { AllReopen D.content self.now.held.nodes }
+        ensures brokers { length self.now.held.nodes ≡ self.now.config.brokers }
+        ensures sides { length self.now.tier.sides ≡ self.now.config.brokers }
+    {
+        self.held.reopens();
+    }
+
+    /// Lends the registry.
+    pub fn registry(&self) -> &Registry
+        ensures { result.now ≡ self.now.held.registry }
+    {
+        &self.held.registry
+    }
+
+    /// Gives the devices back, the disks in the list in which they came. From those of brokers that are up, or whose logs are seen, a
+    /// log can be opened again, also after a power cut.
     pub fn close(self) -> Devices<D, S, M>
         ensures disks { AreDisksOf self.held.nodes result.disks.items }
+        ensures again { DisksReopen D.content self.held.nodes result.disks.items }
         ensures store { result.store ≡ self.tier.store }
         ensures meta { result.meta ≡ self.tier.meta }
         ensures count { length result.disks.items ≡ self.config.brokers }

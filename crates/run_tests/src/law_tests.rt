@@ -1,10 +1,9 @@
 //! Laws of what fetches and searches by timestamp are answered, called once each over devices in memory.
 
 use command_answers::{
-    fetches_have_causes, fresh_has_searches, fresh_has_spans, marked_are_found,
-    no_search_is_damaged, searches_are_answered, searches_tell_dates, turns_keep_searches,
-    turns_keep_spans, unfailing_are_found, unfailing_are_served, unhindered_are_found,
-    unhindered_are_served,
+    fetches_have_causes, marked_are_found, new_has_searches, new_has_spans, no_search_is_damaged,
+    searches_are_answered, searches_tell_dates, turns_keep_searches, turns_keep_spans,
+    unfailing_are_found, unfailing_are_served, unhindered_are_found, unhindered_are_served,
 };
 use disk_model::MemoryDisk;
 use meta_log::MemoryLog;
@@ -12,7 +11,7 @@ use object_store::MemoryStore;
 
 #[test]
 fn fetches_over_devices_in_memory_are_served() {
-    fresh_has_spans::<MemoryDisk, MemoryStore, MemoryLog>();
+    new_has_spans::<MemoryDisk, MemoryStore, MemoryLog>();
     turns_keep_spans::<MemoryDisk, MemoryStore, MemoryLog>();
     fetches_have_causes::<MemoryDisk, MemoryStore, MemoryLog>();
     unhindered_are_served::<MemoryDisk, MemoryStore, MemoryLog>();
@@ -21,7 +20,7 @@ fn fetches_over_devices_in_memory_are_served() {
 
 #[test]
 fn searches_over_devices_in_memory_are_found() {
-    fresh_has_searches::<MemoryDisk, MemoryStore, MemoryLog>();
+    new_has_searches::<MemoryDisk, MemoryStore, MemoryLog>();
     turns_keep_searches::<MemoryDisk, MemoryStore, MemoryLog>();
     searches_tell_dates::<MemoryDisk, MemoryStore, MemoryLog>();
     no_search_is_damaged::<MemoryDisk, MemoryStore, MemoryLog>();

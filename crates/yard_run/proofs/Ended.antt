@@ -25,6 +25,7 @@ use Rattle.partition_world.specs.Turn.{IsAtEnd}
 use Rattle.partition_world.specs.Central.{IsCentral}
 use Rattle.partition_world.specs.Fresh.{IsFresh, IsSeenEmpty}
 use Rattle.partition_world.specs.InTurn.{IsInTurn}
+use Rattle.partition_world.proofs.LastingRuns.{fresh_new}
 use Rattle.partition_world.specs.Laws.{EndsAreComplete, EndsAreAnswered, ReachesLater, ReachesInTurn, FreshIsCentral}
 use Rattle.partition_world.specs.Reaches.{GoesUntil, HasAnswered, Reaches}
 use Rattle.partition_seen.proofs.Lists.{one_list}
@@ -125,7 +126,7 @@ module _ {D S M : Type 0} (disk : DiskGhosts D) (store : StoreGhosts S) (meta : 
         safe = keeps lists (fresh config) w'.journal.items run.last run.replays (opens config);
         led = replay_led lists (fresh config) w'.journal.items run.last run.replays (opens config);
         committed = λ clean. replay_runs lists (fresh config) w'.journal.items run.last run.replays (opens config) clean;
-        undamaged = undamaged part.partition config lists devices.disks.items devices.store devices.meta w part.schedule w' fits fit f empty reaches;
+        undamaged = undamaged (fresh config) lists w part.schedule w' (fresh_new disk store meta part.partition config lists devices.disks.items devices.store devices.meta w f) c reaches;
       }
 
   -- the journal of a world that was run by its schedule is that of a run of its partition
@@ -135,6 +136,7 @@ module _ {D S M : Type 0} (disk : DiskGhosts D) (store : StoreGhosts S) (meta : 
       → IsRun disk store meta config part devices w'.journal.items back
   is_run config part devices back w w' law answers goes turns begins opens keeps undamaged counted fits fit ends f told reaches its =
       let lists = part.lists in
+      let new = fresh_new disk store meta part.partition config lists devices.disks.items devices.store devices.meta w f in
       let later = goes w part.schedule w' reaches in
       let same : w'.lists ≡ lists = later.lists ∙ f.lists_are in
       let central : AreBlank disk store meta devices.disks.items devices.store devices.meta → IsCentral disk store meta (fresh config) w = λ blank.
@@ -147,11 +149,11 @@ module _ {D S M : Type 0} (disk : DiskGhosts D) (store : StoreGhosts S) (meta : 
         its = refl;
         orderly = record {
           complete = subst (λ (k : List ActorList). IsComplete k w'.journal.items) same
-              (answers part.partition config lists devices.disks.items devices.store devices.meta w part.schedule w' fit f reaches (all_at_end config part devices w w' goes fit ends f reaches));
-          in_turn = subst (λ (k : List ActorList). IsInTurn k w'.journal.items) same (turns part.partition config lists devices.disks.items devices.store devices.meta w part.schedule w' fit f reaches);
+              (answers config lists w part.schedule w' fit new reaches (all_at_end config part devices w w' goes fit ends f reaches));
+          in_turn = subst (λ (k : List ActorList). IsInTurn k w'.journal.items) same (turns config lists w part.schedule w' fit new reaches);
         };
         its_devices = its;
-        counted = counted part.partition config lists devices.disks.items devices.store devices.meta w part.schedule w' fit f reaches;
+        counted = counted config lists w part.schedule w' fit new reaches;
         log_run = λ blank. is_log_run config part devices w w' law goes opens keeps undamaged fits fit f (seen_empty part config devices w f told blank) (central blank) reaches
             (all_at_end config part devices w w' goes fit ends f reaches);
         central = λ blank. later.central (fresh config) (central blank);

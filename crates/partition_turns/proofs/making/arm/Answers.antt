@@ -1,5 +1,6 @@
 use Rattle.std.proofs.Common.{◌≡◌, subst, true, refl, ℕ, length, arith}
 use Rattle.partition_turns.proofs.FreshDisks.{AreArmed, armed_long, armed_step, armed_made, armed_laid, armed_seen}
+use Rattle.partition_turns.proofs.ColdDisks.{armed_cold}
 use Rattle.partition_turns.proofs.making.arm.Goals as goal
 
 pub at_mut-requires : goal.at_mut-requires
@@ -26,3 +27,8 @@ pub returns-clause-laid : goal.returns-clause-laid
 returns-clause-laid g c = λ settings laid.
     let all : c.loop-i.i ≡ length c.args.nodes.now = omega (arith, c.len-i-end.ensures, c.loop-i-test.false, c.loop-i.auto.i-end) in
     armed_laid g.D.Disk.content g.D.Disk.control settings c.args.nodes.now c.loop-i.nodes (subst (λ (n : ℕ). AreArmed g.D.Disk.content g.D.Disk.control n c.args.nodes.now c.loop-i.nodes) all c.loop-i.invariant) laid
+
+pub returns-clause-cold : goal.returns-clause-cold
+returns-clause-cold g c = λ settings disks are.
+    let all : c.loop-i.i ≡ length c.args.nodes.now = omega (arith, c.len-i-end.ensures, c.loop-i-test.false, c.loop-i.auto.i-end) in
+    armed_cold g.D.Disk.content g.D.Disk.control settings disks c.args.nodes.now c.loop-i.nodes are (subst (λ (n : ℕ). AreArmed g.D.Disk.content g.D.Disk.control n c.args.nodes.now c.loop-i.nodes) all c.loop-i.invariant)

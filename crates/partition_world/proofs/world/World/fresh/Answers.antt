@@ -1,7 +1,12 @@
 use Rattle.std.proofs.lemmas.Result.{IfErr-weaker}
 use Rattle.partition_turns.proofs.FreshDisks.{refuses_calm}
 use Rattle.partition_turns.proofs.Writes.{ok_more}
+use Rattle.partition_world.proofs.LastingRuns.{fresh_new}
 use Rattle.partition_world.proofs.world.World.fresh.Goals as goal
+
+pub returns-clause-new : goal.returns-clause-new
+returns-clause-new g c =
+    ok_more _ _ c.made.result (λ w f. fresh_new g.D.Disk g.S.Store g.M.MetaLog c.args.partition c.args.config c.args.lists c.args.devices.disks.items c.args.devices.store c.args.devices.meta w f) c.made.ensures.fresh
 
 pub returns-clause-central : goal.returns-clause-central
 returns-clause-central g c =

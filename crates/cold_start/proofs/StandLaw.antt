@@ -1,0 +1,181 @@
+-- What a power cut of everything leaves of the devices stands for what it leaves of the plain state.
+use Rattle.std.proofs.Common.{◌≡◌, ◌∙◌, inl, sym, ap, subst, refl, ℕ, suc, List, [], ◌∷◌, length}
+use Rattle.std.specs.Prelude.{◌^◌, ◌<◌, map, pos, replicate, IsTrue}
+use Rattle.tier_base.specs.declared.names.PartitionId.{PartitionId}
+use Rattle.registry.specs.declared.registry.Registry.{Registry}
+use Rattle.disk_model.specs.Content.{Content}
+use Rattle.disk_model.specs.declared.disk.Disk.{Ghosts as DiskGhosts}
+use Rattle.object_store.specs.Content.{Objects}
+use Rattle.object_store.specs.declared.store.Store.{Ghosts as StoreGhosts}
+use Rattle.segment_meta.specs.declared.note.Note.{Note}
+use Rattle.meta_log.specs.declared.log.MetaLog.{Ghosts as MetaGhosts}
+use Rattle.meta_log.specs.Content.{Left}
+use Rattle.log_steps.specs.Reopens.{Reopens}
+use Rattle.broker_log.specs.Seen.{Kept, Up, Down, Away, Seen, OnDisk, is_up}
+use Rattle.plain_log.specs.declared.state.Broker.{Broker}
+use Rattle.plain_log.specs.declared.state.State.{State}
+use Rattle.partition_seen.specs.Seen as seen
+use Rattle.partition_seen.specs.Central.{LinesStand}
+use Rattle.partition_seen.specs.Held.{broker_of}
+use Rattle.partition_tier.specs.Sites.{Side as SideSeen, site_of, sites_of, fresh_side as fresh_seen}
+use Rattle.partition_turns.specs.declared.held.Node.{Node}
+use Rattle.partition_turns.specs.Cold.{ShowDisks, DisksReopen, node_back, held_back}
+use Rattle.partition_turns.specs.Fresh.{AreDisksOf}
+use Rattle.partition_turns.specs.Held.{ShowNodes}
+use Rattle.tier_safe.specs.Scene.{Site, Scene}
+use Rattle.tier_safe.specs.Safe.{TierSafe}
+use Rattle.tier_safe.proofs.Turning.{scene_same}
+use Rattle.partition_world.specs.Central.{IsCentral, sides_seen}
+use Rattle.plain_log.specs.declared.command.ActorList.{ActorList}
+use Rattle.plain_log.specs.declared.command.Config.{Config}
+use Rattle.plain_log.specs.declared.command.Pace.{Pace}
+use Rattle.plain_log.specs.Orders.{AreListsFor}
+use Rattle.partition_world.specs.Cold.{IsReopened, StandCold, scene_back}
+use Rattle.partition_world.specs.Laws.{IsRunFrom}
+use Rattle.partition_world.specs.Reaches.{Reaches}
+use Rattle.partition_world.proofs.ColdLaw.{reopened_runs}
+use Rattle.partition_world.specs.Left.{IsCentralLeft, resolved, whole_with}
+use Rattle.partition_world.specs.Whole.{Whole}
+use Rattle.cold_start.specs.Cold.{cold_of, cold_broker, cold_site, cold_node, cold_held, cold_scene, cold_sides}
+use Rattle.cold_start.specs.ColdWorld.{IsCutDisk, IsCutStore, IsCutLog, LeavesDisk, LeaveDisks, AreCut, plain_in}
+use Rattle.cold_start.proofs.ColdLaw.{cold_safe, cold_tier}
+use Rattle.cold_start.proofs.ColdSeen.{cold_brokers, cold_lines, cold_sites}
+use Rattle.cold_start.proofs.ColdWorldLaw.{closed_shown, log_shown, same_plain}
+
+module _ {D : Type 0} (content : D → Content) where
+  -- the logs on disks that a power cut leaves
+  record Back (disks : List D) (ys : List seen.Node) : Type 0 where
+    logs : List Seen
+    shows : ShowDisks content disks logs
+    same : map node_back logs ≡ map cold_node ys
+
+  back : (xs : List (Node D)) (ys : List seen.Node) (disks : List D) → LeaveDisks content xs disks → ShowNodes content xs ys → Back disks ys
+  back [] [] [] cut h = record { logs = []; shows = tt; same = refl }
+  back (x ∷ xs) (y ∷ ys) (d ∷ disks) cut (shows, rest) =
+      let more = back xs ys disks cut.1 rest in
+      record {
+        logs = shows.0 ∷ more.logs;
+        shows = (log_shown content (record { segment_bytes = 0; index_interval = 0 }) x.log d shows.0 cut.0 shows.1, more.shows);
+        same = ap (λ (k : seen.Node). k ∷ map node_back more.logs) (ap cold_node (sym shows.2)) ∙ ap (λ (l : List seen.Node). cold_node y ∷ l) more.same;
+      }
+  back [] (y ∷ ys) disks cut h = absurd h
+  back (x ∷ xs) [] disks cut h = absurd h
+  back [] [] (d ∷ disks) cut h = absurd cut
+  back (x ∷ xs) (y ∷ ys) [] cut h = absurd cut
+
+-- as many sides as brokers are seen, or more
+sides_anew : (nodes : List seen.Node) (sides : List SideSeen) → length (sites_of nodes sides) ≡ length nodes → sites_of (map cold_node nodes) (cold_sides sides) ≡ sites_of (map cold_node nodes) (replicate (length nodes) fresh_seen)
+sides_anew [] sides e = refl
+sides_anew (x ∷ nodes) [] e = absurd cc
+sides_anew (x ∷ nodes) (side ∷ sides) e =
+    let rest : length (sites_of nodes sides) ≡ length nodes = cc (e) in
+    ap (λ (l : List Site). site_of (cold_node x) fresh_seen ∷ l) (sides_anew nodes sides rest)
+
+long : {A B : Type 0} (f : A → B) (xs : List A) → length (map f xs) ≡ length xs
+long f [] = refl
+long f (x ∷ xs) = ap suc (long f xs)
+
+module _ {D S M : Type 0} (disk : DiskGhosts D) (store : StoreGhosts S) (meta : MetaGhosts M) where
+  module _ (opening : State) (w : Whole D S M) (disks : List D) (s : S) (m : M) (l : List Note) (cut : LeaveDisks disk.content w.held.nodes disks) (kept : IsCutStore (store.content w.tier.store) (store.content s))
+      (told : IsCutLog (meta.content w.tier.meta) (meta.content m)) (k : IsCentral disk store (resolved meta) opening (whole_with w l)) where
+    b : Back disk.content disks k.partition.nodes
+    b = back disk.content w.held.nodes k.partition.nodes disks cut k.shows.nodes
+
+    registry_is : k.partition.registry ≡ w.held.registry
+    registry_is = k.shows.registry
+
+    held_is : cold_held k.partition (pos 0) ≡ held_back w.held.registry b.logs
+    held_is =
+        ap (λ (r : Registry). (let h : seen.Held = record { registry = r; nodes = map cold_node k.partition.nodes; clock = pos 0 } in h)) registry_is
+        ∙ ap (λ (nodes : List seen.Node). (let h : seen.Held = record { registry = w.held.registry; nodes = nodes; clock = pos 0 } in h)) (sym b.same)
+
+    many : length (sites_of k.partition.nodes (sides_seen w.tier.sides)) ≡ length k.partition.nodes
+    many =
+        ap (λ (sites : List Site). length sites) (sym k.shows_tier.sites) ∙ k.tier.sites.count
+        ∙ ap (λ (brokers : List Broker). length brokers) k.central.stands.held.brokers ∙ long broker_of k.partition.nodes
+
+    count : length k.partition.nodes ≡ length b.logs
+    count = sym (long cold_node k.partition.nodes) ∙ ap (λ (nodes : List seen.Node). length nodes) (sym b.same) ∙ long node_back b.logs
+
+    sites_are : map cold_site k.scene.sites ≡ sites_of (map node_back b.logs) (replicate (length b.logs) fresh_seen)
+    sites_are =
+        ap (map cold_site) k.shows_tier.sites ∙ sym (cold_sites k.partition.nodes (sides_seen w.tier.sides)) ∙ sides_anew k.partition.nodes (sides_seen w.tier.sides) many
+        ∙ ap (λ (nodes : List seen.Node). sites_of nodes (replicate (length k.partition.nodes) fresh_seen)) (sym b.same) ∙ ap (λ (n : ℕ). sites_of (map node_back b.logs) (replicate n fresh_seen)) count
+
+    scene_is : cold_scene k.scene [] ≡ scene_back w.partition (store.content s).objects l b.logs
+    scene_is = scene_same _ _ k.shows_tier.partition (k.shows_tier.objects ∙ sym kept.objects) k.shows_tier.notes sites_are refl
+
+    pub stand_cut : StandCold disk store meta w.partition w.held.registry disks s m (cold_of k.central.plain) l
+    stand_cut = record {
+      logs = b.logs;
+      shows = b.shows;
+      safe = cold_safe k.central.plain k.central.safe;
+      registry_is = k.central.stands.held.registry ∙ registry_is;
+      brokers = ap (map cold_broker) k.central.stands.held.brokers ∙ cold_brokers k.partition.nodes ∙ ap (map broker_of) (sym b.same);
+      actors = refl;
+      lines = subst (λ (h : seen.Held). LinesStand h k.central.plain.paths k.central.plain.broken) held_is (cold_lines k.partition (pos 0) k.central.plain.paths k.central.plain.broken k.central.stands.lines);
+      store_tells = kept.tells k.shows_tier.store_tells;
+      meta_tells = told.tells k.shows_tier.meta_tells;
+      tier = subst (λ (c : Scene). TierSafe c (cold_of k.central.plain)) scene_is (cold_tier k.scene k.central.plain [] (λ a work at. absurd cc) k.tier);
+    }
+
+  pub leaves_cold : (opening : State) (w : Whole D S M) (disks : List D) (s : S) (m : M) (c : IsCentralLeft disk store meta opening w) → LeaveDisks disk.content w.held.nodes disks
+      → IsCutStore (store.content w.tier.store) (store.content s) → IsCutLog (meta.content w.tier.meta) (meta.content m) → (l : List Note) → Left (meta.content m) l
+      → StandCold disk store meta w.partition w.held.registry disks s m (cold_of (plain_in disk store meta opening w c)) l
+  leaves_cold opening w disks s m c cut kept told l left =
+      let now = c (meta.content w.tier.meta).notes (inl refl) in
+      let k = c l (told.left l left) in
+      subst (λ (p : State). StandCold disk store meta w.partition w.held.registry disks s m (cold_of p) l) (same_plain disk store meta opening w l (meta.content w.tier.meta).notes k now)
+      (stand_cut opening w disks s m l cut kept told k)
+
+  -- a further power cut
+  shown_cut : (disks nows : List D) (logs : List Seen) → AreCut disk.content disks nows → ShowDisks disk.content disks logs → ShowDisks disk.content nows logs
+  shown_cut [] [] [] cut h = tt
+  shown_cut (d ∷ disks) (n ∷ nows) (k ∷ logs) cut h = (closed_shown disk.content (record { segment_bytes = 0; index_interval = 0 }) d n k cut.0 h.0, shown_cut disks nows logs cut.1 h.1)
+  shown_cut [] [] (k ∷ logs) cut h = absurd h
+  shown_cut [] (n ∷ nows) logs cut h = absurd cut
+  shown_cut (d ∷ disks) [] logs cut h = absurd cut
+  shown_cut (d ∷ disks) (n ∷ nows) [] cut h = absurd h
+
+  pub keeps_cold : (partition : PartitionId) (registry : Registry) (disks nows : List D) (s : S) (m : M) (t : S) (n : M) (p : State) → ((l : List Note) → Left (meta.content m) l → StandCold disk store meta partition registry disks s m p l)
+      → AreCut disk.content disks nows → IsCutStore (store.content s) (store.content t) → IsCutLog (meta.content m) (meta.content n) → (l : List Note) → Left (meta.content n) l
+      → StandCold disk store meta partition registry nows t n p l
+  keeps_cold partition registry disks nows s m t n p stand cut kept told l left =
+      let k = stand l (told.left l left) in
+      record {
+        logs = k.logs;
+        shows = shown_cut disks nows k.logs cut k.shows;
+        safe = k.safe;
+        registry_is = k.registry_is;
+        brokers = k.brokers;
+        actors = k.actors;
+        lines = k.lines;
+        store_tells = kept.tells k.store_tells;
+        meta_tells = told.tells k.meta_tells;
+        tier = subst (λ (o : Objects). TierSafe (scene_back partition o l k.logs) p) (sym kept.objects) k.tier;
+      }
+
+  pub runs_go_on : (opening : State) (w : Whole D S M) (config : Config) (lists : List ActorList) (disks : List D) (s : S) (m : M) (v : Whole D S M) (schedule : List Pace) (v' : Whole D S M)
+      (c : IsCentralLeft disk store meta opening w) → LeaveDisks disk.content w.held.nodes disks → IsCutStore (store.content w.tier.store) (store.content s) → IsCutLog (meta.content w.tier.meta) (meta.content m)
+      → ((l : List Note) → Left (meta.content m) l → length l < 2 ^ 63) → AreListsFor config lists → IsReopened disk store meta w.partition config lists w.held.registry disks s m v
+      → Reaches disk store meta v schedule v' → IsRunFrom (cold_of (plain_in disk store meta opening w c)) lists v'.journal.items
+  runs_go_on opening w config lists disks s m v schedule v' c cut kept told few fit f r =
+      reopened_runs disk store meta w.partition config lists w.held.registry disks s m v schedule v' (cold_of (plain_in disk store meta opening w c)) fit f
+      (record { stand = leaves_cold opening w disks s m c cut kept told; few = few }) r
+
+module _ {D : Type 0} (disk : DiskGhosts D) where
+  left_one : (k : Kept D) (d n : D) → OnDisk k (λ e. d ≡ e) → (IsTrue (is_up k) → Reopens (disk.content d)) → IsCutDisk (disk.content d) (disk.content n) → LeavesDisk disk.content k n
+  left_one (Up l) d n is all cut = (subst (λ (e : D). Reopens (disk.content e)) is (all refl), subst (λ (e : D). IsCutDisk (disk.content e) (disk.content n)) is cut)
+  left_one (Down was e) d n is all cut = subst (λ (e : D). IsCutDisk (disk.content e) (disk.content n)) is cut
+  left_one Away d n is all cut = absurd is
+
+  pub closed_left : (nodes : List (Node D)) (disks nows : List D) → AreDisksOf nodes disks → DisksReopen disk.content nodes disks → AreCut disk.content disks nows → LeaveDisks disk.content nodes nows
+  closed_left [] [] [] are again cut = tt
+  closed_left (x ∷ nodes) (d ∷ disks) (n ∷ nows) are again cut = (
+    left_one x.log d n are.0 (λ up. again 0 x d refl refl (inl up)) cut.0,
+    closed_left nodes disks nows are.1 (λ b y e at to either. again (suc b) y e at to either) cut.1,
+  )
+  closed_left [] [] (n ∷ nows) are again cut = absurd cut
+  closed_left [] (d ∷ disks) nows are again cut = absurd are
+  closed_left (x ∷ nodes) [] nows are again cut = absurd are
+  closed_left (x ∷ nodes) (d ∷ disks) [] are again cut = absurd cut

@@ -1,0 +1,28 @@
+use Rattle.std.proofs.Common.{◌∙◌, ap, length, List, [], arith}
+use Rattle.plain_log.specs.declared.command.ActorList.{ActorList}
+use Rattle.partition_seen.specs.Sound.{turns_left}
+use Rattle.partition_seen.proofs.FreshSound.{length_replicate}
+use Rattle.partition_turns.proofs.ColdDisks.{cold_sound}
+use Rattle.partition_world.specs.declared.tier.Side.{Side}
+use Rattle.partition_world.specs.Fresh.{fresh_side}
+use Rattle.partition_world.proofs.WorldFresh.{fresh_seats, fresh_works, fresh_left}
+use Rattle.partition_world.proofs.world.World.made_anew.Goals as goal
+
+pub invariant_of-result : goal.invariant_of-result
+invariant_of-result g c =
+    let books = c.in-Ok.ensures in
+    let same = c.as_slice.ensures in
+    let count = length c.as_slice.result.now in
+    let disks = c.args.devices.disks.ok in (
+      record {
+        config_fits = c.requires.brokers;
+        fit = c.requires.fit;
+        held = cold_sound g.D.Disk.content g.D.Disk.control c.args.config.brokers c.args.config.settings c.args.registry c.args.devices.disks.items c.in-Ok-reopen.held c.requires.count c.requires.replicas c.requires.epoch c.in-Ok-reopen.ensures.held;
+        sided = ap (λ (k : List Side). length k) (c.arm.ensures.sides ∙ c.in-Ok-fresh_sides.ensures) ∙ length_replicate c.args.config.brokers fresh_side;
+        seats = fresh_seats c.args.lists count c.in-Ok.desk (ap (λ (k : List ActorList). length k) same) books.desk_is;
+        works = fresh_works c.args.lists count c.in-Ok.desk books.desk_is;
+        room = omega (arith, fresh_left c.args.lists count c.in-Ok.desk books.desk_is, books.room, ap (λ (k : List ActorList). turns_left k []) same);
+      },
+      c.in-Ok-reopen.ensures.none,
+      omega (arith, disks.0, disks.1, c.requires.count, c.reopen.ensures.room),
+    )
