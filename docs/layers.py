@@ -1,7 +1,7 @@
 #!/usr/bin/env python3
 """The layers of the repository, out of crates.txt and the crates' head comments.
 
-usage: docs/layers.py            prints the picture, the table, and the list for README.md
+usage: docs/layers.py            prints the picture and the tables
        docs/layers.py check      tells where a document has other text between its marks
        docs/layers.py write      puts the text between the marks
 
@@ -13,7 +13,6 @@ between `<!-- layers: NAME -->` and `<!-- end -->`. The exit status is 1 where s
 import os
 import re
 import sys
-import textwrap
 
 TOP = os.path.join(os.path.dirname(os.path.abspath(__file__)), "..")
 PROGRAM = "broker_main"
@@ -142,14 +141,9 @@ def kit(layers, on):
     return "\n".join(rows)
 
 
-def names(layers, on):
-    """A point a layer."""
-    points = [f"- {title}: {', '.join(f'`{x}`' for x in own)}" for title, own in layers]
-    return "\n".join(textwrap.fill(x, 100, subsequent_indent="  ", break_on_hyphens=False) for x in points)
 
-
-PARTS = {"picture": picture, "table": table, "kit": kit, "names": names}
-PLACES = [("docs/ARCHITECTURE.md", ["picture", "table", "kit"]), ("README.md", ["names"])]
+PARTS = {"picture": picture, "table": table, "kit": kit}
+PLACES = [("docs/ARCHITECTURE.md", ["picture", "table", "kit"])]
 
 
 def main():

@@ -1,23 +1,21 @@
 #!/usr/bin/env python3
-"""Runs what the documents show.
+"""Runs what the documents show, or compares it with what the gate runs.
 
-usage: docs/snippets.py check PROGRAM    tells which snippet isn't what the program gives
-       docs/snippets.py write PROGRAM    writes the answers into the documents, and the table of the gate
+usage: docs/snippets.py check            compares the documents with the tables that the gate's tests run
+       docs/snippets.py check PROGRAM    also runs every snippet, and compares the answers
+       docs/snippets.py write PROGRAM    writes the answers into the documents, and the tables of the gate
 
-PROGRAM is the path of `tiered`. Four things are run, in README.md and in docs/:
+PROGRAM is the path of `tiered`. README.md, CONTRIBUTING.md, docs/ and examples/ may have four kinds of snippets:
 
-- A block ```script is a script that has a reading. Its lines `#> ..` are the trace, each behind the
-  line that stepped its actor; being comments, they are no part of what is run. Runs are cut short.
-- In a table whose last column is headed "refused", the code spans of that column are the lines of a
-  script, of which the last one is refused for the row's first cause. A span `N x LINE` is N lines.
-- A block ```console has commands of a shell behind `$ `, with what they print below them.
-- A block ```bytes has hexadecimal digits at the head of its lines: a batch that was fetched in the
-  script block before it.
+- A block ```script is a valid script. Its lines `#> ..` are the trace, each below the line that stepped its actor. They are
+  comments to the program. Long runs are cut. A block ```script PATH shows the file PATH without its comments.
+- In a table whose last column is headed "refused", the code spans of that column are the lines of a script. The last one is
+  refused for the row's first cause. A span `N x LINE` is N lines.
+- A block ```console has shell commands after `$ `, and what they print below them.
+- A block ```bytes has hexadecimal digits at the start of its lines: a batch that the script block before it fetched.
 
-The gate runs no document. So the refused lines stand once more in a table of the crate `run_tests`, and
-the scripts with their whole traces, those of examples/ too, in texts there; a shell's commands that
-ask for no file of the system are rows of a table too. All are made here, and tests of that crate go
-over them. The rest is run here alone.
+The gate runs no document. Its tests in the crate `run_tests` run copies instead: the refused lines, the scripts with their
+whole traces, those of examples/ too, and those shell commands that need no file. This program makes the copies.
 """
 import glob
 import os
@@ -34,10 +32,28 @@ TABLE = "crates/run_tests/src/shown.rt"
 RUNS = "crates/run_tests/src/shown_runs"
 # So many lines have the texts of scripts at most, but for the last script of each.
 MOST = 600
-BLOCK = re.compile(r"^```(script|console|bytes)\n(.*?)^```$", re.S | re.M)
+BLOCK = re.compile(r"^```(script|console|bytes)(?: (\S+))?\n(.*?)^```$", re.S | re.M)
+
+
+def gate_cases():
+    """The traces that the gate's tests compare, by their scripts."""
+    found = {}
+    for path in sorted(glob.glob(f"{TOP}/{RUNS}/part_*.rt")):
+        with open(path, encoding="utf-8") as f:
+            text = f.read()
+        text = text[text.index('= "') + 3 : text.rindex('";')]
+        text = text.replace("\\t", "\t").replace("\\n", "\n").replace('\\"', '"').replace("\\\\", "\\")
+        parts = text.split("`")
+        for script, trace in zip(parts[0::2], parts[1::2]):
+            found[script.split("\n", 1)[1]] = trace
+    return found
 
 
 def ran(program, script):
+    """The status, the trace and the message of a run; without a program those that the gate's tests expect."""
+    if isinstance(program, dict):
+        trace = program.get(script)
+        return (0, trace, "") if trace is not None else (1, "", "the gate's tests don't have it: docs/snippets.py write")
     run = subprocess.run([program, "sim"], input=script.encode(), capture_output=True)
     return run.returncode, run.stdout.decode(), run.stderr.decode().strip()
 
@@ -82,6 +98,8 @@ def shell_row(program, command):
     if case is None:
         return []
     words, texts, tail = case
+    if isinstance(program, dict):
+        return [(words, texts, None, None, None)]
     run = subprocess.run([program, *words], input="".join(text * many for many, text in texts).encode(), capture_output=True)
     lines = run.stdout.decode().splitlines(True)
     return [(words, texts, run.returncode, run.stderr.decode(), "".join(lines[-tail:] if tail else lines))]
@@ -154,6 +172,22 @@ def script_in(text):
     return "".join(line + "\n" for line in text.splitlines() if not line.startswith("#>"))
 
 
+def bare(script):
+    """A script without comments and blank lines, whose answers are those of the whole."""
+    return "".join(line + "\n" for line in script.splitlines() if line.split() and not line.lstrip().startswith("#"))
+
+
+def file_block(program, path, text, wrong):
+    """The block that shows a file, and the trace."""
+    with open(os.path.join(TOP, path), encoding="utf-8") as f:
+        script = f.read()
+    status, trace, said = ran(program, script)
+    if status != 0:
+        wrong.append(f"{path} ends with status {status}: {said}")
+        return text, ""
+    return with_answers(bare(script), trace), trace
+
+
 def script_block(program, text, wrong):
     """The block with the answers that the program gives, and the trace."""
     script = script_in(text)
@@ -161,10 +195,15 @@ def script_block(program, text, wrong):
     if status != 0:
         wrong.append(f"a script ends with status {status}: {said}\n{script}")
         return text, ""
+    return with_answers(script, trace), trace
+
+
+def with_answers(script, trace):
+    """A script with its answers below the lines that stepped their actors."""
     rows = []
     for line, answers in beside(script, trace):
         rows += [line] + [f"#> {short(answer)}" for answer in answers]
-    return "".join(row + "\n" for row in rows), trace
+    return "".join(row + "\n" for row in rows)
 
 
 def console_block(program, text, shell):
@@ -172,10 +211,12 @@ def console_block(program, text, shell):
     rows = []
     for command in re.findall(r"^\$ (.*)$", text, re.M):
         shell += shell_row(program, command)
+        if isinstance(program, dict):
+            continue
         run = subprocess.run(["bash", "-c", command.replace("./tiered", program)], cwd=TOP,
                              stdout=subprocess.PIPE, stderr=subprocess.STDOUT)
         rows += ["$ " + command] + [short(line) for line in run.stdout.decode().splitlines()]
-    return "".join(row + "\n" for row in rows)
+    return text if isinstance(program, dict) else "".join(row + "\n" for row in rows)
 
 
 def blocks(program, path, page, wrong, cases, shell):
@@ -183,8 +224,10 @@ def blocks(program, path, page, wrong, cases, shell):
     last, count = [""], [0]
 
     def made(match):
-        kind, text = match.groups()
-        if kind == "script":
+        kind, name, text = match.groups()
+        if kind == "script" and name:
+            text, last[0] = file_block(program, name, text, wrong)
+        elif kind == "script":
             script = script_in(text)
             text, last[0] = script_block(program, text, wrong)
             count[0] += 1
@@ -193,7 +236,7 @@ def blocks(program, path, page, wrong, cases, shell):
             text = console_block(program, text, shell)
         elif "".join(line.split()[0] for line in text.splitlines()) not in last[0]:
             wrong.append("bytes that the script before them wasn't given:\n" + text)
-        return f"```{kind}\n{text}```"
+        return f"```{kind}{' ' + name if name else ''}\n{text}```"
 
     return BLOCK.sub(made, page)
 
@@ -217,9 +260,11 @@ def refusals(program, page, wrong, refused):
             spans = [lines_of(span) for span in re.findall(r"`([^`]+)`", cells[-1])]
             script = [line for many, line in spans for _ in range(many)]
             cause = re.search(r"`(\w+)`", cells[0])[1]
-            status, _, said = ran(program, "".join(line + "\n" for line in script))
             count += 1
             refused.append((spans, f"tiered: line {len(script)}: {cause}\n"))
+            if isinstance(program, dict):
+                continue
+            status, _, said = ran(program, "".join(line + "\n" for line in script))
             if said != f"tiered: line {len(script)}: {cause}":
                 wrong.append(f"{cause}: the program says: {said} ({status})")
     return count
@@ -232,15 +277,29 @@ def read_or_none(path):
         return f.read()
 
 
+def stale(refused, shell):
+    """Where the gate's tables of refused lines and of a shell's commands lack what the documents show."""
+    old = as_laid_out(read_or_none(os.path.join(TOP, TABLE)))
+    missing = []
+    for lines, told in refused:
+        row = "(&[" + ", ".join(f"({n}, {literal(line)})" for n, line in lines) + f"], {literal(told)})"
+        if as_laid_out(row) not in old:
+            missing.append(f"the gate's tests don't have the refused line {lines[-1][1]}: docs/snippets.py write")
+    for words, texts, *_ in shell:
+        row = f"(&[{', '.join(map(literal, words))}], &[{', '.join(f'({n}, {literal(text)})' for n, text in texts)}],"
+        if as_laid_out(row) not in old:
+            missing.append(f"the gate's tests don't have the command tiered {' '.join(words)}: docs/snippets.py write")
+    return missing
+
+
 def main():
-    if len(sys.argv) != 3 or sys.argv[1] not in ("check", "write"):
+    if len(sys.argv) not in (2, 3) or sys.argv[1] not in ("check", "write") or sys.argv[1:] == ["write"]:
         print(__doc__.strip())
         return 2
-    word, program = sys.argv[1], os.path.abspath(sys.argv[2])
+    word, program = sys.argv[1], os.path.abspath(sys.argv[2]) if sys.argv[2:] else gate_cases()
     wrong, refused, cases, shell, shown, rows = [], [], [], [], 0, 0
-    for path in [TOP + "/README.md"] + sorted(glob.glob(TOP + "/docs/*.md")):
-        with open(path, encoding="utf-8") as f:
-            page = f.read()
+    for path in [TOP + "/README.md", TOP + "/CONTRIBUTING.md"] + sorted(glob.glob(TOP + "/docs/*.md")):
+        page = read_or_none(path)
         new = blocks(program, path, page, wrong, cases, shell)
         shown += len(BLOCK.findall(page))
         rows += refusals(program, page, wrong, refused)
@@ -250,13 +309,16 @@ def main():
             with open(path, "w", encoding="utf-8") as f:
                 f.write(new)
     cases += examples(program, wrong)
-    for path, new in {TABLE: table(refused, shell), **runs(cases)}.items():
-        old = read_or_none(os.path.join(TOP, path))
-        if as_laid_out(new) != as_laid_out(old) and word == "check":
-            wrong.append(path + " isn't what the documents show")
-        if word == "write":
-            with open(os.path.join(TOP, path), "w", encoding="utf-8") as f:
-                f.write(new)
+    if isinstance(program, dict):
+        wrong += stale(refused, shell)
+    else:
+        for path, new in {TABLE: table(refused, shell), **runs(cases)}.items():
+            old = read_or_none(os.path.join(TOP, path))
+            if as_laid_out(new) != as_laid_out(old) and word == "check":
+                wrong.append(path + " isn't what the documents show")
+            if word == "write":
+                with open(os.path.join(TOP, path), "w", encoding="utf-8") as f:
+                    f.write(new)
     print("\n".join(wrong + [f"{shown} blocks and {rows} rows, {len(wrong)} of them wrong"]))
     return 1 if wrong else 0
 

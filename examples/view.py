@@ -2,11 +2,10 @@
 """Shows examples with the answers beside the commands.
 
 usage: examples/view.py NAME..           prints these examples, as in `examples/view.py failover`
-       examples/view.py write            makes README.md's index and views
-       examples/view.py check [PROGRAM]  tells where README.md is another; with a program, also
-                                         which example gives another trace than the one beside it
+       examples/view.py write            writes the table of README.md
+       examples/view.py check [PROGRAM]  compares the table; with a program, also each example's trace
 
-An answer stands at the line that stepped its actor. Long lines are cut, with `..` at their end.
+An answer is shown at the line that stepped its actor. Long lines are cut, with `..` at their end.
 """
 import glob
 import os
@@ -25,7 +24,7 @@ def read(name):
 
 
 def taken(line, lists, left):
-    """The trace lines that a script's line leads to, which are taken off the partition's rest."""
+    """Takes the trace lines that a script's line causes off the partition's rest."""
     words = line.split()
     if words[0] == "later":
         actor, partition = words[1:3]
@@ -50,7 +49,7 @@ def taken(line, lists, left):
 
 
 def beside(script, trace):
-    """Each line of a script with the lines of the trace that it leads to; the last has the rest."""
+    """Each line of a script with the lines of the trace that it causes; the last one has the rest."""
     lists, left, rows = {}, {}, []
     for line in trace.splitlines():
         left.setdefault(int(line.split()[0]), []).append(line)
@@ -87,16 +86,14 @@ def first_sentence(name):
 
 
 def made():
-    """What stands behind the mark."""
+    """The table behind the mark."""
     rows = ["| example | what it shows |", "|---|---|"]
-    rows += [f"| [{name}](#{name}) | {first_sentence(name)} |" for name in names()]
-    for name in names():
-        rows += ["", f"## {name}", "", "```text", view(name), "```"]
+    rows += [f"| [{name}]({name}.script) | {first_sentence(name)} |" for name in names()]
     return "\n".join(rows) + "\n"
 
 
 def differing(program):
-    """Examples that the program gives another trace."""
+    """The examples of which the program writes another trace."""
     for name in names():
         run = subprocess.run([program, "sim"], input=read(name + ".script").encode(), capture_output=True)
         if run.returncode != 0 or run.stdout.decode() != read(name + ".trace"):
@@ -110,7 +107,7 @@ def main(words):
         with open(os.path.join(HERE, "README.md"), "w", encoding="utf-8") as f:
             f.write(whole)
     elif words[:1] == ["check"]:
-        wrong = [] if page == whole else ["README.md isn't what the scripts and traces give"]
+        wrong = [] if page == whole else ["examples/README.md: the table isn't that of the scripts"]
         wrong += differing(words[1]) if words[1:] else []
         print("\n".join(wrong), end="\n" if wrong else "")
         return 1 if wrong else 0
