@@ -1,13 +1,35 @@
 #!/usr/bin/env bash
-# Tells where a document or an example shows something else than crates.txt, its own entries, or the program give.
-# usage: docs/check.sh [PROGRAM]   ./tiered if it isn't said. Exit status 1 where something disagrees. Wants python3.
+# Checks the documents against crates.txt, the sources and the gate's tests; with a program, also runs all that they show.
+# usage: docs/check.sh [PROGRAM]   for instance docs/check.sh ./tiered
+# Prints a line for each thing that is wrong, and nothing else. Exit status 1 where something is. Needs python3.
 set -u
 cd "$(dirname "$0")/.." || exit 1
-program=${1:-./tiered}
-[[ $program == */* ]] || program=./$program
+export PYTHONUTF8=1 PYTHONDONTWRITEBYTECODE=1
+program=()
+if [ $# -gt 0 ]; then
+    program=("$1")
+    [[ $1 == */* ]] || program=("./$1")
+fi
 bad=0
-docs/layers.py check || bad=1
-docs/decisions.py check || { echo "docs/DECISIONS.md: the index isn't that of its entries"; bad=1; }
-docs/snippets.py check "$program" || bad=1
-examples/view.py check "$program" || bad=1
+
+# Runs a check. One that breaks off by itself says so, and finds nothing.
+check() {
+    local said
+    if said=$(python3 "$@" 2>&1); then
+        return
+    fi
+    case $said in
+        *'Traceback (most recent call last)'*) printf '%s breaks off: %s\n' "$1" "${said##*$'\n'}" ;;
+        *)
+            printf '%s\n' "$said"
+            bad=1
+            ;;
+    esac
+}
+
+check docs/layers.py check
+check docs/decisions.py check
+check docs/snippets.py check ${program[@]+"${program[@]}"}
+check examples/view.py check ${program[@]+"${program[@]}"}
+check docs/prose.py check
 exit $bad

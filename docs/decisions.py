@@ -1,8 +1,8 @@
 #!/usr/bin/env python3
-"""Makes the index of docs/DECISIONS.md out of its headings and of the lines "Departs."
+"""Makes the index of docs/DECISIONS.md out of its headings.
 
 usage: docs/decisions.py write     writes it between its marks
-       docs/decisions.py check     exit status 1 where it stands otherwise
+       docs/decisions.py check     exit status 1 where the document has another one
 """
 import os
 import re
@@ -16,21 +16,14 @@ def anchor(title):
     return re.sub(r"[^\w\- ]", "", title.lower()).replace(" ", "-")
 
 
-def departs(body):
-    """The first sentence of what Kafka does otherwise."""
-    found = re.search(r"^- \*\*Departs\.\*\* (.*?)(?=^- \*\*|\Z)", body, re.S | re.M)
-    return re.split(r"(?<=\.)\s", " ".join(found[1].split()) + " ")[0] if found else ""
-
-
 def index(page):
-    rows = ["| decision | departs from Kafka |", "|---|---|"]
+    """A point for each section, with its entries."""
+    points = []
     for part in re.split(r"^## ", page, flags=re.M)[1:]:
         name, *entries = re.split(r"^### ", part, flags=re.M)
-        rows.append(f"| **{name.strip()}** | |")
-        for entry in entries:
-            title, body = entry.split("\n", 1)
-            rows.append(f"| [{title}](#{anchor(title)}) | {departs(body)} |")
-    return "\n".join(rows)
+        points.append(f"- {name.strip()}")
+        points += [f"  - [{title}](#{anchor(title)})" for title in (x.split("\n", 1)[0] for x in entries)]
+    return "\n".join(points)
 
 
 def main():
@@ -44,6 +37,8 @@ def main():
     if sys.argv[1:] != ["check"]:
         print(__doc__.strip())
         return 2
+    if made != page:
+        print("docs/DECISIONS.md: the index doesn't list its entries: docs/decisions.py write")
     return 0 if made == page else 1
 
 

@@ -1,21 +1,18 @@
 #!/usr/bin/env python3
-"""The layers of the repository, out of crates.txt and the crates' head comments.
+"""The layers of the repository: crates.txt beside docs/ARCHITECTURE.md.
 
-usage: docs/layers.py            prints the picture and the tables
-       docs/layers.py check      tells where a document has other text between its marks
-       docs/layers.py write      puts the text between the marks
+usage: docs/layers.py            prints the picture, and crates that are listed below a crate that doesn't use them
+       docs/layers.py check      says where crates.txt is out of order, or the document has other crates or layers
+       docs/layers.py write      puts the picture and the table into the document
 
-crates.txt is in order where each crate comes after those that it stands on; each use tests that
-first, and tells of crates that are listed where nothing names them: a check loads all that a crate
-lists, and is done again where one of it changed. A part of a document that is made here stands
-between `<!-- layers: NAME -->` and `<!-- end -->`. The exit status is 1 where something disagrees.
+In crates.txt each crate comes after those that it uses. In the document a made part is between `<!-- layers: NAME -->` and
+`<!-- end -->`. The table keeps what the document says of a crate; a new crate gets the first sentence of its head comment.
 """
 import os
 import re
 import sys
 
 TOP = os.path.join(os.path.dirname(os.path.abspath(__file__)), "..")
-PROGRAM = "broker_main"
 
 
 def read(path):
@@ -24,14 +21,14 @@ def read(path):
 
 
 def crates():
-    """The layers in their order, each a title and its crates; what each crate stands on."""
+    """The layers in their order, each a title and its crates; what each crate uses."""
     layers, on = [], {}
     for line in read("crates.txt").splitlines()[1:]:
         if line.startswith("# "):
             layers.append((line[2:], []))
         elif ":" in line:
             head, rest = line.split(":", 1)
-            # Behind a name may stand how many of its functions may wait.
+            # After a name crates.txt may say how many of its functions may wait.
             name = head.split()[0]
             layers[-1][1].append(name)
             on[name] = rest.split()
@@ -39,10 +36,10 @@ def crates():
 
 
 def disorder(on):
-    """Crates that come before one that they stand on."""
+    """Crates that come before one that they use."""
     names = list(on)
     return [
-        f"{name} stands on {other}, which comes after it"
+        f"crates.txt: {name} uses {other}, which comes after it"
         for at, name in enumerate(names)
         for other in on[name]
         if other in on and names.index(other) >= at
@@ -69,21 +66,6 @@ def unnamed(on):
     ]
 
 
-def below(on, name):
-    """All crates of the repository that a crate stands on."""
-    found = set()
-    for other in on[name]:
-        if other in on:
-            found |= {other} | below(on, other)
-    return found
-
-
-def nearest(on, name):
-    """Those of them that no other of them stands on."""
-    own = [other for other in on[name] if other in on]
-    return [x for x in own if not any(x in below(on, y) for y in own)]
-
-
 def sentence(name):
     """The first sentence of the crate's head comment."""
     root = next(f for f in ("lib.rt", "main.rt") if os.path.isfile(os.path.join(TOP, "crates", name, "src", f)))
@@ -105,72 +87,57 @@ def folded(words, width):
     return rows
 
 
-def picture(layers, on):
+def picture(layers, old):
     """The layers, the lowest at the foot."""
-    bar = "+" + "-" * 27 + "+" + "-" * 68 + "+"
+    left = max(len(title) for title, _ in layers)
+    right = 94 - left
+    bar = "+" + "-" * (left + 2) + "+" + "-" * (right + 2) + "+"
     rows = [bar]
     for title, names in reversed(layers):
-        for at, row in enumerate(folded(names, 66)):
-            rows.append(f"| {title if at == 0 else '':<25} | {row:<66} |")
+        for at, row in enumerate(folded(names, right)):
+            rows.append(f"| {title if at == 0 else '':<{left}} | {row:<{right}} |")
         rows.append(bar)
     return "\n".join(["```text"] + rows + ["```"])
 
 
-def table(layers, on):
-    """A row a crate, in the order of crates.txt."""
-    inside = below(on, PROGRAM) | {PROGRAM}
-    rows = ["| crate | what it is | stands on | in the program |", "|---|---|---|---|"]
+def table(layers, old):
+    """A row a crate, in the order of crates.txt, with what the old table says of it."""
+    kept = dict(re.findall(r"^\| `(\w+)` \| (.*) \|$", old, re.M))
+    rows = ["| crate | what it is |", "|---|---|"]
     for title, names in layers:
-        rows.append(f"| **{title}** | | | |")
-        for name in names:
-            own = ", ".join(f"`{x}`" for x in nearest(on, name))
-            rows.append(f"| `{name}` | {sentence(name)} | {own} | {'yes' if name in inside else ''} |")
+        rows.append(f"| **{title}** | |")
+        rows += [f"| `{name}` | {kept[name] if name in kept else sentence(name)} |" for name in names]
     return "\n".join(rows)
 
 
-def kit(layers, on):
-    """The kit's crates, and who stands on them."""
-    users = {}
-    for name, others in on.items():
-        for other in others:
-            if other not in on:
-                users.setdefault(other, []).append(name)
-    rows = ["| crate of the kit | used by |", "|---|---|"]
-    for other in sorted(users):
-        rows.append(f"| `{other}` | {', '.join(f'`{x}`' for x in users[other])} |")
-    return "\n".join(rows)
-
-
-
-PARTS = {"picture": picture, "table": table, "kit": kit}
-PLACES = [("docs/ARCHITECTURE.md", ["picture", "table", "kit"])]
+PARTS = {"picture": picture, "table": table}
+PATH = "docs/ARCHITECTURE.md"
 
 
 def main():
     layers, on = crates()
-    wrong = disorder(on)
-    for line in unnamed(on):
-        print(line, file=sys.stderr)
     word = sys.argv[1] if len(sys.argv) > 1 else "print"
+    if word not in ("print", "check", "write"):
+        print(__doc__.strip())
+        return 2
+    wrong = disorder(on)
     if word == "print":
-        for make in PARTS.values():
-            print(make(layers, on) + "\n")
-    for path, parts in PLACES if word in ("check", "write") else []:
-        text = read(path)
-        for part in parts:
-            marked = re.compile(rf"(<!-- layers: {part} -->\n).*?(\n<!-- end -->)", re.S)
-            if not marked.search(text):
-                wrong.append(f"{path} has no marks for {part}")
-                continue
-            made = marked.sub(lambda m: m[1] + PARTS[part](layers, on) + m[2], text)
-            if made != text and word == "check":
-                wrong.append(f"{path}: {part} isn't what crates.txt gives")
-            text = made
-        if word == "write":
-            with open(os.path.join(TOP, path), "w", encoding="utf-8") as f:
-                f.write(text)
+        print("\n".join([picture(layers, "")] + unnamed(on) + wrong))
+        return 1 if wrong else 0
+    page = text = read(PATH)
+    for part, make in PARTS.items():
+        marked = re.compile(rf"(<!-- layers: {part} -->\n)(.*?)(\n<!-- end -->)", re.S)
+        if not marked.search(text):
+            wrong.append(f"{PATH} has no marks for {part}")
+            continue
+        text = marked.sub(lambda m: m[1] + make(layers, m[2]) + m[3], text)
+    if word == "write":
+        with open(os.path.join(TOP, PATH), "w", encoding="utf-8") as f:
+            f.write(text)
+    elif text != page:
+        wrong.append(f"{PATH}: the crates and layers aren't those of crates.txt: docs/layers.py write")
     for line in wrong:
-        print(line, file=sys.stderr)
+        print(line)
     return 1 if wrong else 0
 
 
