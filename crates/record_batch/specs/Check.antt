@@ -139,6 +139,15 @@ abbrev pub head_in : Result Batch BatchRefusal → Result Head BatchRefusal
 head_in (Ok batch) = Ok batch.head
 head_in (Err why) = Err why
 
+-- bytes, and what their check found
+pub record Tested : Type 0 where
+  pub bytes : List ℕ
+  pub outcome : Result Head BatchRefusal
+
+-- what was found is what the check finds of these bytes
+abbrev pub IsTested : Tested → Type 0
+IsTested c = c.outcome ≡ head_in (checked c.bytes)
+
 -- the head of bytes, by the first three tests alone
 unfoldable pub headed : List ℕ → Result Head HeadRefusal
 headed bytes = first (head_refusal bytes) (Ok (head_of bytes))

@@ -2,7 +2,7 @@
 //! checked, and read.
 //!
 //! The crates above keep a batch as its bytes. `build` makes one of records, `stamp` places it in a log, `check` tells
-//! whether bytes from outside are one, `read_head` looks at the head alone, and `records` copies the records out.
+//! whether bytes from outside are one, `Checked` keeps them with what it found, `read_head` looks at the head alone, and `records` copies the records out.
 //! The format stands in the definitions: `Head` and `Record` are its grammar, `Build` says what is written, and `Check`
 //! what is accepted. `laws` ties them together: what was built is accepted, wherever it is placed, with the records
 //! that it was built of.
@@ -12,6 +12,7 @@ mod building;
 mod checking;
 mod head;
 mod laws;
+mod outcome;
 mod parts;
 mod reading;
 mod rec;
@@ -29,6 +30,7 @@ pub use laws::{
     built_head_tells, built_is_checked, checked_is_batch, stamp_again_is_one_stamp,
     stamp_sets_base_and_epoch, stamped_head_tells, stamped_is_checked,
 };
+pub use outcome::Checked;
 pub use reading::records;
 pub use rec::{Header, HeaderList, Rec};
 pub use refusal::{BatchRefusal, BuildRefusal, HeadRefusal};
