@@ -3,6 +3,27 @@
 /// Words, texts of the input, each with how often it comes, the status, what standard error has, and the end of what is written.
 pub(crate) static SHELL: [(&[&str], &[(u32, &str)], u8, &str, &str); 6] = [
     (
+        &[],
+        &[],
+        2,
+        "tiered: usage: tiered sim [--threads] or run DIR or gen N or audit DIR or sweep DIR\nfor example: tiered sim < examples/first.script\ntiered --help tells more\n",
+        "",
+    ),
+    (
+        &["gen", "01"],
+        &[],
+        2,
+        "tiered: usage: tiered sim [--threads] or run DIR or gen N or audit DIR or sweep DIR\nfor example: tiered sim < examples/first.script\ntiered --help tells more\n",
+        "",
+    ),
+    (
+        &["sim"],
+        &[(1, "0 0 0 frob\n")],
+        3,
+        "tiered: line 1: Word\n",
+        "",
+    ),
+    (
         &["sim"],
         &[
             (1, "segment_bytes 100\n"),
@@ -28,27 +49,6 @@ pub(crate) static SHELL: [(&[&str], &[(u32, &str)], u8, &str, &str); 6] = [
         &[(1, "0 0 0 append 1000,-,:"), (1048576, "0"), (1, "\n")],
         3,
         "tiered: line 1: BatchTooLarge\n",
-        "",
-    ),
-    (
-        &[],
-        &[],
-        2,
-        "tiered: usage: tiered sim [--threads] or run DIR or gen N or audit DIR or sweep DIR\nfor example: tiered sim < examples/first.script\ntiered --help tells more\n",
-        "",
-    ),
-    (
-        &["gen", "01"],
-        &[],
-        2,
-        "tiered: usage: tiered sim [--threads] or run DIR or gen N or audit DIR or sweep DIR\nfor example: tiered sim < examples/first.script\ntiered --help tells more\n",
-        "",
-    ),
-    (
-        &["sim"],
-        &[(1, "0 0 0 frob\n")],
-        3,
-        "tiered: line 1: Word\n",
         "",
     ),
 ];

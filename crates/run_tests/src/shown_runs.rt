@@ -4,12 +4,13 @@ mod part_1;
 mod part_2;
 mod part_3;
 mod part_4;
+mod part_5;
 
 /// How many scripts there are.
 pub(crate) static COUNT: u32 = 57;
 
 /// How many parts they stand in.
-pub(crate) static PARTS: usize = 4;
+pub(crate) static PARTS: usize = 5;
 
 /// A part's text: a script, a grave accent, its trace, a grave accent, and so on. A script's first line says where it is shown.
 pub(crate) fn text(part: usize) -> &'static str {
@@ -18,6 +19,7 @@ pub(crate) fn text(part: usize) -> &'static str {
         1 => part_2::RUNS,
         2 => part_3::RUNS,
         3 => part_4::RUNS,
+        4 => part_5::RUNS,
         _ => "",
     }
 }

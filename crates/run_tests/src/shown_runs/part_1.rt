@@ -1,21 +1,8 @@
 //! What the documents and the examples show as run, part 1. Made by docs/snippets.py, which tells where it is another.
 
 /// Scripts and their traces.
-pub(crate) static RUNS: &str = "# README.md, script 1
-0 0 0 append 1000,-,:a
-0 0 0 append 1000,-,:b
-0 0 0 append 1000,-,:c
-0 0 0 flush
-0 0 0 ack
-0 0 0 fetch 0 1000
-`0 0 0 = Ok 0 0 0
-0 0 1 = Ok 1 1 0
-0 0 2 = Ok 2 2 0
-0 0 3 = Ok 3
-0 0 4 = Ok 3
-0 0 5 = Run local 0 207 Mark 0000000000000000000000390000000002ebf1884b00000000000000000000000003e800000000000003e8ffffffffffffffffffffffffffff000000010e000000010261000000000000000001000000390000000002df1620d200000000000000000000000003e800000000000003e8ffffffffffffffffffffffffffff000000010e000000010262000000000000000002000000390000000002ccb4b8a500000000000000000000000003e800000000000003e8ffffffffffffffffffffffffffff000000010e00000001026300
-`# docs/SCRIPT.md, script 1
-# two records, made stable, committed, and read
+pub(crate) static RUNS: &str = "# docs/SCRIPT.md, script 1
+# two records: appended, flushed, committed and read
 0 0 0 append 1000,:k,:v 1000,-,:w
 0 0 0 flush
 0 0 0 ack
@@ -25,7 +12,7 @@ pub(crate) static RUNS: &str = "# README.md, script 1
 0 0 2 = Ok 2
 0 0 3 = Run local 0 78 Mark 000000000000000000000042000000000254c6652100000000000100000000000003e800000000000003e8ffffffffffffffffffffffffffff0000000210000000026b0276000e00000201027700
 `# docs/SCRIPT.md, script 2
-# blanks, tabs and leading zeros say nothing
+# blanks, tabs and leading zeros have no meaning
 
   00   0\t0   append 05,-,:a
 0 0 0 flush
@@ -104,8 +91,8 @@ fault 0 disk 0 sync 1 before
 fault 0 disk 0 replace 2 after
 0 0 0 append 1000,-,:a
 0 0 0 flush
-# the sync wasn't done, so the batch is gone
-# opening the log replaces the manifest twice, and the second replacement fails
+# the sync wasn't done, so the batch is lost
+# opening the log replaces the manifest twice; the second replace fails
 0 0 0 up
 0 0 0 up
 `0 0 0 = Ok 0 0 0
@@ -165,7 +152,7 @@ fault 0 disk 0 append 3 before
 0 0 0 raw 000000000000000000000039000000000279aaa3da00000000000100000000000003e800000000000003e8ffffffffffffffffffffffffffff000000010e00000001026100
 # the record's offset delta is 1, and it is the first
 0 0 0 raw 00000000000000000000003900000000029bd3571300000000000000000000000003e800000000000003e8ffffffffffffffffffffffffffff000000010e00000201026100
-# a batch, with base offset 99, leader epoch 5 and producer 7: it is placed, and else left as it is
+# a batch with base offset 99, leader epoch 5 and producer 7: the first two are overwritten
 0 0 0 raw 000000000000006300000039000000050228835a5e00000000000000000000000003e800000000000003e80000000000000007ffffffffffff000000010e00000001026100
 0 0 0 flush
 0 0 0 ack
@@ -192,7 +179,7 @@ fault 0 disk 0 replace 2 after
 0 0 0 append 1000,-,:b
 0 0 0 flush
 0 0 0 flush
-# the second replacement was done, so both batches are stable
+# the second replace was done, so both batches are durable
 0 0 0 up
 `0 0 0 = Ok 0 0 0
 0 0 1 = Ok 1
@@ -215,6 +202,34 @@ fault 0 disk 0 sync 2 before
 0 0 4 = DiskFault
 0 0 5 = Down
 `# docs/SCRIPT.md, script 13
+brokers 2
+1 0 1 shrink
+0 0 0 append 1000,-,:a 1000,-,:b
+0 0 0 flush
+0 0 0 ack
+0 0 0 raise 3
+0 0 0 raise 1
+0 0 0 raise 1
+0 0 0 fetch 0 1000
+1 0 1 raise 2
+0 0 0 elect
+0 0 0 raise 2
+0 0 0 stop
+0 0 0 raise 2
+`0 1 0 = Ok
+0 0 0 = Ok 0 1 0
+0 0 1 = Ok 2
+0 0 2 = Ok 2
+0 0 3 = AboveMark 2
+0 0 4 = Ok 1
+0 0 5 = NotAbove 1
+0 0 6 = OutOfRange 1 2
+0 1 1 = NotLeader
+0 0 7 = Ok 1
+0 0 8 = StaleEpoch 1
+0 0 9 = Ok
+0 0 10 = Down
+`# docs/SCRIPT.md, script 14
 brokers 2
 fault 0 disk 0 read 1 before
 0 0 0 append 1000,-,:a
@@ -245,7 +260,7 @@ fault 0 disk 0 read 1 before
 0 1 1 = NotLeader
 0 0 10 = Ok
 0 0 11 = Down
-`# docs/SCRIPT.md, script 14
+`# docs/SCRIPT.md, script 15
 brokers 2
 segment_bytes 200
 local_retention_bytes 0
@@ -309,7 +324,147 @@ turn 2 1
 0 2 2 begin
 0 0 16 = Ok
 0 2 2 = Stopped
-`# docs/SCRIPT.md, script 15
+`# docs/SCRIPT.md, script 16
+brokers 2
+segment_bytes 200
+local_retention_bytes 0
+fault 0 meta read 6 before
+1 0 1 shrink
+0 0 0 append 1000,-,:a
+0 0 0 append 1000,-,:b
+0 0 0 append 1000,-,:c
+# before it is committed the log end offset is no answer
+0 0 0 offset latest
+0 0 0 flush
+0 0 0 ack
+0 0 0 offset latest
+0 0 0 offset latest_tiered
+0 0 0 copy
+0 0 0 trim
+0 0 0 offset earliest
+0 0 0 offset earliest_local
+0 0 0 offset latest_tiered
+0 0 0 offset latest_tiered
+# once the log start offset is past the local one, it is the earliest local offset
+0 0 0 raise 3
+0 0 0 offset earliest
+0 0 0 offset earliest_local
+0 0 0 offset latest_tiered
+1 0 1 offset earliest
+later 2 0 0 offset latest_tiered
+turn 2 1
+0 0 0 stop
+turn 2 1
+0 0 0 offset latest
+`0 1 0 = Ok
+0 0 0 = Ok 0 0 0
+0 0 1 = Ok 1 1 0
+0 0 2 = Ok 2 2 0
+0 0 3 = Offset 0
+0 0 4 = Ok 3
+0 0 5 = Ok 3
+0 0 6 = Offset 3
+0 0 7 begin
+0 0 7 = NoOffset
+0 0 8 begin
+0 0 8 = Copied 00000000-0000-0001-0000-000000000000 0 1
+0 0 9 begin
+0 0 9 = Dropped 0 1
+0 0 10 = Offset 0
+0 0 11 = Offset 2
+0 0 12 begin
+0 0 12 = Offset 1
+0 0 13 = MetaFault
+0 0 14 = Ok 3
+0 0 15 = Offset 3
+0 0 16 = Offset 3
+0 0 17 begin
+0 0 17 = NoOffset
+0 1 1 = NotLeader
+0 2 0 begin
+0 0 18 = Ok
+0 2 0 = Stopped
+0 0 19 = Down
+`# docs/SCRIPT.md, script 17
+brokers 2
+segment_bytes 200
+local_retention_bytes 0
+fault 0 meta read 4 before
+fault 0 meta read 6 before
+fault 0 store get 1 before
+fault 0 store get 3 before
+fault 0 disk 0 read 2 before
+1 0 1 shrink
+0 0 0 append 1000,-,:a
+0 0 0 append 3000,-,:b
+0 0 0 append 2000,-,:c 4000,-,:d
+0 0 0 flush
+0 0 0 ack
+0 0 0 copy
+0 0 0 trim
+# each call may fail: both of the metadata log, those for the two indexes, and that of the disk
+0 0 0 offset at 1001
+0 0 0 offset at 1001
+0 0 0 offset at 1001
+0 0 0 offset at 1001
+0 0 0 offset at 1001
+0 0 0 offset at 3001
+# the record of 4000 has offset 3, and its batch starts at 2
+0 0 0 offset at 3001
+0 0 0 offset at 4001
+1 0 1 offset at 0
+later 2 0 0 offset at 1001
+later 2 0 0 offset at 0
+later 2 0 0 offset at 0
+turn 2 2
+# the log start offset passes the search
+0 0 0 raise 2
+turn 2 2
+0 0 0 elect
+0 0 0 learn
+turn 2 1
+turn 2 1
+0 0 0 stop
+turn 2 1
+0 0 0 offset at 0
+`0 1 0 = Ok
+0 0 0 = Ok 0 0 0
+0 0 1 = Ok 1 1 0
+0 0 2 = Ok 2 3 0
+0 0 3 = Ok 4
+0 0 4 = Ok 4
+0 0 5 begin
+0 0 5 = Copied 00000000-0000-0001-0000-000000000000 0 1
+0 0 6 begin
+0 0 6 = Dropped 0 1
+0 0 7 = MetaFault
+0 0 8 begin
+0 0 8 = MetaFault
+0 0 9 begin
+0 0 9 = StoreFault
+0 0 10 begin
+0 0 10 = StoreFault
+0 0 11 begin
+0 0 11 = Offset 1
+0 0 12 begin
+0 0 12 = DiskFault
+0 0 13 begin
+0 0 13 = Offset 2
+0 0 14 begin
+0 0 14 = NoOffset
+0 1 1 = NotLeader
+0 2 0 begin
+0 0 15 = Ok 2
+0 2 0 = Offset 2
+0 2 1 begin
+0 0 16 = Ok 1
+0 0 17 = Leads 1
+0 2 1 = NotLeader
+0 2 2 begin
+0 0 18 = Ok
+0 2 2 = Stopped
+0 0 19 = Down
+`# docs/SCRIPT.md, script 18
 brokers 3
 1 0 1 shrink
 1 0 1 elect
@@ -323,7 +478,7 @@ brokers 3
 0 2 1 = DownBroker
 0 2 2 = Up 0
 0 2 3 = Ok 1
-`# docs/SCRIPT.md, script 16
+`# docs/SCRIPT.md, script 19
 brokers 3
 1 0 1 shrink
 2 0 2 shrink
@@ -336,7 +491,7 @@ brokers 3
 1 0 1 unclean
 1 0 1 learn
 0 0 0 elect
-# this one raises the log start offset first
+# broker 0 raises the log start offset before broker 2 is elected
 0 0 0 unclean
 0 0 0 learn
 0 0 0 ack
@@ -358,7 +513,7 @@ brokers 3
 0 0 6 = Ok 1
 0 0 7 = Ok 1
 0 2 1 = BehindStart 0 1
-`# docs/SCRIPT.md, script 17
+`# docs/SCRIPT.md, script 20
 brokers 2
 fault 0 disk 0 sync 2 before
 0 0 0 learn
@@ -385,7 +540,7 @@ fault 0 disk 0 sync 2 before
 0 0 9 = Ok 2
 0 0 10 = Leads 2
 0 1 0 = Follows 2
-`# docs/SCRIPT.md, script 18
+`# docs/SCRIPT.md, script 21
 brokers 2
 fault 0 disk 0 cut 1 before
 0 0 0 append 1000,-,:a
@@ -420,7 +575,7 @@ fault 0 disk 0 cut 1 before
 0 0 9 = Up 0
 0 0 10 = Follows 2
 0 0 11 = Cut 0
-`# docs/SCRIPT.md, script 19
+`# docs/SCRIPT.md, script 22
 brokers 2
 segment_bytes 200
 local_retention_bytes 0
@@ -433,7 +588,7 @@ fault 0 disk 1 replace 10 after
 0 0 0 ack
 0 0 0 copy
 0 0 0 trim
-# the leader's local log begins at 2 now, and broker 1 has nothing. Its joins are actor 2's, so that
+# the leader's local log starts at 2 now, and broker 1 has nothing. Actor 2 gives the joins, so that
 # a stop and another join come between their turns
 later 2 0 1 join
 later 2 0 1 join
@@ -447,7 +602,7 @@ turn 2 1
 turn 2 1
 1 0 1 join
 turn 2 1
-# now the leader's begins at 4. The log start comes up to there between two turns, and then an
+# now the leader's starts at 4. The log start offset reaches it between two turns, and then an
 # election comes between two
 0 0 0 append 1000,-,:d
 0 0 0 append 1000,-,:e
@@ -503,119 +658,4 @@ turn 2 1
 0 1 6 begin cut 2
 0 1 6 = DiskFault 4
 0 1 7 = Up 4
-`# docs/SCRIPT.md, script 20
-brokers 2
-segment_bytes 200
-local_retention_bytes 0
-fault 0 meta read 4 before
-fault 0 store get 1 before
-1 0 1 shrink
-0 0 0 append 1000,-,:a
-0 0 0 append 1000,-,:b
-0 0 0 append 1000,-,:c
-0 0 0 flush
-0 0 0 ack
-0 0 0 copy
-0 0 0 trim
-# the metadata log fails at the second turn of a join, the store at the third of another
-1 0 1 join
-1 0 1 join
-# the leader is down at the last turn of this one
-later 2 0 1 join
-turn 2 3
-0 0 0 stop
-turn 2 1
-`0 1 0 = Ok
-0 0 0 = Ok 0 0 0
-0 0 1 = Ok 1 1 0
-0 0 2 = Ok 2 2 0
-0 0 3 = Ok 3
-0 0 4 = Ok 3
-0 0 5 begin
-0 0 5 = Copied 00000000-0000-0001-0000-000000000000 0 1
-0 0 6 begin
-0 0 6 = Dropped 0 1
-0 1 1 begin cut 0
-0 1 1 = MetaFault
-0 1 2 begin cut 0
-0 1 2 = StoreFault
-0 2 0 begin cut 0
-0 0 7 = Ok
-0 2 0 = Rebuilt 2
-`# docs/SCRIPT.md, script 21
-brokers 2
-fault 0 disk 0 read 1 before
-fault 0 disk 1 append 3 before
-0 0 0 follow 1000
-1 0 1 follow 1000
-0 0 0 append 1000,-,:a
-1 0 1 follow 1000
-1 0 1 follow 1000
-# two actors let broker 1 follow at once: the second one comes too late
-0 0 0 append 1000,-,:b
-later 2 0 1 follow 1000
-turn 2 1
-1 0 1 follow 1000
-turn 2 1
-0 0 0 append 1000,-,:c
-1 0 1 follow 1000
-1 0 1 follow 1000
-1 0 1 up
-1 0 1 learn
-1 0 1 join
-# broker 1 stops between the turns; and an epoch comes between them
-later 2 0 1 follow 1000
-turn 2 1
-1 0 1 stop
-1 0 1 up
-1 0 1 learn
-1 0 1 join
-turn 2 1
-later 2 0 1 follow 1000
-turn 2 1
-0 0 0 elect
-turn 2 1
-1 0 1 follow 1000
-1 0 1 learn
-1 0 1 follow 1000
-1 0 1 join
-0 0 0 learn
-1 0 1 join
-0 0 0 stop
-1 0 1 follow 1000
-`0 0 0 = NotJoined
-0 1 0 = Level
-0 0 1 = Ok 0 0 0
-0 1 1 = DiskFault
-0 1 2 begin
-0 1 2 = Copied 1
-0 0 2 = Ok 1 1 0
-0 2 0 begin
-0 1 3 begin
-0 1 3 = Copied 2
-0 2 0 = Passed 2
-0 0 3 = Ok 2 2 0
-0 1 4 begin
-0 1 4 = DiskFault
-0 1 5 = Down
-0 1 6 = Up 0
-0 1 7 = Follows 0
-0 1 8 = Cut 0
-0 2 1 begin
-0 1 9 = Ok
-0 1 10 = Up 0
-0 1 11 = Follows 0
-0 1 12 = Cut 0
-0 2 1 = Stopped
-0 2 2 begin
-0 0 4 = Ok 1
-0 2 2 = StaleEpoch 1
-0 1 13 = StaleEpoch 1
-0 1 14 = Follows 1
-0 1 15 = NotJoined
-0 1 16 = NoLeader
-0 0 5 = Leads 1
-0 1 17 = Cut 0
-0 0 6 = Ok
-0 1 18 = NoLeader
 `";

@@ -1,7 +1,122 @@
 //! What the documents and the examples show as run, part 2. Made by docs/snippets.py, which tells where it is another.
 
 /// Scripts and their traces.
-pub(crate) static RUNS: &str = "# docs/SCRIPT.md, script 22
+pub(crate) static RUNS: &str = "# docs/SCRIPT.md, script 23
+brokers 2
+segment_bytes 200
+local_retention_bytes 0
+fault 0 meta read 4 before
+fault 0 store get 1 before
+1 0 1 shrink
+0 0 0 append 1000,-,:a
+0 0 0 append 1000,-,:b
+0 0 0 append 1000,-,:c
+0 0 0 flush
+0 0 0 ack
+0 0 0 copy
+0 0 0 trim
+# the metadata log fails at the second turn of a join, the store at the third of another
+1 0 1 join
+1 0 1 join
+# the leader is down at the last turn of this one
+later 2 0 1 join
+turn 2 3
+0 0 0 stop
+turn 2 1
+`0 1 0 = Ok
+0 0 0 = Ok 0 0 0
+0 0 1 = Ok 1 1 0
+0 0 2 = Ok 2 2 0
+0 0 3 = Ok 3
+0 0 4 = Ok 3
+0 0 5 begin
+0 0 5 = Copied 00000000-0000-0001-0000-000000000000 0 1
+0 0 6 begin
+0 0 6 = Dropped 0 1
+0 1 1 begin cut 0
+0 1 1 = MetaFault
+0 1 2 begin cut 0
+0 1 2 = StoreFault
+0 2 0 begin cut 0
+0 0 7 = Ok
+0 2 0 = Rebuilt 2
+`# docs/SCRIPT.md, script 24
+brokers 2
+fault 0 disk 0 read 1 before
+fault 0 disk 1 append 3 before
+0 0 0 follow 1000
+1 0 1 follow 1000
+0 0 0 append 1000,-,:a
+1 0 1 follow 1000
+1 0 1 follow 1000
+# two actors make broker 1 follow at once: the second one is too late
+0 0 0 append 1000,-,:b
+later 2 0 1 follow 1000
+turn 2 1
+1 0 1 follow 1000
+turn 2 1
+0 0 0 append 1000,-,:c
+1 0 1 follow 1000
+1 0 1 follow 1000
+1 0 1 up
+1 0 1 learn
+1 0 1 join
+# broker 1 stops between the turns; then an epoch starts between them
+later 2 0 1 follow 1000
+turn 2 1
+1 0 1 stop
+1 0 1 up
+1 0 1 learn
+1 0 1 join
+turn 2 1
+later 2 0 1 follow 1000
+turn 2 1
+0 0 0 elect
+turn 2 1
+1 0 1 follow 1000
+1 0 1 learn
+1 0 1 follow 1000
+1 0 1 join
+0 0 0 learn
+1 0 1 join
+0 0 0 stop
+1 0 1 follow 1000
+`0 0 0 = NotJoined
+0 1 0 = Level
+0 0 1 = Ok 0 0 0
+0 1 1 = DiskFault
+0 1 2 begin
+0 1 2 = Copied 1
+0 0 2 = Ok 1 1 0
+0 2 0 begin
+0 1 3 begin
+0 1 3 = Copied 2
+0 2 0 = Passed 2
+0 0 3 = Ok 2 2 0
+0 1 4 begin
+0 1 4 = DiskFault
+0 1 5 = Down
+0 1 6 = Up 0
+0 1 7 = Follows 0
+0 1 8 = Cut 0
+0 2 1 begin
+0 1 9 = Ok
+0 1 10 = Up 0
+0 1 11 = Follows 0
+0 1 12 = Cut 0
+0 2 1 = Stopped
+0 2 2 begin
+0 0 4 = Ok 1
+0 2 2 = StaleEpoch 1
+0 1 13 = StaleEpoch 1
+0 1 14 = Follows 1
+0 1 15 = NotJoined
+0 1 16 = NoLeader
+0 0 5 = Leads 1
+0 1 17 = Cut 0
+0 0 6 = Ok
+0 1 18 = NoLeader
+`# docs/SCRIPT.md, script 25
 brokers 2
 segment_bytes 200
 1 0 1 shrink
@@ -29,7 +144,7 @@ segment_bytes 200
 0 1 2 = Rebuilt 2
 0 1 3 begin
 0 1 3 = Copied 3
-`# docs/SCRIPT.md, script 23
+`# docs/SCRIPT.md, script 26
 brokers 2
 0 0 0 append 1000,-,:a
 0 0 0 flush
@@ -58,7 +173,7 @@ brokers 2
 0 0 5 = NotJoined
 0 0 6 = Ok
 0 0 7 = Down
-`# docs/SCRIPT.md, script 24
+`# docs/SCRIPT.md, script 27
 brokers 2
 0 0 0 shrink
 1 0 1 shrink
@@ -66,7 +181,7 @@ brokers 2
 `0 0 0 = IsLeader
 0 1 0 = Ok
 0 1 1 = NotInSync
-`# docs/SCRIPT.md, script 25
+`# docs/SCRIPT.md, script 28
 brokers 2
 1 0 1 shrink
 0 0 0 append 1000,-,:a
@@ -97,7 +212,28 @@ brokers 2
 0 1 8 = Ok 1
 0 1 9 = Ok 1
 0 1 10 = Ok
-`# docs/SCRIPT.md, script 26
+`# docs/SCRIPT.md, script 29
+0 0 0 stop
+0 0 0 stop
+`0 0 0 = Ok
+0 0 1 = Down
+`# docs/SCRIPT.md, script 30
+fault 0 disk 0 list 1 before
+0 0 0 append 1000,-,:a
+0 0 0 flush
+0 0 0 append 1000,-,:b
+0 0 0 up
+0 0 0 stop
+0 0 0 up
+0 0 0 up
+`0 0 0 = Ok 0 0 0
+0 0 1 = Ok 1
+0 0 2 = Ok 1 1 0
+0 0 3 = IsUp
+0 0 4 = Ok
+0 0 5 = DiskFault
+0 0 6 = Up 1
+`# docs/SCRIPT.md, script 31
 brokers 2
 segment_bytes 200
 fault 0 meta read 3 before
@@ -119,7 +255,7 @@ fault 0 meta append 3 before
 0 0 0 copy
 0 0 0 copy
 0 0 0 copy
-# a roll closes the open segment, and its copy loses the lead at the fourth turn
+# a roll closes the open segment, and its copy ends at the fourth turn: the broker stopped
 0 0 0 roll
 later 2 0 0 copy
 turn 2 3
@@ -151,7 +287,7 @@ turn 2 1
 0 0 13 = Ok
 0 0 14 = Down
 0 2 0 = LostLead
-`# docs/SCRIPT.md, script 27
+`# docs/SCRIPT.md, script 32
 segment_bytes 200
 0 0 0 append 1000,-,:a
 0 0 0 append 1000,-,:b
@@ -179,7 +315,7 @@ turn 1 8
 0 0 8 = Ok
 0 0 9 begin
 0 0 9 = Level
-`# docs/SCRIPT.md, script 28
+`# docs/SCRIPT.md, script 33
 segment_bytes 200
 0 0 0 append 1000,-,:a
 0 0 0 append 1000,-,:b
@@ -205,7 +341,7 @@ segment_bytes 200
 0 0 9 = Ok
 0 0 10 begin
 0 0 10 = Copied 00000000-0000-0001-0000-000000000001 2 3
-`# docs/SCRIPT.md, script 29
+`# docs/SCRIPT.md, script 34
 segment_bytes 200
 local_retention_bytes 0
 fault 0 meta read 4 before
@@ -222,7 +358,7 @@ fault 0 disk 0 replace 3 before
 0 0 0 copy
 0 0 0 trim
 0 0 0 trim
-# the next one isn't copied either, so it is kept; and once it is, its trim stops the broker
+# the next one is kept until it is copied; then the trim's disk call fails
 0 0 0 trim
 0 0 0 copy
 later 1 0 0 trim
@@ -231,7 +367,7 @@ turn 1 1
 0 0 0 trim
 turn 1 1
 0 0 0 up
-# the segment is still there, but the broker knows no high watermark until it leads
+# the segment is still there, but the broker has no high watermark until it leads
 0 0 0 trim
 0 0 0 elect
 0 0 0 learn
@@ -269,7 +405,7 @@ turn 1 1
 0 0 19 = Dropped 2 3
 0 0 20 begin
 0 0 20 = Run remote 00000000-0000-0001-0000-000000000001 138 Piece 0000000000000002000000390000000002ccb4b8a500000000000000000000000003e800000000000003e8ffffffffffffffffffffffffffff000000010e000000010263000000000000000003000000390000000002b6d971e000000000000000000000000003e800000000000003e8ffffffffffffffffffffffffffff000000010e00000001026400
-`# docs/SCRIPT.md, script 30
+`# docs/SCRIPT.md, script 35
 segment_bytes 200
 retention_ms -1
 0 0 0 append 1000,-,:a
@@ -292,7 +428,7 @@ retention_ms -1
 0 0 7 = Ok 2
 0 0 8 begin
 0 0 8 = Dropped 0 1
-`# docs/SCRIPT.md, script 31
+`# docs/SCRIPT.md, script 36
 segment_bytes 200
 retention_ms 1000
 fault 0 store delete 3 before
@@ -309,11 +445,11 @@ fault 0 store delete 3 before
 0 0 0 copy
 0 0 0 expire
 0 0 0 fetch 1 1000
-# the third object stays, and so the next expiry deletes them all again
+# the third object stays; the next expiry starts over
 0 0 0 expire
 0 0 0 expire
 0 0 0 expire
-# the second copy is as old, but for the open segment nothing goes behind it
+# the second copy goes too, and nothing is left but the open segment
 0 0 0 copy
 0 0 - clock 9000
 0 0 0 expire
@@ -349,7 +485,7 @@ fault 0 store delete 3 before
 0 0 18 = Deleted 00000000-0000-0001-0000-000000000001
 0 0 19 begin
 0 0 19 = Kept
-`# docs/SCRIPT.md, script 32
+`# docs/SCRIPT.md, script 37
 segment_bytes 200
 retention_bytes 138
 retention_ms -1
@@ -382,7 +518,7 @@ retention_ms -1
 0 0 10 = Kept
 0 0 11 begin
 0 0 11 = Dropped 0 1
-`# docs/SCRIPT.md, script 33
+`# docs/SCRIPT.md, script 38
 brokers 2
 segment_bytes 200
 retention_bytes 100
@@ -400,7 +536,7 @@ retention_bytes 100
 0 0 0 append 1000,-,:d
 0 0 0 flush
 1 0 1 elect
-# the old leader doesn't know that it was replaced
+# the old leader hasn't learned that it was replaced
 0 0 0 expire
 1 0 1 expire
 1 0 1 learn
@@ -431,14 +567,14 @@ turn 2 1
 0 2 0 begin
 0 1 6 = Ok
 0 2 0 = LostLead
-`# docs/SCRIPT.md, script 34
+`# docs/SCRIPT.md, script 39
 segment_bytes 200
 0 0 0 append 1000,-,:a
 0 0 0 append 1000,-,:b
 0 0 0 append 1000,-,:c
 0 0 0 flush
 0 0 0 ack
-# all objects are put, and it isn't noted yet that the copy is whole
+# all objects are uploaded, but not yet recorded as finished
 later 1 0 0 copy
 turn 1 7
 0 0 0 raise 2
@@ -456,175 +592,39 @@ turn 1 6
 0 0 6 = Deleted 00000000-0000-0001-0000-000000000000
 0 1 0 = Overtaken DeleteFinished
 0 0 7 = OutOfRange 2 3
-`# docs/SCRIPT.md, script 35
-brokers 2
-1 0 1 shrink
-0 0 0 append 1000,-,:a 1000,-,:b
-0 0 0 flush
-0 0 0 ack
-0 0 0 raise 3
-0 0 0 raise 1
-0 0 0 raise 1
-0 0 0 fetch 0 1000
-1 0 1 raise 2
-0 0 0 elect
-0 0 0 raise 2
-0 0 0 stop
-0 0 0 raise 2
-`0 1 0 = Ok
-0 0 0 = Ok 0 1 0
-0 0 1 = Ok 2
-0 0 2 = Ok 2
-0 0 3 = AboveMark 2
-0 0 4 = Ok 1
-0 0 5 = NotAbove 1
-0 0 6 = OutOfRange 1 2
-0 1 1 = NotLeader
-0 0 7 = Ok 1
-0 0 8 = StaleEpoch 1
-0 0 9 = Ok
-0 0 10 = Down
-`# docs/SCRIPT.md, script 36
+`# docs/SCRIPT.md, script 40
 0 0 - clock 86400000
 `0 0 0 = Ok
-`# docs/SCRIPT.md, script 37
-brokers 2
-segment_bytes 200
-local_retention_bytes 0
-fault 0 meta read 6 before
-1 0 1 shrink
+`# examples/before-ack.script
+# What isn't acknowledged can't be fetched, and what isn't flushed can't be acknowledged.
 0 0 0 append 1000,-,:a
+0 0 0 fetch 0 1000
+
+# An ack before the flush acknowledges a stable end of 0, and a flush alone raises no high
+# watermark.
+0 0 0 ack
+0 0 0 flush
+0 0 0 fetch 0 1000
+
+# After both the first batch can be fetched.
+0 0 0 ack
 0 0 0 append 1000,-,:b
-0 0 0 append 1000,-,:c
-# the end of the log is no answer before it is committed
-0 0 0 offset latest
-0 0 0 flush
-0 0 0 ack
-0 0 0 offset latest
-0 0 0 offset latest_tiered
-0 0 0 copy
-0 0 0 trim
-0 0 0 offset earliest
-0 0 0 offset earliest_local
-0 0 0 offset latest_tiered
-0 0 0 offset latest_tiered
-# once the log start is past the local one, the local log begins there for whoever asks
-0 0 0 raise 3
-0 0 0 offset earliest
-0 0 0 offset earliest_local
-0 0 0 offset latest_tiered
-1 0 1 offset earliest
-later 2 0 0 offset latest_tiered
-turn 2 1
-0 0 0 stop
-turn 2 1
-0 0 0 offset latest
-`0 1 0 = Ok
-0 0 0 = Ok 0 0 0
-0 0 1 = Ok 1 1 0
-0 0 2 = Ok 2 2 0
-0 0 3 = Offset 0
-0 0 4 = Ok 3
-0 0 5 = Ok 3
-0 0 6 = Offset 3
-0 0 7 begin
-0 0 7 = NoOffset
-0 0 8 begin
-0 0 8 = Copied 00000000-0000-0001-0000-000000000000 0 1
-0 0 9 begin
-0 0 9 = Dropped 0 1
-0 0 10 = Offset 0
-0 0 11 = Offset 2
-0 0 12 begin
-0 0 12 = Offset 1
-0 0 13 = MetaFault
-0 0 14 = Ok 3
-0 0 15 = Offset 3
-0 0 16 = Offset 3
-0 0 17 begin
-0 0 17 = NoOffset
-0 1 1 = NotLeader
-0 2 0 begin
-0 0 18 = Ok
-0 2 0 = Stopped
-0 0 19 = Down
-`# docs/SCRIPT.md, script 38
-brokers 2
-segment_bytes 200
-local_retention_bytes 0
-fault 0 meta read 4 before
-fault 0 meta read 6 before
-fault 0 store get 1 before
-fault 0 store get 3 before
-fault 0 disk 0 read 2 before
-1 0 1 shrink
-0 0 0 append 1000,-,:a
-0 0 0 append 3000,-,:b
-0 0 0 append 2000,-,:c 4000,-,:d
-0 0 0 flush
-0 0 0 ack
-0 0 0 copy
-0 0 0 trim
-# each call may fail: here both of the metadata log, those for the two indexes, and that of the disk
-0 0 0 offset at 1001
-0 0 0 offset at 1001
-0 0 0 offset at 1001
-0 0 0 offset at 1001
-0 0 0 offset at 1001
-0 0 0 offset at 3001
-# the record of 4000 has offset 3, and its batch begins at 2
-0 0 0 offset at 3001
-0 0 0 offset at 4001
-1 0 1 offset at 0
-later 2 0 0 offset at 1001
-later 2 0 0 offset at 0
-later 2 0 0 offset at 0
-turn 2 2
-# the log start passes what the search has come to
-0 0 0 raise 2
-turn 2 2
-0 0 0 elect
-0 0 0 learn
-turn 2 1
-turn 2 1
-0 0 0 stop
-turn 2 1
-0 0 0 offset at 0
-`0 1 0 = Ok
-0 0 0 = Ok 0 0 0
-0 0 1 = Ok 1 1 0
-0 0 2 = Ok 2 3 0
-0 0 3 = Ok 4
-0 0 4 = Ok 4
-0 0 5 begin
-0 0 5 = Copied 00000000-0000-0001-0000-000000000000 0 1
-0 0 6 begin
-0 0 6 = Dropped 0 1
-0 0 7 = MetaFault
-0 0 8 begin
-0 0 8 = MetaFault
-0 0 9 begin
-0 0 9 = StoreFault
-0 0 10 begin
-0 0 10 = StoreFault
-0 0 11 begin
-0 0 11 = Offset 1
-0 0 12 begin
-0 0 12 = DiskFault
-0 0 13 begin
-0 0 13 = Offset 2
-0 0 14 begin
-0 0 14 = NoOffset
-0 1 1 = NotLeader
-0 2 0 begin
-0 0 15 = Ok 2
-0 2 0 = Offset 2
-0 2 1 begin
-0 0 16 = Ok 1
-0 0 17 = Leads 1
-0 2 1 = NotLeader
-0 2 2 begin
-0 0 18 = Ok
-0 2 2 = Stopped
-0 0 19 = Down
+0 0 0 fetch 0 1000
+
+# The second one stands in the log and isn't committed, so offset 1 is empty, and so is the log end,
+# offset 2. Past the end nothing is in range.
+0 0 0 fetch 1 1000
+0 0 0 fetch 2 1000
+0 0 0 fetch 3 1000
+`0 0 0 = Ok 0 0 0
+0 0 1 = Empty
+0 0 2 = Ok 0
+0 0 3 = Ok 1
+0 0 4 = Empty
+0 0 5 = Ok 1
+0 0 6 = Ok 1 1 0
+0 0 7 = Run local 0 69 Mark 0000000000000000000000390000000002ebf1884b00000000000000000000000003e800000000000003e8ffffffffffffffffffffffffffff000000010e00000001026100
+0 0 8 = Empty
+0 0 9 = Empty
+0 0 10 = OutOfRange 0 2
 `";

@@ -1,60 +1,7 @@
 //! What the documents and the examples show as run, part 3. Made by docs/snippets.py, which tells where it is another.
 
 /// Scripts and their traces.
-pub(crate) static RUNS: &str = "# docs/SCRIPT.md, script 39
-0 0 0 stop
-0 0 0 stop
-`0 0 0 = Ok
-0 0 1 = Down
-`# docs/SCRIPT.md, script 40
-fault 0 disk 0 list 1 before
-0 0 0 append 1000,-,:a
-0 0 0 flush
-0 0 0 append 1000,-,:b
-0 0 0 up
-0 0 0 stop
-0 0 0 up
-0 0 0 up
-`0 0 0 = Ok 0 0 0
-0 0 1 = Ok 1
-0 0 2 = Ok 1 1 0
-0 0 3 = IsUp
-0 0 4 = Ok
-0 0 5 = DiskFault
-0 0 6 = Up 1
-`# examples/before-ack.script
-# What isn't acknowledged can't be fetched, and what isn't flushed can't be acknowledged.
-0 0 0 append 1000,-,:a
-0 0 0 fetch 0 1000
-
-# An ack before the flush acknowledges a stable end of 0, and a flush alone raises no high
-# watermark.
-0 0 0 ack
-0 0 0 flush
-0 0 0 fetch 0 1000
-
-# After both the first batch can be fetched.
-0 0 0 ack
-0 0 0 append 1000,-,:b
-0 0 0 fetch 0 1000
-
-# The second one stands in the log and isn't committed, so offset 1 is empty, and so is the log end,
-# offset 2. Past the end nothing is in range.
-0 0 0 fetch 1 1000
-0 0 0 fetch 2 1000
-0 0 0 fetch 3 1000
-`0 0 0 = Ok 0 0 0
-0 0 1 = Empty
-0 0 2 = Ok 0
-0 0 3 = Ok 1
-0 0 4 = Empty
-0 0 5 = Ok 1
-0 0 6 = Ok 1 1 0
-0 0 7 = Run local 0 69 Mark 0000000000000000000000390000000002ebf1884b00000000000000000000000003e800000000000003e8ffffffffffffffffffffffffffff000000010e00000001026100
-0 0 8 = Empty
-0 0 9 = Empty
-0 0 10 = OutOfRange 0 2
-`# examples/by-time.script
+pub(crate) static RUNS: &str = "# examples/by-time.script
 # Offsets are looked up by timestamps, through remote segments and then through the local log.
 segment_bytes 200
 local_retention_bytes 0
@@ -612,4 +559,47 @@ fault 0 disk 1 append 2 before
 0 0 8 = Ok 2
 0 0 9 = Ok 2
 0 0 10 = Run local 0 138 Mark 0000000000000000000000390000000002ebf1884b00000000000000000000000003e800000000000003e8ffffffffffffffffffffffffffff000000010e000000010261000000000000000001000000390000000002df1620d200000000000000000000000003e800000000000003e8ffffffffffffffffffffffffffff000000010e00000001026200
+`# examples/first.script
+# Three records go to the log, each as a batch of its own, and are read back.
+# An append is answered with base offset, last offset and leader epoch.
+0 0 0 append 1000,-,:a
+0 0 0 append 1000,-,:b
+0 0 0 append 1000,-,:c
+
+# The log becomes stable up to its end, and the high watermark is raised to it.
+0 0 0 flush
+0 0 0 ack
+
+# All three batches are given, 69 bytes each, up to the high watermark.
+0 0 0 fetch 0 1000
+`0 0 0 = Ok 0 0 0
+0 0 1 = Ok 1 1 0
+0 0 2 = Ok 2 2 0
+0 0 3 = Ok 3
+0 0 4 = Ok 3
+0 0 5 = Run local 0 207 Mark 0000000000000000000000390000000002ebf1884b00000000000000000000000003e800000000000003e8ffffffffffffffffffffffffffff000000010e000000010261000000000000000001000000390000000002df1620d200000000000000000000000003e800000000000003e8ffffffffffffffffffffffffffff000000010e000000010262000000000000000002000000390000000002ccb4b8a500000000000000000000000003e800000000000003e8ffffffffffffffffffffffffffff000000010e00000001026300
+`# examples/from-outside.script
+# A batch from outside, with base offset 99, leader epoch 5 and producer 7. Its checksum covers neither of the first two:
+# the broker places the batch at its log's end, in its own epoch, and leaves all else as it was given.
+0 0 0 raw 000000000000006300000039000000050228835a5e00000000000000000000000003e800000000000003e80000000000000007ffffffffffff000000010e00000001026100
+
+# One bit of the value is wrong: refused, with the checksum that the batch has and the one that its bytes give.
+0 0 0 raw 0000000000000000000000390000000002ebf1884b00000000000000000000000003e800000000000003e8ffffffffffffffffffffffffffff000000010e00000001026000
+
+# The bytes end inside the head.
+0 0 0 raw 0000
+
+# Two records in one batch, the second with a key, no value, and a header of no value.
+0 0 0 append 5,-,:a 6,:k,-,:h=-
+
+0 0 0 flush
+0 0 0 ack
+0 0 0 fetch 0 1000
+`0 0 0 = Ok 0 0 0
+0 0 1 = Refused BadCrc 3958474827 4166193212
+0 0 2 = Refused Short
+0 0 3 = Ok 1 2 0
+0 0 4 = Ok 3
+0 0 5 = Ok 3
+0 0 6 = Run local 0 149 Mark 000000000000000000000039000000000228835a5e00000000000000000000000003e800000000000003e80000000000000007ffffffffffff000000010e00000001026100000000000000000100000044000000000267651f9b00000000000100000000000000050000000000000006ffffffffffffffffffffffffffff000000020e0000000102610014000202026b0102026801
 `";

@@ -1,50 +1,7 @@
 //! What the documents and the examples show as run, part 4. Made by docs/snippets.py, which tells where it is another.
 
 /// Scripts and their traces.
-pub(crate) static RUNS: &str = "# examples/first.script
-# Three records go to the log, each as a batch of its own, and are read back.
-# An append is answered with base offset, last offset and leader epoch.
-0 0 0 append 1000,-,:a
-0 0 0 append 1000,-,:b
-0 0 0 append 1000,-,:c
-
-# The log becomes stable up to its end, and the high watermark is raised to it.
-0 0 0 flush
-0 0 0 ack
-
-# All three batches are given, 69 bytes each, up to the high watermark.
-0 0 0 fetch 0 1000
-`0 0 0 = Ok 0 0 0
-0 0 1 = Ok 1 1 0
-0 0 2 = Ok 2 2 0
-0 0 3 = Ok 3
-0 0 4 = Ok 3
-0 0 5 = Run local 0 207 Mark 0000000000000000000000390000000002ebf1884b00000000000000000000000003e800000000000003e8ffffffffffffffffffffffffffff000000010e000000010261000000000000000001000000390000000002df1620d200000000000000000000000003e800000000000003e8ffffffffffffffffffffffffffff000000010e000000010262000000000000000002000000390000000002ccb4b8a500000000000000000000000003e800000000000003e8ffffffffffffffffffffffffffff000000010e00000001026300
-`# examples/from-outside.script
-# A batch from outside, with base offset 99, leader epoch 5 and producer 7. Its checksum covers neither of the first two:
-# the broker places the batch at its log's end, in its own epoch, and leaves all else as it was given.
-0 0 0 raw 000000000000006300000039000000050228835a5e00000000000000000000000003e800000000000003e80000000000000007ffffffffffff000000010e00000001026100
-
-# One bit of the value is wrong: refused, with the checksum that the batch has and the one that its bytes give.
-0 0 0 raw 0000000000000000000000390000000002ebf1884b00000000000000000000000003e800000000000003e8ffffffffffffffffffffffffffff000000010e00000001026000
-
-# The bytes end inside the head.
-0 0 0 raw 0000
-
-# Two records in one batch, the second with a key, no value, and a header of no value.
-0 0 0 append 5,-,:a 6,:k,-,:h=-
-
-0 0 0 flush
-0 0 0 ack
-0 0 0 fetch 0 1000
-`0 0 0 = Ok 0 0 0
-0 0 1 = Refused BadCrc 3958474827 4166193212
-0 0 2 = Refused Short
-0 0 3 = Ok 1 2 0
-0 0 4 = Ok 3
-0 0 5 = Ok 3
-0 0 6 = Run local 0 149 Mark 000000000000000000000039000000000228835a5e00000000000000000000000003e800000000000003e80000000000000007ffffffffffff000000010e00000001026100000000000000000100000044000000000267651f9b00000000000100000000000000050000000000000006ffffffffffffffffffffffffffff000000020e0000000102610014000202026b0102026801
-`# examples/limits.script
+pub(crate) static RUNS: &str = "# examples/limits.script
 # How many batches a fetch is given, and why it ends. The three batches have 73, 74 and 74 bytes.
 0 0 0 append 1700000000000,-,:apple
 0 0 0 append 1700000000001,-,:banana
