@@ -2,14 +2,19 @@
 
 use crate::plain;
 use batch_prims::{
-    VarRefusal, crc32c, crc32c_bitwise, crc32c_bytewise, read_varint, read_varlong, write_varint,
-    write_varlong,
+    VarRefusal, crc32c, crc32c_bitwise, crc32c_bytewise, crc32c_sliced, read_varint, read_varlong,
+    write_varint, write_varlong,
 };
 use std::alloc::{AllocError, Global};
 
-/// A checksum by sixteen bytes a step, by a byte a step and by a bit a step.
-fn sums(bytes: &[u8]) -> (u32, u32, u32) {
-    (crc32c(bytes), crc32c_bytewise(bytes), crc32c_bitwise(bytes))
+/// A checksum by four registers, by sixteen bytes a step, by a byte a step and by a bit a step.
+fn sums(bytes: &[u8]) -> (u32, u32, u32, u32) {
+    (
+        crc32c(bytes),
+        crc32c_sliced(bytes),
+        crc32c_bytewise(bytes),
+        crc32c_bitwise(bytes),
+    )
 }
 
 /// Bytes and their checksum.
@@ -23,17 +28,17 @@ static SUMS: [(&[u8], u32); 4] = [
 #[test]
 fn checksum_rows(rt: HostRuntime) {
     for (bytes, sum) in &SUMS {
-        assert_eq!(rt; sums(bytes), (*sum, *sum, *sum), "{} bytes", bytes.len());
+        assert_eq!(rt; sums(bytes), (*sum, *sum, *sum, *sum), "{} bytes", bytes.len());
     }
 }
 
 #[test]
 fn each_checksum_body_agrees_at_each_length(rt: HostRuntime) {
-    let mut bytes = [0u8; 50];
-    for i in 0..50u8 {
+    let mut bytes = [0u8; 70];
+    for i in 0..70u8 {
         bytes[i as usize] = i.wrapping_mul(77).wrapping_add(5);
-        let (wide, bytewise, bitwise) = sums(&bytes[..i as usize]);
-        assert_eq!(rt; (wide, bytewise), (bitwise, bitwise), "{i} bytes");
+        let (braided, sliced, bytewise, bitwise) = sums(&bytes[..i as usize]);
+        assert_eq!(rt; (braided, sliced, bytewise), (bitwise, bitwise, bitwise), "{i} bytes");
     }
 }
 

@@ -1,5 +1,6 @@
 mod Linear
 mod Taking
+mod Braiding
 mod Entries
 mod Groups
 mod Written

@@ -5,7 +5,7 @@ use Rattle.std.proofs.lemmas.Nat.{xor_comm, xor_shr, xor_mod, mod_below, shr_spl
 use Rattle.batch_prims.specs.Crc.{step, steps}
 
 -- the two in the middle change places
-exchange : (a b c d : ℕ) → bit_xor (bit_xor a b) (bit_xor c d) ≡ bit_xor (bit_xor a c) (bit_xor b d)
+pub exchange : (a b c d : ℕ) → bit_xor (bit_xor a b) (bit_xor c d) ≡ bit_xor (bit_xor a c) (bit_xor b d)
 exchange a b c d =
     xor_assoc a b (bit_xor c d)
     ∙ ap (bit_xor a) (sym (xor_assoc b c d) ∙ ap (λ (x : ℕ). bit_xor x d) (xor_comm b c) ∙ xor_assoc c b d)

@@ -22,7 +22,7 @@ bits_before zero n = n
 bits_before (suc k) n = 8 + bits_before k n
 
 -- one byte of a word more
-share : (n k w acc : ℕ)
+pub share : (n k w acc : ℕ)
     → bit_xor acc (steps (8 + n) (w / 2 ^ k)) ≡ bit_xor (bit_xor acc (steps (8 + n) (w / 2 ^ k % 256))) (steps n (w / 2 ^ (k + 8)))
 share n k w acc =
     ap (bit_xor acc)
@@ -52,7 +52,7 @@ word-by-shares n w a b c d e f g h pa pb pc pd pe pf pg ph =
     ∙ share n 48 w _))
 
 -- a byte that was taken in, and r behind it
-taken : (n c b r : ℕ) → b < 256 → steps n (bit_xor (steps 8 (bit_xor c b)) r) ≡ steps (8 + n) (bit_xor c (r * 256 + b))
+pub taken : (n c b r : ℕ) → b < 256 → steps n (bit_xor (steps 8 (bit_xor c b)) r) ≡ steps (8 + n) (bit_xor c (r * 256 + b))
 taken n c b r h =
     ap (λ (x : ℕ). steps n (bit_xor (steps 8 (bit_xor c b)) x)) (sym (steps-shifted 8 r))
     ∙ ap (steps n) (sym (steps-xor 8 (bit_xor c b) (r * 2 ^ 8)))
@@ -90,7 +90,7 @@ first-eight (s ∷ t ∷ u ∷ v ∷ w ∷ x ∷ []) m c h p e = absurd (omega a
 first-eight (s ∷ t ∷ u ∷ v ∷ w ∷ x ∷ y ∷ []) m c h p e = absurd (omega arith)
 
 -- k bytes, and n behind them
-register-take : (k n c : ℕ) (bytes : List ℕ)
+pub register-take : (k n c : ℕ) (bytes : List ℕ)
     → register c (take (k + n) bytes) ≡ register (register c (take k bytes)) (take n (drop k bytes))
 register-take zero n c bytes = ap (λ (m : ℕ). register c (take m bytes)) (omega arith)
 register-take (suc k) n c [] = rw (suc-add, take-nil) refl

@@ -1,2 +1,3 @@
+pub mod Braid
 pub mod Crc
 pub mod Varint

@@ -5,7 +5,7 @@
 //! being theirs. No look-up waits for another one of its step.
 
 ghost use Rattle.std.specs.Prelude.{◌≡◌, ◌≤◌, ℕ, take, length, bit_xor};
-ghost use Rattle.batch_prims.specs.Crc.{steps, register, crc32c as crc_of};
+ghost use Rattle.batch_prims.specs.Crc.{steps, register, crc32c};
 
 use crate::bytewise::after_all;
 use crate::far_tables::{
@@ -65,10 +65,10 @@ fn after_sixteen(crc: u32, bytes: &[u8]) -> u32
     far(crc as u64 ^ first) ^ near(second)
 }
 
-/// The checksum of the bytes.
+/// The checksum of the bytes, sixteen bytes a step by one register.
 #[tactic(auto, unfolding(crate::specs::Crc::crc32c))]
-pub fn crc32c(bytes: &[u8]) -> u32
-    ensures { result ≡ crc_of bytes.now }
+pub fn crc32c_sliced(bytes: &[u8]) -> u32
+    ensures { result ≡ crc32c bytes.now }
 {
     let mut crc = u32::MAX;
     let mut rest = bytes;

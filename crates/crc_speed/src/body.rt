@@ -3,12 +3,14 @@
 ghost use Rattle.std.specs.Prelude.{◌≡◌};
 ghost use Rattle.batch_prims.specs.Crc.{crc32c as crc_of};
 
-use batch_prims::{crc32c, crc32c_bitwise, crc32c_bytewise};
+use batch_prims::{crc32c, crc32c_bitwise, crc32c_bytewise, crc32c_sliced};
 
 /// A body of the checksum.
 #[derive(Clone, Copy, Debug)]
 pub enum Body {
-    /// Sixteen bytes a step.
+    /// Sixteen bytes a step, by four registers.
+    Braided,
+    /// Sixteen bytes a step, by one register.
     Sliced,
     /// A byte a step.
     Bytewise,
@@ -22,7 +24,8 @@ impl Body {
         ensures { result ≡ crc_of bytes.now }
     {
         match self {
-            Body::Sliced => crc32c(bytes),
+            Body::Braided => crc32c(bytes),
+            Body::Sliced => crc32c_sliced(bytes),
             Body::Bytewise => crc32c_bytewise(bytes),
             Body::Bitwise => crc32c_bitwise(bytes),
         }

@@ -1,7 +1,7 @@
 //! How fast the bodies of CRC-32C are, beside a copy of the same memory.
 //!
 //! `crc_speed [SIZE [ROUNDS [time]]]` takes the checksum of SIZE bytes by each body, ROUNDS times over, and
-//! prints a line a round: the three checksums, which are one number. With the word `time` the line also tells
+//! prints a line a round: the four checksums, which are one number. With the word `time` the line also tells
 //! the pace of the copy, and that of each body as a part of it. Only then does the output differ between runs.
 #![tactic(auto)]
 
@@ -33,17 +33,21 @@ fn round(rt: &impl Runtime, task: &Task, bytes: &[u8], copy: &mut [u8]) -> Resul
     requires { length bytes.now ≡ length copy.old }
 {
     let copied = pace::of_copy(rt, bytes, copy)?;
-    let (sum, sliced) = pace::of_body(rt, Body::Sliced, copy)?;
-    let (second, bytewise) = pace::of_body(rt, Body::Bytewise, copy)?;
-    let (third, bitwise) = pace::of_body(rt, Body::Bitwise, copy)?;
-    println!(rt; "sliced {sum:08x}, bytewise {second:08x}, bitwise {third:08x}")?;
+    let (sum, braided) = pace::of_body(rt, Body::Braided, copy)?;
+    let (second, sliced) = pace::of_body(rt, Body::Sliced, copy)?;
+    let (third, bytewise) = pace::of_body(rt, Body::Bytewise, copy)?;
+    let (fourth, bitwise) = pace::of_body(rt, Body::Bitwise, copy)?;
+    println!(rt;
+        "braided {sum:08x}, sliced {second:08x}, bytewise {third:08x}, bitwise {fourth:08x}"
+    )?;
     if task.timed {
         let rate = copied.rate(bytes.len());
+        let braided = braided.part_of(&copied);
         let sliced = sliced.part_of(&copied);
         let bytewise = bytewise.part_of(&copied);
         let bitwise = bitwise.part_of(&copied);
         println!(rt;
-            "copy {rate} MB/s; of that sliced {sliced}, bytewise {bytewise}, bitwise {bitwise}"
+            "copy {rate} MB/s; of that braided {braided}, sliced {sliced}, bytewise {bytewise}, bitwise {bitwise}"
         )?;
     }
     Ok(())

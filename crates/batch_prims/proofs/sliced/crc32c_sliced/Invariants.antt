@@ -1,6 +1,6 @@
 use Rattle.std.proofs.Common.{◌≡◌, length}
 use Rattle.batch_prims.specs.Crc.{register}
-use Rattle.batch_prims.proofs.sliced.crc32c.Given as goal
+use Rattle.batch_prims.proofs.sliced.crc32c_sliced.Given as goal
 
 abbrev pub invariant-loop-rest : goal.invariant-loop-rest
 invariant-loop-rest l = register l.crc l.rest ≡ register 0xFFFFFFFF l.bytes
