@@ -30,7 +30,7 @@ pub use laws::{
     built_head_tells, built_is_checked, checked_is_batch, stamp_again_is_one_stamp,
     stamp_sets_base_and_epoch, stamped_head_tells, stamped_is_checked,
 };
-pub use outcome::Checked;
+pub use outcome::{Checked, check_known};
 pub use reading::records;
 pub use rec::{Header, HeaderList, Rec};
 pub use refusal::{BatchRefusal, BuildRefusal, HeadRefusal};

@@ -48,6 +48,19 @@ impl Closed {
         })
     }
 
+    /// The same segment once more. The bytes are shared.
+    pub fn copy(&self, alloc: Global) -> Result<Closed, AllocError>
+        ensures { IfOk result (λ segment. segment ≡ self.now) }
+    {
+        Ok(Closed {
+            base: self.base,
+            last: self.last,
+            max_ts: self.max_ts,
+            bytes: self.bytes.clone()?,
+            epochs: self.epochs.copy(alloc)?,
+        })
+    }
+
     /// The offset of the first record.
     pub fn base(&self) -> u64
         ensures { result ≡ self.now.base }
