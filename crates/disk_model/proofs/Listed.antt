@@ -10,7 +10,7 @@ use Rattle.std.specs.List.Sorted.{IsStrictlySortedBy}
 use Rattle.std.specs.List.{AllByRecursion}
 use Rattle.std.proofs.lemmas.Map.Lookups.{exact_unsigned}
 use Rattle.tier_base.specs.declared.plain.FileName.{FileName}
-use Rattle.tier_base.specs.declared.plain.FileName.TheVariants.{Manifest, Log, Notes, Gate}
+use Rattle.tier_base.specs.declared.plain.FileName.TheVariants.{Manifest, Log, Notes, Gate, Registry}
 use Rattle.disk_model.specs.declared.held.Held.{Held}
 use Rattle.disk_model.specs.declared.shelf.Shelf.{Shelf}
 use Rattle.tier_base.specs.Told.{In, Once, Names}
@@ -48,6 +48,7 @@ kind Manifest = 0
 kind (Log b) = 1
 kind Notes = 2
 kind Gate = 3
+kind Registry = 4
 
 slot : (name : FileName) (held : Option Held) → IsSome (bytes_at held) → In name (if_there name held)
 slot name None some = cc
@@ -107,12 +108,14 @@ covered shelf n some =
     let M = if_there Manifest shelf.manifest in
     let N = if_there Notes shelf.notes in
     let G = if_there Gate shelf.gate in
-    one shelf n some L M N G refl refl refl refl where
-      one : (shelf : Shelf) (n : FileName) → IsSome (files_on shelf n) → (L M N G : List FileName) → map Log (keys shelf.logs) ≡ L → if_there Manifest shelf.manifest ≡ M → if_there Notes shelf.notes ≡ N → if_there Gate shelf.gate ≡ G → In n (L ++ M ++ N ++ G)
-      one shelf (Log b) some L M N G l m o g = in_left (Log b) (L ++ M ++ N) G (in_left (Log b) (L ++ M) N (in_left (Log b) L M (subst (In (Log b)) l (key_in shelf.logs.entries b some))))
-      one shelf Manifest some L M N G l m o g = in_left Manifest (L ++ M ++ N) G (in_left Manifest (L ++ M) N (in_right Manifest L M (subst (In Manifest) m (slot Manifest shelf.manifest some))))
-      one shelf Notes some L M N G l m o g = in_left Notes (L ++ M ++ N) G (in_right Notes (L ++ M) N (subst (In Notes) o (slot Notes shelf.notes some)))
-      one shelf Gate some L M N G l m o g = in_right Gate (L ++ M ++ N) G (subst (In Gate) g (slot Gate shelf.gate some))
+    let R = if_there Registry shelf.registry in
+    one shelf n some L M N G R refl refl refl refl refl where
+      one : (shelf : Shelf) (n : FileName) → IsSome (files_on shelf n) → (L M N G R : List FileName) → map Log (keys shelf.logs) ≡ L → if_there Manifest shelf.manifest ≡ M → if_there Notes shelf.notes ≡ N → if_there Gate shelf.gate ≡ G → if_there Registry shelf.registry ≡ R → In n (L ++ M ++ N ++ G ++ R)
+      one shelf (Log b) some L M N G R l m o g r = in_left (Log b) (L ++ M ++ N ++ G) R (in_left (Log b) (L ++ M ++ N) G (in_left (Log b) (L ++ M) N (in_left (Log b) L M (subst (In (Log b)) l (key_in shelf.logs.entries b some)))))
+      one shelf Manifest some L M N G R l m o g r = in_left Manifest (L ++ M ++ N ++ G) R (in_left Manifest (L ++ M ++ N) G (in_left Manifest (L ++ M) N (in_right Manifest L M (subst (In Manifest) m (slot Manifest shelf.manifest some)))))
+      one shelf Notes some L M N G R l m o g r = in_left Notes (L ++ M ++ N ++ G) R (in_left Notes (L ++ M ++ N) G (in_right Notes (L ++ M) N (subst (In Notes) o (slot Notes shelf.notes some))))
+      one shelf Gate some L M N G R l m o g r = in_left Gate (L ++ M ++ N ++ G) R (in_right Gate (L ++ M ++ N) G (subst (In Gate) g (slot Gate shelf.gate some)))
+      one shelf Registry some L M N G R l m o g r = in_right Registry (L ++ M ++ N ++ G) R (subst (In Registry) r (slot Registry shelf.registry some))
 
 -- a name of the list is that of a file
 real : (shelf : Shelf) (n : FileName) → In n (names_on shelf) → IsSome (files_on shelf n)
@@ -121,13 +124,17 @@ real shelf n h =
     let M = if_there Manifest shelf.manifest in
     let N = if_there Notes shelf.notes in
     let G = if_there Gate shelf.gate in
-    elim (in_either n (L ++ M ++ N) G h) [
-      | inr g ↦ in_slot Gate shelf.gate refl g
-      | inl lmn ↦ elim (in_either n (L ++ M) N lmn) [
-        | inr o ↦ in_slot Notes shelf.notes refl o
-        | inl lm ↦ elim (in_either n L M lm) [
-          | inr m ↦ in_slot Manifest shelf.manifest refl m
-          | inl l ↦ (let r = key_back shelf.logs.entries n l in subst (λ (m : FileName). IsSome (files_on shelf m)) (sym r.1) r.2)
+    let R = if_there Registry shelf.registry in
+    elim (in_either n (L ++ M ++ N ++ G) R h) [
+      | inr r ↦ in_slot Registry shelf.registry refl r
+      | inl lmng ↦ elim (in_either n (L ++ M ++ N) G lmng) [
+        | inr g ↦ in_slot Gate shelf.gate refl g
+        | inl lmn ↦ elim (in_either n (L ++ M) N lmn) [
+          | inr o ↦ in_slot Notes shelf.notes refl o
+          | inl lm ↦ elim (in_either n L M lm) [
+            | inr m ↦ in_slot Manifest shelf.manifest refl m
+            | inl l ↦ (let r = key_back shelf.logs.entries n l in subst (λ (m : FileName). IsSome (files_on shelf m)) (sym r.1) r.2)
+          ]
         ]
       ]
     ] where
@@ -145,7 +152,10 @@ once shelf sorted =
     let m : (n : FileName) → In n M → kind n ≡ 0 = λ n h. ap kind (slot_back n Manifest shelf.manifest h).0 in
     let o : (n : FileName) → In n N → kind n ≡ 2 = λ n h. ap kind (slot_back n Notes shelf.notes h).0 in
     let g : (n : FileName) → In n G → kind n ≡ 3 = λ n h. ap kind (slot_back n Gate shelf.gate h).0 in
-    once_both (L ++ M ++ N) G
+    let R = if_there Registry shelf.registry in
+    let r : (n : FileName) → In n R → kind n ≡ 4 = λ n h. ap kind (slot_back n Registry shelf.registry h).0 in
+    once_both (L ++ M ++ N ++ G) R
+    (once_both (L ++ M ++ N) G
     (once_both (L ++ M) N
     (once_both L M (keys_once (keys shelf.logs) sorted) (slot_once Manifest shelf.manifest) (λ n a b. two 1 0 n refl (l n a) (m n b)))
     (slot_once Notes shelf.notes)
@@ -154,6 +164,14 @@ once shelf sorted =
     (λ n a b. elim (in_either n (L ++ M) N a) [
       | inr a ↦ two 2 3 n refl (o n a) (g n b)
       | inl a ↦ elim (in_either n L M a) [ inl a ↦ two 1 3 n refl (l n a) (g n b) | inr a ↦ two 0 3 n refl (m n a) (g n b) ]
+    ]))
+    (slot_once Registry shelf.registry)
+    (λ n a b. elim (in_either n (L ++ M ++ N) G a) [
+      | inr a ↦ two 3 4 n refl (g n a) (r n b)
+      | inl a ↦ elim (in_either n (L ++ M) N a) [
+        | inr a ↦ two 2 4 n refl (o n a) (r n b)
+        | inl a ↦ elim (in_either n L M a) [ inl a ↦ two 1 4 n refl (l n a) (r n b) | inr a ↦ two 0 4 n refl (m n a) (r n b) ]
+      ]
     ]) where
       two : (a b : ℕ) (n : FileName) → (a == b) ≡ false → kind n ≡ a → kind n ≡ b → ⊥
       two a b n ne is is' = grind (arith)

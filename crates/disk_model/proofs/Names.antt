@@ -3,7 +3,7 @@ use Rattle.std.specs.Prelude.{◌≡◌, ◌≢◌, ◌⊎◌, ℕ, Bool, true, 
 use Rattle.std.proofs.Common.{sym, ◌∙◌, ap, subst, inl, inr, cond}
 use Rattle.std.proofs.lemmas.Bool.{cases_Bool, eqb-true, eq-eqb, false_from_ne_true}
 use Rattle.tier_base.specs.declared.plain.FileName.{FileName}
-use Rattle.tier_base.specs.declared.plain.FileName.TheVariants.{Manifest, Log, Notes, Gate}
+use Rattle.tier_base.specs.declared.plain.FileName.TheVariants.{Manifest, Log, Notes, Gate, Registry}
 use Rattle.tier_base.specs.Told.{OnlyAt}
 use Rattle.disk_model.specs.Content.{Files}
 use Rattle.disk_model.specs.Steps.{same_name, changed}
@@ -13,12 +13,14 @@ same_name_refl Manifest = refl
 same_name_refl (Log b) = eq-eqb b b refl
 same_name_refl Notes = refl
 same_name_refl Gate = refl
+same_name_refl Registry = refl
 
 pub same_name_true : (a b : FileName) → same_name a b ≡ true → a ≡ b
 same_name_true Manifest Manifest h = refl
 same_name_true (Log a) (Log b) h = ap Log (eqb-true a b h)
 same_name_true Notes Notes h = refl
 same_name_true Gate Gate h = refl
+same_name_true Registry Registry h = refl
 same_name_true a b h = cc
 
 pub same_name_other : (n name : FileName) → n ≢ name → same_name n name ≡ false

@@ -3,7 +3,7 @@ use Rattle.std.specs.Prelude.{◌≡◌, List, [], ◌∷◌, ◌++◌, map, ℕ
 use Rattle.std.specs.Ordering.{nat_cmp}
 use Rattle.std.specs.BTreeMap.{get, keys}
 use Rattle.tier_base.specs.declared.plain.FileName.{FileName}
-use Rattle.tier_base.specs.declared.plain.FileName.TheVariants.{Manifest, Log, Notes, Gate}
+use Rattle.tier_base.specs.declared.plain.FileName.TheVariants.{Manifest, Log, Notes, Gate, Registry}
 use Rattle.disk_model.specs.declared.held.Held.{Held}
 use Rattle.disk_model.specs.declared.shelf.Shelf.{Shelf}
 use Rattle.tier_base.specs.Told.{OnlyAt, bytes_in}
@@ -20,6 +20,7 @@ files_on shelf Manifest = bytes_at shelf.manifest
 files_on shelf (Log base) = bytes_at (get nat_cmp shelf.logs base)
 files_on shelf Notes = bytes_at shelf.notes
 files_on shelf Gate = bytes_at shelf.gate
+files_on shelf Registry = bytes_at shelf.registry
 
 -- what the crash of this disk leaves
 abbrev pub safe_on : Shelf → Files
@@ -27,6 +28,7 @@ safe_on shelf Manifest = safe_at shelf.manifest
 safe_on shelf (Log base) = safe_at (get nat_cmp shelf.logs base)
 safe_on shelf Notes = safe_at shelf.notes
 safe_on shelf Gate = safe_at shelf.gate
+safe_on shelf Registry = safe_at shelf.registry
 
 -- one file is what is made of it, and the others stay
 abbrev pub Becomes : FileName → (Option (List ℕ) → Option (List ℕ)) → Files → Files → Type 0
@@ -44,4 +46,8 @@ if_there name (Some held) = name ∷ []
 -- the names of the files
 abbrev pub names_on : Shelf → List FileName
 names_on shelf =
-    map Log (keys shelf.logs) ++ if_there Manifest shelf.manifest ++ if_there Notes shelf.notes ++ if_there Gate shelf.gate
+    map Log (keys shelf.logs)
+    ++ if_there Manifest shelf.manifest
+    ++ if_there Notes shelf.notes
+    ++ if_there Gate shelf.gate
+    ++ if_there Registry shelf.registry

@@ -9,7 +9,7 @@
 use Rattle.std.specs.Prelude.{◌≡◌, ◌⊎◌, ℕ, ◌≤◌, ◌==◌, Bool, true, false, if◌then◌else◌, List, [], ◌∷◌, length, Option, Some, None, MatchBool}
 use Rattle.std.specs.Bool.{OnTrue}
 use Rattle.tier_base.specs.declared.plain.FileName.{FileName}
-use Rattle.tier_base.specs.declared.plain.FileName.TheVariants.{Manifest, Log, Notes, Gate}
+use Rattle.tier_base.specs.declared.plain.FileName.TheVariants.{Manifest, Log, Notes, Gate, Registry}
 use Rattle.tier_base.specs.Told.{OnlyAt, bytes_in}
 use Rattle.disk_model.specs.Content.{Content, Files, appended, Grown, cut_to, CutBack, Swapped, Gone, Begins}
 
@@ -28,6 +28,7 @@ same_name Manifest Manifest = true
 same_name (Log a) (Log b) = a == b
 same_name Notes Notes = true
 same_name Gate Gate = true
+same_name Registry Registry = true
 same_name a b = false
 
 -- the files with one of them changed

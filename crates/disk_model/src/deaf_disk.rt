@@ -15,6 +15,7 @@ use crate::call::DiskCall;
 use crate::disk::Disk;
 use bytes::Bytes;
 use std::alloc::{AllocError, Global};
+use std::mem;
 use tier_base::{Failed, FaultPlan, FileName, Row, Trouble, give};
 
 /// A disk that tells no content.
@@ -116,6 +117,10 @@ impl Disk for DeafDisk {
         let ending = self.faults.ending(DiskCall::List);
         let names = names_of(self.alloc, &self.files)?;
         give(self.faults.note(DiskCall::List, ending), names)
+    }
+
+    fn take_handed(&mut self) -> Bytes {
+        mem::replace(&mut self.handed, Bytes::new())
     }
 
     fn arm(&mut self) {

@@ -4,7 +4,7 @@
 //! bytes of any length, and what was cut, removed or made since may stand as before. A call that
 //! answers `Failed` may have been done or not, and one that finds no memory changes nothing.
 
-ghost use Rattle.std.specs.Prelude.{◌≡◌, ◌+◌, ◌≤◌, List, ℕ, drop, IfOk, OnOk, IsTrue, Some, option_map};
+ghost use Rattle.std.specs.Prelude.{◌≡◌, ◌+◌, ◌≤◌, List, [], ℕ, drop, IfOk, OnOk, IsTrue, Some, option_map};
 ghost use Rattle.tier_base.specs.Device.{Control, Ran, RanQuietly, MayBeDone, Rests, Arms, FailsAsPlanned, fate_of, failing};
 ghost use Rattle.disk_model.specs.declared.call.DiskCall.TheVariants.{Append, Sync, Read, Cut, Replace, Remove, List as Listing};
 ghost use Rattle.disk_model.specs.Call.{call_code};
@@ -111,6 +111,14 @@ pub trait Disk: Drop {
         ensures content { Keeps (content self.old) (content self.new) }
         ensures names { IsTrue (content self.old).tells
             → IfOk result (λ names. Names (content self.old).files names) };
+
+    /// Takes out the bytes that the last read gave, without memory. None are handed then until the next
+    /// read. A plan can't name it.
+    fn take_handed(&mut self) -> Bytes
+        ensures taken { result ≡ (control self.old).handed }
+        ensures control { control self.new ≡ record (control self.old) { handed = [] } }
+        ensures room { spare self.new ≡ spare self.old }
+        ensures content { Keeps (content self.old) (content self.new) };
 
     /// From the first `arm` on planned calls fail. A further one changes nothing.
     fn arm(&mut self)

@@ -19,6 +19,7 @@ use crate::disk::Disk;
 use crate::history::History;
 use bytes::Bytes;
 use std::alloc::{AllocError, Global};
+use std::mem;
 use tier_base::{Failed, FaultPlan, FileName, Row, Trouble, give};
 
 /// A disk in memory.
@@ -189,6 +190,10 @@ impl Disk for MemoryDisk {
         let ending = self.faults.ending(DiskCall::List);
         let names = self.history.names()?;
         give(self.faults.note(DiskCall::List, ending), names)
+    }
+
+    fn take_handed(&mut self) -> Bytes {
+        mem::replace(&mut self.handed, Bytes::new())
     }
 
     fn arm(&mut self) {

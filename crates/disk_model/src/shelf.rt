@@ -24,6 +24,7 @@ pub struct Shelf {
     logs: BTreeMap<u64, Held>,
     notes: Option<Held>,
     gate: Option<Held>,
+    registry: Option<Held>,
 }
 
 impl Shelf {
@@ -37,6 +38,7 @@ impl Shelf {
             logs: BTreeMap::new(alloc),
             notes: None,
             gate: None,
+            registry: None,
         }
     }
 
@@ -53,6 +55,7 @@ impl Shelf {
             FileName::Log(base) => append_at(alloc, &mut self.logs, base, bytes),
             FileName::Notes => append_to(alloc, &mut self.notes, bytes),
             FileName::Gate => append_to(alloc, &mut self.gate, bytes),
+            FileName::Registry => append_to(alloc, &mut self.registry, bytes),
         }
     }
 
@@ -66,6 +69,7 @@ impl Shelf {
             FileName::Log(base) => cut_at(&mut self.logs, base, len),
             FileName::Notes => cut_slot(&mut self.notes, len),
             FileName::Gate => cut_slot(&mut self.gate, len),
+            FileName::Registry => cut_slot(&mut self.registry, len),
         }
     }
 
@@ -84,6 +88,7 @@ impl Shelf {
             FileName::Log(base) => put_at(&mut self.logs, base, held)?,
             FileName::Notes => self.notes = Some(held),
             FileName::Gate => self.gate = Some(held),
+            FileName::Registry => self.registry = Some(held),
         }
         Ok(())
     }
@@ -98,6 +103,7 @@ impl Shelf {
             FileName::Log(_) => &[],
             FileName::Notes => front_in(&self.notes),
             FileName::Gate => front_in(&self.gate),
+            FileName::Registry => front_in(&self.registry),
         }
     }
 
@@ -112,6 +118,7 @@ impl Shelf {
             FileName::Log(base) => sync_at(&mut self.logs, base),
             FileName::Notes => sync_slot(&mut self.notes),
             FileName::Gate => sync_slot(&mut self.gate),
+            FileName::Registry => sync_slot(&mut self.registry),
         }
     }
 
@@ -124,6 +131,7 @@ impl Shelf {
         crash_all(&mut self.logs);
         crash_slot(&mut self.notes);
         crash_slot(&mut self.gate);
+        crash_slot(&mut self.registry);
     }
 
     /// Removes a file.
@@ -136,6 +144,7 @@ impl Shelf {
             FileName::Log(base) => remove_at(&mut self.logs, base),
             FileName::Notes => self.notes = None,
             FileName::Gate => self.gate = None,
+            FileName::Registry => self.registry = None,
         }
     }
 
@@ -153,6 +162,9 @@ impl Shelf {
         }
         if self.gate.is_some() {
             names.push(FileName::Gate)?;
+        }
+        if self.registry.is_some() {
+            names.push(FileName::Registry)?;
         }
         Ok(names)
     }
@@ -175,6 +187,7 @@ impl Shelf {
             FileName::Log(base) => read_at(alloc, &mut self.logs, base, at, most),
             FileName::Notes => read_slot(alloc, &mut self.notes, at, most),
             FileName::Gate => read_slot(alloc, &mut self.gate, at, most),
+            FileName::Registry => read_slot(alloc, &mut self.registry, at, most),
         }
     }
 }

@@ -3,7 +3,7 @@ use Rattle.std.proofs.Common.{◌≡◌, ◌≢◌, ◌∙◌, sym, ap, refl, �
 use Rattle.std.specs.Prelude.{codes}
 use Rattle.std.proofs.lemmas.List.{take_at, drop_at, take-append-drop}
 use Rattle.tier_base.specs.declared.plain.FileName.{FileName}
-use Rattle.tier_base.specs.declared.plain.FileName.TheVariants.{Manifest, Log, Notes, Gate}
+use Rattle.tier_base.specs.declared.plain.FileName.TheVariants.{Manifest, Log, Notes, Gate, Registry}
 use Rattle.folder_yard.specs.Name.{digits_of, base_text, file_text, IsName, IsNotFixed, ReadsBase, ReadsLog}
 
 -- digits that aren't those of their value are those of no base offset
@@ -43,3 +43,4 @@ no_name text log other Manifest is = other.manifest
 no_name text log other (Log base) is = log base is
 no_name text log other Notes is = other.notes
 no_name text log other Gate is = other.gate
+no_name text log other Registry is = other.registry

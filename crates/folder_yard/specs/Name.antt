@@ -1,13 +1,13 @@
--- The names of a broker's files as text.
+-- The names of files as text: those of a broker's log, of a metadata log and of a registry.
 --
--- name = "manifest" / 20DIGIT ".log" / "notes" / "gate"
+-- name = "manifest" / 20DIGIT ".log" / "notes" / "gate" / "registry"
 --
 -- The digits are the base offset of a log segment in decimal, with leading zeros, and below 2^64.
 --
 -- Source: Kafka's LogFileUtils.filenamePrefixFromOffset, 20 digits, and its suffix for log segments.
 use Rattle.std.specs.Prelude.{◌≡◌, ◌≢◌, ℕ, zero, suc, ◌+◌, ◌<◌, ◌^◌, ◌/◌, ◌%◌, List, [], ◌∷◌, ◌++◌, codes, Option, Some, None, ⊤}
 use Rattle.tier_base.specs.declared.plain.FileName.{FileName}
-use Rattle.tier_base.specs.declared.plain.FileName.TheVariants.{Manifest, Log, Notes, Gate}
+use Rattle.tier_base.specs.declared.plain.FileName.TheVariants.{Manifest, Log, Notes, Gate, Registry}
 
 -- the last so many decimal digits of a number
 abbrev pub digits_of : ℕ → ℕ → List ℕ
@@ -24,6 +24,7 @@ file_text Manifest = codes "manifest"
 file_text (Log base) = base_text base ++ codes ".log"
 file_text Notes = codes "notes"
 file_text Gate = codes "gate"
+file_text Registry = codes "registry"
 
 -- the ending of a file that is written and not yet put in its place
 abbrev pub unfinished : List ℕ
@@ -35,6 +36,7 @@ IsName Manifest = ⊤
 IsName (Log base) = base < 2 ^ 64
 IsName Notes = ⊤
 IsName Gate = ⊤
+IsName Registry = ⊤
 
 -- what the reader of a base offset answers: the one that is spelled so, or none where none is
 abbrev pub ReadsBase : List ℕ → Option ℕ → Type 0
@@ -51,6 +53,7 @@ pub record IsNotFixed (text : List ℕ) : Type 0 where
   pub manifest : file_text Manifest ≢ text
   pub notes : file_text Notes ≢ text
   pub gate : file_text Gate ≢ text
+  pub registry : file_text Registry ≢ text
 
 -- what the reader of the other names answers
 abbrev pub ReadsFixed : List ℕ → Option FileName → Type 0

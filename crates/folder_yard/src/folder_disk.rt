@@ -13,6 +13,7 @@ use device_tally::Tally;
 use disk_model::{Disk, DiskCall};
 use std::alloc::AllocError;
 use std::io::{self, ErrorKind};
+use std::mem;
 use std::rt::Files;
 use tier_base::{Failed, FileName, Row, Trouble, give};
 
@@ -118,6 +119,10 @@ impl<R: Files + AllocGlobal + Clone + Drop> Disk for FolderDisk<R> {
     fn list(&mut self) -> Result<Row<FileName>, Trouble> {
         let names = told(self.folder.list());
         self.tally.note_any(DiskCall::List, names)
+    }
+
+    fn take_handed(&mut self) -> Bytes {
+        mem::replace(&mut self.handed, Bytes::new())
     }
 
     fn arm(&mut self) {

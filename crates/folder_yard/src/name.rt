@@ -47,6 +47,7 @@ pub fn push_name(text: &mut String, name: FileName)
         }
         FileName::Notes => "notes",
         FileName::Gate => "gate",
+        FileName::Registry => "registry",
     };
     let _ = text.push_str(end);
 }
@@ -123,6 +124,9 @@ fn read_fixed(text: &[u8]) -> Option<FileName>
     }
     if text == b"gate".as_slice() {
         return Some(FileName::Gate);
+    }
+    if text == b"registry".as_slice() {
+        return Some(FileName::Registry);
     }
     None
 }

@@ -77,7 +77,7 @@ pub enum Part {
     Pack,
 }
 
-/// A file of a broker's partition.
+/// A file of a broker's partition, of its metadata log, or of its registry.
 #[derive(Clone, Copy, Debug, PartialEq, Eq)]
 pub enum FileName {
     /// What is stable of the log: `manifest`.
@@ -88,4 +88,6 @@ pub enum FileName {
     Notes,
     /// How many bytes of the notes count: `gate`.
     Gate,
+    /// The partition's registry: `registry`.
+    Registry,
 }

@@ -86,6 +86,7 @@ file-word (file.Log base) is =
 file-word file.Manifest is = word-test (codes "manifest") refl
 file-word file.Notes is = word-test (codes "notes") refl
 file-word file.Gate is = word-test (codes "gate") refl
+file-word file.Registry is = word-test (codes "registry") refl
 
 place-word : (p : Place) → IsPlace p → IsWord (place_text p)
 place-word (place.Key key) is = key-word key is

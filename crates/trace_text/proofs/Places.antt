@@ -168,6 +168,7 @@ unfolding file_in log_name_in
 file-complete file.Manifest is = refl
 file-complete file.Notes is = refl
 file-complete file.Gate is = refl
+file-complete file.Registry is = refl
 file-complete (file.Log base) is =
     let long = padded-length base is in
     let size : length (padded base ++ codes ".log") ≡ 24 = omega (arith, length-append (padded base) (codes ".log"), long) in
@@ -195,7 +196,7 @@ file-sound word name h =
           = rw (← read.1, padded-value (take 20 word) form.1 digits small, ← text-is (drop 20 word) (codes ".log") form.0) (take-append-drop 20 word) in
           rw (← base.2) (fits, text)
       | inr bare ↦
-          let found = named-some IsFileName file_name_text word bare_files name (tt, (tt, (tt, tt))) bare in
+          let found = named-some IsFileName file_name_text word bare_files name (tt, (tt, (tt, (tt, tt)))) bare in
           (found.1, found.0)
     ]
 
@@ -208,6 +209,7 @@ unfolding key_in
 file-no-key file.Manifest is = refl
 file-no-key file.Notes is = refl
 file-no-key file.Gate is = refl
+file-no-key file.Registry is = refl
 file-no-key (file.Log base) is =
     let lacks : Lacks 47 (padded base ++ codes ".log")
     = All-append (λ b. (b == 47) ≡ false) (padded base) (codes ".log") (digits-lack 47 (padded base) (padded-digits base is) (omega arith)) (lacks-test 47 (codes ".log") refl) in

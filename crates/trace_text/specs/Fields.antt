@@ -82,7 +82,7 @@ log_name_in digits ending =
 
 -- the files of one name
 abbrev pub bare_files : List FileName
-bare_files = file.Manifest ∷ file.Notes ∷ file.Gate ∷ []
+bare_files = file.Manifest ∷ file.Notes ∷ file.Gate ∷ file.Registry ∷ []
 
 -- the name of a file
 unfoldable pub file_in : List ℕ → Option FileName

@@ -1,6 +1,7 @@
 -- The names that a trace gives to what an answer carries: files, segments' states, causes, why a run ends.
 --
---   file  = manifest | base ".log" | notes | gate     base: the segment's base offset in 20 digits, zeros before it
+--   file  = manifest | base ".log" | notes | gate | registry
+--           base: the segment's base offset in 20 digits, zeros before it
 --   state = CopyStarted | CopyFinished | DeleteStarted | DeleteFinished
 --   stop  = Mark | Piece | Limit
 --   cause = Short | BadMagic | BadLength | BadCrc SP kept SP computed | Compressed | Transactional | Control
@@ -25,6 +26,7 @@ file_name_text file.Manifest = codes "manifest"
 file_name_text (file.Log base) = padded base ++ codes ".log"
 file_name_text file.Notes = codes "notes"
 file_name_text file.Gate = codes "gate"
+file_name_text file.Registry = codes "registry"
 
 -- the name of a remote segment's state
 abbrev pub state_text : State → List ℕ

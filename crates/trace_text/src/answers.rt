@@ -24,6 +24,7 @@ fn write_file(page: &mut Page, name: FileName) -> Result<(), AllocError>
         }
         FileName::Notes => page.word("notes"),
         FileName::Gate => page.word("gate"),
+        FileName::Registry => page.word("registry"),
     }
 }
 

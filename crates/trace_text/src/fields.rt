@@ -62,6 +62,9 @@ fn file(word: &[u8]) -> Option<FileName>
     if is(word, "gate") {
         return Some(FileName::Gate);
     }
+    if is(word, "registry") {
+        return Some(FileName::Registry);
+    }
     None
 }
 
