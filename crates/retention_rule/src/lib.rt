@@ -6,5 +6,9 @@
 #![tactic(auto)]
 
 mod due;
+mod laws;
 
 pub use due::{local_due, start_due};
+pub use laws::{
+    larger_limits_keep_more, what_goes_is_due, what_is_due_stays_due, what_stays_is_not_due,
+};
