@@ -2,8 +2,9 @@
 """Runs what the documents show, or compares it with what the gate runs.
 
 usage: docs/snippets.py check            compares the documents with the tables that the gate's tests run
-       docs/snippets.py check PROGRAM    also runs every snippet, and compares the answers
+       docs/snippets.py check PROGRAM    runs every snippet too, and compares the answers
        docs/snippets.py write PROGRAM    writes the answers into the documents, and the tables of the gate
+       docs/snippets.py write            the same where only comments or the order of scripts have changed
 
 PROGRAM is the path of `tiered`. README.md, CONTRIBUTING.md, docs/ and examples/ may have four kinds of snippets:
 
@@ -45,14 +46,19 @@ def gate_cases():
         text = text.replace("\\t", "\t").replace("\\n", "\n").replace('\\"', '"').replace("\\\\", "\\")
         parts = text.split("`")
         for script, trace in zip(parts[0::2], parts[1::2]):
-            found[script.split("\n", 1)[1]] = trace
+            found[bare(script)] = trace
     return found
+
+
+def bare(script):
+    """A script without comments and blank lines, whose answers are those of the whole."""
+    return "".join(line + "\n" for line in script.splitlines() if line.split() and not line.lstrip().startswith("#"))
 
 
 def ran(program, script):
     """The status, the trace and the message of a run; without a program those that the gate's tests expect."""
     if isinstance(program, dict):
-        trace = program.get(script)
+        trace = program.get(bare(script))
         return (0, trace, "") if trace is not None else (1, "", "the gate's tests don't have it: docs/snippets.py write")
     run = subprocess.run([program, "sim"], input=script.encode(), capture_output=True)
     return run.returncode, run.stdout.decode(), run.stderr.decode().strip()
@@ -172,11 +178,6 @@ def script_in(text):
     return "".join(line + "\n" for line in text.splitlines() if not line.startswith("#>"))
 
 
-def bare(script):
-    """A script without comments and blank lines, whose answers are those of the whole."""
-    return "".join(line + "\n" for line in script.splitlines() if line.split() and not line.lstrip().startswith("#"))
-
-
 def file_block(program, path, text, wrong):
     """The block that shows a file, and the trace."""
     with open(os.path.join(TOP, path), encoding="utf-8") as f:
@@ -293,7 +294,7 @@ def stale(refused, shell):
 
 
 def main():
-    if len(sys.argv) not in (2, 3) or sys.argv[1] not in ("check", "write") or sys.argv[1:] == ["write"]:
+    if len(sys.argv) not in (2, 3) or sys.argv[1] not in ("check", "write"):
         print(__doc__.strip())
         return 2
     word, program = sys.argv[1], os.path.abspath(sys.argv[2]) if sys.argv[2:] else gate_cases()
@@ -309,10 +310,11 @@ def main():
             with open(path, "w", encoding="utf-8") as f:
                 f.write(new)
     cases += examples(program, wrong)
-    if isinstance(program, dict):
+    known = isinstance(program, dict)
+    if known:
         wrong += stale(refused, shell)
-    else:
-        for path, new in {TABLE: table(refused, shell), **runs(cases)}.items():
+    if not (known and (word == "check" or wrong)):
+        for path, new in {**({} if known else {TABLE: table(refused, shell)}), **runs(cases)}.items():
             old = read_or_none(os.path.join(TOP, path))
             if as_laid_out(new) != as_laid_out(old) and word == "check":
                 wrong.append(path + " isn't what the documents show")

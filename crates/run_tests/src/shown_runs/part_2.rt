@@ -596,23 +596,23 @@ turn 1 6
 0 0 - clock 86400000
 `0 0 0 = Ok
 `# examples/before-ack.script
-# What isn't acknowledged can't be fetched, and what isn't flushed can't be acknowledged.
+# Only what is acknowledged can be fetched, and only what is flushed can be acknowledged.
 0 0 0 append 1000,-,:a
 0 0 0 fetch 0 1000
 
-# An ack before the flush acknowledges a stable end of 0, and a flush alone raises no high
+# An ack before the flush acknowledges a flushed end of 0. A flush alone doesn't raise the high
 # watermark.
 0 0 0 ack
 0 0 0 flush
 0 0 0 fetch 0 1000
 
-# After both the first batch can be fetched.
+# After a flush and an ack the first batch can be fetched.
 0 0 0 ack
 0 0 0 append 1000,-,:b
 0 0 0 fetch 0 1000
 
-# The second one stands in the log and isn't committed, so offset 1 is empty, and so is the log end,
-# offset 2. Past the end nothing is in range.
+# The second one is in the log but not committed, so fetches at offset 1 and at the log end, 2, are
+# empty. Past the log end nothing is in range.
 0 0 0 fetch 1 1000
 0 0 0 fetch 2 1000
 0 0 0 fetch 3 1000

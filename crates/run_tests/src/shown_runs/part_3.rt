@@ -16,7 +16,7 @@ local_retention_bytes 0
 0 0 0 flush
 0 0 0 ack
 
-# Both closed segments are copied, and the first one is trimmed: the local log begins at 2.
+# Both closed segments are copied, and the first one is trimmed: the local log starts at 2.
 0 0 0 copy
 0 0 0 copy
 0 0 0 trim
@@ -25,31 +25,31 @@ local_retention_bytes 0
 0 0 0 offset at 1000
 0 0 0 offset at 1001
 
-# Nothing in the first segment is as late as 3001, so it is passed over and none of its objects is
-# read. Nothing at all is as late as 4001.
+# Nothing in the first segment is as late as 3001, so it is skipped and none of its objects is read.
+# Nothing at all is as late as 4001.
 0 0 0 offset at 3001
 0 0 0 offset at 4001
 
-# What isn't committed is no answer. A batch is looked at as a whole: the record of 6000 has offset 6,
-# and the answer is where its batch begins.
+# Uncommitted batches don't count. A batch counts as a whole: the record of 6000 has offset 6, and the
+# answer is the start of its batch.
 0 0 0 append 5000,-,:f 6000,-,:g
 0 0 0 offset at 6000
 0 0 0 flush
 0 0 0 ack
 0 0 0 offset at 6000
 
-# No answer is below the log start.
+# No answer is below the log start offset.
 0 0 0 raise 1
 0 0 0 offset at 0
 
-# A search has chosen the first segment, where offset 1 is late enough. Then the log start rises to 2,
-# and the search goes on there.
+# A search has chosen the first segment, where offset 1 is late enough. Then the log start offset
+# rises to 2, and the search continues there.
 later 1 0 0 offset at 1001
 turn 1 3
 0 0 0 raise 2
 turn 1 9
 
-# The log start may lie inside the batch that is late enough, and is the answer then.
+# The log start offset may be inside the batch that is late enough; then it is the answer.
 0 0 0 raise 6
 0 0 0 offset at 5000
 `0 0 0 = Ok 0 0 0
@@ -93,7 +93,7 @@ turn 1 9
 # A leader copies its closed log segments to the remote tier, the oldest first.
 segment_bytes 200
 
-# A segment holds two of these batches. The seventh batch stands in the open segment.
+# A segment has two of these batches. The seventh batch is in the open segment.
 0 0 0 append 1000,-,:a
 0 0 0 append 1000,-,:b
 0 0 0 append 1000,-,:c
@@ -107,7 +107,7 @@ segment_bytes 200
 0 0 0 flush
 0 0 0 ack
 
-# Each copy takes the first closed segment that isn't copied yet, and tells its id, its first and
+# Each copy takes the first closed segment that isn't copied yet, and returns its id, its first and
 # its last offset. The open segment isn't copied.
 0 0 0 copy
 0 0 0 copy
@@ -118,7 +118,7 @@ segment_bytes 200
 0 0 0 roll
 0 0 0 copy
 
-# An id names the broker, how often its log was opened, and the copies that it began since then.
+# An id has the broker, how often its log was opened, and how many copies it began since then.
 0 0 0 append 1000,-,:h
 0 0 0 roll
 0 0 0 flush
@@ -168,7 +168,7 @@ segment_bytes 200
 0 0 27 begin
 0 0 27 = Level
 `# examples/copying-off.script
-# Copying is turned off and on: no copy begins any more, and what isn't copied goes by retention too.
+# Copying is turned off and on: no copy begins while it is off, and uncopied segments expire too.
 segment_bytes 200
 retention_ms 5000
 local_retention_bytes 0
@@ -188,7 +188,7 @@ local_retention_bytes 0
 0 0 0 offset earliest_local
 0 0 0 offset latest_tiered
 
-# The first segment is copied and trimmed: the tier has the log up to 1, and the local log begins at 2.
+# The first segment is copied and trimmed: the tier has the log up to 1, and the local log starts at 2.
 0 0 0 copy
 0 0 0 offset latest_tiered
 0 0 0 trim
@@ -196,7 +196,7 @@ local_retention_bytes 0
 0 0 0 offset earliest_local
 
 # A copy of the second one begins, and then copying is turned off. No other copy begins, and this one
-# goes on to its end.
+# finishes.
 later 1 0 0 copy
 turn 1 3
 0 0 - copying 0
@@ -208,8 +208,8 @@ turn 1 6
 0 0 0 trim
 0 0 0 trim
 
-# All three are too old. While copying is on, the third one is still to be copied: the log start rises
-# to it and no further.
+# All three are too old. While copying is on, the third one is still to be copied: the log start
+# offset rises to it and no further.
 0 0 - copying 1
 0 0 - clock 8001
 0 0 0 expire
@@ -217,8 +217,8 @@ turn 1 6
 0 0 0 expire
 0 0 0 expire
 
-# While it is off, the third one won't be copied: the log start rises past it, and it is trimmed. From
-# there on nothing is in the tier.
+# While it is off, the third one won't be copied: the log start offset rises past it, and it is
+# trimmed. From there on nothing is in the tier.
 0 0 - copying 0
 0 0 0 expire
 0 0 0 trim
@@ -309,7 +309,7 @@ brokers 2
 1 0 1 ack
 0 0 0 ack
 
-# A third batch isn't made stable before broker 0 stops.
+# A third batch isn't flushed before broker 0 stops.
 0 0 0 append 1000,-,:c
 0 0 0 fetch 0 1000
 0 0 0 stop
@@ -319,8 +319,8 @@ brokers 2
 1 0 1 learn
 1 0 1 append 1000,-,:d
 
-# Broker 0 comes up with what it had stable, learns whom it follows, and cuts its log to where it
-# meets the leader's.
+# Broker 0 starts with its flushed log, learns whom it follows, and truncates its log to where it
+# agrees with the leader's.
 0 0 0 up
 0 0 0 learn
 0 0 0 join
@@ -360,7 +360,7 @@ brokers 2
 0 1 8 = Run local 0 138 Piece 0000000000000000000000390000000002ebf1884b00000000000000000000000003e800000000000003e8ffffffffffffffffffffffffffff000000010e000000010261000000000000000001000000390000000002df1620d200000000000000000000000003e800000000000003e8ffffffffffffffffffffffffffff000000010e00000001026200
 0 1 9 = Run local 0 69 Mark 0000000000000002000000390000000102b6d971e000000000000000000000000003e800000000000003e8ffffffffffffffffffffffffffff000000010e00000001026400
 `# examples/fallen-behind.script
-# A follower that was away so long that its leader's local log begins past its own end.
+# A follower was away so long that its leader's local log starts past its own end, and rebuilds.
 brokers 3
 segment_bytes 200
 local_retention_bytes 0
@@ -401,7 +401,7 @@ local_retention_bytes 0
 1 0 1 flush
 1 0 1 ack
 
-# The leader copies its closed segments to the remote tier, and trims them: its local log begins at 6.
+# The leader copies its closed segments to the remote tier, and trims them: its local log starts at 6.
 1 0 1 copy
 1 0 1 copy
 1 0 1 copy
@@ -409,9 +409,9 @@ local_retention_bytes 0
 1 0 1 trim
 1 0 1 trim
 
-# Broker 2 comes up again with the end 2. Its log meets the leader's there, and what comes next isn't in
-# the leader's local log. So it begins its own anew at 6, with the line of leader epochs that stands in
-# the remote tier beside the segment before, and follows from there on.
+# Broker 2 starts again with the end 2. Up to there its log agrees with the leader's, but the leader's
+# local log no longer has what comes next. So it restarts its local log at 6, with the leader epochs
+# of the remote segment before, and follows from there.
 2 0 2 up
 2 0 2 learn
 2 0 2 join
@@ -420,7 +420,7 @@ local_retention_bytes 0
 2 0 2 ack
 0 0 2 expand
 
-# It can lead, and serves what it never had on its disk out of the tier.
+# It can lead, and serves from the tier what was never on its disk.
 2 0 2 elect
 2 0 2 learn
 2 0 2 fetch 0 1000
@@ -492,13 +492,13 @@ local_retention_bytes 0
 0 2 13 = Run remote 00000001-0000-0001-0000-000000000002 138 Piece 0000000000000004000000390000000102a57be99700000000000000000000000003e800000000000003e8ffffffffffffffffffffffffffff000000010e000000010265000000000000000005000000390000000102919c410e00000000000000000000000003e800000000000003e8ffffffffffffffffffffffffffff000000010e00000001026600
 0 2 14 = Run local 6 69 Mark 0000000000000006000000390000000102823ed97900000000000000000000000003e800000000000003e8ffffffffffffffffffffffffffff000000010e00000001026700
 `# examples/faults.script
-# A disk that fails in a write: the broker stops, and nobody knows whether the write was done. When
-# it comes up, its disk tells.
+# A disk fails in a write: the broker stops, and nobody knows whether the write was done until it
+# starts again.
 
 brokers 2
 
 # The first replace of broker 0's disk is done, and fails all the same. The second append of broker
-# 1's isn't done.
+# 1's disk isn't done.
 fault 0 disk 0 replace 1 after
 fault 0 disk 1 append 2 before
 
@@ -509,7 +509,7 @@ fault 0 disk 1 append 2 before
 0 0 0 flush
 0 0 0 flush
 
-# Both batches come back. Who stopped leads its epoch no more, and needs an election.
+# Both batches come back. A broker that stopped no longer leads its epoch, and needs an election.
 0 0 0 up
 0 0 0 learn
 0 0 0 elect
@@ -522,7 +522,7 @@ fault 0 disk 1 append 2 before
 1 0 1 flush
 1 0 1 follow 69
 
-# It comes up with what was stable, and takes the batch once more.
+# It starts with its flushed log, and copies the batch again.
 1 0 1 up
 1 0 1 learn
 1 0 1 join
@@ -530,7 +530,7 @@ fault 0 disk 1 append 2 before
 1 0 1 flush
 1 0 1 ack
 
-# All is stable on both brokers, and committed.
+# Everything is flushed on both brokers, and committed.
 0 0 0 flush
 0 0 0 ack
 0 0 0 fetch 0 1000
@@ -560,17 +560,17 @@ fault 0 disk 1 append 2 before
 0 0 9 = Ok 2
 0 0 10 = Run local 0 138 Mark 0000000000000000000000390000000002ebf1884b00000000000000000000000003e800000000000003e8ffffffffffffffffffffffffffff000000010e000000010261000000000000000001000000390000000002df1620d200000000000000000000000003e800000000000003e8ffffffffffffffffffffffffffff000000010e00000001026200
 `# examples/first.script
-# Three records go to the log, each as a batch of its own, and are read back.
-# An append is answered with base offset, last offset and leader epoch.
+# Three records are appended, each as a batch of its own, and read back.
+# An append returns base offset, last offset and leader epoch.
 0 0 0 append 1000,-,:a
 0 0 0 append 1000,-,:b
 0 0 0 append 1000,-,:c
 
-# The log becomes stable up to its end, and the high watermark is raised to it.
+# The log is flushed up to its end, and the high watermark rises to it.
 0 0 0 flush
 0 0 0 ack
 
-# All three batches are given, 69 bytes each, up to the high watermark.
+# All three batches are returned, 69 bytes each, up to the high watermark.
 0 0 0 fetch 0 1000
 `0 0 0 = Ok 0 0 0
 0 0 1 = Ok 1 1 0
@@ -580,13 +580,13 @@ fault 0 disk 1 append 2 before
 0 0 5 = Run local 0 207 Mark 0000000000000000000000390000000002ebf1884b00000000000000000000000003e800000000000003e8ffffffffffffffffffffffffffff000000010e000000010261000000000000000001000000390000000002df1620d200000000000000000000000003e800000000000003e8ffffffffffffffffffffffffffff000000010e000000010262000000000000000002000000390000000002ccb4b8a500000000000000000000000003e800000000000003e8ffffffffffffffffffffffffffff000000010e00000001026300
 `# examples/from-outside.script
 # A batch from outside, with base offset 99, leader epoch 5 and producer 7. Its checksum covers neither of the first two:
-# the broker places the batch at its log's end, in its own epoch, and leaves all else as it was given.
+# the broker appends the batch at its log's end, in its own epoch, and changes nothing else.
 0 0 0 raw 000000000000006300000039000000050228835a5e00000000000000000000000003e800000000000003e80000000000000007ffffffffffff000000010e00000001026100
 
 # One bit of the value is wrong: refused, with the checksum that the batch has and the one that its bytes give.
 0 0 0 raw 0000000000000000000000390000000002ebf1884b00000000000000000000000003e800000000000003e8ffffffffffffffffffffffffffff000000010e00000001026000
 
-# The bytes end inside the head.
+# The bytes end inside the header.
 0 0 0 raw 0000
 
 # Two records in one batch, the second with a key, no value, and a header of no value.

@@ -2,21 +2,21 @@
 
 /// Scripts and their traces.
 pub(crate) static RUNS: &str = "# examples/limits.script
-# How many batches a fetch is given, and why it ends. The three batches have 73, 74 and 74 bytes.
+# How many batches a fetch returns, and why it ends. The three batches have 73, 74 and 74 bytes.
 0 0 0 append 1700000000000,-,:apple
 0 0 0 append 1700000000001,-,:banana
 0 0 0 append 1700000000002,-,:cherry
 0 0 0 flush
 0 0 0 ack
 
-# One batch is always given, also where it alone passes the limit.
+# One batch is always returned, even if it doesn't fit the limit.
 0 0 0 fetch 0 1
 
 # 147 bytes are just two batches, and with a byte less the second doesn't fit.
 0 0 0 fetch 0 147
 0 0 0 fetch 0 146
 
-# A run that reaches the high watermark ends with Mark, also where its one batch passes the limit.
+# A run that reaches the high watermark ends with Mark, even if its one batch doesn't fit the limit.
 0 0 0 fetch 1 1000
 0 0 0 fetch 2 0
 `0 0 0 = Ok 0 0 0
@@ -30,7 +30,7 @@ pub(crate) static RUNS: &str = "# examples/limits.script
 0 0 8 = Run local 0 148 Mark 00000000000000010000003e0000000002c25ba6780000000000000000018bcfe568010000018bcfe56801ffffffffffffffffffffffffffff0000000118000000010c62616e616e610000000000000000020000003e000000000272c7976a0000000000000000018bcfe568020000018bcfe56802ffffffffffffffffffffffffffff0000000118000000010c63686572727900
 0 0 9 = Run local 0 74 Mark 00000000000000020000003e000000000272c7976a0000000000000000018bcfe568020000018bcfe56802ffffffffffffffffffffffffffff0000000118000000010c63686572727900
 `# examples/packed.script
-# Segments are packed: a copy puts one object in place of four, and reads find the parts in it.
+# Segments are packed: a copy uploads one object in place of four, and reads find the parts in it.
 segment_bytes 100
 local_retention_bytes 0
 
@@ -54,7 +54,7 @@ fault 0 store put 6 before
 0 0 0 copy
 0 0 0 offset latest_tiered
 
-# All three are trimmed, and served from the tier in either form.
+# All three are trimmed, and served from the tier in both forms.
 0 0 0 trim
 0 0 0 trim
 0 0 0 trim
@@ -63,7 +63,7 @@ fault 0 store put 6 before
 0 0 0 fetch 2 1000
 0 0 0 offset at 2000
 
-# An expiry of the first one takes four objects away, one of the second one a single object.
+# An expiry of the first one deletes four objects, of the second one a single object.
 0 0 0 raise 2
 0 0 0 expire
 0 0 0 expire
@@ -109,13 +109,13 @@ fault 0 store put 6 before
 0 0 23 begin
 0 0 23 = Run remote 00000000-0000-0001-0000-000000000003 69 Piece 000000000000000200000039000000000225e957490000000000000000000000000bb80000000000000bb8ffffffffffffffffffffffffffff000000010e00000001026300
 `# examples/remote-faults.script
-# A store and a metadata log that fail: a copy ends where its call fails, and the next one begins
-# anew, under another id.
+# Store and metadata log fail: a copy ends where its call fails, and the next one starts over, under
+# another id.
 segment_bytes 200
 
-# A copy appends a note that it starts, puts four objects, appends a note that it is whole, and reads
-# the notes at its first and its last turn. A call that fails before isn't done, and one that fails
-# after is done, but its broker isn't told so.
+# A copy appends a start event, puts four objects, appends a finish event, and reads the events at its
+# first and its last turn. A call that fails *before* isn't done; one that fails *after* is done, but
+# its broker doesn't learn that.
 fault 0 meta append 1 before
 fault 0 store put 2 before
 fault 0 store put 6 after
@@ -133,23 +133,23 @@ fault 0 meta read 8 before
 0 0 0 flush
 0 0 0 ack
 
-# The note that it starts isn't taken.
+# The start event isn't appended.
 0 0 0 copy
 
-# The second object isn't put. The first one stands, under an id that is never finished.
+# The second object isn't put. The first one stays, under an id that is never finished.
 0 0 0 copy
 
-# The fourth object is put, which the broker doesn't know.
+# The fourth object is put, but the broker doesn't know it.
 0 0 0 copy
 
-# All four objects stand, but the note that the copy is whole isn't taken.
+# All four objects exist, but the finish event isn't appended.
 0 0 0 copy
 
-# That note is taken, so the segment is copied, which the broker doesn't know.
+# That event is appended, so the segment is copied, but the broker doesn't know it.
 0 0 0 copy
 
-# The next copy can't read the notes, and doesn't begin. The one after it finds the first segment
-# copied, under the fifth id, and copies the second segment. Its last look at the notes fails.
+# The next copy can't read the events, and doesn't begin. The one after it finds the first segment
+# copied, under the fifth id, and copies the second segment. Its last read of the events fails.
 0 0 0 copy
 0 0 0 copy
 
@@ -187,7 +187,7 @@ fault 0 meta read 8 before
 brokers 2
 segment_bytes 200
 
-# Broker 0 leads, and broker 1 follows. All is stable on both, and committed.
+# Broker 0 leads, and broker 1 follows. Everything is flushed on both, and committed.
 0 0 0 append 1000,-,:a
 0 0 0 append 1000,-,:b
 0 0 0 append 1000,-,:c
@@ -211,8 +211,8 @@ turn 2 6
 # Broker 0's copy ends at its next turn. Three objects stay, under an id that is never finished.
 turn 2 1
 
-# A leader that was replaced and doesn't know it goes on. Broker 1 begins to copy its next segment;
-# broker 0 has taken the batches by then, is elected, and copies the segment too.
+# A leader that was replaced and hasn't learned of it continues. Broker 1 begins to copy its next
+# segment; broker 0 has the batches by then, is elected, and copies the segment too.
 1 0 1 append 1000,-,:d
 1 0 1 append 1000,-,:e
 0 0 0 up
@@ -231,7 +231,7 @@ turn 3 5
 0 0 0 learn
 0 0 0 copy
 
-# Both copies become whole. They hold the same batches.
+# Both copies finish. They have the same batches.
 turn 3 4
 `0 0 0 = Ok 0 0 0
 0 0 1 = Ok 1 1 0
@@ -272,8 +272,8 @@ turn 3 4
 0 0 16 = Copied 00000000-0000-0002-0000-000000000000 2 3
 0 3 0 = Copied 00000001-0000-0001-0000-000000000001 2 3
 `# examples/retention.script
-# What retention no longer keeps: the log start rises, and then the remote segments below it are
-# deleted, the oldest first.
+# Retention raises the log start offset, and then the remote segments below it are deleted, the oldest
+# first.
 brokers 3
 segment_bytes 200
 retention_bytes 345
@@ -303,14 +303,14 @@ local_retention_bytes 0
 0 0 0 flush
 0 0 0 ack
 
-# The first two are copied and trimmed: the local log begins at 4.
+# The first two are copied and trimmed: the local log starts at 4.
 0 0 0 copy
 0 0 0 copy
 0 0 0 trim
 0 0 0 trim
 
-# Of 483 bytes 345 are to be kept: the first segment is too many, and the log start rises past it. The
-# next expiry deletes its objects, and the third one finds nothing to do.
+# Of 483 bytes 345 are kept: the log start offset rises past the first segment. The next expiry
+# deletes its objects, and the third one finds nothing to do.
 0 0 0 expire
 0 0 0 fetch 0 1000
 0 0 0 expire
@@ -325,7 +325,7 @@ local_retention_bytes 0
 0 0 0 fetch 4 1000
 
 # A copy of the third segment begins, and after four of its turns broker 1 is elected. The new leader
-# raises the log start past that segment by hand, and its expiry deletes what the copy has put so far.
+# raises the log start offset past that segment, and its expiry deletes what was uploaded so far.
 later 3 0 0 copy
 turn 3 4
 1 0 1 elect
@@ -333,8 +333,8 @@ turn 3 4
 1 0 1 raise 6
 1 0 1 expire
 
-# The old leader hasn't learned of it, and goes on with its copy. At its end it sees that the segment
-# was deleted, and deletes its objects again.
+# The old leader hasn't learned of it, and continues its copy. At its end it sees that the segment was
+# deleted, and deletes its objects again.
 `0 0 0 = Ok 0 0 0
 0 0 1 = Ok 1 1 0
 0 0 2 = Ok 2 2 0
@@ -398,12 +398,11 @@ turn 3 4
 `# examples/segments.script
 # A log in segments, a stop, and what comes back.
 
-# a batch that would make a segment longer than 200 bytes goes to a new one, and each batch has an
-# index entry
+# a batch that doesn't fit a segment of 200 bytes opens a new one, and each batch has an index entry
 segment_bytes 200
 index_interval_bytes 0
 
-# three batches of 69 bytes: the third rolls the log, so that a fetch at 0 is given two
+# three batches of 69 bytes: the third rolls the log, so a fetch at 0 returns two
 0 0 0 append 1000,-,:a
 0 0 0 append 1000,-,:b
 0 0 0 append 1000,-,:c
@@ -412,16 +411,16 @@ index_interval_bytes 0
 0 0 0 fetch 0 1000
 0 0 0 fetch 2 1000
 
-# a roll by hand, and one of an empty segment
+# a roll by command, and one of an empty segment
 0 0 0 roll
 0 0 0 roll
 
-# this batch isn't flushed, and is gone after the stop
+# this batch isn't flushed, and is lost in the stop
 0 0 0 append 1000,-,:d
 0 0 0 stop
 0 0 0 up
 
-# the broker has led epoch 0 before, so that it must be elected again to lead
+# the broker has led epoch 0 before, so it must be elected again to lead
 0 0 0 learn
 0 0 0 elect
 0 0 0 learn
@@ -451,15 +450,15 @@ index_interval_bytes 0
 0 0 18 = Run local 2 69 Piece 0000000000000002000000390000000002ccb4b8a500000000000000000000000003e800000000000003e8ffffffffffffffffffffffffffff000000010e00000001026300
 0 0 19 = Run local 2 69 Mark 0000000000000003000000390000000102a57be99700000000000000000000000003e800000000000003e8ffffffffffffffffffffffffffff000000010e00000001026500
 `# examples/tiered-fetch.script
-# A log that is served half from the remote tier: what was copied is trimmed from the local log, and
+# A log is served half from the remote tier: what was copied is trimmed from the local log, and
 # fetched from the store.
 brokers 2
 segment_bytes 200
 local_retention_bytes 138
 fault 0 store get 2 before
 
-# Three closed segments of two batches each, and an open one. All is stable on both brokers, and
-# committed.
+# Three closed segments of two batches each, and an open one. Everything is flushed on both brokers,
+# and committed.
 0 0 0 append 1000,-,:a
 0 0 0 append 1000,-,:b
 0 0 0 append 1000,-,:c
@@ -483,13 +482,13 @@ fault 0 store get 2 before
 0 0 0 copy
 
 # Each trim drops the oldest segment. The third one stays: without it 69 bytes would be left, and
-# 138 are to be kept.
+# 138 must stay.
 0 0 0 trim
 0 0 0 trim
 0 0 0 trim
 
-# A fetch below the local log comes from the store, and one at the log's end from the disk. The
-# second read of the store fails, and the same fetch goes well after that.
+# A fetch below the local log is served from the store, and one at the log's end from the disk. The
+# second read of the store fails; the same fetch succeeds after that.
 0 0 0 fetch 0 1000
 0 0 0 fetch 0 1000
 0 0 0 fetch 3 1000
@@ -502,8 +501,8 @@ fault 0 store get 2 before
 1 0 1 learn
 1 0 1 fetch 0 1000
 
-# It trims by the copies that broker 0 has made, since its log has those batches in the same epochs,
-# and serves from them.
+# It trims by the copies that broker 0 made, because its log has those batches in the same epochs, and
+# serves from them.
 1 0 1 trim
 1 0 1 trim
 1 0 1 fetch 0 1000

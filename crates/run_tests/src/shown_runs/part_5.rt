@@ -6,12 +6,12 @@ pub(crate) static RUNS: &str = "# examples/two-tiers.script
 segment_bytes 200
 local_retention_bytes 0
 
-# Three batches of 69 bytes. The third one does not fit the first segment, so it opens a second.
+# Three batches of 69 bytes. The third one doesn't fit the first segment, so it opens a second.
 0 0 0 append 1000,-,:a
 0 0 0 append 1000,-,:b
 0 0 0 append 1000,-,:c
 
-# The log is made durable up to its end, and the high watermark rises to it.
+# The log is flushed up to its end, and the high watermark rises to it.
 0 0 0 flush
 0 0 0 ack
 
