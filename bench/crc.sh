@@ -1,5 +1,5 @@
 #!/usr/bin/env bash
-# Tells how fast each body of CRC-32C is beside a copy of the same memory: a line a round.
+# Prints how fast each body of CRC-32C is beside a copy of the same memory: a line a round.
 # usage: bench/crc.sh [SIZE [ROUNDS]]   SIZE in bytes, below 2^32
 set -eu
 cd "$(dirname "$0")/../crates/crc_speed"

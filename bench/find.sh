@@ -1,7 +1,6 @@
 #!/usr/bin/env bash
-# Tells how long a look-up in the remote tier takes while the copies that a view has double, 512 to 4,096, how long a copy's two
-# notes take and a deletion's, and how long it takes to tell how far copies go: two lines a run, the means of OFFSETS look-ups at
-# offsets in no order.
+# Times lookups in a view of the remote tier while its copies double, 512 to 4,096; a copy's two events and a deletion's; and how
+# long it takes to find how far copies reach. Two lines a run, the means of OFFSETS lookups at random offsets.
 # usage: bench/find.sh [ROUNDS [OFFSETS]]   OFFSETS below 2^32
 set -eu
 cd "$(dirname "$0")/../crates/find_speed"

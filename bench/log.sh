@@ -1,11 +1,10 @@
 #!/usr/bin/env bash
-# Times a local log whose count of batches doubles: over a disk in memory with batches of 170 bytes in segments of 1 MiB, and
-# over a folder with batches of 4 KiB in segments of 16 MiB, 256 MiB, 512 MiB and 1 GiB in all. Every hundredth append is
-# followed by a flush; then the log is read at 2,000 offsets in no order, one batch each, and opened again. A line a log: what
-# came of it, how often each call was made, and how long it took in the mean. Beside each log in a folder LevelDB's log writer
-# appends as many records of 4 KiB to a folder of its own, with the same syncs for a flush (Debian: g++, libleveldb-dev; without
-# them it is left out), and a line tells how much longer ours took.
-# usage: bench/log.sh [memory|folder [COUNT..]]   both if it isn't said
+# Times a local log whose number of batches doubles: on a disk in memory with batches of 170 bytes in segments of 1 MiB, and in a
+# directory with batches of 4 KiB in segments of 16 MiB, 256 MiB to 1 GiB in all. Every hundredth append is followed by a flush;
+# then 2,000 batches are read at random offsets, and the log is opened again. A line a log: how often each call was made, and its
+# mean time. Beside each log in a directory LevelDB's log writer appends as many records of 4 KiB with the same syncs (Debian: g++,
+# libleveldb-dev; without them it is left out), and a line says how much longer this log took.
+# usage: bench/log.sh [memory|folder [COUNT..]]   both by default
 set -eu
 bench=$(cd "$(dirname "$0")" && pwd)
 cd "$bench/../crates/log_speed"

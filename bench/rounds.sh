@@ -1,8 +1,8 @@
 #!/usr/bin/env bash
-# Times `./tiered audit` and `./tiered sweep` over folders whose remote tier doubles: 256 to 2,048 finished copies of a batch of 69
-# bytes each, four objects a copy. A line a folder: the copies, and the seconds of an audit and of a sweep (the least of ROUNDS).
-# usage: bench/rounds.sh [ROUNDS]   five if it isn't said. The folders lie in one of their own, which goes at the end. PROGRAM before
-# it names another program than ./tiered.
+# Times `./tiered audit` and `./tiered sweep` over directories whose remote tier doubles: 256 to 2,048 finished copies of one batch
+# of 69 bytes, four objects each. A line a directory: copies, and the seconds of an audit and a sweep (the least of ROUNDS).
+# usage: bench/rounds.sh [ROUNDS]   five by default. PROGRAM in the environment names another program than ./tiered.
+# The directories are made in a temporary folder.
 set -euo pipefail
 cd "$(dirname "$0")/.."
 program=${PROGRAM:-./tiered}

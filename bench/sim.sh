@@ -1,14 +1,8 @@
 #!/usr/bin/env bash
-# Times `./tiered sim` over scripts of 1, 2, 4, 8 and 16 MiB: with lines of all kinds (65,536 lines at 16 MiB), with flush
-# lines alone, with lines that ask for nothing (the reader's pace), with raw batches (the check's), with fetches that are
-# given 16 bytes for each of those (the trace's writer: 256 MiB at the end), with eight brokers, with 4,096 segments that are
-# flushed, with 64 actors in eight partitions, with calls of the disk that fail, with copies of segments of 1 MiB (2,000 at the end), with small segments that
-# are copied once each (4,095 at the end), with those that are trimmed too, with those that expire, and with fetches from the
-# remote tier (50,000 at the end). A line a script: the bytes of the script and of its trace, seconds (the least of
-# ROUNDS runs), peak memory in MiB, and how much longer it took than the script of half the size, beside how many more bytes it
-# read and wrote.
-# usage: bench/sim.sh [ROUNDS [KIND..]]   three rounds of all kinds if it isn't said. The scripts lie in a folder of their own,
-# which goes at the end. FORM='sim --threads' before it has the program make a thread for each actor.
+# Times `./tiered sim` over scripts of five sizes, each about twice the one before; bench/README.md says what each kind has.
+# A line a script: bytes of script and trace, seconds (the least of ROUNDS runs), peak memory in MiB, and how time and bytes grew.
+# usage: bench/sim.sh [ROUNDS [KIND..]]   three rounds of all kinds by default. FORM='sim --threads' runs with threads.
+# The scripts are made in a temporary folder.
 set -euo pipefail
 cd "$(dirname "$0")/.."
 rounds=${1:-3}

@@ -1,20 +1,19 @@
 #!/usr/bin/env python3
-"""Runs examples with one device call more that fails, and cuts them short.
+"""Runs examples with one more failing device call, and on scripts that are cut short.
 
 usage: examples/faults.py PROGRAM CHECKER [NAME..]
 
-PROGRAM runs a script (`tiered`), CHECKER tells whether a trace is a whole run of the plain log of
-one (`trace_check`). Without names the examples are those in DEFAULT. Of each example, without the
-fault lines of its own:
+PROGRAM is `tiered`, CHECKER is `trace_check`. Without names the examples are those in DEFAULT. Each
+example, without its own fault lines:
 
-- it is run once as it is, and once for each call of each device, before and after it: the disk of
-  each broker, the store, the metadata log, each kind of call, numbers from 1 on until three in a row
+- is run once as it is, and once for each call of each device, failing before and after it: the disk
+  of each broker, the store, the metadata log, each kind of call, numbers from 1 until three in a row
   give the trace of the run without the fault. Each run must end with status 0.
-- it is cut to its first bytes, the shortest example to each number of them, the others to a sample.
-  Each cut must end with status 0 or 3.
+- is cut to its first bytes, the shortest example at every length, the others at a sample. Each cut
+  must end with status 0 or 3.
 
-And each trace that was written with status 0 must be a whole run, as the checker tells it. A line
-tells of each example; what failed stands below it. The exit status is 1 where something did.
+Each trace that is written with status 0 must be a complete run for the checker. A line is printed
+for each example, and what failed below it. The exit status is 1 if something did.
 """
 import os
 import subprocess

@@ -1,14 +1,14 @@
 #!/usr/bin/env python3
-"""Runs examples with one call for memory that is refused, for each call that they make.
+"""Runs examples with one failing memory allocation, for each allocation that they make.
 
 usage: examples/memory.py PROGRAM [NAME..]
 
-PROGRAM runs a script (`tiered`). Without names the examples are those in DEFAULT. Each is run again
-and again, with a `malloc` in front of the system's that answers null to the call of one number, from
-1 on, until no call has that number. Each run must end with status 6 and nothing written, or with
-status 0 and the example's own trace. It wants a C compiler, `cc`, and a Linux system.
+PROGRAM is `tiered`. Without names the examples are those in DEFAULT. Each is run again and again with
+a `malloc` that returns null at the call of one number, from 1 until no call has that number. Each run
+must end with status 6 and no output, or with status 0 and the example's own trace. Needs Linux and a
+C compiler, `cc`.
 
-A line tells of each example; what failed stands below it. The exit status is 1 where something did.
+A line is printed for each example, and what failed below it. The exit status is 1 if something did.
 """
 import os
 import subprocess
