@@ -9,3 +9,4 @@ pub mod Joining
 pub mod Gaining
 pub mod Tracking
 pub mod Fitting
+pub mod Dense

@@ -2,6 +2,7 @@ pub mod Walk
 pub mod Run
 pub mod Going
 pub mod Index
+pub mod Density
 pub mod Growing
 pub mod Reach
 pub mod Segment

@@ -1,6 +1,7 @@
 //! Laws of a segment's bytes and of its placed batches, each the contract of a function that does nothing.
 
-ghost use Rattle.std.specs.Prelude.{◌≡◌, ℕ, ◌+◌, ◌<◌, ◌^◌, List, [], ◌∷◌, ◌++◌, length, slice_index_or, IsOk};
+ghost use Rattle.std.specs.Prelude.{◌≡◌, ℕ, ◌+◌, ◌<◌, ◌^◌, ◌≤ℤ◌, List, [], ◌∷◌, ◌++◌, length, slice_index_or, IsOk};
+ghost use Rattle.log_terms.specs.Batch.{max_ts_of};
 ghost use Rattle.log_terms.specs.Log.{joined, end_from, up_to};
 ghost use Rattle.record_batch.specs.Head.{head_of};
 ghost use Rattle.record_batch.specs.Check.{checked};
@@ -8,7 +9,9 @@ ghost use Rattle.segment_file.specs.declared.walking.Found.TheVariants.{Batch};
 ghost use Rattle.segment_file.specs.declared.placed.Placed.{Placed};
 ghost use Rattle.segment_file.specs.Walk.{found_at};
 ghost use Rattle.segment_file.specs.Segment.{IsSegment};
-ghost use Rattle.segment_file.specs.Index.{placed, placed_in, placed_from};
+ghost use Rattle.sparse_index.specs.Entries.{last_of};
+ghost use Rattle.segment_file.specs.Index.{placed, placed_in, placed_from, index_of, time_index_of, time_of};
+ghost use Rattle.segment_file.specs.Density.{IsNear};
 ghost use Rattle.segment_file.specs.Growing.{end_after, size_after, ending_by, AreParted};
 
 /// A batch is found where it stands, whatever stands behind it.
@@ -60,4 +63,18 @@ pub fn a_cut_keeps_batches()
 pub fn placed_batches_part()
     ensures { (at : ℕ) (batches : List (List ℕ)) (front rest : List Placed) → placed_from at batches ≡ front ++ rest
         → AreParted at batches front rest }
+{}
+
+/// No batch begins more than the interval's bytes behind an entry of the offset index, or behind the segment's beginning.
+pub fn each_batch_has_an_entry_near()
+    ensures { (base interval : ℕ) (front rest : List (List ℕ)) (batch : List ℕ)
+        → IsNear interval (index_of base interval (placed_from 0 (front ++ batch ∷ rest))).entries
+        (length (joined front)) }
+{}
+
+/// The time index of a closed segment reaches the greatest timestamp.
+#[tactic(auto, using(crate::proofs::Dense::each_timed))]
+pub fn no_batch_is_later_than_the_time_index()
+    ensures { (base interval : ℕ) (front rest : List (List ℕ)) (batch : List ℕ) → max_ts_of batch
+        ≤ℤ time_of (last_of (time_index_of base interval (placed_from 0 (front ++ batch ∷ rest))).entries) }
 {}

@@ -20,7 +20,8 @@ pub use closed::Closed;
 pub use growing::Growing;
 pub use laws::{
     a_batch_is_found, a_batch_is_placed_last, a_cut_keeps_batches, a_head_places_its_batch,
-    a_segment_is_read_in_one_way, placed_batches_end, placed_batches_part,
+    a_segment_is_read_in_one_way, each_batch_has_an_entry_near,
+    no_batch_is_later_than_the_time_index, placed_batches_end, placed_batches_part,
 };
 pub use placed::Placed;
 pub use refusal::ClosedRefusal;

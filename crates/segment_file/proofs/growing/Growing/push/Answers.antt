@@ -1,4 +1,4 @@
-use Rattle.std.proofs.Common.{◌≡◌, ℕ, ◌≤◌, ◌<◌, ◌+◌, ◌^◌, ◌==◌, ◌∙◌, ap, sym, List, [], ◌∷◌, ◌++◌, length, if◌then◌else◌, arith, rules, to_z, of_z, w64}
+use Rattle.std.proofs.Common.{◌≡◌, ◌≤◌, ◌<◌, ◌+◌, ◌^◌, ◌==◌, ◌∙◌, ap, sym, List, [], ◌∷◌, ◌++◌, length, if◌then◌else◌, arith, rules, to_z, of_z, w64}
 use Rattle.std.specs.Int.{int_max}
 use Rattle.std.proofs.lemmas.Bool.{eqb-true}
 use Rattle.sparse_index.specs.Offsets.{OffsetTable}
