@@ -1,7 +1,7 @@
 -- Log files that aren't listed are removed.
 use Rattle.std.proofs.Common.{◌≡◌, ◌≢◌, ◌⊎◌, ℕ, Bool, cond, List, [], ◌∷◌, ◌++◌, Option, None, refl, sym, ◌∙◌, ap, subst, inl, inr, ⊎_elim, IsTrue}
 use Rattle.tier_base.specs.declared.plain.FileName.{FileName}
-use Rattle.tier_base.specs.declared.plain.FileName.TheVariants.{Manifest, Log, Notes, Gate}
+use Rattle.tier_base.specs.declared.plain.FileName.TheVariants.{Manifest, Log, Notes, Gate, Registry}
 use Rattle.disk_model.proofs.Names.{cases_name}
 use Rattle.tier_base.specs.Told.{OnlyAt, In, removed, bytes_in}
 use Rattle.disk_model.specs.Content.{Content, Lawful, Files, Changes, LeavesOnly, Gone}
@@ -21,12 +21,14 @@ other_name es (Log b) other = each_map (λ e ne same. log_differs b e.base ne (s
 other_name es Manifest other = absurd other
 other_name es Notes other = absurd other
 other_name es Gate other = absurd other
+other_name es Registry other = absurd other
 
 pub not_manifest : (es : List Extent) (n : FileName) → IsOther es n → Manifest ≢ n
 not_manifest es (Log b) other = manifest_other b
 not_manifest es Manifest other = absurd other
 not_manifest es Notes other = absurd other
 not_manifest es Gate other = absurd other
+not_manifest es Registry other = absurd other
 
 -- a change of a file that isn't listed
 pub other_keeps : (es : List Extent) (n : FileName) (R : Option (List ℕ) → Option (List ℕ) → Type 0) (d c : Files) → IsOther es n → OnlyAt n R d c → KeepsFronts es d c

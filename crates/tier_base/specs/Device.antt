@@ -97,6 +97,8 @@ module _ {K : Type 0} {code : K → ℕ} where
     pub ruled : new.ruled ≡ old.ruled
     pub made : (kind : K) → new.made kind ≡ made_after code call fate old.armed kind (old.made kind)
     pub never_falls : old.faults ≤ new.faults
+    pub went : fate ≡ Went → new.faults ≡ old.faults
+    pub once : fate ≡ Fault → new.faults ≡ counted old.faults 1
     pub cause : fate ≡ Fault → Rose old.faults new.faults
     pub dry : fate ≡ Dry → Untouched old new
     pub stays_calm : IsTrue old.calm → IsTrue new.calm
