@@ -11,3 +11,4 @@ pub mod Lined
 pub mod Grown
 pub mod Whole
 pub mod OneTrace
+pub mod Pairs

@@ -9,6 +9,7 @@
 
 mod answers;
 mod counts;
+mod digits;
 mod fields;
 mod laws;
 mod line;

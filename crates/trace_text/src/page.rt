@@ -5,6 +5,7 @@ ghost use Rattle.hex.specs.Hex.{encode_lower};
 ghost use Rattle.trace_text.specs.Names.{padded};
 ghost use Rattle.trace_text.specs.Trace.{spaced};
 
+use crate::digits::push_hex;
 use std::alloc::{AllocError, Global};
 use std::fmt::Write;
 use std::marker::Model;
@@ -110,21 +111,6 @@ fn push_zeros(text: &mut Vec<u8>, zeros: usize) -> Result<(), AllocError>
 {
     for _ in 0..zeros {
         text.push(b'0')?;
-    }
-    Ok(())
-}
-
-/// The sixteen digits.
-const DIGITS: &[u8; 16] = b"0123456789abcdef";
-
-/// Puts bytes at the end of a text, each as two digits.
-#[tactic(auto, unfolding(hex::specs::Hex::encode_with))]
-fn push_hex(text: &mut Vec<u8>, bytes: &[u8]) -> Result<(), AllocError>
-    ensures { OnOk result (text.new.items ≡ text.old.items ++ encode_lower bytes.now) }
-{
-    for byte in bytes {
-        text.push(DIGITS[(*byte / 16) as usize])?;
-        text.push(DIGITS[(*byte % 16) as usize])?;
     }
     Ok(())
 }
