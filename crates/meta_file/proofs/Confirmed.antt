@@ -1,9 +1,9 @@
 -- An opening makes what it read stay.
-use Rattle.std.proofs.Common.{◌≡◌, ◌∙◌, sym, ap, subst, refl, ⊎_elim, ℕ, Bool, List, [], ◌∷◌, ◌++◌, length, take, drop, Option, Some, None, IsTrue, arith, append_assoc, take-append-drop}
+use Rattle.std.proofs.Common.{◌≡◌, ◌∙◌, sym, ap, subst, refl, ⊎_elim, ℕ, Bool, true, false, cond, List, [], ◌∷◌, ◌++◌, length, take, drop, Option, Some, None, IsTrue, arith, append_assoc, take-append-drop}
 use Rattle.std.proofs.lemmas.List.{take_at}
 use Rattle.tier_base.specs.declared.plain.FileName.TheVariants as file
 use Rattle.tier_base.specs.Device.{Fate, Went}
-use Rattle.tier_base.specs.Told.{bytes_in, replaced}
+use Rattle.tier_base.specs.Told.{bytes_in, replaced, OnlyAt}
 use Rattle.disk_model.specs.Content.{Content, Files, Image, Lawful, Keeps, Changes, Swapped, Begins, LeavesOnly}
 use Rattle.segment_meta.specs.declared.note.Note.{Note}
 use Rattle.meta_file.specs.declared.marks.Tail.{Tail}
@@ -42,11 +42,21 @@ read_opens d gate ends read tells = record {
   front = read.has.front tells;
 }
 
+-- a gate stands at one place
+pub gate_same : (held : Option (List ℕ)) (a b : ℕ) → GateAt held a → GateAt held b → a ≡ b
+gate_same None a b p q = p ∙ sym q
+gate_same (Some bytes) a b p q = gate_once a b p.0 q.0 (sym p.1 ∙ q.1)
+
+-- what opens still does
+pub kept_opens : (d m : Content) → Keeps d m → (l : List Note) → Opens d.files l → Opens m.files l
+kept_opens d m keeps l o = opens_same m.files d.files l (keeps.files file.Gate) (keeps.files file.Notes) o
+
 pub confirmed : (d m n : Content) (laws : Lawful d) (laws_m : Lawful m) (gate : ℕ) (ends : List ℕ) (read : IsRead d gate ends) (fate : Fate) (M : Bool → Type 0) → Keeps d m → ((c : Files) → Image m c → Begins (d.files file.Notes) (c file.Notes))
     → Changes file.Gate (replaced (gate_bytes gate)) (Swapped (gate_bytes gate)) M m n → (fate ≡ Went → (c : Files) → Image n c → c file.Gate ≡ Some (gate_bytes gate)) → Confirms read.has.notes fate d n
 confirmed d m n laws laws_m gate ends read fate M keeps synced change durable = record {
   tells = change.tells ∙ keeps.tells;
   since = λ reopens. goes_on d m n (OpensLike d) (goes_on d d m (OpensLike d) (started d (OpensLike d) (itself reopens)) keeps.time (λ c image. itself reopens c (keeps.images c image))) change.time (after reopens);
+  same = stays;
   done = λ went c image. record { gate = durable went c image ∙ ap (λ (p : ℕ). Some (gate_bytes p)) read.has.gate_is; front = front c image };
 }
   where
@@ -55,6 +65,25 @@ confirmed d m n laws laws_m gate ends read fate M keeps synced change durable = 
 
     notes : List Note
     notes = read.has.notes
+
+    stays : IsTrue d.tells → (l : List Note) → Opens d.files l → Opens n.files l
+    stays tells l o = by_done made.0 made.2.there
+      where
+        made : (done : Bool) × M done × OnlyAt file.Gate (λ before after. after ≡ cond done (Some (gate_bytes gate)) before) m.files n.files
+        made = change.files (subst IsTrue (sym keeps.tells) tells)
+
+        bytes : n.files file.Notes ≡ d.files file.Notes
+        bytes = made.2.others file.Notes notes_not_gate ∙ keeps.files file.Notes
+
+        by_done : (done : Bool) → n.files file.Gate ≡ cond done (Some (gate_bytes gate)) (m.files file.Gate) → Opens n.files l
+        by_done true is =
+            let same : length (frames l) ≡ gate = gate_same (d.files file.Gate) (length (frames l)) gate o.gate (read.at tells) in
+            record {
+              told = o.told;
+              gate = subst (λ (held : Option (List ℕ)). GateAt held (length (frames l))) (sym is) (omega (arith, same, read.low), ap gate_bytes (sym same));
+              front = subst (Fronts (frames l)) (sym bytes) o.front;
+            }
+        by_done false is = opens_same n.files d.files l (is ∙ keeps.files file.Gate) bytes o
 
     tells_of : (c : Files) → Image m c → IsTrue d.tells
     tells_of c image = subst IsTrue keeps.tells (laws_m.told c image)
@@ -95,10 +124,6 @@ opened_has d n gate ends read all = record { notes = read.has.notes; told = read
 -- where the files open, their gate has a reading
 pub opens_gate : (c : Files) (notes : List Note) → Opens c notes → ((end : ℕ) → GateAt (c file.Gate) end → ⊥) → ⊥
 opens_gate c notes o nowhere = nowhere (length (frames notes)) o.gate
-
-gate_same : (held : Option (List ℕ)) (a b : ℕ) → GateAt held a → GateAt held b → a ≡ b
-gate_same None a b p q = p ∙ sym q
-gate_same (Some bytes) a b p q = gate_once a b p.0 q.0 (sym p.1 ∙ q.1)
 
 -- and what stands up to it is notes
 pub opens_unbroken : (c : Files) (notes : List Note) (gate at : ℕ) → Opens c notes → GateAt (c file.Gate) gate → BreakAt gate (take gate (bytes_in (c file.Notes))) at → ⊥
@@ -148,15 +173,6 @@ pub opened_both : (d n : Content) (laws_n : Lawful n) (gate : ℕ) (ends : List 
 opened_both d n laws_n gate ends read same all tells =
     let now = laws_n.reads (subst IsTrue (sym same) tells) in
     (read.has.notes, read_opens d gate ends read tells, holds_opens read.has.notes n.files read.has.told (omega (arith, read.low, read.has.gate_is)) (all n.files now))
-
--- notes that break off open with none
-pub broken_closed : (d r m : Content) (gate at : ℕ) → Keeps d r → Keeps r m → (IsTrue r.tells → GateAt (r.files file.Gate) gate) → (IsTrue m.tells → BreakAt gate (take gate (bytes_in (m.files file.Notes))) at) → IsTrue d.tells → (notes : List Note) → Opens d.files notes → ⊥
-broken_closed d r m gate at first second here broken tells notes o =
-    let tells_r = subst IsTrue (sym first.tells) tells in
-    let tells_m = subst IsTrue (sym second.tells) tells_r in
-    opens_unbroken d.files notes gate at o
-    (subst (λ (held : Option (List ℕ)). GateAt held gate) (first.files file.Gate) (here tells_r))
-    (subst (λ (held : Option (List ℕ)). BreakAt gate (take gate (bytes_in held)) at) (second.files file.Notes ∙ first.files file.Notes) (broken tells_m))
 
 -- where the gate is sure, each image opens with what is told
 pub sure_durable : (d : Content) (laws : Lawful d) (ends : List ℕ) (tail : Tail) (h : HasNotes d ends tail) → IsSure tail → (c : Files) → Image d c → Opens c (notes_told d)

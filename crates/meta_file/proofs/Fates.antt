@@ -1,9 +1,9 @@
 -- How a call ended, and what its clauses then say.
-use Rattle.std.proofs.Common.{◌≡◌, Result, Ok, Err, OnOk, IfOk, IfErr, IsErr, true, ℕ}
+use Rattle.std.proofs.Common.{◌≡◌, ◌≢◌, refl, Result, Ok, Err, OnOk, IfOk, IfErr, IsErr, true, ℕ}
 use Rattle.std.proofs.lemmas.Bool.{true≢false}
 use Rattle.tier_base.specs.declared.fault.Trouble.{Trouble}
 use Rattle.tier_base.specs.declared.fault.Trouble.TheVariants as trouble
-use Rattle.tier_base.specs.Device.{Control, Fate, Went, Dry, MayBeDone, fate_of, fate_of_trouble}
+use Rattle.tier_base.specs.Device.{Control, Fate, Went, Fault, Dry, Ran, MayBeDone, fate_of, fate_of_trouble}
 
 pub ok_from_went : {T : Type 0} (r : Result T Trouble) (P : Type 0) → fate_of r ≡ Went → OnOk r P → P
 ok_from_went (Ok x) P went h = h
@@ -35,3 +35,9 @@ if_err (Err e) P Q f p = f e p
 pub on_ok : {T E : Type 0} (r : Result T E) (P Q : Type 0) → (P → Q) → OnOk r P → OnOk r Q
 on_ok (Ok x) P Q f p = f p
 on_ok (Err e) P Q f p = tt
+
+-- a call that wasn't answered a fault left the count
+pub ran_quiet : {K : Type 0} {code : K → ℕ} (call : K) (fate : Fate) (old new : Control code) → Ran call fate old new → fate ≢ Fault → new.faults ≡ old.faults
+ran_quiet call Went old new ran quiet = ran.went refl
+ran_quiet call Fault old new ran quiet = absurd (quiet refl)
+ran_quiet call Dry old new ran quiet = (ran.dry refl).faults

@@ -1,19 +1,22 @@
 -- With which notes the images of a disk open that a call leaves.
-use Rattle.std.proofs.Common.{◌≡◌, ◌∙◌, ◌⊎◌, inl, inr, sym, subst, refl, true, false, Bool, List, [], ◌∷◌, ◌++◌, IsTrue}
+use Rattle.std.proofs.Common.{◌≡◌, ◌∙◌, ◌⊎◌, inl, inr, sym, ap, subst, refl, true, false, ℕ, Bool, List, [], ◌∷◌, ◌++◌, Option, None, IsTrue}
 use Rattle.tier_base.specs.Device.{Fate, Went, MayBeDone}
 use Rattle.disk_model.specs.Content.{Content, Files, Image, Lawful, Keeps, LeavesOnly}
+use Rattle.disk_model.specs.Memory.{IsEmptyDisk}
 use Rattle.segment_meta.specs.declared.note.Note.{Note}
 use Rattle.meta_log.specs.Content.{Left, LeavesTold, Grows, appended_if}
 use Rattle.meta_log.specs.Content as log
 use Rattle.meta_log.specs.Call.{call_code}
 use Rattle.meta_log.specs.declared.call.MetaCall.TheVariants.{Append}
 use Rattle.device_tally.specs.Tally.{Counts, control_of}
-use Rattle.meta_file.specs.Notes.{Opens}
-use Rattle.meta_file.specs.Crash.{OpensLike}
+use Rattle.meta_file.specs.Notes.{GateAt, Opens}
+use Rattle.meta_file.specs.Crash.{Reopens, OpensLike}
 use Rattle.meta_file.specs.Log.{IsDone}
 use Rattle.meta_file.specs.Told.{notes_told, told_of, IsLeft}
+use Rattle.tier_base.specs.declared.plain.FileName.{FileName}
 use Rattle.tier_base.specs.declared.plain.FileName.TheVariants as file
-use Rattle.meta_file.proofs.Telling.{opens_once}
+use Rattle.tier_base.specs.Told.{bytes_in}
+use Rattle.meta_file.proofs.Telling.{opens_told, opens_once, disk_told}
 use Rattle.meta_file.proofs.Holding.{told_same, notes_same}
 
 -- images that open as ones of before
@@ -84,3 +87,27 @@ open_left d n laws laws_n tells since opened l (inl is) = (d.files, laws.reads t
 open_left d n laws laws_n tells since opened l (inr (c, image, o)) =
     let x = since.each c (laws_n.earlier d.moment n.moment c since.later image) in
     (x.0, x.1, subst (Opens x.0) (opens_once c x.2.0 l x.2.2 o) x.2.1)
+
+-- an opening keeps the notes
+pub opening_keeps : (d n : Content) (laws : Lawful d) (laws_n : Lawful n) → n.tells ≡ d.tells → (IsTrue d.tells → (l : List Note) → Opens d.files l → Opens n.files l) → (Reopens d → LeavesOnly d n (OpensLike d)) → Reopens d
+    → log.Keeps (told_of d) (told_of n)
+opening_keeps d n laws laws_n tells same since reopens =
+    let notes : notes_told n ≡ notes_told d = told_same d n tells (λ t. let o = reopens d.files (laws.reads t) in opens_told n.files o.0 (same t o.0 o.1) ∙ sym (opens_told d.files o.0 o.1)) in
+    record { tells = tells; notes = notes; left = like_left d n laws_n (since reopens) notes }
+
+-- an empty disk has none
+pub empty_opens : (c : Files) → ((n : FileName) → c n ≡ None) → Opens c []
+empty_opens c none = record {
+  told = tt;
+  gate = subst (λ (held : Option (List ℕ)). GateAt held 0) (sym (none file.Gate)) refl;
+  front = record { behind = []; is = ap bytes_in (none file.Notes) };
+}
+
+pub empty_has_none : (d : Content) → IsEmptyDisk d → Reopens d × ((notes_told d ≡ []) × LeavesTold (told_of d))
+empty_has_none d e =
+    let none : notes_told d ≡ [] = disk_told d [] e.tells (empty_opens d.files e.files) in
+    (λ c image. ([], empty_opens c (e.images c image)), (none, λ l. left_none l none))
+  where
+    left_none : (l : List Note) → notes_told d ≡ [] → Left (told_of d) l → l ≡ notes_told d
+    left_none l none (inl is) = is
+    left_none l none (inr (c, image, o)) = opens_once c l [] o (empty_opens c (e.images c image)) ∙ sym none

@@ -4,7 +4,6 @@ pub mod Leaving
 pub mod Firsts
 pub mod Walks
 pub mod Moments
-pub mod Lasting
 pub mod Holding
 pub mod Gating
 pub mod Settled
@@ -13,4 +12,5 @@ pub mod Written
 pub mod Putting
 pub mod Chaining
 pub mod Confirmed
+pub mod Damaged
 pub mod Spans

@@ -1,6 +1,7 @@
 pub mod Notes
 pub mod Ends
 pub mod Reading
+pub mod Damage
 pub mod Refusing
 pub mod Crash
 pub mod Stands

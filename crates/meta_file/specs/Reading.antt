@@ -49,10 +49,6 @@ pub record BreakAt (gate : ℕ) (bytes : List ℕ) (at : ℕ) : Type 0 where
 abbrev pub IsNoGate : List ℕ → Type 0
 IsNoGate bytes = (end : ℕ) → end < 2 ^ 64 → bytes ≢ gate_bytes end
 
--- what was read last is damaged at a place: it is no gate, or no notes up to the gate
-abbrev pub IsDamage : List ℕ → ℕ → Type 0
-IsDamage handed at = (IsNoGate handed × (at ≡ 0)) ⊎ ((gate : ℕ) × BreakAt gate (take gate handed) at)
-
 -- a gate stands here, or at the next end
 abbrev pub IsGateOf : ℕ → Option ℕ → ℕ → Type 0
 IsGateOf here next end = (end ≡ here) ⊎ (next ≡ Some end)

@@ -4,7 +4,7 @@ use Rattle.tier_base.specs.declared.plain.FileName.TheVariants as file
 use Rattle.tier_base.specs.Device.{Fate, Went, Dry}
 use Rattle.disk_model.specs.Content.{Content, Files, Image, LeavesOnly}
 use Rattle.segment_meta.specs.declared.note.Note.{Note}
-use Rattle.meta_file.specs.Notes.{frames, Fronts}
+use Rattle.meta_file.specs.Notes.{frames, Fronts, Opens}
 use Rattle.meta_file.specs.Crash.{Reopens, OpensLike}
 use Rattle.meta_file.specs.Stands.{Holds, HoldsOr, AllHold, EndsWith}
 
@@ -40,4 +40,5 @@ pub record Commits (notes more : List Note) (fate : Fate) (old new : Content) : 
 pub record Confirms (notes : List Note) (fate : Fate) (old new : Content) : Type 0 where
   pub tells : new.tells ≡ old.tells
   pub since : Reopens old → LeavesOnly old new (OpensLike old)
+  pub same : IsTrue old.tells → (opened : List Note) → Opens old.files opened → Opens new.files opened
   pub done : fate ≡ Went → AllHold new notes

@@ -1,6 +1,6 @@
 //! A metadata log in two files of a disk.
 
-ghost use Rattle.std.specs.Prelude.{◌≡◌, ◌⊎◌, ◌++◌, ◌∷◌, [], ℕ, List, length, drop, IfOk, IfErr, OnOk, IsTrue};
+ghost use Rattle.std.specs.Prelude.{◌≡◌, ◌≢◌, ◌⊎◌, ◌++◌, ◌∷◌, [], ℕ, List, length, drop, IfOk, IfErr, OnOk, IsTrue};
 ghost use Rattle.tier_base.specs.Counts.{Rose};
 ghost use Rattle.tier_base.specs.Device.{Fault, RanQuietly, MayBeDone, IsFresh, Lasts, fate_of};
 ghost use Rattle.disk_model.specs.Content.{Files, Image, LeavesOnly};
@@ -13,7 +13,8 @@ ghost use Rattle.device_tally.specs.Tally.{control_of, fails_as_planned};
 ghost use Rattle.meta_file.specs.declared.refusal.NotesRefusal.TheVariants.{Failed, Damaged};
 ghost use Rattle.meta_file.specs.Notes.{Opens};
 ghost use Rattle.meta_file.specs.Crash.{Reopens, OpensLike, Appending};
-ghost use Rattle.meta_file.specs.Reading.{IsDamage, IsStrangeGate, AreStrangeNotes};
+ghost use Rattle.meta_file.specs.Reading.{IsStrangeGate, AreStrangeNotes};
+ghost use Rattle.meta_file.specs.Damage.{IsDamage, HandsDamage};
 ghost use Rattle.meta_file.specs.Told.{told_of, IsLeft};
 
 use crate::marks::Marks;
@@ -75,12 +76,25 @@ impl<D: Disk> DiskLog<D> {
             → LeavesOnly (D.content disk) (D.content e.0) (OpensLike (D.content disk))) }
         ensures again { IfErr result (λ e. Reopens (D.content disk) → Reopens (D.content e.0)) }
 
+        // And then the notes stay, and are told where the disk tells, unless a call fails.
+        ensures keeps { Reopens (D.content disk) → IfOk result (λ log. Keeps (told_of (D.content disk))
+            (⟦<DiskLog<D> as MetaLog>⟧.content log)) }
+        ensures keeps_err { Reopens (D.content disk) → IfErr result (λ e. Keeps (told_of (D.content disk))
+            (told_of (D.content e.0))) }
+        ensures whole { IsTrue (D.content disk).tells → Reopens (D.content disk)
+            → IfErr result (λ e. (at : ℕ) → e.1 ≢ Damaged at) }
+
+        // A fault is answered, and no other answer hides one.
         ensures cause { IfErr result (λ e. e.1 ≡ Failed
             → Rose (D.control disk).faults (D.control e.0).faults) }
-        ensures damaged { IfErr result (λ e. (at : ℕ) → e.1 ≡ Damaged at
-            → IsDamage (D.control e.0).handed at) }
-        ensures sound { IfErr result (λ e. (at : ℕ) → e.1 ≡ Damaged at → IsTrue (D.content disk).tells
-            → (notes : List Note) → Opens (D.content disk).files notes → ⊥) }
+        ensures quiet { IfOk result (λ log. (D.control log.disk).faults ≡ (D.control disk).faults) }
+        ensures quiet_err { IfErr result (λ e. e.1 ≢ Failed
+            → (D.control e.0).faults ≡ (D.control disk).faults) }
+
+        // The place that is told is that of the files, where the disk tells them, and of what it handed.
+        ensures damaged { IfErr result (λ e. (at : ℕ) → e.1 ≡ Damaged at → IsTrue (D.content disk).tells
+            → IsDamage (D.content disk).files at) }
+        ensures handed { IfErr result (λ e. (at : ℕ) → e.1 ≡ Damaged at → HandsDamage D.control e.0 at) }
     {
         let mut disk = disk;
         match open_log(alloc, &mut disk) {
@@ -100,6 +114,13 @@ impl<D: Disk> DiskLog<D> {
         ensures reopens { Reopens (D.content result) }
     {
         self.disk
+    }
+
+    /// The log can be opened again from its disk, also after a crash. Nothing is done.
+    pub fn reopens(&self)
+        ensures { Reopens (D.content self.now.disk) }
+    {
+        let _ = &self.marks;
     }
 
     /// Answers whether calls are counted.
@@ -143,6 +164,8 @@ impl<D: Disk> MetaLog for DiskLog<D> {
         ensures cause { fate_of result ≡ Fault
             → Rose (D.control self.old.disk).faults (D.control self.new.disk).faults
             ⊎ IsStrangeGate self.old.ends self.old.tail (D.control self.new.disk).handed }
+        ensures quiet { fate_of result ≢ Fault
+            → (D.control self.new.disk).faults ≡ (D.control self.old.disk).faults }
         ensures told_cause { fate_of result ≡ Fault → IsTrue (D.content self.old.disk).tells
             → Rose (D.control self.old.disk).faults (D.control self.new.disk).faults }
     {
@@ -172,6 +195,8 @@ impl<D: Disk> MetaLog for DiskLog<D> {
             → Rose (D.control self.old.disk).faults (D.control self.new.disk).faults
             ⊎ (IsStrangeGate self.old.ends self.old.tail (D.control self.new.disk).handed
             ⊎ AreStrangeNotes self.new.ends at (D.control self.new.disk).handed) }
+        ensures quiet { fate_of result ≢ Fault
+            → (D.control self.new.disk).faults ≡ (D.control self.old.disk).faults }
         ensures told_cause { fate_of result ≡ Fault → IsTrue (D.content self.old.disk).tells
             → Rose (D.control self.old.disk).faults (D.control self.new.disk).faults }
     {

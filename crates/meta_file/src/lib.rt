@@ -21,6 +21,9 @@ mod walking;
 mod writing;
 
 pub use disk_log::DiskLog;
-pub use laws::files_open_once;
+pub use laws::{
+    an_empty_disk_has_no_notes, damaged_files_open_with_nothing, files_are_damaged_at_one_place,
+    files_open_once,
+};
 pub use marks::Tail;
 pub use refusal::NotesRefusal;

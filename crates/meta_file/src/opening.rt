@@ -1,17 +1,19 @@
 //! Opening a log: the gate and the notes up to it are read; then the notes are made to stay, and the gate as it reads.
 
-ghost use Rattle.std.specs.Prelude.{◌≡◌, ◌≢◌, ◌+◌, ◌≤◌, ℕ, List, take, IsTrue, IfOk, IfErr, OnOk, length};
+ghost use Rattle.std.specs.Prelude.{◌≡◌, ◌≢◌, ◌+◌, ◌<◌, ◌≤◌, ℕ, List, take, IsTrue, IfOk, IfErr, OnOk, length};
 ghost use Rattle.tier_base.specs.Counts.{Rose};
-ghost use Rattle.tier_base.specs.Device.{Lasts, fate_of};
+ghost use Rattle.tier_base.specs.Device.{Ran, Went, Lasts, fate_of};
 ghost use Rattle.tier_base.specs.Told.{bytes_in};
 ghost use Rattle.tier_base.specs.declared.plain.FileName.TheVariants as file;
+ghost use Rattle.disk_model.specs.declared.call.DiskCall.TheVariants.{Read};
 ghost use Rattle.disk_model.specs.Content.{Keeps, LeavesOnly};
 ghost use Rattle.segment_meta.specs.declared.note.Note.{Note};
 ghost use Rattle.meta_file.specs.declared.refusal.NotesRefusal.TheVariants.{Failed, Damaged};
 ghost use Rattle.meta_file.specs.declared.marks.Tail.TheVariants.{Loose};
-ghost use Rattle.meta_file.specs.Notes.{frames, GateAt, Opens};
+ghost use Rattle.meta_file.specs.Notes.{frames, gate_bytes, GateAt, Opens};
 ghost use Rattle.meta_file.specs.Crash.{Reopens, OpensLike};
-ghost use Rattle.meta_file.specs.Reading.{IsDamage, IsNoGate, EndAt, BreakAt};
+ghost use Rattle.meta_file.specs.Reading.{IsNoGate, EndAt, BreakAt};
+ghost use Rattle.meta_file.specs.Damage.{IsDamage, HandsDamage};
 ghost use Rattle.meta_file.specs.Opening.{HasEnds, IsRead};
 ghost use Rattle.meta_file.specs.Stands.{HasNotes};
 ghost use Rattle.meta_file.specs.Writing.{Confirms};
@@ -32,14 +34,18 @@ pub fn open_log<D: Disk>(alloc: Global, disk: &mut D) -> Result<Marks, NotesRefu
     ensures tells { (D.content disk.new).tells ≡ (D.content disk.old).tells }
     ensures since { Reopens (D.content disk.old)
         → LeavesOnly (D.content disk.old) (D.content disk.new) (OpensLike (D.content disk.old)) }
+    ensures same { IsTrue (D.content disk.old).tells → (notes : List Note) → Opens (D.content disk.old).files notes
+        → Opens (D.content disk.new).files notes }
     ensures opened { OnOk result (IsTrue (D.content disk.old).tells
         → (notes : List Note) × Opens (D.content disk.old).files notes × Opens (D.content disk.new).files notes) }
     ensures sure { IfOk result (λ marks. marks.tail ≡ Loose) }
-    ensures damaged { IfErr result (λ why. (at : ℕ) → why ≡ Damaged at → IsDamage (D.control disk.new).handed at) }
-    ensures sound { IfErr result (λ why. (at : ℕ) → why ≡ Damaged at → IsTrue (D.content disk.old).tells
-        → (notes : List Note) → Opens (D.content disk.old).files notes → ⊥) }
+    ensures damaged { IfErr result (λ why. (at : ℕ) → why ≡ Damaged at → IsTrue (D.content disk.old).tells
+        → IsDamage (D.content disk.old).files at) }
+    ensures handed { IfErr result (λ why. (at : ℕ) → why ≡ Damaged at → HandsDamage D.control disk.new at) }
     ensures control { Lasts (D.control disk.old) (D.control disk.new) }
     ensures cause { IfErr result (λ why. why ≡ Failed → Rose (D.control disk.old).faults (D.control disk.new).faults) }
+    ensures quiet { OnOk result ((D.control disk.new).faults ≡ (D.control disk.old).faults) }
+    ensures quiet_err { IfErr result (λ why. why ≢ Failed → (D.control disk.new).faults ≡ (D.control disk.old).faults) }
 {
     let (gate, ends) = study(alloc, disk)?;
     confirm(disk, gate)?;
@@ -54,11 +60,13 @@ fn study<D: Disk>(alloc: Global, disk: &mut D) -> Result<(u64, Vec<u64>), NotesR
     ensures read { IfOk result (λ x. IsRead (D.content disk.old) x.0 x.1.items) }
     ensures room { OnOk result (1 ≤ D.spare disk.new) }
     ensures content { Keeps (D.content disk.old) (D.content disk.new) }
-    ensures damaged { IfErr result (λ why. (at : ℕ) → why ≡ Damaged at → IsDamage (D.control disk.new).handed at) }
-    ensures sound { IfErr result (λ why. (at : ℕ) → why ≡ Damaged at → IsTrue (D.content disk.old).tells
-        → (notes : List Note) → Opens (D.content disk.old).files notes → ⊥) }
+    ensures damaged { IfErr result (λ why. (at : ℕ) → why ≡ Damaged at → IsTrue (D.content disk.old).tells
+        → IsDamage (D.content disk.old).files at) }
+    ensures handed { IfErr result (λ why. (at : ℕ) → why ≡ Damaged at → HandsDamage D.control disk.new at) }
     ensures control { Lasts (D.control disk.old) (D.control disk.new) }
     ensures cause { IfErr result (λ why. why ≡ Failed → Rose (D.control disk.old).faults (D.control disk.new).faults) }
+    ensures quiet { OnOk result ((D.control disk.new).faults ≡ (D.control disk.old).faults) }
+    ensures quiet_err { IfErr result (λ why. why ≢ Failed → (D.control disk.new).faults ≡ (D.control disk.old).faults) }
 {
     disk.reserve(1)?;
     let gate = find_gate(disk)?;
@@ -74,12 +82,15 @@ fn find_gate<D: Disk>(disk: &mut D) -> Result<u64, NotesRefusal>
         → GateAt ((D.content disk.old).files file.Gate) gate) }
     ensures room { D.spare disk.new ≡ D.spare disk.old }
     ensures content { Keeps (D.content disk.old) (D.content disk.new) }
+    ensures handed { IfOk result (λ gate. 0 < gate → (D.control disk.new).handed ≡ gate_bytes gate) }
     ensures damaged { IfErr result (λ why. (at : ℕ) → why ≡ Damaged at
         → IsNoGate (D.control disk.new).handed × (at ≡ 0)) }
     ensures sound { IfErr result (λ why. (at : ℕ) → why ≡ Damaged at → IsTrue (D.content disk.old).tells
         → (end : ℕ) → GateAt ((D.content disk.old).files file.Gate) end → ⊥) }
     ensures control { Lasts (D.control disk.old) (D.control disk.new) }
     ensures cause { IfErr result (λ why. why ≡ Failed → Rose (D.control disk.old).faults (D.control disk.new).faults) }
+    ensures quiet { OnOk result ((D.control disk.new).faults ≡ (D.control disk.old).faults) }
+    ensures quiet_err { IfErr result (λ why. why ≢ Failed → (D.control disk.new).faults ≡ (D.control disk.old).faults) }
 {
     let file = disk.read(FileName::Gate, 0)?;
     match gate_in(&file) {
@@ -95,10 +106,14 @@ fn find_ends<D: Disk>(alloc: Global, disk: &mut D, gate: u64) -> Result<Vec<u64>
     ensures content { Keeps (D.content disk.old) (D.content disk.new) }
     ensures damaged { IfErr result (λ why. (at : ℕ) → why ≡ Damaged at
         → BreakAt gate (take gate (D.control disk.new).handed) at) }
+    ensures next { IfErr result (λ why. (at : ℕ) → why ≡ Damaged at
+        → Ran Read Went (D.control disk.old) (D.control disk.new)) }
     ensures sound { IfErr result (λ why. (at : ℕ) → why ≡ Damaged at → IsTrue (D.content disk.old).tells
         → BreakAt gate (take gate (bytes_in ((D.content disk.old).files file.Notes))) at) }
     ensures control { Lasts (D.control disk.old) (D.control disk.new) }
     ensures cause { IfErr result (λ why. why ≡ Failed → Rose (D.control disk.old).faults (D.control disk.new).faults) }
+    ensures quiet { OnOk result ((D.control disk.new).faults ≡ (D.control disk.old).faults) }
+    ensures quiet_err { IfErr result (λ why. why ≢ Failed → (D.control disk.new).faults ≡ (D.control disk.old).faults) }
 {
     let file = disk.read_part(FileName::Notes, 0, gate)?;
     ends_of_file(alloc, &file, gate)

@@ -1,6 +1,6 @@
 //! Reading the notes from a number on.
 
-ghost use Rattle.std.specs.Prelude.{◌≡◌, ◌⊎◌, ◌-◌, ◌≤◌, ℕ, length, drop, IsTrue, IfOk, OnOk, None, Some};
+ghost use Rattle.std.specs.Prelude.{◌≡◌, ◌≢◌, ◌⊎◌, ◌-◌, ◌≤◌, ℕ, length, drop, IsTrue, IfOk, OnOk, None, Some};
 ghost use Rattle.std.specs.declared.option.Option.{Option};
 ghost use Rattle.tier_base.specs.Counts.{Rose};
 ghost use Rattle.tier_base.specs.Device.{Fault, Lasts, fate_of};
@@ -42,6 +42,7 @@ pub fn read<D: Disk>(
     ensures cause { fate_of result ≡ Fault → Rose (D.control disk.old).faults (D.control disk.new).faults
         ⊎ (IsStrangeGate marks.old.ends.items marks.old.tail (D.control disk.new).handed
         ⊎ AreStrangeNotes marks.new.ends.items from (D.control disk.new).handed) }
+    ensures quiet { fate_of result ≢ Fault → (D.control disk.new).faults ≡ (D.control disk.old).faults }
     ensures told_cause { fate_of result ≡ Fault → IsTrue (D.content disk.old).tells
         → Rose (D.control disk.old).faults (D.control disk.new).faults }
 {
@@ -70,6 +71,7 @@ fn read_from<D: Disk>(
     ensures control { Lasts (D.control disk.old) (D.control disk.new) }
     ensures cause { fate_of result ≡ Fault → Rose (D.control disk.old).faults (D.control disk.new).faults
         ⊎ AreStrangeNotes marks.now.ends.items from (D.control disk.new).handed }
+    ensures quiet { fate_of result ≢ Fault → (D.control disk.new).faults ≡ (D.control disk.old).faults }
     ensures told_cause { fate_of result ≡ Fault → IsTrue (D.content disk.old).tells
         → Rose (D.control disk.old).faults (D.control disk.new).faults }
 {

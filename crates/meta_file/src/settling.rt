@@ -31,6 +31,7 @@ pub fn settle<D: Disk>(disk: &mut D, marks: &mut Marks) -> Result<(), Trouble>
     ensures control { Lasts (D.control disk.old) (D.control disk.new) }
     ensures cause { fate_of result ≡ Fault → Rose (D.control disk.old).faults (D.control disk.new).faults
         ⊎ IsStrangeGate marks.old.ends.items marks.old.tail (D.control disk.new).handed }
+    ensures quiet { fate_of result ≢ Fault → (D.control disk.new).faults ≡ (D.control disk.old).faults }
     ensures told_cause { fate_of result ≡ Fault → IsTrue (D.content disk.old).tells
         → Rose (D.control disk.old).faults (D.control disk.new).faults }
 {
@@ -55,6 +56,7 @@ fn find_end<D: Disk>(disk: &mut D, here: u64, next: Option<u64>) -> Result<u64, 
     ensures control { Lasts (D.control disk.old) (D.control disk.new) }
     ensures cause { fate_of result ≡ Fault → Rose (D.control disk.old).faults (D.control disk.new).faults
         ⊎ IsNoGateOf here next (D.control disk.new).handed }
+    ensures quiet { fate_of result ≢ Fault → (D.control disk.new).faults ≡ (D.control disk.old).faults }
     ensures told_cause { fate_of result ≡ Fault → IsTrue (D.content disk.old).tells
         → Rose (D.control disk.old).faults (D.control disk.new).faults
         ⊎ IsNoGateOf here next (bytes_in ((D.content disk.old).files file.Gate)) }

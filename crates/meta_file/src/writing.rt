@@ -1,10 +1,11 @@
 //! Putting a note behind the others: it is written and synced before the gate moves, so that no crash leaves a gate behind
 //! bytes that aren't there.
 
-ghost use Rattle.std.specs.Prelude.{◌≡◌, ◌⊎◌, ◌+◌, ◌≤◌, ◌++◌, ◌∷◌, [], List, length, IsTrue, OnOk, IfOk};
+ghost use Rattle.std.specs.Prelude.{◌≡◌, ◌≢◌, ◌⊎◌, ◌+◌, ◌≤◌, ◌++◌, ◌∷◌, [], List, length, IsTrue, OnOk, IfOk};
 ghost use Rattle.tier_base.specs.Counts.{Rose};
 ghost use Rattle.tier_base.specs.Device.{Fault, Lasts, fate_of, failing};
-ghost use Rattle.disk_model.specs.Content.{Content, Files, Image, LeavesOnly};
+ghost use Rattle.tier_base.specs.declared.plain.FileName.TheVariants as file;
+ghost use Rattle.disk_model.specs.Content.{Content, Files, Image, LeavesOnly, Keeps, Begins};
 ghost use Rattle.segment_meta.specs.declared.note.Note.{Note};
 ghost use Rattle.segment_meta.specs.Rules.{IsNote};
 ghost use Rattle.meta_log.specs.Content.{Grows};
@@ -47,6 +48,7 @@ pub fn append<D: Disk>(
     ensures control { Lasts (D.control disk.old) (D.control disk.new) }
     ensures cause { fate_of result ≡ Fault → Rose (D.control disk.old).faults (D.control disk.new).faults
         ⊎ IsStrangeGate marks.old.ends.items marks.old.tail (D.control disk.new).handed }
+    ensures quiet { fate_of result ≢ Fault → (D.control disk.new).faults ≡ (D.control disk.old).faults }
     ensures told_cause { fate_of result ≡ Fault → IsTrue (D.content disk.old).tells
         → Rose (D.control disk.old).faults (D.control disk.new).faults }
 {
@@ -95,7 +97,7 @@ fn put<D: Disk>(alloc: Global, disk: &mut D, marks: &mut Marks, note: &Note) -> 
 
 /// Cuts off what stands behind the notes that end there, where something may.
 fn shorten<D: Disk>(disk: &mut D, tail: Tail, end: u64) -> Result<(), Failed>
-    requires { 2 ≤ D.spare disk.old }
+    requires { 1 ≤ D.spare disk.old }
     ensures tells { (D.content disk.new).tells ≡ (D.content disk.old).tells }
     ensures content { (notes : List Note) → StandsBy (D.content disk.old) notes tail → IsSure tail
         → end ≡ length (frames notes)
@@ -111,7 +113,7 @@ fn shorten<D: Disk>(disk: &mut D, tail: Tail, end: u64) -> Result<(), Failed>
 
 /// Writes bytes behind the notes that end there, and makes them stay.
 fn extend<D: Disk>(disk: &mut D, tail: Tail, end: u64, bytes: &[u8]) -> Result<(), Trouble>
-    requires { 2 ≤ D.spare disk.old }
+    requires room { 2 ≤ D.spare disk.old }
     ensures tells { (D.content disk.new).tells ≡ (D.content disk.old).tells }
     ensures content { (notes : List Note) (note : Note) → StandsBy (D.content disk.old) notes tail
         → IsSure tail → end ≡ length (frames notes) → bytes.now ≡ framed note
@@ -120,8 +122,19 @@ fn extend<D: Disk>(disk: &mut D, tail: Tail, end: u64, bytes: &[u8]) -> Result<(
 {
     shorten(disk, tail, end)?;
     disk.append(FileName::Notes, bytes)?;
-    disk.sync(FileName::Notes)?;
+    sync_notes(disk)?;
     Ok(())
+}
+
+/// Makes the notes' bytes stay.
+fn sync_notes<D: Disk>(disk: &mut D) -> Result<(), Failed>
+    requires room { 1 ≤ D.spare disk.old }
+    ensures control { Runs (failing result) (D.control disk.old) (D.control disk.new) }
+    ensures content { Keeps (D.content disk.old) (D.content disk.new) }
+    ensures durable { OnOk result ((c : Files) → Image (D.content disk.new) c
+        → Begins ((D.content disk.old).files file.Notes) (c file.Notes)) }
+{
+    disk.sync(FileName::Notes)
 }
 
 /// Moves the gate to an end.

@@ -1,5 +1,5 @@
-use Rattle.std.proofs.Common.{◌∙◌, refl}
-use Rattle.meta_file.proofs.Confirmed.{read_kept, opened_has, open_since, opened_both}
+use Rattle.std.proofs.Common.{◌∙◌, sym, subst, refl, IsTrue}
+use Rattle.meta_file.proofs.Confirmed.{read_kept, kept_opens, opened_has, open_since, opened_both}
 use Rattle.meta_file.proofs.opening.open_log.Goals as goal
 
 pub returns-in_err-confirm-clause-tells : goal.returns-in_err-confirm-clause-tells
@@ -73,3 +73,22 @@ returns-clause-opened g c =
     let read = c.in_ok-gate.ensures.read in
     let x = c.in_ok-confirm.ensures.content ends (read_kept d m gate ends keeps read) in
     opened_both d n (g.met.D.Disk.lawful c.confirm.new.disk) gate ends read (x.tells ∙ keeps.tells) (x.done refl)
+
+pub returns-in_err-gate-clause-same : goal.returns-in_err-gate-clause-same
+returns-in_err-gate-clause-same g c = λ tells. kept_opens (g.D.Disk.content c.args.disk.now) (g.D.Disk.content c.study.new.disk) c.study.ensures.content
+
+pub returns-in_err-confirm-clause-same : goal.returns-in_err-confirm-clause-same
+returns-in_err-confirm-clause-same g c = λ tells notes o.
+    let d = g.D.Disk.content c.args.disk.now in
+    let m = g.D.Disk.content c.study.new.disk in
+    let keeps = c.study.ensures.content in
+    let x = c.confirm.ensures.content c.in_ok-gate.ends.items (read_kept d m c.in_ok-gate.gate c.in_ok-gate.ends.items keeps c.in_ok-gate.ensures.read) in
+    x.same (subst IsTrue (sym keeps.tells) tells) notes (kept_opens d m keeps notes o)
+
+pub returns-clause-same : goal.returns-clause-same
+returns-clause-same g c = λ tells notes o.
+    let d = g.D.Disk.content c.args.disk.now in
+    let m = g.D.Disk.content c.study.new.disk in
+    let keeps = c.study.ensures.content in
+    let x = c.in_ok-confirm.ensures.content c.in_ok-gate.ends.items (read_kept d m c.in_ok-gate.gate c.in_ok-gate.ends.items keeps c.in_ok-gate.ensures.read) in
+    x.same (subst IsTrue (sym keeps.tells) tells) notes (kept_opens d m keeps notes o)

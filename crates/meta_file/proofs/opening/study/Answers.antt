@@ -1,7 +1,19 @@
-use Rattle.meta_file.proofs.Confirmed.{broken_closed}
+use Rattle.std.proofs.Common.{inr, arith}
+use Rattle.meta_file.proofs.Damaged.{read_damage}
 use Rattle.meta_file.proofs.opening.study.Goals as goal
 
-pub returns-in-Err-clause-sound : goal.returns-in-Err-clause-sound
-returns-in-Err-clause-sound g c = λ at is.
-    broken_closed (g.D.Disk.content c.args.disk.now) (g.D.Disk.content c.reserve.new.self) (g.D.Disk.content c.find_gate.new.disk) c.in_ok-gate.gate at
+pub returns-in-Err-clause-damaged : goal.returns-in-Err-clause-damaged
+returns-in-Err-clause-damaged g c = λ at is.
+    read_damage (g.D.Disk.content c.args.disk.now) (g.D.Disk.content c.reserve.new.self) (g.D.Disk.content c.find_gate.new.disk) c.in_ok-gate.gate at
     c.reserve.ensures.content c.find_gate.ensures.content c.in_ok-gate.ensures.gate (c.in-Err.ensures.sound at is)
+
+pub returns-in-Err-clause-handed : goal.returns-in-Err-clause-handed
+returns-in-Err-clause-handed g c = λ at is.
+    let breaks = c.in-Err.ensures.damaged at is in
+    inr (record {
+      gate = c.in_ok-gate.gate;
+      before = c.find_gate.new.disk;
+      handed = c.in_ok-gate.ensures.handed (let before = breaks.before in omega (arith, before));
+      next = c.in-Err.ensures.next at is;
+      breaks = breaks;
+    })
