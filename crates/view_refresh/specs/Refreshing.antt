@@ -10,7 +10,7 @@ use Rattle.std.specs.Prelude.{◌≡◌, ◌⊎◌, List, [], ◌∷◌, ◌++�
 use Rattle.std.specs.declared.result.Result.{Result}
 use Rattle.tier_base.specs.declared.fault.Trouble.{Trouble}
 use Rattle.tier_base.specs.declared.fault.Trouble.TheVariants.{Failed, NoMemory}
-use Rattle.tier_base.specs.Device.{Control, RanQuietly, Went, Fault, Lasts}
+use Rattle.tier_base.specs.Device.{Control, RanQuietly, Went, Fault, Dry, Lasts, fate_of}
 use Rattle.segment_meta.specs.declared.note.Note.{Note}
 use Rattle.meta_log.specs.declared.call.MetaCall.TheVariants.{Read}
 use Rattle.meta_log.specs.Call.{call_code}
@@ -55,6 +55,10 @@ abbrev pub Reads : {T : Type 0} → Result T Trouble → Control call_code → C
 Reads (Ok x) old new = RanQuietly Read Went old new
 Reads (Err Failed) old new = RanQuietly Read Fault old new
 Reads (Err NoMemory) old new = Lasts old new
+
+-- that call ended as the refresh did, or it went and there was no memory for the notes that it gave
+abbrev pub ReadsOnce : {T : Type 0} → Result T Trouble → Control call_code → Control call_code → Type 0
+ReadsOnce result old new = RanQuietly Read (fate_of result) old new ⊎ ((fate_of result ≡ Dry) × RanQuietly Read Went old new)
 
 -- what became of a log, and of a view before and after it was read
 module _ {M : Type 0} (notes : M → Content) (calls : M → Control call_code) where

@@ -2,7 +2,7 @@
 
 ghost use Rattle.std.specs.Prelude.{◌≡◌, ℕ, take, OnOk, OnErr};
 ghost use Rattle.meta_log.specs.Content.{AreNotes, Keeps};
-ghost use Rattle.view_refresh.specs.Refreshing.{fed_all, Takes, Leaves, Reads};
+ghost use Rattle.view_refresh.specs.Refreshing.{fed_all, Takes, Leaves, Reads, ReadsOnce};
 
 use meta_log::MetaLog;
 use remote_view::View;
@@ -15,6 +15,7 @@ use tier_base::Trouble;
 pub fn refresh<M: MetaLog>(view: &mut View, meta: &mut M) -> Result<(), Trouble>
     ensures view { Takes result (M.content meta.old) view.old view.new }
     ensures control { Reads result (M.control meta.old) (M.control meta.new) }
+    ensures once { ReadsOnce result (M.control meta.old) (M.control meta.new) }
     ensures content { Keeps (M.content meta.old) (M.content meta.new) }
     ensures left { Leaves result view.old view.new (M.content meta.old) (M.content meta.new) }
 {
