@@ -516,7 +516,7 @@ static EXPLAINED: [(u8, &str, &str); 4] = [
     (
         3,
         "# c\n0 0 0 flush x\n",
-        "    0 0 0 flush x\n                ^\nthis is a word too many\nexpected the line's end\nsee docs/SCRIPT.md, \"flush\"\n",
+        "    0 0 0 flush x\n                ^\none word too many\nexpected the end of the line\nsee docs/SCRIPT.md, \"flush\"\n",
     ),
     (3, "", ""),
     (
@@ -717,7 +717,7 @@ fn is_help(alloc: Global, list: &[&str]) -> bool {
 
 /// Words, and what they print.
 static PRINTED: [(&[&str], Option<&str>); 3] = [
-    (&["--version"], Some("tiered 0.1.0\n")),
+    (&["--version"], Some("tiered 0.2.0\n")),
     (&["sim"], None),
     (&["--help", "x"], None),
 ];

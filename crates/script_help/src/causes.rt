@@ -7,23 +7,22 @@ use script_lang::Why;
 /// What is wrong, where a word stands at the place or none does, and where the line may only end there.
 pub fn cause(why: Why, is_there: bool, is_end: bool) -> &'static str {
     match why {
-        Why::NotText =>
-            "this byte can't stand in a line, which has printable ASCII, spaces and tabs",
+        Why::NotText => "this byte isn't allowed: a line has printable ASCII, spaces and tabs",
         Why::Word if !is_there => "a word is missing here",
-        Why::Word if is_end => "this is a word too many",
-        Why::Word => "no such word can stand here",
-        Why::Number => "this isn't a number in decimal digits, or it is out of its range",
-        Why::Field => "this record, or its key, its value or a header, has no reading",
-        Why::Hex => "these aren't an even number of hexadecimal digits",
-        Why::TooLate => "an option stands before each command, later, turn and fault line",
-        Why::Twice => "this option was given before",
+        Why::Word if is_end => "one word too many",
+        Why::Word => "this word isn't valid here",
+        Why::Number => "not a decimal number, or out of range",
+        Why::Field => "invalid record, key, value or header",
+        Why::Hex => "not pairs of hexadecimal digits",
+        Why::TooLate => "an option must come before all command, later, turn and fault lines",
+        Why::Twice => "this option is given twice",
         Why::ActorPartition => "this actor has commands of another partition",
         Why::NoActor => "this actor has no command before this line",
         Why::TooMany => "a script has at most 65536 commands",
         Why::BatchTooLarge => "a batch has at most 1048576 bytes",
-        Why::FetchSum => "with this line the fetches pass their sum, 268435456 bytes",
-        Why::CopySum => "with this line the copies pass their sum, 2147483648 bytes",
-        Why::TurnSum => "with this line the turns are more than 1048576",
+        Why::FetchSum => "with this line all fetches together exceed 268435456 bytes",
+        Why::CopySum => "with this line all copies together exceed 2147483648 bytes",
+        Why::TurnSum => "with this line there are more than 1048576 turns",
     }
 }
 

@@ -30,13 +30,13 @@ fn things(alloc: Global, wanted: &Wanted) -> Result<Vec<String>, AllocError> {
         })?;
     }
     if wanted.is_record {
-        things.push(String::from_str(alloc, "a record, as 1000,:key,:value")?)?;
+        things.push(String::from_str(alloc, "a record such as 1000,:key,:value")?)?;
     }
     if wanted.is_hex {
-        things.push(String::from_str(alloc, "hexadecimal digits, two for a byte")?)?;
+        things.push(String::from_str(alloc, "hexadecimal digits, two a byte")?)?;
     }
     if wanted.may_end {
-        things.push(String::from_str(alloc, "the line's end")?)?;
+        things.push(String::from_str(alloc, "the end of the line")?)?;
     }
     Ok(things)
 }

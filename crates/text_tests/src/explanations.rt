@@ -10,17 +10,17 @@ static ROWS: [(&str, &str, &str); 33] = [
     (
         "an unknown command",
         "# c\n0 0 0 frob\n",
-        "    0 0 0 frob\n          ^\nno such word can stand here\nexpected a command, one of append, raw, flush, roll, fetch, offset, elect, unclean, learn, join, follow, ack, shrink, expand, copy, trim, expire, raise, stop or up\nsee docs/SCRIPT.md, \"Actors and the schedule\"\n",
+        "    0 0 0 frob\n          ^\nthis word isn't valid here\nexpected a command, one of append, raw, flush, roll, fetch, offset, elect, unclean, learn, join, follow, ack, shrink, expand, copy, trim, expire, raise, stop or up\nsee docs/SCRIPT.md, \"Actors and the schedule\"\n",
     ),
     (
         "a broker's command for the partition",
         "0\t0 - flush\r\n",
-        "    0 0 - flush\n          ^\nno such word can stand here\nexpected a command, one of copying, pack or clock\nsee docs/SCRIPT.md, \"Actors and the schedule\"\n",
+        "    0 0 - flush\n          ^\nthis word isn't valid here\nexpected a command, one of copying, pack or clock\nsee docs/SCRIPT.md, \"Actors and the schedule\"\n",
     ),
     (
         "an unknown first word",
         "x 0 0 flush",
-        "    x 0 0 flush\n    ^\nno such word can stand here\nexpected brokers, partitions, segment_bytes, index_interval_bytes, retention_ms, retention_bytes, local_retention_ms, local_retention_bytes, later, turn, fault or a number from 0 to 63\nsee docs/SCRIPT.md, \"Actors and the schedule\"\n",
+        "    x 0 0 flush\n    ^\nthis word isn't valid here\nexpected brokers, partitions, segment_bytes, index_interval_bytes, retention_ms, retention_bytes, local_retention_ms, local_retention_bytes, later, turn, fault or a number from 0 to 63\nsee docs/SCRIPT.md, \"Actors and the schedule\"\n",
     ),
     (
         "no partition",
@@ -35,17 +35,17 @@ static ROWS: [(&str, &str, &str); 33] = [
     (
         "no record",
         "0 0 0 append\n",
-        "    0 0 0 append\n                ^\na word is missing here\nexpected a record, as 1000,:key,:value\nsee docs/SCRIPT.md, \"append\"\n",
+        "    0 0 0 append\n                ^\na word is missing here\nexpected a record such as 1000,:key,:value\nsee docs/SCRIPT.md, \"append\"\n",
     ),
     (
         "no digits",
         "0 0 0 raw\n",
-        "    0 0 0 raw\n             ^\na word is missing here\nexpected hexadecimal digits, two for a byte\nsee docs/SCRIPT.md, \"raw\"\n",
+        "    0 0 0 raw\n             ^\na word is missing here\nexpected hexadecimal digits, two a byte\nsee docs/SCRIPT.md, \"raw\"\n",
     ),
     (
         "a word too many",
         "0 0 0 flush # c\n",
-        "    0 0 0 flush # c\n                ^\nthis is a word too many\nexpected the line's end\nsee docs/SCRIPT.md, \"flush\"\n",
+        "    0 0 0 flush # c\n                ^\none word too many\nexpected the end of the line\nsee docs/SCRIPT.md, \"flush\"\n",
     ),
     (
         "no limit",
@@ -55,87 +55,87 @@ static ROWS: [(&str, &str, &str); 33] = [
     (
         "an unknown offset",
         "0 0 0 offset now\n",
-        "    0 0 0 offset now\n                 ^\nno such word can stand here\nexpected earliest, latest, earliest_local, latest_tiered or at\nsee docs/SCRIPT.md, \"offset\"\n",
+        "    0 0 0 offset now\n                 ^\nthis word isn't valid here\nexpected earliest, latest, earliest_local, latest_tiered or at\nsee docs/SCRIPT.md, \"offset\"\n",
     ),
     (
         "a call that the device lacks",
         "fault 0 store sync 1 after\n",
-        "    fault 0 store sync 1 after\n                  ^\nno such word can stand here\nexpected put, get or delete\nsee docs/SCRIPT.md, \"Faults\"\n",
+        "    fault 0 store sync 1 after\n                  ^\nthis word isn't valid here\nexpected put, get or delete\nsee docs/SCRIPT.md, \"Faults\"\n",
     ),
     (
         "an unknown device",
         "fault 0 tape read 1 before\n",
-        "    fault 0 tape read 1 before\n            ^\nno such word can stand here\nexpected disk, store or meta\nsee docs/SCRIPT.md, \"Faults\"\n",
+        "    fault 0 tape read 1 before\n            ^\nthis word isn't valid here\nexpected disk, store or meta\nsee docs/SCRIPT.md, \"Faults\"\n",
     ),
     (
         "an unknown side",
         "fault 0 meta append 1 during\n",
-        "    fault 0 meta append 1 during\n                          ^\nno such word can stand here\nexpected before or after\nsee docs/SCRIPT.md, \"Faults\"\n",
+        "    fault 0 meta append 1 during\n                          ^\nthis word isn't valid here\nexpected before or after\nsee docs/SCRIPT.md, \"Faults\"\n",
     ),
     (
         "brokers out of range",
         "brokers 9\n",
-        "    brokers 9\n            ^\nthis isn't a number in decimal digits, or it is out of its range\nexpected a number from 1 to 8\nsee docs/SCRIPT.md, \"Options\"\n",
+        "    brokers 9\n            ^\nnot a decimal number, or out of range\nexpected a number from 1 to 8\nsee docs/SCRIPT.md, \"Options\"\n",
     ),
     (
         "a size out of range",
         "segment_bytes 99\n",
-        "    segment_bytes 99\n                  ^\nthis isn't a number in decimal digits, or it is out of its range\nexpected a number from 100 to 16777216\nsee docs/SCRIPT.md, \"Options\"\n",
+        "    segment_bytes 99\n                  ^\nnot a decimal number, or out of range\nexpected a number from 100 to 16777216\nsee docs/SCRIPT.md, \"Options\"\n",
     ),
     (
         "no bound to take over",
         "retention_bytes -2\n",
-        "    retention_bytes -2\n                    ^\nthis isn't a number in decimal digits, or it is out of its range\nexpected a number from -1 to 9223372036854775807\nsee docs/SCRIPT.md, \"Options\"\n",
+        "    retention_bytes -2\n                    ^\nnot a decimal number, or out of range\nexpected a number from -1 to 9223372036854775807\nsee docs/SCRIPT.md, \"Options\"\n",
     ),
     (
         "the greatest range",
         "local_retention_ms -3\n",
-        "    local_retention_ms -3\n                       ^\nthis isn't a number in decimal digits, or it is out of its range\nexpected a number from -2 to 9223372036854775807\nsee docs/SCRIPT.md, \"Options\"\n",
+        "    local_retention_ms -3\n                       ^\nnot a decimal number, or out of range\nexpected a number from -2 to 9223372036854775807\nsee docs/SCRIPT.md, \"Options\"\n",
     ),
     (
         "a broker out of range",
         "brokers 2\n# c\n0 0 2 flush\n",
-        "    0 0 2 flush\n        ^\nthis isn't a number in decimal digits, or it is out of its range\nexpected - or a number from 0 to 1\nsee docs/SCRIPT.md, \"Actors and the schedule\"\n",
+        "    0 0 2 flush\n        ^\nnot a decimal number, or out of range\nexpected - or a number from 0 to 1\nsee docs/SCRIPT.md, \"Actors and the schedule\"\n",
     ),
     (
         "turns out of range",
         "turn 0 1048577\n",
-        "    turn 0 1048577\n           ^\nthis isn't a number in decimal digits, or it is out of its range\nexpected a number from 1 to 1048576\nsee docs/SCRIPT.md, \"Actors and the schedule\"\n",
+        "    turn 0 1048577\n           ^\nnot a decimal number, or out of range\nexpected a number from 1 to 1048576\nsee docs/SCRIPT.md, \"Actors and the schedule\"\n",
     ),
     (
         "a disk's broker out of range",
         "brokers 8\nfault 0 disk 8 read 1 after\n",
-        "    fault 0 disk 8 read 1 after\n                 ^\nthis isn't a number in decimal digits, or it is out of its range\nexpected a number from 0 to 7\nsee docs/SCRIPT.md, \"Faults\"\n",
+        "    fault 0 disk 8 read 1 after\n                 ^\nnot a decimal number, or out of range\nexpected a number from 0 to 7\nsee docs/SCRIPT.md, \"Faults\"\n",
     ),
     (
         "a flag",
         "0 0 - pack 2\n",
-        "    0 0 - pack 2\n               ^\nthis isn't a number in decimal digits, or it is out of its range\nexpected a number from 0 to 1\nsee docs/SCRIPT.md, \"pack\"\n",
+        "    0 0 - pack 2\n               ^\nnot a decimal number, or out of range\nexpected a number from 0 to 1\nsee docs/SCRIPT.md, \"pack\"\n",
     ),
     (
         "the second record",
         "0 0 0 append 1,-,: 1,-\n",
-        "    0 0 0 append 1,-,: 1,-\n                       ^\nthis record, or its key, its value or a header, has no reading\nexpected a record, as 1000,:key,:value or the line's end\nsee docs/SCRIPT.md, \"Records\"\n",
+        "    0 0 0 append 1,-,: 1,-\n                       ^\ninvalid record, key, value or header\nexpected a record such as 1000,:key,:value or the end of the line\nsee docs/SCRIPT.md, \"Records\"\n",
     ),
     (
         "odd digits",
         "0 0 0 raw 123\n",
-        "    0 0 0 raw 123\n              ^\nthese aren't an even number of hexadecimal digits\nexpected hexadecimal digits, two for a byte\nsee docs/SCRIPT.md, \"raw\"\n",
+        "    0 0 0 raw 123\n              ^\nnot pairs of hexadecimal digits\nexpected hexadecimal digits, two a byte\nsee docs/SCRIPT.md, \"raw\"\n",
     ),
     (
         "a byte that isn't text",
         "0 0 0 flush \u{e9}\n",
-        "    0 0 0 flush ??\n                ^\nthis byte can't stand in a line, which has printable ASCII, spaces and tabs\nsee docs/SCRIPT.md, \"Lines and words\"\n",
+        "    0 0 0 flush ??\n                ^\nthis byte isn't allowed: a line has printable ASCII, spaces and tabs\nsee docs/SCRIPT.md, \"Lines and words\"\n",
     ),
     (
         "an option behind a command",
         "0 0 0 flush\nbrokers 2\n",
-        "    brokers 2\n    ^\nan option stands before each command, later, turn and fault line\nsee docs/SCRIPT.md, \"Options\"\n",
+        "    brokers 2\n    ^\nan option must come before all command, later, turn and fault lines\nsee docs/SCRIPT.md, \"Options\"\n",
     ),
     (
         "an option again",
         "brokers 2\nbrokers 2\n",
-        "    brokers 2\n    ^\nthis option was given before\nsee docs/SCRIPT.md, \"Options\"\n",
+        "    brokers 2\n    ^\nthis option is given twice\nsee docs/SCRIPT.md, \"Options\"\n",
     ),
     (
         "an actor of two partitions",
@@ -150,27 +150,27 @@ static ROWS: [(&str, &str, &str); 33] = [
     (
         "fetches past their sum",
         "0 0 0 fetch 0 268435457\n",
-        "    0 0 0 fetch 0 268435457\n          ^\nwith this line the fetches pass their sum, 268435456 bytes\nsee docs/SCRIPT.md, \"Limits\"\n",
+        "    0 0 0 fetch 0 268435457\n          ^\nwith this line all fetches together exceed 268435456 bytes\nsee docs/SCRIPT.md, \"Limits\"\n",
     ),
     (
         "turns past their sum",
         "0 0 0 up\nturn 0 1048576\nturn 0 1\n",
-        "    turn 0 1\n           ^\nwith this line the turns are more than 1048576\nsee docs/SCRIPT.md, \"Limits\"\n",
+        "    turn 0 1\n           ^\nwith this line there are more than 1048576 turns\nsee docs/SCRIPT.md, \"Limits\"\n",
     ),
     (
         "the seventh record",
         "0 0 0 append 1,-,:a 2,-,:b 3,-,:c 4,-,:d 5,-,:e 6,-,:f 7 8,-,:h\n",
-        "    ppend 1,-,:a 2,-,:b 3,-,:c 4,-,:d 5,-,:e 6,-,:f 7 8,-,:h\n                                                    ^\nthis record, or its key, its value or a header, has no reading\nexpected a record, as 1000,:key,:value or the line's end\nsee docs/SCRIPT.md, \"Records\"\n",
+        "    ppend 1,-,:a 2,-,:b 3,-,:c 4,-,:d 5,-,:e 6,-,:f 7 8,-,:h\n                                                    ^\ninvalid record, key, value or header\nexpected a record such as 1000,:key,:value or the end of the line\nsee docs/SCRIPT.md, \"Records\"\n",
     ),
     (
         "a count behind many blanks",
         "\tbrokers    08 \n0 0 8 flush\n",
-        "    0 0 8 flush\n        ^\nthis isn't a number in decimal digits, or it is out of its range\nexpected - or a number from 0 to 7\nsee docs/SCRIPT.md, \"Actors and the schedule\"\n",
+        "    0 0 8 flush\n        ^\nnot a decimal number, or out of range\nexpected - or a number from 0 to 7\nsee docs/SCRIPT.md, \"Actors and the schedule\"\n",
     ),
     (
         "a long line",
         "0 0 0 append 1,-,:vvvvvvvvvvvvvvvvvvvvvvvvvvvvvvvvvvvvvvvvvvvvvvvvvvvvvvvvvvvvvvvvvvvvvvvvvvvvvvvvvvvvvvvvvvvvvvvvvvvv 1 2\n",
-        "    vvvvvvvvvvvvvvvvvvvvvvvvvvvvvvvvvvvvvvvvvvvvvvv 1 2\n                                                    ^\nthis record, or its key, its value or a header, has no reading\nexpected a record, as 1000,:key,:value or the line's end\nsee docs/SCRIPT.md, \"Records\"\n",
+        "    vvvvvvvvvvvvvvvvvvvvvvvvvvvvvvvvvvvvvvvvvvvvvvv 1 2\n                                                    ^\ninvalid record, key, value or header\nexpected a record such as 1000,:key,:value or the end of the line\nsee docs/SCRIPT.md, \"Records\"\n",
     ),
 ];
 
@@ -195,7 +195,7 @@ static GIVEN: [(&str, &str, u32, Why, &str); 4] = [
         "\n\n0 0 0 copy",
         3,
         Why::CopySum,
-        "    0 0 0 copy\n          ^\nwith this line the copies pass their sum, 2147483648 bytes\nsee docs/SCRIPT.md, \"Limits\"\n",
+        "    0 0 0 copy\n          ^\nwith this line all copies together exceed 2147483648 bytes\nsee docs/SCRIPT.md, \"Limits\"\n",
     ),
     (
         "a line that the script lacks",
