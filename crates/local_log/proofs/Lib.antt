@@ -25,6 +25,7 @@ pub mod Restarted
 pub mod Dropped
 pub mod Edges
 pub mod Reached
+mod HandedOn
 pub mod CutOut
 pub mod Strays
 pub mod RunsTold

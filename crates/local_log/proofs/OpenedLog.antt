@@ -28,12 +28,13 @@ use Rattle.local_log.specs.declared.opening.Parts.{Parts}
 use Rattle.local_log.specs.Stored.{all_batches, size_of, end_of, extent_of, AreChained, chain_end, IsStored}
 use Rattle.local_log.specs.Listing.{IsLaidOut, AreSegmentsOf, AreListed}
 use Rattle.local_log.specs.Inside.{HasLog}
+use Rattle.local_log.specs.Opening.{ListsFrom}
 use Rattle.local_log.specs.Planning.{IsPlanOf, AreRead, IsOpened, whole_of}
 use Rattle.local_log.proofs.Pieces.{stored_segments, consecutive_segments, all_end, chain_snoc, up_to_all, stored_same, stored_end}
 use Rattle.local_log.proofs.Lines.{cut_cut, placed_same}
 use Rattle.local_log.proofs.Listed.{chain_up}
 use Rattle.local_log.proofs.Listings.{listed_all}
-use Rattle.local_log.proofs.Planned.{reading_next, plan_was}
+use Rattle.local_log.proofs.Planned.{reading_next, plan_was, plan_lists}
 
 -- a segment by a line that is cut past the log's end
 stored_cut : (f : Files) (line : List (ℕ × ℕ)) (n : ℕ) (g : Grown) → IsLine line → end_of g ≤ n → IsStored f line g → IsStored f (cut_end line (n + 1)) g
@@ -215,6 +216,7 @@ module _ (d : Content) (plan : Plan) (p : IsPlanOf d plan)
     line = subst IsLine (sym line_is) (IsLine-filter (λ e. nat_lt e.1 (end + 1)) m.line p.is.rules.line);
     line_within = subst (Each (λ (entry : ℕ × ℕ). entry.1 ≤ end)) (sym line_is) (within_cut m.line end);
     has = opened_has;
+    lists = λ t. plan_lists d plan p t segments read.are;
     was = λ t. (let t3 = subst IsTrue (sym tells_is) t in plan_was d plan p t (whole_of d3.files parts) (read_moved d.files d3.files m (whole_of d3.files parts) (fronts_before t) (read_now t3)));
     durable = λ c now. held_opens c d3.files plan.next.items m (map extent_of parts.closed.items) (whole_of d3.files parts) (reading_next d plan p) (stands c now) (read_now (laws3.told c now));
   }
@@ -234,6 +236,7 @@ opened_kept d m d' interval parts k o = record {
   line = o.line;
   line_within = o.line_within;
   has = o.has;
+  lists = λ t. subst (λ (x : Option (List ℕ)). ListsFrom x (map extent_of (parts.closed.items ++ parts.active ∷ []))) (k.files file.Manifest) (o.lists (subst IsTrue (sym k.tells) t));
   was = λ t. (let w = o.was (subst IsTrue (sym k.tells) t) in (w.0, opens_like d.files m.files w.0 (λ n. sym (k.files n)) w.1, w.2));
   durable = o.durable;
 }

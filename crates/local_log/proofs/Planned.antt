@@ -1,11 +1,11 @@
 -- What a plan of an opening says of a disk, and of one that can be opened.
-use Rattle.std.proofs.Common.{◌≡◌, ◌⊎◌, ◌∙◌, ◌^◌, ap, sym, subst, refl, inl, inr, ℕ, ◌+◌, ◌<◌, Bool, true, false, List, [], length, take, Option, Some, None, Ok, IsTrue, arith}
-use Rattle.std.specs.Prelude.{◌↔◌, IsSome}
-use Rattle.std.proofs.lemmas.List.{length-take-le, take-take}
+use Rattle.std.proofs.Common.{◌≡◌, ◌⊎◌, ◌∙◌, ◌^◌, ap, sym, subst, refl, inl, inr, ℕ, ◌+◌, ◌<◌, ⊎_elim, Bool, true, false, List, [], ◌∷◌, ◌++◌, length, take, drop, map, Option, Some, None, Ok, IsTrue, arith}
+use Rattle.std.specs.Prelude.{◌↔◌, IsSome, option_map}
+use Rattle.std.proofs.lemmas.List.{length-take, length-take-le, take-take}
 use Rattle.tier_base.specs.declared.plain.FileName.{FileName}
 use Rattle.tier_base.specs.declared.plain.FileName.TheVariants as file
 use Rattle.tier_base.specs.Device.{Fate, Went}
-use Rattle.tier_base.specs.Told.{replaced, Names, In}
+use Rattle.tier_base.specs.Told.{replaced, Names, In, bytes_in}
 use Rattle.disk_model.specs.Content.{Content, Lawful, Files, Image, Keeps, Changes, LeavesOnly, Swapped}
 use Rattle.log_manifest.specs.declared.manifest.Extent.{Extent}
 use Rattle.log_manifest.specs.declared.manifest.Manifest.{Manifest}
@@ -13,16 +13,80 @@ use Rattle.log_manifest.specs.Rules.{IsManifest}
 use Rattle.log_manifest.specs.Reading.{manifest_in}
 use Rattle.log_manifest.specs.Spelling.{manifest_bytes}
 use Rattle.log_manifest.proofs.Again.{manifest_again}
-use Rattle.log_steps.specs.Fronts.{log_at, Each, Agrees}
+use Rattle.log_steps.specs.Fronts.{log_at, front, Each, Agrees}
 use Rattle.log_steps.specs.Opens.{Opened, IsRead, OpensFrom, Opens, Segments, nothing}
 use Rattle.log_steps.specs.Reopens.{Reopens, raised, Opening}
 use Rattle.log_steps.specs.Rewrites.{Rewrites}
-use Rattle.log_steps.proofs.Lists.{each_both}
-use Rattle.log_steps.proofs.Reading.{opens_by, opened_by, segments_moved, segments_whole}
+use Rattle.log_steps.proofs.Lists.{each_both, each_left, each_right}
+use Rattle.log_steps.proofs.Reading.{opens_by, opened_by, segments_like, segments_moved, segments_whole}
 use Rattle.log_steps.proofs.Opening.{reopens_kept, rewrite_leaves, rewrite_reopens, read_leaves, next_leaves, next_reopens}
 use Rattle.local_log.specs.declared.opening.Plan.{Plan}
-use Rattle.local_log.specs.Planning.{first_manifest, PlansFrom, IsPlan, IsPlanOf}
+use Rattle.log_terms.specs.Log.{end_from}
+use Rattle.segment_file.specs.Growing.{Grown}
+use Rattle.local_log.specs.declared.refusal.OpenRefusal.{OpenRefusal}
+use Rattle.local_log.specs.declared.refusal.OpenRefusal.TheVariants.{DiskFault, Damaged, LastIncarnation, NoMemory}
+use Rattle.local_log.specs.Refusing.{IsSoundCause}
+use Rattle.local_log.specs.Stored.{extent_of}
+use Rattle.local_log.specs.Parsing.{Fronts}
+use Rattle.local_log.specs.Opening.{SegmentFails, MissesIn, ReadFailsIn, OpenFailsIn, ListsFrom, Lists}
+use Rattle.local_log.specs.Planning.{first_manifest, PlansFrom, IsPlan, IsPlanOf, FileFails}
 use Rattle.local_log.proofs.OneReading.{read_one}
+
+-- the same bytes as far as a segment goes have the same places without a batch
+fails_front : (line : List (ℕ × ℕ)) (end : ℕ) (e : Extent) (x y : List ℕ) (name : FileName) (at : ℕ) → take e.len x ≡ take e.len y → SegmentFails line end e x (Damaged name at) → SegmentFails line end e y (Damaged name at)
+fails_front line end e x y name at same fails = (
+  fails.0,
+  ⊎_elim (λ gap. inl gap) (λ h. inr (
+    h.0,
+    record {
+      batches = h.1.batches;
+      rest = h.1.rest;
+      fronts = subst (λ (l : List ℕ). Fronts line e.base l h.1.batches h.1.rest) same h.1.fronts;
+      place = h.1.place;
+      short = h.1.short;
+      nothing = h.1.nothing;
+    },
+  )) fails.1,
+)
+
+-- why no plan is made of the manifest's file
+pub plan_fails : (f : Files) (held : Option (List ℕ)) (why : OpenRefusal) → f file.Manifest ≡ held → FileFails held why → OpenFailsIn f why
+plan_fails f None DiskFault is fails = absurd fails
+plan_fails f None (Damaged name at) is fails = absurd fails
+plan_fails f None LastIncarnation is fails = absurd fails
+plan_fails f None NoMemory is fails = tt
+plan_fails f (Some bytes) DiskFault is fails = absurd fails
+plan_fails f (Some bytes) (Damaged name at) is fails = inl (record { named = fails.0; bytes = bytes; there = is; none = fails.1 })
+plan_fails f (Some bytes) LastIncarnation is fails = (fails.0, record { bytes = bytes; there = is; reading = fails.1 }, fails.2)
+plan_fails f (Some bytes) NoMemory is fails = tt
+
+-- the same files fail alike
+pub fails_like : (c d : Files) (why : OpenRefusal) → ((n : FileName) → c n ≡ d n) → OpenFailsIn c why → OpenFailsIn d why
+fails_like c d DiskFault same h = tt
+fails_like c d (Damaged name at) same h =
+    ⊎_elim
+    (λ m. inl (record { named = m.named; bytes = m.bytes; there = sym (same file.Manifest) ∙ m.there; none = m.none }))
+    (λ m. inr (
+      m.0,
+      record { bytes = m.1.bytes; there = sym (same file.Manifest) ∙ m.1.there; reading = m.1.reading },
+      record {
+        before = m.2.before;
+        extent = m.2.extent;
+        after = m.2.after;
+        batches = m.2.batches;
+        parts = m.2.parts;
+        read = segments_like d c (λ n. sym (same n)) m.0.line m.0.local_start m.2.before m.2.batches m.2.read;
+        fails = subst (λ (l : List ℕ). SegmentFails m.0.line (end_from m.0.local_start m.2.batches) m.2.extent l (Damaged name at)) (ap bytes_in (same (file.Log m.2.extent.base))) m.2.fails;
+      },
+    ))
+    h
+fails_like c d LastIncarnation same h = (h.0, record { bytes = h.1.bytes; there = sym (same file.Manifest) ∙ h.1.there; reading = h.1.reading }, h.2)
+fails_like c d NoMemory same h = tt
+
+-- a file that is read from its beginning
+pub whole_held : (o p : Option (List ℕ)) → p ≡ option_map (drop 0) o → o ≡ p
+whole_held None p is = sym is
+whole_held (Some bytes) p is = sym is
 
 -- what a disk reads opens as this
 record Seen (d : Content) : Type 0 where
@@ -88,6 +152,14 @@ module _ (d : Content) (plan : Plan) (p : IsPlanOf d plan) (told : IsTrue d.tell
           let under : ℕ → Opened = λ n. record { incarnation = n; local_start = o.local_start; batches = o.batches; line = o.line } in
           (x, opens_by d.files bytes (present_of plan number) x is from.1.1 reads, ap under (r.incarnation ∙ from.1.2))
 
+  -- the segments that the next manifest lists are those of the files' manifest
+  pub plan_lists : (segments : List Grown) → map extent_of segments ≡ plan.manifest.segments → Lists d.files segments
+  plan_lists segments are = go p.held (p.told told) p.is.from
+    where
+      go : (held : Option (List ℕ)) → d.files file.Manifest ≡ held → PlansFrom held plan → Lists d.files segments
+      go None is from = subst (λ (o : Option (List ℕ)). ListsFrom o (map extent_of segments)) (sym is) (are ∙ ap (λ (m : Manifest). m.segments) from.1)
+      go (Some bytes) is from = subst (λ (o : Option (List ℕ)). ListsFrom o (map extent_of segments)) (sym is) (present_of plan from.1.0, from.1.1, are)
+
   -- what opens has the segments that the next manifest lists
   pub plan_segments : (o : Opened) → Opens d.files o → (batches : List (List ℕ)) × Segments d.files plan.manifest.line plan.manifest.local_start plan.manifest.segments batches
   plan_segments o opens = go p.held (p.told told) p.is.from
@@ -113,6 +185,47 @@ module _ (d : Content) (plan : Plan) (p : IsPlanOf d plan) (told : IsTrue d.tell
         let s = plan_segments o opens in
         let whole = segments_whole d.files m.line m.local_start m.segments s.0 s.1 in
         (s.0, segments_moved d1.files d.files m.line m.local_start m.segments s.0 (agrees_cut whole) s.1)
+
+    -- what isn't read of the files that are cut wasn't in those before
+    agrees_whole : (es : List Extent) → Each (λ e. log_at d1.files e ≡ front d.files e) es → Each (Agrees d1.files d1.files) es → Each (Agrees d.files d1.files) es
+    agrees_whole es cut whole =
+        each_both
+        (λ e is a. record {
+          long = (let size = ap length is ∙ length-take e.len (log_at d.files e) in let long = a.long in omega (arith, size, long));
+          same = sym (ap (take e.len) is ∙ take-take e.len e.len (log_at d.files e) (omega arith));
+        })
+        es cut whole
+
+    pub plan_misses : (why : OpenRefusal) → ReadFailsIn d1.files plan.manifest why
+        → ((batches : List (List ℕ)) → Segments d1.files plan.manifest.line plan.manifest.local_start plan.manifest.segments batches → IsSoundCause why) → OpenFailsIn d.files why
+    plan_misses DiskFault h sound = tt
+    plan_misses (Damaged name at) h sound = go p.held (p.told told) p.is.from
+      where
+        cut : Each (λ e. log_at d1.files e ≡ front d.files e) (h.before ++ h.extent ∷ h.after)
+        cut = subst (Each (λ e. log_at d1.files e ≡ front d.files e)) h.parts (rewrites.files went told)
+
+        here : log_at d1.files h.extent ≡ front d.files h.extent
+        here = (each_right (λ e. log_at d1.files e ≡ front d.files e) h.before (h.extent ∷ h.after) cut).0
+
+        moved : (n : ℕ) → MissesIn d.files (present_of plan n) name at
+        moved n = record {
+          before = h.before;
+          extent = h.extent;
+          after = h.after;
+          batches = h.batches;
+          parts = h.parts;
+          read = segments_moved d.files d1.files plan.manifest.line plan.manifest.local_start h.before h.batches
+              (agrees_whole h.before (each_left (λ e. log_at d1.files e ≡ front d.files e) h.before (h.extent ∷ h.after) cut)
+              (segments_whole d1.files plan.manifest.line plan.manifest.local_start h.before h.batches h.read)) h.read;
+          fails = fails_front plan.manifest.line (end_from plan.manifest.local_start h.batches) h.extent (log_at d1.files h.extent) (log_at d.files h.extent) name at
+              (ap (take h.extent.len) here ∙ take-take h.extent.len h.extent.len (log_at d.files h.extent) (omega arith)) h.fails;
+        }
+
+        go : (held : Option (List ℕ)) → d.files file.Manifest ≡ held → PlansFrom held plan → OpenFailsIn d.files (Damaged name at)
+        go None is from = let s = plan_reads nothing (subst (λ (o : Option (List ℕ)). OpensFrom o d.files nothing) (sym is) refl) in absurd (sound s.0 s.1)
+        go (Some bytes) is from = inr (present_of plan from.1.0, record { bytes = bytes; there = is; reading = from.1.1 }, moved from.1.0)
+    plan_misses LastIncarnation h sound = absurd h
+    plan_misses NoMemory h sound = tt
 
 -- what reads, by both manifests
 pub record Way (d : Content) (plan : Plan) : Type 0 where

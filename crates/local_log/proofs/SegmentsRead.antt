@@ -15,12 +15,12 @@ use Rattle.log_steps.proofs.Lists.{each_join}
 use Rattle.local_log.specs.declared.refusal.OpenRefusal.{OpenRefusal}
 use Rattle.local_log.specs.declared.refusal.OpenRefusal.TheVariants.{DiskFault, Damaged, LastIncarnation, NoMemory}
 use Rattle.local_log.specs.Refusing.{IsSoundCause}
-use Rattle.local_log.specs.Stored.{end_of, extent_of, AreChained, chain_end, IsStored}
+use Rattle.local_log.specs.Stored.{end_of, extent_of, all_batches, AreChained, chain_end, IsStored}
 use Rattle.local_log.specs.Listing.{IsLaidOut}
 use Rattle.local_log.specs.Parsing.{IsParsed, ParseFails}
-use Rattle.local_log.specs.Opening.{SegmentFails, ReadsTo, ReadFails}
+use Rattle.local_log.specs.Opening.{SegmentFails, ReadsTo, ReadFails, ReadFailsIn}
 use Rattle.local_log.specs.Planning.{AreRead, LastRead, IsRead}
-use Rattle.local_log.proofs.Pieces.{chained_snoc, chain_snoc, stored_same}
+use Rattle.local_log.proofs.Pieces.{chained_snoc, chain_snoc, stored_same, stored_segments, all_end}
 use Rattle.local_log.proofs.Parsed.{parsed_extent, parsed_end, parsed_laid, parsed_low, parsed_stored}
 use Rattle.local_log.proofs.OneReading.{no_miss, segments_next}
 
@@ -50,7 +50,7 @@ parse_sound f line e bytes batches NoMemory fails is s = tt
 
 -- the same files after a call that changes none
 module _ (d m : Content) (k : Keeps d m) where
-  same_bytes : (b : ℕ) → bytes_in (m.files (file.Log b)) ≡ bytes_in (d.files (file.Log b))
+  pub same_bytes : (b : ℕ) → bytes_in (m.files (file.Log b)) ≡ bytes_in (d.files (file.Log b))
   same_bytes b = ap bytes_in (k.files (file.Log b))
 
   pub segment_kept : (line : List (ℕ × ℕ)) (e : Extent) (batches : List (List ℕ)) → Segment d.files line e batches → Segment m.files line e batches
@@ -113,6 +113,30 @@ module _ (d : Content) (line : List (ℕ × ℕ)) (interval start : ℕ) (done :
   next_stands t rest batches s =
       segments_next d.files line start segments e rest batches r.chained (r.stored t) (subst (λ (x : List Extent). Segments d.files line start (x ++ e ∷ rest) batches) (sym r.are) s)
 
+  -- where it isn't read, this is the first place of the manifest's segments that has no reading
+  pub read_fails_in : (m : Manifest) (f : Files) (rest : List Extent) (why : OpenRefusal) → m.line ≡ line → m.local_start ≡ start → m.segments ≡ done ++ e ∷ rest → IsTrue d.tells → bytes_in (f (file.Log e.base)) ≡ log_at d.files e
+      → SegmentFails line (chain_end start segments) e (log_at f e) why → ReadFailsIn d.files m why
+  read_fails_in m f rest DiskFault lines starts parts t same fails = tt
+  read_fails_in m f rest (Damaged name at) lines starts parts t same fails = record {
+    before = done;
+    extent = e;
+    after = rest;
+    batches = all_batches d.files segments;
+    parts = parts;
+    read = rw (lines, starts) (subst (λ (es : List Extent). Segments d.files line start es (all_batches d.files segments)) r.are (stored_segments d.files line start segments r.chained (r.stored t)));
+    fails = rw (lines, starts) (subst (λ (n : ℕ). SegmentFails line n e (log_at d.files e) (Damaged name at)) (sym (all_end d.files line start segments r.chained (r.stored t)))
+        (subst (λ (l : List ℕ). SegmentFails line (chain_end start segments) e l (Damaged name at)) same fails));
+  }
+  read_fails_in m f rest LastIncarnation lines starts parts t same fails = absurd fails
+  read_fails_in m f rest NoMemory lines starts parts t same fails = tt
+
+-- what isn't read as a segment
+pub parse_fails : (line : List (ℕ × ℕ)) (end : ℕ) (e : Extent) (bytes : List ℕ) (why : OpenRefusal) → e.base ≡ end → ParseFails line e bytes why → SegmentFails line end e bytes why
+parse_fails line end e bytes DiskFault is fails = absurd fails
+parse_fails line end e bytes (Damaged name at) is fails = (fails.0, inr (is, fails.1))
+parse_fails line end e bytes LastIncarnation is fails = absurd fails
+parse_fails line end e bytes NoMemory is fails = tt
+
 -- what was handed of a segment that was read
 pub reads_to : (line : List (ℕ × ℕ)) (interval : ℕ) (e : Extent) (bytes : List ℕ) (segment : Grown) → IsParsed line interval e bytes segment → ReadsTo line e bytes (end_of segment)
 reads_to line interval e bytes segment p = record { batches = p.batches; fronts = p.fronts; long = p.long; end_is = parsed_end line interval e bytes segment p }
@@ -121,7 +145,7 @@ reads_to line interval e bytes segment p = record { batches = p.batches; fronts 
 pub not_read : (m : Manifest) (done : List Extent) (e : Extent) (rest : List Extent) (end : ℕ) (before handed : List ℕ) (why : OpenRefusal) → IsManifest m → m.segments ≡ done ++ e ∷ rest
     → LastRead m.line m.local_start done end before → (e.base ≢ end → handed ≡ before) → SegmentFails m.line end e handed why → ReadFails m handed why
 not_read m done e rest end before handed DiskFault rules parts last early fails = tt
-not_read m done e rest end before handed (Damaged name at) rules parts last early fails = ⊎_elim gap (λ misses. inl (record { before = done; extent = e; after = rest; parts = parts; named = fails.0; misses = misses })) fails.1
+not_read m done e rest end before handed (Damaged name at) rules parts last early fails = ⊎_elim gap (λ misses. inl (record { before = done; extent = e; after = rest; parts = parts; named = fails.0; misses = misses.1 })) fails.1
   where
     none : (e.base ≢ end) × (at ≡ 0) → (done ≡ []) × (end ≡ m.local_start) → ReadFails m handed (Damaged name at)
     none x y =

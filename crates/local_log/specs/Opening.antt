@@ -2,7 +2,7 @@
 --
 -- A log is opened under the incarnation after that of the manifest. A disk without a manifest opens as the empty log at 0
 -- under incarnation 0.
-use Rattle.std.specs.Prelude.{◌≡◌, ◌≢◌, ◌⊎◌, ℕ, ◌+◌, false, ◌≤◌, List, [], ◌∷◌, ◌++◌, length, take, Ok, Err}
+use Rattle.std.specs.Prelude.{◌≡◌, ◌≢◌, ◌⊎◌, ℕ, ◌+◌, false, ◌≤◌, List, [], ◌∷◌, ◌++◌, length, take, map, Option, Some, None, Ok, Err}
 use Rattle.tier_base.specs.declared.plain.FileName.{FileName}
 use Rattle.tier_base.specs.declared.plain.FileName.TheVariants as file
 use Rattle.tier_base.specs.declared.plain.Settings.{Settings}
@@ -14,11 +14,12 @@ use Rattle.log_manifest.specs.declared.refusal.ManifestRefusal.TheVariants.{Bad}
 use Rattle.log_manifest.specs.Rules.{IsManifest}
 use Rattle.log_manifest.specs.Reading.{manifest_in}
 use Rattle.segment_file.specs.Growing.{Grown}
-use Rattle.log_steps.specs.Fronts.{Each}
-use Rattle.log_steps.specs.Opens.{Opened}
+use Rattle.log_steps.specs.Fronts.{Each, log_at}
+use Rattle.log_steps.specs.Opens.{Opened, Segments}
 use Rattle.log_steps.specs.Reopens.{Says}
 use Rattle.local_log.specs.declared.refusal.OpenRefusal.{OpenRefusal}
 use Rattle.local_log.specs.declared.refusal.OpenRefusal.TheVariants.{DiskFault, Damaged, LastIncarnation, NoMemory}
+use Rattle.local_log.specs.Stored.{extent_of}
 use Rattle.local_log.specs.Log.{Log}
 use Rattle.local_log.specs.Parsing.{Fronts, HasNoBatchAt}
 
@@ -34,7 +35,7 @@ HoldsLast f = (m : Manifest) × Says f m × (m.incarnation ≡ 4294967295)
 abbrev pub SegmentFails : List (ℕ × ℕ) → ℕ → Extent → List ℕ → OpenRefusal → Type 0
 SegmentFails line end e handed DiskFault = Unit {0}
 SegmentFails line end e handed (Damaged name at) =
-    (name ≡ file.Log e.base) × (((e.base ≢ end) × (at ≡ 0)) ⊎ HasNoBatchAt line e handed at)
+    (name ≡ file.Log e.base) × (((e.base ≢ end) × (at ≡ 0)) ⊎ ((e.base ≡ end) × HasNoBatchAt line e handed at))
 SegmentFails line end e handed LastIncarnation = ⊥
 SegmentFails line end e handed NoMemory = Unit {0}
 
@@ -77,6 +78,50 @@ ReadFails m handed DiskFault = Unit {0}
 ReadFails m handed (Damaged name at) = MissesSegment m handed name at
 ReadFails m handed LastIncarnation = ⊥
 ReadFails m handed NoMemory = Unit {0}
+
+-- the first place of a manifest's segments that has no reading in these files: those before its segment have one
+pub record MissesIn (f : Files) (m : Manifest) (name : FileName) (at : ℕ) : Type 0 where
+  pub before : List Extent
+  pub extent : Extent
+  pub after : List Extent
+  pub batches : List (List ℕ)
+  pub parts : m.segments ≡ before ++ extent ∷ after
+  pub read : Segments f m.line m.local_start before batches
+  pub fails : SegmentFails m.line (end_from m.local_start batches) extent (log_at f extent) (Damaged name at)
+
+-- why the segments of a manifest aren't read from these files
+abbrev pub ReadFailsIn : Files → Manifest → OpenRefusal → Type 0
+ReadFailsIn f m DiskFault = Unit {0}
+ReadFailsIn f m (Damaged name at) = MissesIn f m name at
+ReadFailsIn f m LastIncarnation = ⊥
+ReadFailsIn f m NoMemory = Unit {0}
+
+-- the manifest of these files has no reading at a place
+pub record MissesManifest (f : Files) (name : FileName) (at : ℕ) : Type 0 where
+  pub named : name ≡ file.Manifest
+  pub bytes : List ℕ
+  pub there : f file.Manifest ≡ Some bytes
+  pub none : manifest_in bytes ≡ Err (Bad at)
+
+-- the first place of these files that has no reading: of the manifest, or of the segments that it lists
+abbrev pub IsDamage : Files → FileName → ℕ → Type 0
+IsDamage f name at = MissesManifest f name at ⊎ ((m : Manifest) × Says f m × MissesIn f m name at)
+
+-- why the log of these files wasn't opened
+abbrev pub OpenFailsIn : Files → OpenRefusal → Type 0
+OpenFailsIn f DiskFault = Unit {0}
+OpenFailsIn f (Damaged name at) = IsDamage f name at
+OpenFailsIn f LastIncarnation = HoldsLast f
+OpenFailsIn f NoMemory = Unit {0}
+
+-- the segments that a manifest's file lists: where there is none, the empty one at 0
+abbrev pub ListsFrom : Option (List ℕ) → List Extent → Type 0
+ListsFrom None extents = extents ≡ record { base = 0; len = 0 } ∷ []
+ListsFrom (Some bytes) extents = (m : Manifest) × (manifest_in bytes ≡ Ok m) × (extents ≡ m.segments)
+
+-- these are the segments that the manifest of files lists, each as large as it says
+abbrev pub Lists : Files → List Grown → Type 0
+Lists f segments = ListsFrom (f file.Manifest) (map extent_of segments)
 
 -- why a log wasn't opened, by what was handed last: the manifest has no reading at a place, or a segment that it lists
 abbrev pub OpenFails : List ℕ → OpenRefusal → Type 0

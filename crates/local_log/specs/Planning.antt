@@ -23,7 +23,7 @@ use Rattle.local_log.specs.declared.refusal.OpenRefusal.TheVariants.{DiskFault, 
 use Rattle.local_log.specs.Refusing.{IsDry}
 use Rattle.local_log.specs.Stored.{end_of, extent_of, all_batches, AreChained, chain_end, IsStored}
 use Rattle.local_log.specs.Listing.{IsLaidOut, AreSegmentsOf}
-use Rattle.local_log.specs.Opening.{IsLastOf, ReadsTo}
+use Rattle.local_log.specs.Opening.{IsLastOf, ReadsTo, Lists}
 use Rattle.local_log.specs.Inside.{HasLog}
 
 -- the manifest of the log that is made where a disk has none
@@ -112,5 +112,6 @@ pub record IsOpened (d d' : Content) (interval : ℕ) (parts : Parts) : Type 0 w
   pub line : IsLine parts.line
   pub line_within : Each (λ (entry : ℕ × ℕ). entry.1 ≤ end_of parts.active) parts.line
   pub has : HasLog d' parts.incarnation parts.local_start parts.closed.items parts.active parts.line (end_of parts.active)
+  pub lists : IsTrue d.tells → Lists d.files (parts.closed.items ++ parts.active ∷ [])
   pub was : IsTrue d.tells → (o : Opened) × Opens d.files o × (whole_of d'.files parts ≡ raised o)
   pub durable : (c : Files) → Image d' c → Opens c (whole_of d'.files parts)

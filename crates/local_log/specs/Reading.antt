@@ -3,9 +3,12 @@
 -- A run has the batch that holds the offset, and as many further ones as the mark and the limit allow. It lies in a
 -- piece: in one segment, and before the next epoch starts. A start that is no batch's end ends no piece. The line gives the
 -- epoch of each batch that is read.
-use Rattle.std.specs.Prelude.{◌≡◌, ℕ, ◌+◌, ◌<◌, ◌≤◌, ◌⊎◌, ◌==◌, ◌&&◌, nat_lt, min, Bool, true, false, if◌then◌else◌, List, [], ◌∷◌, ◌++◌, length, take, Option, Some, None, unwrap_or, slice_range}
+use Rattle.std.specs.Prelude.{◌≡◌, ℕ, ◌+◌, ◌<◌, ◌≤◌, ◌⊎◌, ◌==◌, ◌&&◌, nat_lt, min, Bool, true, false, if◌then◌else◌, List, [], ◌∷◌, ◌++◌, length, take, Option, Some, None, Result, Ok, Err, unwrap_or, slice_range}
 use Rattle.tier_base.specs.declared.plain.FileName.{FileName}
 use Rattle.tier_base.specs.declared.plain.FileName.TheVariants as file
+use Rattle.tier_base.specs.Device.{Control, Went, Fault, Dry, Ran}
+use Rattle.disk_model.specs.declared.call.DiskCall.TheVariants.{Read}
+use Rattle.disk_model.specs.Call.{call_code}
 use Rattle.log_terms.specs.Log.{joined, from_offset, up_to, end_from}
 use Rattle.segment_file.specs.declared.taking.Cutout.{Cutout}
 use Rattle.segment_file.specs.Growing.{Grown, end_after, size_after, ending_by, BeginsSearch}
@@ -105,6 +108,13 @@ CutFails line base position bytes offset limit mark piece (Damaged name at) =
 CutFails line base position bytes offset limit mark piece DiskFault = ⊥
 CutFails line base position bytes offset limit mark piece NoMemory = Unit {0}
 
+-- the disk was read once, in this call, and what it handed was given or is the cause; without memory it may not have been
+abbrev pub ReadOnce : {T : Type 0} → Result T ReadRefusal → Control call_code → Control call_code → Type 0
+ReadOnce (Ok x) old new = Ran Read Went old new
+ReadOnce (Err (Damaged name at)) old new = Ran Read Went old new
+ReadOnce (Err DiskFault) old new = Ran Read Fault old new
+ReadOnce (Err NoMemory) old new = Ran Read Went old new ⊎ Ran Read Dry old new
+
 -- the disk failed, or there was no memory
 abbrev pub IsOfDevice : ReadRefusal → Type 0
 IsOfDevice (Damaged name at) = ⊥
@@ -167,11 +177,12 @@ module _ {D : Type 0} where
     pub name_is : name ≡ file.Log (segment_at log mark).base
     pub place : at ≡ position_of (segment_at log mark) mark
 
-  -- a batch ends at the mark, and what was read from a position on has no run
+  -- a batch ends at the mark, and what was read from where the batch begins that holds the offset has no run
   pub record MissesRun (log : Log D) (offset limit mark : ℕ) (handed : List ℕ) (name : FileName) (at : ℕ) : Type 0 where
     pub edge : is_edge (segment_at log mark) mark ≡ true
     pub name_is : name ≡ file.Log (segment_at log offset).base
     pub position : ℕ
+    pub position_is : position ≡ position_of (segment_at log offset) offset
     pub search : BeginsSearch (segment_at log offset).base (segment_at log offset).batches offset position
     pub bad : HasNoRun log.line handed offset limit mark (piece_of log offset) position at
 

@@ -8,7 +8,7 @@
 ghost use Rattle.std.specs.Prelude.{◌≡◌, ◌⊎◌, ◌+◌, ◌≤◌, ◌<◌, ℕ, length, false, true, OnOk, OnErr, IfOk, IsErrOf, IsTrue};
 ghost use Rattle.disk_model.specs.Content.{LeavesOnly, Image, Files, Keeps};
 ghost use Rattle.tier_base.specs.declared.fault.Trouble.TheVariants as fault;
-ghost use Rattle.tier_base.specs.Counts.{Rose};
+ghost use Rattle.tier_base.specs.Counts.{counted, Rose};
 ghost use Rattle.tier_base.specs.Device.{Lasts};
 ghost use Rattle.epoch_line.specs.Line.{cut_end};
 ghost use Rattle.log_manifest.specs.Spelling.{manifest_bytes};
@@ -49,6 +49,8 @@ impl<D: Disk> LocalLog<D> {
         ensures tells { (D.content self.new.disk).tells ≡ (D.content self.old.disk).tells }
         ensures control { Lasts (D.control self.old.disk) (D.control self.new.disk) }
         ensures cause { IsErrOf result fault.Failed → Rose (D.control self.old.disk).faults (D.control self.new.disk).faults }
+        ensures quiet { (IsErrOf result fault.Failed → ⊥) → (D.control self.new.disk).faults ≡ (D.control self.old.disk).faults }
+        ensures once { IsErrOf result fault.Failed → (D.control self.new.disk).faults ≡ counted (D.control self.old.disk).faults 1 }
     {
         if end < self.local_start {
             self.cut_before(end)
@@ -76,6 +78,8 @@ impl<D: Disk> LocalLog<D> {
         ensures tells { (D.content self.new.disk).tells ≡ (D.content self.old.disk).tells }
         ensures control { Lasts (D.control self.old.disk) (D.control self.new.disk) }
         ensures cause { IsErrOf result fault.Failed → Rose (D.control self.old.disk).faults (D.control self.new.disk).faults }
+        ensures quiet { (IsErrOf result fault.Failed → ⊥) → (D.control self.new.disk).faults ≡ (D.control self.old.disk).faults }
+        ensures once { IsErrOf result fault.Failed → (D.control self.new.disk).faults ≡ counted (D.control self.old.disk).faults 1 }
     {
         self.stands();
         let mut line = self.line.copy(self.alloc)?;
@@ -104,6 +108,8 @@ impl<D: Disk> LocalLog<D> {
         ensures tells { (D.content self.new.disk).tells ≡ (D.content self.old.disk).tells }
         ensures control { Lasts (D.control self.old.disk) (D.control self.new.disk) }
         ensures cause { IsErrOf result fault.Failed → Rose (D.control self.old.disk).faults (D.control self.new.disk).faults }
+        ensures quiet { (IsErrOf result fault.Failed → ⊥) → (D.control self.new.disk).faults ≡ (D.control self.old.disk).faults }
+        ensures once { IsErrOf result fault.Failed → (D.control self.new.disk).faults ≡ counted (D.control self.old.disk).faults 1 }
     {
         let point = cut_point(&self.closed, &self.active, end);
         self.cut_within(point)
@@ -117,6 +123,7 @@ impl<D: Disk> LocalLog<D> {
         ensures keeps { Keeps (D.content self.old.disk) (D.content self.new.disk) }
         ensures room { OnOk result (calls ≤ D.spare self.new.disk) }
         ensures control { Lasts (D.control self.old.disk) (D.control self.new.disk) }
+        ensures quiet { (D.control self.new.disk).faults ≡ (D.control self.old.disk).faults }
     {
         self.disk.reserve(calls)
     }
@@ -145,6 +152,8 @@ impl<D: Disk> LocalLog<D> {
         ensures tells { (D.content self.new.disk).tells ≡ (D.content self.old.disk).tells }
         ensures control { Lasts (D.control self.old.disk) (D.control self.new.disk) }
         ensures cause { IsErrOf result fault.Failed → Rose (D.control self.old.disk).faults (D.control self.new.disk).faults }
+        ensures quiet { (IsErrOf result fault.Failed → ⊥) → (D.control self.new.disk).faults ≡ (D.control self.old.disk).faults }
+        ensures once { IsErrOf result fault.Failed → (D.control self.new.disk).faults ≡ counted (D.control self.old.disk).faults 1 }
     {
         let last = open_front(&self.closed, &self.active, end);
         match publish(&mut self.disk, FileName::Log(last.base), bytes) {
@@ -170,6 +179,8 @@ impl<D: Disk> LocalLog<D> {
         ensures tells { (D.content self.new.disk).tells ≡ (D.content self.old.disk).tells }
         ensures control { Lasts (D.control self.old.disk) (D.control self.new.disk) }
         ensures cause { OnErr result (Rose (D.control self.old.disk).faults (D.control self.new.disk).faults) }
+        ensures quiet { OnOk result ((D.control self.new.disk).faults ≡ (D.control self.old.disk).faults) }
+        ensures once { OnErr result ((D.control self.new.disk).faults ≡ counted (D.control self.old.disk).faults 1) }
     {
         match trim(&mut self.disk, &self.closed, &self.active, end) {
             Ok(()) => {
@@ -206,6 +217,8 @@ impl<D: Disk> LocalLog<D> {
         ensures tells { (D.content self.new.disk).tells ≡ (D.content self.old.disk).tells }
         ensures control { Lasts (D.control self.old.disk) (D.control self.new.disk) }
         ensures cause { IsErrOf result fault.Failed → Rose (D.control self.old.disk).faults (D.control self.new.disk).faults }
+        ensures quiet { (IsErrOf result fault.Failed → ⊥) → (D.control self.new.disk).faults ≡ (D.control self.old.disk).faults }
+        ensures once { IsErrOf result fault.Failed → (D.control self.new.disk).faults ≡ counted (D.control self.old.disk).faults 1 }
     {
         self.settle(bytes, end)?;
         Ok(self.shed(end)?)
@@ -230,6 +243,8 @@ impl<D: Disk> LocalLog<D> {
         ensures tells { (D.content self.new.disk).tells ≡ (D.content self.old.disk).tells }
         ensures control { Lasts (D.control self.old.disk) (D.control self.new.disk) }
         ensures cause { IsErrOf result fault.Failed → Rose (D.control self.old.disk).faults (D.control self.new.disk).faults }
+        ensures quiet { (IsErrOf result fault.Failed → ⊥) → (D.control self.new.disk).faults ≡ (D.control self.old.disk).faults }
+        ensures once { IsErrOf result fault.Failed → (D.control self.new.disk).faults ≡ counted (D.control self.old.disk).faults 1 }
     {
         self.stands();
         let bytes = self.listing_cut(end)?;

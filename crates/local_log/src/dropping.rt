@@ -6,7 +6,7 @@
 ghost use Rattle.std.specs.Prelude.{◌≡◌, ◌⊎◌, ◌+◌, ◌≤◌, ◌<◌, ◌∷◌, ℕ, [], length, false, true, OnOk, OnErr, IfOk, IsErrOf};
 ghost use Rattle.disk_model.specs.Content.{LeavesOnly, Image, Files};
 ghost use Rattle.tier_base.specs.declared.fault.Trouble.TheVariants as fault;
-ghost use Rattle.tier_base.specs.Counts.{Rose};
+ghost use Rattle.tier_base.specs.Counts.{counted, Rose};
 ghost use Rattle.tier_base.specs.Device.{Lasts};
 ghost use Rattle.epoch_line.specs.Line.{cut_end};
 ghost use Rattle.log_manifest.specs.Spelling.{manifest_bytes};
@@ -45,6 +45,8 @@ impl<D: Disk> LocalLog<D> {
         ensures tells { (D.content self.new.disk).tells ≡ (D.content self.old.disk).tells }
         ensures control { Lasts (D.control self.old.disk) (D.control self.new.disk) }
         ensures cause { IsErrOf result fault.Failed → Rose (D.control self.old.disk).faults (D.control self.new.disk).faults }
+        ensures quiet { (IsErrOf result fault.Failed → ⊥) → (D.control self.new.disk).faults ≡ (D.control self.old.disk).faults }
+        ensures once { IsErrOf result fault.Failed → (D.control self.new.disk).faults ≡ counted (D.control self.old.disk).faults 1 }
     {
         self.stands();
         let bytes = self.listing_behind()?;
@@ -101,6 +103,8 @@ impl<D: Disk> LocalLog<D> {
         ensures tells { (D.content self.new.disk).tells ≡ (D.content self.old.disk).tells }
         ensures control { Lasts (D.control self.old.disk) (D.control self.new.disk) }
         ensures cause { IsErrOf result fault.Failed → Rose (D.control self.old.disk).faults (D.control self.new.disk).faults }
+        ensures quiet { (IsErrOf result fault.Failed → ⊥) → (D.control self.new.disk).faults ≡ (D.control self.old.disk).faults }
+        ensures once { IsErrOf result fault.Failed → (D.control self.new.disk).faults ≡ counted (D.control self.old.disk).faults 1 }
     {
         let first = &self.closed[0];
         let base = first.base();

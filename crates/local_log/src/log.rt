@@ -3,9 +3,9 @@
 //! A write that the disk answers with a fault may have been done or not, so the log is broken then and may only be closed;
 //! opening it again finds what is stable. Want of memory is found before the first change, or changes no image.
 
-ghost use Rattle.std.specs.Prelude.{◌≡◌, ◌⊎◌, ◌↔◌, ◌+◌, ◌≤◌, ◌<◌, ◌^◌, List, [], ℕ, length, false, true, None, IfOk, IfErr, OnOk, OnErr, IsTrue, IsFalse, IsErrOf};
+ghost use Rattle.std.specs.Prelude.{◌≡◌, ◌⊎◌, ◌↔◌, ◌+◌, ◌≤◌, ◌<◌, ◌^◌, ◌++◌, ◌∷◌, List, [], ℕ, length, false, true, None, IfOk, IfErr, OnOk, OnErr, IsTrue, IsFalse, IsErrOf};
 ghost use Rattle.disk_model.specs.Content.{LeavesOnly, Image, Files, Keeps};
-ghost use Rattle.tier_base.specs.Counts.{Rose};
+ghost use Rattle.tier_base.specs.Counts.{counted, Rose};
 ghost use Rattle.tier_base.specs.Device.{Lasts, Arms};
 ghost use Rattle.log_terms.specs.Batch.{last_of};
 ghost use Rattle.epoch_line.specs.Line.{IsLine, last_epoch, assign, cut_end};
@@ -25,7 +25,7 @@ ghost use Rattle.local_log.specs.Taking.{line_or};
 ghost use Rattle.local_log.specs.Coheres.{Coheres};
 ghost use Rattle.local_log.specs.Cutting.{OpensAs, OpensAsOr};
 ghost use Rattle.local_log.specs.Refusing.{IsSoundCause, IsOfManifest};
-ghost use Rattle.local_log.specs.Opening.{IsOpenLog, IsOf, HoldsLast, OpenFails};
+ghost use Rattle.local_log.specs.Opening.{IsOpenLog, IsOf, Lists, HoldsLast, OpenFails, OpenFailsIn};
 ghost use Rattle.local_log.specs.Cutting.{whole_log};
 ghost use Rattle.local_log.specs.Log.{IsFirst, committed, Committing, AreSettings, Becomes, OpensStable, stable_log, Creating, first_log};
 
@@ -94,6 +94,9 @@ impl<D: Disk> LocalLog<D> {
         ensures control { IfOk result (λ log. Lasts (D.control disk) (D.control log.disk)) }
         ensures control_err { IfErr result (λ e. Lasts (D.control disk) (D.control e.0)) }
         ensures cause { IfErr result (λ e. e.1 ≡ create.DiskFault → Rose (D.control disk).faults (D.control e.0).faults) }
+        ensures quiet { IfOk result (λ log. (D.control log.disk).faults ≡ (D.control disk).faults) }
+        ensures quiet_err { IfErr result (λ e. (e.1 ≡ create.DiskFault → ⊥) → (D.control e.0).faults ≡ (D.control disk).faults) }
+        ensures once { IfErr result (λ e. e.1 ≡ create.DiskFault → (D.control e.0).faults ≡ counted (D.control disk).faults 1) }
     {
         let mut disk = disk;
         let active = Growing::new(alloc, 0, settings.index_interval);
@@ -134,6 +137,8 @@ impl<D: Disk> LocalLog<D> {
         ensures tells_err { IfErr result (λ e. (D.content e.0).tells ≡ (D.content disk).tells) }
         ensures opened { IfOk result (λ log. IsTrue (D.content disk).tells
             → (o : Opened) × Opens (D.content disk).files o × IsOf o log) }
+        ensures segments { IfOk result (λ log. IsTrue (D.content disk).tells
+            → Lists (D.content disk).files (log.closed ++ log.active ∷ [])) }
         ensures durable { IfOk result (λ log. (c : Files) → Image (D.content log.disk) c → Opens c (whole_log log)) }
 
         // Where a log could be opened after any crash before, a crash at any moment of the call leaves what it might have
@@ -147,6 +152,7 @@ impl<D: Disk> LocalLog<D> {
         // Each cause, by what the disk handed last. A fault of the manifest is told before the first change, and none of what
         // the disk handed where what it reads opens.
         ensures err { IfErr result (λ e. OpenFails (D.control e.0).handed e.1) }
+        ensures place { IfErr result (λ e. IsTrue (D.content disk).tells → OpenFailsIn (D.content disk).files e.1) }
         ensures sound { IfErr result (λ e. IsTrue (D.content disk).tells
             → (o : Opened) → Opens (D.content disk).files o → IsSoundCause e.1) }
         ensures last { IfErr result (λ e. e.1 ≡ opening.LastIncarnation → IsTrue (D.content disk).tells
@@ -155,6 +161,9 @@ impl<D: Disk> LocalLog<D> {
         ensures control { IfOk result (λ log. Lasts (D.control disk) (D.control log.disk)) }
         ensures control_err { IfErr result (λ e. Lasts (D.control disk) (D.control e.0)) }
         ensures cause { IfErr result (λ e. e.1 ≡ opening.DiskFault → Rose (D.control disk).faults (D.control e.0).faults) }
+        ensures quiet { IfOk result (λ log. (D.control log.disk).faults ≡ (D.control disk).faults) }
+        ensures quiet_err { IfErr result (λ e. (e.1 ≡ opening.DiskFault → ⊥) → (D.control e.0).faults ≡ (D.control disk).faults) }
+        ensures once { IfErr result (λ e. e.1 ≡ opening.DiskFault → (D.control e.0).faults ≡ counted (D.control disk).faults 1) }
     {
         let mut disk = disk;
         match open_log(alloc, &mut disk, settings.index_interval) {
@@ -235,6 +244,8 @@ impl<D: Disk> LocalLog<D> {
         ensures broken { IsErrOf result append.DiskFault → Becomes D.content (record self.old { broken = true }) self.new }
         ensures control { Lasts (D.control self.old.disk) (D.control self.new.disk) }
         ensures cause { IsErrOf result append.DiskFault → Rose (D.control self.old.disk).faults (D.control self.new.disk).faults }
+        ensures quiet { (IsErrOf result append.DiskFault → ⊥) → (D.control self.new.disk).faults ≡ (D.control self.old.disk).faults }
+        ensures once { IsErrOf result append.DiskFault → (D.control self.new.disk).faults ≡ counted (D.control self.old.disk).faults 1 }
     {
         let most = self.settings.segment_bytes;
         let base = self.active.base();
@@ -272,6 +283,8 @@ impl<D: Disk> LocalLog<D> {
         ensures broken { IsErrOf result fault.Failed → Becomes D.content (record self.old { broken = true }) self.new }
         ensures control { Lasts (D.control self.old.disk) (D.control self.new.disk) }
         ensures cause { IsErrOf result fault.Failed → Rose (D.control self.old.disk).faults (D.control self.new.disk).faults }
+        ensures quiet { (IsErrOf result fault.Failed → ⊥) → (D.control self.new.disk).faults ≡ (D.control self.old.disk).faults }
+        ensures once { IsErrOf result fault.Failed → (D.control self.new.disk).faults ≡ counted (D.control self.old.disk).faults 1 }
     {
         let end = self.active.end();
         let most = self.settings.segment_bytes;
@@ -309,6 +322,8 @@ impl<D: Disk> LocalLog<D> {
         ensures broken { IsErrOf result fault.Failed → Becomes D.content (record self.old { broken = true }) self.new }
         ensures control { Lasts (D.control self.old.disk) (D.control self.new.disk) }
         ensures cause { IsErrOf result fault.Failed → Rose (D.control self.old.disk).faults (D.control self.new.disk).faults }
+        ensures quiet { (IsErrOf result fault.Failed → ⊥) → (D.control self.new.disk).faults ≡ (D.control self.old.disk).faults }
+        ensures once { IsErrOf result fault.Failed → (D.control self.new.disk).faults ≡ counted (D.control self.old.disk).faults 1 }
     {
         self.closed.reserve(1)?;
         self.disk.reserve(1)?;
@@ -358,6 +373,8 @@ impl<D: Disk> LocalLog<D> {
         ensures broken { IsErrOf result roll.DiskFault → Becomes D.content (record self.old { broken = true }) self.new }
         ensures control { Lasts (D.control self.old.disk) (D.control self.new.disk) }
         ensures cause { IsErrOf result roll.DiskFault → Rose (D.control self.old.disk).faults (D.control self.new.disk).faults }
+        ensures quiet { (IsErrOf result roll.DiskFault → ⊥) → (D.control self.new.disk).faults ≡ (D.control self.old.disk).faults }
+        ensures once { IsErrOf result roll.DiskFault → (D.control self.new.disk).faults ≡ counted (D.control self.old.disk).faults 1 }
     {
         if self.active.size() == 0 {
             return Err(RollRefusal::EmptySegment);
@@ -402,6 +419,8 @@ impl<D: Disk> LocalLog<D> {
         ensures broken { IsErrOf result fault.Failed → Becomes D.content (record self.old { broken = true }) self.new }
         ensures control { Lasts (D.control self.old.disk) (D.control self.new.disk) }
         ensures cause { IsErrOf result fault.Failed → Rose (D.control self.old.disk).faults (D.control self.new.disk).faults }
+        ensures quiet { (IsErrOf result fault.Failed → ⊥) → (D.control self.new.disk).faults ≡ (D.control self.old.disk).faults }
+        ensures once { IsErrOf result fault.Failed → (D.control self.new.disk).faults ≡ counted (D.control self.old.disk).faults 1 }
     {
         let line = self.line.copy(self.alloc)?;
         self.commit(line)
@@ -429,6 +448,8 @@ impl<D: Disk> LocalLog<D> {
         ensures broken { IsErrOf result fault.Failed → Becomes D.content (record self.old { broken = true }) self.new }
         ensures control { Lasts (D.control self.old.disk) (D.control self.new.disk) }
         ensures cause { IsErrOf result fault.Failed → Rose (D.control self.old.disk).faults (D.control self.new.disk).faults }
+        ensures quiet { (IsErrOf result fault.Failed → ⊥) → (D.control self.new.disk).faults ≡ (D.control self.old.disk).faults }
+        ensures once { IsErrOf result fault.Failed → (D.control self.new.disk).faults ≡ counted (D.control self.old.disk).faults 1 }
     {
         let mut line = self.line.copy(self.alloc)?;
         line.assign(epoch, self.active.end())?;
@@ -458,6 +479,8 @@ impl<D: Disk> LocalLog<D> {
         ensures broken { IsErrOf result fault.Failed → Becomes D.content (record self.old { broken = true }) self.new }
         ensures control { Lasts (D.control self.old.disk) (D.control self.new.disk) }
         ensures cause { IsErrOf result fault.Failed → Rose (D.control self.old.disk).faults (D.control self.new.disk).faults }
+        ensures quiet { (IsErrOf result fault.Failed → ⊥) → (D.control self.new.disk).faults ≡ (D.control self.old.disk).faults }
+        ensures once { IsErrOf result fault.Failed → (D.control self.new.disk).faults ≡ counted (D.control self.old.disk).faults 1 }
     {
         self.disk.reserve(1)?;
         let bytes = listing(

@@ -5,20 +5,21 @@
 //! incarnation. What was read was synced before, so each image then opens as it, whatever the disk held.
 
 ghost use Rattle.std.specs.Prelude.{◌≡◌, ◌≢◌, ◌+◌, ◌*◌, ◌<◌, ◌≤◌, ◌^◌, ◌++◌, ◌∷◌, ℕ, List, [], length, Some, None, Ok, IfOk, IfErr, OnOk, IsErrOf, IsTrue};
-ghost use Rattle.tier_base.specs.Counts.{Rose};
+ghost use Rattle.tier_base.specs.Counts.{counted, Rose};
 ghost use Rattle.tier_base.specs.Device.{Lasts};
 ghost use Rattle.tier_base.specs.Told.{Names, bytes_in};
 ghost use Rattle.disk_model.specs.Content.{Keeps, LeavesOnly};
 ghost use Rattle.epoch_line.specs.Line.{cut_end};
 ghost use Rattle.log_manifest.specs.Rules.{IsManifest};
 ghost use Rattle.log_manifest.specs.Reading.{manifest_in};
+ghost use Rattle.log_steps.specs.Fronts.{log_at};
 ghost use Rattle.log_steps.specs.Opens.{Opened, Opens, Segment, Segments};
 ghost use Rattle.log_steps.specs.Reopens.{Reopens, Opening};
 ghost use Rattle.local_log.specs.declared.refusal.OpenRefusal.TheVariants.{DiskFault, LastIncarnation};
 ghost use Rattle.local_log.specs.Refusing.{IsDry, IsSoundCause, IsOfManifest};
 ghost use Rattle.local_log.specs.Stored.{end_of, chain_end};
 ghost use Rattle.local_log.specs.Parsing.{IsParsed, ParseFails};
-ghost use Rattle.local_log.specs.Opening.{HoldsLast, SegmentFails, ReadsTo, ReadFails, OpenFails};
+ghost use Rattle.local_log.specs.Opening.{HoldsLast, SegmentFails, ReadsTo, ReadFails, ReadFailsIn, OpenFails, OpenFailsIn};
 ghost use Rattle.local_log.specs.Planning.{IsPlan, IsPlanOf, PlanFails, FileFails, StudyFails, AreRead, IsRead, IsOpened};
 
 use crate::parsing::{damaged, parse};
@@ -64,11 +65,14 @@ pub(crate) fn open_log<D: Disk>(
     ensures reopens { OnOk result (Reopens (D.content disk.new)) }
     ensures unchanged { IfErr result (λ e. IsOfManifest e → Keeps (D.content disk.old) (D.content disk.new)) }
     ensures err { IfErr result (λ e. OpenFails (D.control disk.new).handed e) }
+    ensures place { IfErr result (λ e. IsTrue (D.content disk.old).tells → OpenFailsIn (D.content disk.old).files e) }
     ensures sound { IfErr result (λ e. IsTrue (D.content disk.old).tells
         → (o : Opened) → Opens (D.content disk.old).files o → IsSoundCause e) }
     ensures last { IsErrOf result LastIncarnation → IsTrue (D.content disk.old).tells → HoldsLast (D.content disk.old).files }
     ensures control { Lasts (D.control disk.old) (D.control disk.new) }
     ensures cause { IsErrOf result DiskFault → Rose (D.control disk.old).faults (D.control disk.new).faults }
+    ensures quiet { (IsErrOf result DiskFault → ⊥) → (D.control disk.new).faults ≡ (D.control disk.old).faults }
+    ensures once { IsErrOf result DiskFault → (D.control disk.new).faults ≡ counted (D.control disk.old).faults 1 }
 {
     let (plan, names) = study(alloc, disk)?;
     let present = plan.present.as_slice();
@@ -88,11 +92,14 @@ fn study<D: Disk>(alloc: Global, disk: &mut D) -> Result<(Plan, Row<FileName>), 
     ensures names { IfOk result (λ x. IsTrue (D.content disk.old).tells → Names (D.content disk.old).files x.1) }
     ensures room { IfOk result (λ x. 2 * length x.0.manifest.segments + length x.1 ≤ D.spare disk.new) }
     ensures err { IfErr result (λ e. StudyFails (D.control disk.new).handed e) }
+    ensures place { IfErr result (λ e. IsTrue (D.content disk.old).tells → OpenFailsIn (D.content disk.old).files e) }
     ensures sound { IfErr result (λ e. IsTrue (D.content disk.old).tells
         → (o : Opened) → Opens (D.content disk.old).files o → IsSoundCause e) }
     ensures last { IsErrOf result LastIncarnation → IsTrue (D.content disk.old).tells → HoldsLast (D.content disk.old).files }
     ensures control { Lasts (D.control disk.old) (D.control disk.new) }
     ensures cause { IsErrOf result DiskFault → Rose (D.control disk.old).faults (D.control disk.new).faults }
+    ensures quiet { (IsErrOf result DiskFault → ⊥) → (D.control disk.new).faults ≡ (D.control disk.old).faults }
+    ensures once { IsErrOf result DiskFault → (D.control disk.new).faults ≡ counted (D.control disk.old).faults 1 }
 {
     let plan = plan_on(alloc, disk)?;
     let names = disk.list()?;
@@ -105,11 +112,14 @@ fn plan_on<D: Disk>(alloc: Global, disk: &mut D) -> Result<Plan, OpenRefusal>
     ensures content { Keeps (D.content disk.old) (D.content disk.new) }
     ensures plan { IfOk result (λ plan. IsPlanOf (D.content disk.old) plan) }
     ensures err { IfErr result (λ e. StudyFails (D.control disk.new).handed e) }
+    ensures place { IfErr result (λ e. IsTrue (D.content disk.old).tells → OpenFailsIn (D.content disk.old).files e) }
     ensures sound { IfErr result (λ e. IsTrue (D.content disk.old).tells
         → (o : Opened) → Opens (D.content disk.old).files o → IsSoundCause e) }
     ensures last { IsErrOf result LastIncarnation → IsTrue (D.content disk.old).tells → HoldsLast (D.content disk.old).files }
     ensures control { Lasts (D.control disk.old) (D.control disk.new) }
     ensures cause { IsErrOf result DiskFault → Rose (D.control disk.old).faults (D.control disk.new).faults }
+    ensures quiet { (IsErrOf result DiskFault → ⊥) → (D.control disk.new).faults ≡ (D.control disk.old).faults }
+    ensures once { IsErrOf result DiskFault → (D.control disk.new).faults ≡ counted (D.control disk.old).faults 1 }
 {
     let file = disk.read(FileName::Manifest, 0)?;
     plan_of(alloc, file)
@@ -121,6 +131,7 @@ fn make_room<D: Disk>(disk: &mut D, segments: usize, files: usize) -> Result<(),
     ensures content { Keeps (D.content disk.old) (D.content disk.new) }
     ensures room { OnOk result (2 * segments + files ≤ D.spare disk.new) }
     ensures control { Lasts (D.control disk.old) (D.control disk.new) }
+    ensures quiet { (D.control disk.new).faults ≡ (D.control disk.old).faults }
 {
     let Ok(calls) = u32::try_from(files.saturating_add(2 * segments)) else {
         return Err(AllocError);
@@ -207,11 +218,14 @@ fn read_segments<D: Disk>(
     ensures read { IfOk result (λ segments. AreRead (D.content disk.old) manifest.now.line interval manifest.now.local_start
         manifest.now.segments segments.items) }
     ensures err { IfErr result (λ e. ReadFails manifest.now (D.control disk.new).handed e) }
+    ensures place { IfErr result (λ e. IsTrue (D.content disk.old).tells → ReadFailsIn (D.content disk.old).files manifest.now e) }
     ensures sound { IfErr result (λ e. IsTrue (D.content disk.old).tells → (batches : List (List ℕ))
         → Segments (D.content disk.old).files manifest.now.line manifest.now.local_start manifest.now.segments batches
         → IsSoundCause e) }
     ensures control { Lasts (D.control disk.old) (D.control disk.new) }
     ensures cause { IsErrOf result DiskFault → Rose (D.control disk.old).faults (D.control disk.new).faults }
+    ensures quiet { (IsErrOf result DiskFault → ⊥) → (D.control disk.new).faults ≡ (D.control disk.old).faults }
+    ensures once { IsErrOf result DiskFault → (D.control disk.new).faults ≡ counted (D.control disk.old).faults 1 }
 {
     let mut segments = Vec::new(alloc);
     let mut end = manifest.local_start;
@@ -241,10 +255,14 @@ fn read_segment<D: Disk>(
     ensures handed { IfOk result (λ segment. ReadsTo line.now extent (D.control disk.new).handed (end_of segment)) }
     ensures early { extent.base ≢ end → (D.control disk.new).handed ≡ (D.control disk.old).handed }
     ensures err { IfErr result (λ e. SegmentFails line.now end extent (D.control disk.new).handed e) }
+    ensures place { IfErr result (λ e. IsTrue (D.content disk.old).tells
+        → SegmentFails line.now end extent (log_at (D.content disk.old).files extent) e) }
     ensures sound { IfErr result (λ e. IsTrue (D.content disk.old).tells → extent.base ≡ end
         → (batches : List (List ℕ)) → Segment (D.content disk.old).files line.now extent batches → IsSoundCause e) }
     ensures control { Lasts (D.control disk.old) (D.control disk.new) }
     ensures cause { IsErrOf result DiskFault → Rose (D.control disk.old).faults (D.control disk.new).faults }
+    ensures quiet { (IsErrOf result DiskFault → ⊥) → (D.control disk.new).faults ≡ (D.control disk.old).faults }
+    ensures once { IsErrOf result DiskFault → (D.control disk.new).faults ≡ counted (D.control disk.old).faults 1 }
 {
     if extent.base != end {
         return Err(damaged(extent.base, 0));

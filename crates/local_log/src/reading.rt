@@ -6,16 +6,17 @@
 //! are tested without what memory keeps. Last of all the batches' epochs are held against the line, since no checksum
 //! covers them.
 
-ghost use Rattle.std.specs.Prelude.{◌≡◌, ◌<◌, ◌≤◌, ◌+◌, ℕ, option_map, min, false, true, ◌^◌, ◌↔◌, IfOk, IfErr, IfSome, IsOk, IsErrOf, IsTrue};
+ghost use Rattle.std.specs.Prelude.{◌≡◌, ◌≢◌, ◌<◌, ◌≤◌, ◌+◌, ℕ, None, option_map, min, false, true, ◌^◌, ◌↔◌, IfOk, IfErr, IfSome, IsOk, IsErrOf, IsTrue};
 ghost use Rattle.tier_base.specs.declared.fault.Trouble.TheVariants as fault;
-ghost use Rattle.tier_base.specs.Counts.{Rose};
-ghost use Rattle.tier_base.specs.Device.{Lasts};
+ghost use Rattle.tier_base.specs.Counts.{counted, Rose};
+ghost use Rattle.tier_base.specs.Device.{Lasts, Ran, fate_of};
 ghost use Rattle.tier_base.specs.declared.plain.FileName.TheVariants as file;
 ghost use Rattle.tier_base.specs.Told.{bytes_in};
+ghost use Rattle.disk_model.specs.declared.call.DiskCall.TheVariants.{Read};
 ghost use Rattle.disk_model.specs.Content.{LeavesOnly, Keeps, part_of};
 ghost use Rattle.local_log.specs.declared.refusal.ReadRefusal.TheVariants.{DiskFault};
 ghost use Rattle.local_log.specs.Log.{Becomes, OpensStable};
-ghost use Rattle.local_log.specs.Reading.{segment_at, piece_of, is_edge, IsCut, IsRunOf, IsEdge, RunFails, CutFails, IsOfDevice, IsClosedFrom, ClosedFails, IsPartOf, IsFront, FrontFails};
+ghost use Rattle.local_log.specs.Reading.{first_past, segment_at, piece_of, is_edge, ReadOnce, IsCut, IsRunOf, IsEdge, RunFails, CutFails, IsOfDevice, IsClosedFrom, ClosedFails, IsPartOf, IsFront, FrontFails};
 
 use crate::epochs::first_stray;
 use crate::log::LocalLog;
@@ -61,8 +62,12 @@ impl<D: Disk> LocalLog<D> {
         ensures err { IfErr result (λ e. RunFails self.old offset limit mark (D.control self.new.disk).handed e) }
         ensures missed { is_edge (segment_at self.old mark) mark ≡ false → self.new ≡ self.old }
         ensures whole { IfErr result (λ e. IsTrue (D.content self.old.disk).tells → IsEdge self.old mark → IsOfDevice e) }
+        ensures ran { is_edge (segment_at self.old mark) mark ≡ true
+            → ReadOnce result (D.control self.old.disk) (D.control self.new.disk) }
         ensures control { Lasts (D.control self.old.disk) (D.control self.new.disk) }
         ensures cause { IsErrOf result DiskFault → Rose (D.control self.old.disk).faults (D.control self.new.disk).faults }
+        ensures quiet { (IsErrOf result DiskFault → ⊥) → (D.control self.new.disk).faults ≡ (D.control self.old.disk).faults }
+        ensures once { IsErrOf result DiskFault → (D.control self.new.disk).faults ≡ counted (D.control self.old.disk).faults 1 }
     {
         let marked = segment_at(self.local_start, self.closed.as_slice(), &self.active, mark);
         let (end, at) = marked.place_of(mark);
@@ -99,8 +104,13 @@ impl<D: Disk> LocalLog<D> {
 
         ensures err { IfErr result (λ e. ClosedFails self.old offset (D.control self.new.disk).handed e) }
         ensures whole { IfErr result (λ e. IsTrue (D.content self.old.disk).tells → IsOfDevice e) }
+        ensures none { first_past offset self.old.closed ≡ None → self.new ≡ self.old }
+        ensures ran { first_past offset self.old.closed ≢ None
+            → ReadOnce result (D.control self.old.disk) (D.control self.new.disk) }
         ensures control { Lasts (D.control self.old.disk) (D.control self.new.disk) }
         ensures cause { IsErrOf result DiskFault → Rose (D.control self.old.disk).faults (D.control self.new.disk).faults }
+        ensures quiet { (IsErrOf result DiskFault → ⊥) → (D.control self.new.disk).faults ≡ (D.control self.old.disk).faults }
+        ensures once { IsErrOf result DiskFault → (D.control self.new.disk).faults ≡ counted (D.control self.old.disk).faults 1 }
     {
         let Some(segment) = first_past(
             self.local_start,
@@ -142,8 +152,11 @@ impl<D: Disk> LocalLog<D> {
         ensures bytes { IfOk result (λ held. (D.control self.new.disk).handed ≡ bytes_in held) }
         ensures any_moment { LeavesOnly (D.content self.old.disk) (D.content self.new.disk)
             (OpensStable self.old) }
+        ensures ran { Ran Read (fate_of result) (D.control self.old.disk) (D.control self.new.disk) }
         ensures control { Lasts (D.control self.old.disk) (D.control self.new.disk) }
         ensures cause { IsErrOf result fault.Failed → Rose (D.control self.old.disk).faults (D.control self.new.disk).faults }
+        ensures quiet { (IsErrOf result fault.Failed → ⊥) → (D.control self.new.disk).faults ≡ (D.control self.old.disk).faults }
+        ensures once { IsErrOf result fault.Failed → (D.control self.new.disk).faults ≡ counted (D.control self.old.disk).faults 1 }
     {
         self.disk.read_part(FileName::Log(base), from as u64, most)
     }

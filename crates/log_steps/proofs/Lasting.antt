@@ -1,7 +1,9 @@
 -- Runs of calls, one after another.
-use Rattle.std.proofs.Common.{◌≡◌, ◌∙◌, sym, subst, IsTrue, arith}
+use Rattle.std.proofs.Common.{◌≡◌, ◌∙◌, ap, sym, subst, ℕ, IsTrue, Result, Ok, Err, IsErr, arith}
 use Rattle.std.proofs.Math.Nat.{le_trans}
-use Rattle.tier_base.specs.Device.{Control, Fate, Fault, Lasts, Rests}
+use Rattle.tier_base.specs.Counts.{counted}
+use Rattle.tier_base.specs.declared.fault.Failed.{Failed}
+use Rattle.tier_base.specs.Device.{Control, Fate, Fault, failing, Lasts, Rests}
 use Rattle.disk_model.specs.Call.{call_code}
 use Rattle.log_steps.specs.Runs.{Runs}
 
@@ -16,9 +18,11 @@ lasts_then a b c h k = record {
   unmade = λ off kind. k.unmade (h.armed ∙ off) kind ∙ h.unmade off kind;
 }
 
-pub runs_then : (fate : Fate) (a b c : Control call_code) → Lasts a b → Runs fate b c → Runs fate a c
-runs_then fate a b c h k = record {
+pub runs_then : (fate : Fate) (a b c : Control call_code) → Lasts a b → b.faults ≡ a.faults → Runs fate b c → Runs fate a c
+runs_then fate a b c h same k = record {
   lasts = lasts_then a b c h k.lasts;
+  quiet = λ not. k.quiet not ∙ same;
+  once = λ is. k.once is ∙ ap (λ (n : ℕ). counted n 1) same;
   cause = λ is. (let r = k.cause is in let l = h.never_falls in grind (arith, r, l));
 }
 
@@ -34,8 +38,13 @@ rests_last a b r = record {
 }
 
 -- a call that failed ends a run
-pub runs_fault : (fate fate2 : Fate) (a b c : Control call_code) → fate ≡ Fault → Lasts a b → Runs fate b c → Runs fate2 a c
-runs_fault fate fate2 a b c is h k = record {
-  lasts = lasts_then a b c h k.lasts;
-  cause = λ is2. (let r = k.cause is in let l = h.never_falls in grind (arith, r, l));
-}
+pub runs_fault : {T : Type 0} (r : Result T Failed) (a b c : Control call_code) → IsErr r → Lasts a b → b.faults ≡ a.faults → Runs Fault b c → Runs (failing r) a c
+runs_fault (Ok x) a b c err h same k = absurd cc
+runs_fault (Err e) a b c err h same k = runs_then Fault a b c h same k
+
+-- a run that went well, and one that ended with a fault
+pub went_on : {T : Type 0} (r : Result T Failed) (x : T) (a b : Control call_code) → r ≡ Ok x → Runs (failing r) a b → b.faults ≡ a.faults
+went_on r x a b is k = k.quiet (λ fault. cc (ap failing is, fault))
+
+pub failed_so : {T : Type 0} (r : Result T Failed) (e : Failed) (a b : Control call_code) → r ≡ Err e → Runs (failing r) a b → Runs Fault a b
+failed_so r e a b is k = subst (λ (f : Fate). Runs f a b) (ap failing is) k

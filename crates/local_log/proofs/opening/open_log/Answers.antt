@@ -8,10 +8,11 @@ use Rattle.log_steps.specs.Fronts.{Rising}
 use Rattle.log_steps.proofs.Opening.{reopens_kept, leaves_all}
 use Rattle.log_steps.proofs.Reading.{opens_like}
 use Rattle.local_log.specs.Refusing.{IsSoundCause}
+use Rattle.local_log.specs.Opening.{ReadFailsIn}
 use Rattle.local_log.specs.Planning.{AreRead}
 use Rattle.local_log.proofs.RunsTold.{err_on}
 use Rattle.local_log.proofs.SegmentsRead.{segments_rise}
-use Rattle.local_log.proofs.Planned.{plan_kept, names_kept, rewrites_same, plan_rewritten, plan_reopens, plan_reads, plan_read, plan_reopens_read, plan_written, plan_reopens_written}
+use Rattle.local_log.proofs.Planned.{plan_kept, names_kept, rewrites_same, plan_rewritten, plan_reopens, plan_reads, plan_misses, fails_like, plan_read, plan_reopens_read, plan_written, plan_reopens_written}
 use Rattle.local_log.proofs.OpenedLog.{opened_log, opened_again, opened_kept}
 use Rattle.local_log.proofs.opening.open_log.Goals as goal
 
@@ -111,6 +112,28 @@ returns-in_err-segments-clause-sound g c =
     let told : IsTrue d.tells = subst IsTrue (sym k0.tells) t in
     let s = plan_reads d plan p told names fate went d1 rewrites o (opens_like d.files d0.files o k0.files opens) in
     subst IsSoundCause (sym is) (c.in_err-segments.ensures.sound (subst IsTrue (sym rewrites.tells) told) s.0 s.1)
+    )) c.from_residual-in_err-segments.ensures.1
+
+pub returns-in_err-segments-clause-place : goal.returns-in_err-segments-clause-place
+returns-in_err-segments-clause-place g c =
+    let content = g.D.Disk.content in
+    let d0 = content c.args.disk.now in
+    let d = content c.study.new.disk in
+    let k0 = c.study.ensures.content in
+    let plan = c.in_ok-plan.plan in
+    let p = plan_kept d0 d plan k0 c.in_ok-plan.ensures.plan in
+    let d1 = content c.rewrite.new.disk in
+    let fate = fate_of c.rewrite.result in
+    let names = c.in_ok-plan.names in
+    let rewrites = rewrites_same _ plan.present _ plan.manifest.segments _ names fate d d1 c.as_slice-present.ensures c.as_slice-extents.ensures c.as_slice-files.ensures c.rewrite.ensures.content in
+    let went : fate ≡ Went = ap fate_of c.in_ok-rewrite.was in
+    err_on _ _ c.from_residual-in_err-segments.result
+    (λ e is t. (
+    let told : IsTrue d.tells = subst IsTrue (sym k0.tells) t in
+    let told1 : IsTrue d1.tells = subst IsTrue (sym rewrites.tells) told in
+    fails_like d.files d0.files e k0.files
+    (plan_misses d plan p told names fate went d1 rewrites e (subst (ReadFailsIn d1.files plan.manifest) (sym is) (c.in_err-segments.ensures.place told1))
+    (λ batches s. subst IsSoundCause (sym is) (c.in_err-segments.ensures.sound told1 batches s)))
     )) c.from_residual-in_err-segments.ensures.1
 
 pub returns-in_err-replace-clause-leaves : goal.returns-in_err-replace-clause-leaves

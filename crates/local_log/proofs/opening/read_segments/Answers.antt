@@ -3,7 +3,7 @@ use Rattle.std.proofs.lemmas.List.{take_more, drop_more}
 use Rattle.disk_model.specs.Content.{Lawful}
 use Rattle.log_manifest.specs.declared.manifest.Extent.{Extent}
 use Rattle.segment_file.specs.Growing.{Grown}
-use Rattle.log_steps.specs.Fronts.{Each}
+use Rattle.log_steps.specs.Fronts.{Each, log_at}
 use Rattle.log_steps.specs.Opens.{Segments}
 use Rattle.log_steps.proofs.Lasting.{lasts_then}
 use Rattle.log_steps.proofs.Lists.{each_right}
@@ -14,7 +14,8 @@ use Rattle.local_log.proofs.Pieces.{chain_snoc}
 use Rattle.local_log.proofs.Keeping.{keeps_none, lasts_none, keeps_then}
 use Rattle.local_log.specs.Refusing.{IsSoundCause}
 use Rattle.local_log.proofs.RunsTold.{err_on}
-use Rattle.local_log.proofs.SegmentsRead.{segments_fit, start_low, none_read, more_read, not_read, next_stands, segment_kept, read_back}
+use Rattle.local_log.proofs.HandedOn.{handed_on, cause_of}
+use Rattle.local_log.proofs.SegmentsRead.{segments_fit, start_low, none_read, more_read, not_read, next_stands, read_fails_in, same_bytes, segment_kept, read_back}
 use Rattle.local_log.proofs.opening.read_segments.Goals as goal
 
 abbrev none : Extent
@@ -37,6 +38,7 @@ loop-extent-init g c =
       end_is = ap (chain_end manifest.local_start) (sym c.new-segments.ensures.items);
       last = inl (refl, refl);
       control = lasts_none (g.D.Disk.control c.args.disk.now);
+      quiet = refl;
     }
 
 pub read_segment-requires-clause-base : goal.read_segment-requires-clause-base
@@ -90,6 +92,32 @@ returns-in_err-segment-clause-sound g c =
     (segment_kept d m inv.keeps manifest.line (get_or es i none) next.1.0 next.1.1))
     )) c.from_residual-in_err-segment.ensures.1
 
+pub returns-in_err-segment-clause-place : goal.returns-in_err-segment-clause-place
+returns-in_err-segment-clause-place g c =
+    let content = g.D.Disk.content in
+    let manifest = c.args.manifest.now in
+    let es = c.as_slice-extents.result.now in
+    let i = c.loop-extent.extent-index in
+    let lt : i < length es = omega arith in
+    let d = content c.args.disk.now in
+    let m = content c.loop-extent.disk in
+    let inv = c.loop-extent.invariant in
+    let e = get_or es i none in
+    let parts : manifest.segments ≡ take i es ++ e ∷ drop (i + 1) es = sym c.as_slice-extents.ensures ∙ split_at es i lt in
+    err_on _ _ c.from_residual-in_err-segment.result
+    (λ why is t.
+    read_fails_in d manifest.line c.args.interval manifest.local_start (take i es) c.loop-extent.segments.items inv.read e manifest m.files (drop (i + 1) es) why refl refl parts t
+    (same_bytes d m inv.keeps e.base)
+    (subst (λ (n : ℕ). SegmentFails manifest.line n e (log_at m.files e) why) inv.end_is
+    (subst (SegmentFails manifest.line c.loop-extent.end e (log_at m.files e)) (sym is) (c.in_err-segment.ensures.place (subst IsTrue (sym inv.keeps.tells) t)))))
+    c.from_residual-in_err-segment.ensures.1
+
+pub returns-in_err-segment-clause-quiet : goal.returns-in_err-segment-clause-quiet
+returns-in_err-segment-clause-quiet g c not =
+    c.read_segment.ensures.quiet
+    (λ fault. not (handed_on c.from_residual-in_err-segment.result _ _ c.from_residual-in_err-segment.ensures.1 (cause_of c.read_segment.result _ _ c.in_err-segment.was fault)))
+    ∙ c.loop-extent.invariant.quiet
+
 pub loop-extent-preserved : goal.loop-extent-preserved
 loop-extent-preserved g c =
     let content = g.D.Disk.content in
@@ -114,4 +142,5 @@ loop-extent-preserved g c =
       end_is = c.end-end.ensures ∙ sym (ap (chain_end manifest.local_start) items ∙ chain_snoc manifest.local_start c.loop-extent.segments.items segment);
       last = inr (take i es, get_or es i none, take_more es i none lt, subst (ReadsTo manifest.line (get_or es i none) (g.D.Disk.control c.read_segment.new.disk).handed) (sym c.end-end.ensures) c.in_ok-segment.ensures.handed);
       control = lasts_then _ _ _ inv.control c.read_segment.ensures.control;
+      quiet = c.read_segment.ensures.quiet (λ fault. cc (fault, c.in_ok-segment.was)) ∙ inv.quiet;
     }

@@ -14,4 +14,5 @@ invariant-loop-extent g l =
       end_is : l.end ≡ chain_end l.manifest.local_start l.segments.items;
       last : LastRead l.manifest.line l.manifest.local_start (take l.extent-index l.extents) l.end (g.D.Disk.control l.disk).handed;
       control : Lasts (g.D.Disk.control l.fn.disk) (g.D.Disk.control l.disk);
+      quiet : (g.D.Disk.control l.disk).faults ≡ (g.D.Disk.control l.fn.disk).faults;
     }

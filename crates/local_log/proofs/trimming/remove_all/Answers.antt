@@ -36,6 +36,7 @@ loop-left-preserved g c =
       room = omega (arith, c.loop-left.invariant.room, c.remove.ensures.room, c.loop-left-test.true);
       inside = omega (arith, inside);
       control = lasts_then _ _ _ c.loop-left.invariant.control (ran_lasts _ _ _ _ c.remove.ensures.control.ran);
+      quiet = c.remove.ensures.control.ran.went went ∙ c.loop-left.invariant.quiet;
     }
 
 pub returns-in_err-remove-clause-content : goal.returns-in_err-remove-clause-content

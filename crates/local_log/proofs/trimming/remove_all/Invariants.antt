@@ -9,6 +9,7 @@ invariant-loop-left g l = record {
   room : g.D.Disk.spare l.disk + length l.segments ≡ g.D.Disk.spare l.fn.disk + l.left;
   inside : l.left ≤ length l.segments;
   control : Lasts (g.D.Disk.control l.fn.disk) (g.D.Disk.control l.disk);
+  quiet : (g.D.Disk.control l.disk).faults ≡ (g.D.Disk.control l.fn.disk).faults;
 }
 
 abbrev pub decreases-loop-left : goal.decreases-loop-left

@@ -1,4 +1,4 @@
-use Rattle.std.proofs.Common.{◌≤◌, ◌+◌, take}
+use Rattle.std.proofs.Common.{◌≡◌, ◌≤◌, ◌+◌, take}
 use Rattle.tier_base.specs.Device.{Lasts}
 use Rattle.log_steps.specs.Rewrites.{Removes}
 use Rattle.log_steps.proofs.rewriting.remove_others.Given as goal
@@ -10,4 +10,5 @@ invariant-loop-name g l =
       content : Removes l.extents (take l.name-index l.names) (content l.fn.disk) (content l.disk);
       room : g.D.Disk.spare l.fn.disk ≤ g.D.Disk.spare l.disk + l.name-index;
       control : Lasts (g.D.Disk.control l.fn.disk) (g.D.Disk.control l.disk);
+      quiet : (g.D.Disk.control l.disk).faults ≡ (g.D.Disk.control l.fn.disk).faults;
     }

@@ -1,10 +1,9 @@
 use Rattle.std.proofs.Common.{◌≡◌, ◌+◌, ◌<◌, ℕ, List, ◌∷◌, ◌++◌, length, take, drop, get_or, sym, ap, ◌∙◌, refl, subst, arith, take-append-drop}
 use Rattle.std.proofs.lemmas.List.{take_more, drop_more}
 use Rattle.disk_model.specs.Content.{Lawful}
-use Rattle.tier_base.specs.Device.{failing}
 use Rattle.log_manifest.specs.declared.manifest.Extent.{Extent}
 use Rattle.log_steps.specs.Rewrites.{RestoresAll}
-use Rattle.log_steps.proofs.Lasting.{lasts_then, runs_fault}
+use Rattle.log_steps.proofs.Lasting.{lasts_then, went_on, failed_so, runs_fault}
 use Rattle.log_steps.proofs.Restored.{step_leaves, step_done}
 use Rattle.log_steps.proofs.rewriting.restore_all.Goals as goal
 
@@ -40,8 +39,9 @@ loop-extent-preserved g c =
           (step_done es (take i es) (get_or es i none) (drop (i + 1) es) (split_at es i lt) c.requires.rising (content c.args.disk.now) m (content c.restore.new.disk) laws _ so_far c.in_ok-restore.ensures.content laws' refl);
       room = omega (arith, c.loop-extent.invariant.room, c.in_ok-restore.ensures.room);
       control = lasts_then _ _ _ c.loop-extent.invariant.control c.in_ok-restore.ensures.control.lasts;
+      quiet = went_on _ _ _ _ c.in_ok-restore.was c.restore.ensures.control ∙ c.loop-extent.invariant.quiet;
     }
 
 pub returns-in_err-restore-clause-control : goal.returns-in_err-restore-clause-control
 returns-in_err-restore-clause-control g c =
-    runs_fault _ _ _ _ _ (ap failing c.in_err-restore.was) c.loop-extent.invariant.control c.restore.ensures.control
+    runs_fault c.from_residual.result _ _ _ c.from_residual.ensures.0 c.loop-extent.invariant.control c.loop-extent.invariant.quiet (failed_so _ _ _ _ c.in_err-restore.was c.restore.ensures.control)

@@ -10,4 +10,5 @@ invariant-loop-extent g l =
       content : RestoresAll l.extents (take l.extent-index l.extents) (drop l.extent-index l.extents) (content l.fn.disk) (content l.disk);
       room : g.D.Disk.spare l.disk + 2 * l.extent-index ≡ g.D.Disk.spare l.fn.disk;
       control : Lasts (g.D.Disk.control l.fn.disk) (g.D.Disk.control l.disk);
+      quiet : (g.D.Disk.control l.disk).faults ≡ (g.D.Disk.control l.fn.disk).faults;
     }
