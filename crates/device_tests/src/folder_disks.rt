@@ -230,10 +230,11 @@ fn no_sync_succeeds_after_one_that_failed(rt: HostRuntime) {
 }
 
 /// Names of files, and what they name.
-static NAMES: [(&str, Option<FileName>); 19] = [
+static NAMES: [(&str, Option<FileName>); 20] = [
     ("manifest", Some(FileName::Manifest)),
     ("notes", Some(FileName::Notes)),
     ("gate", Some(FileName::Gate)),
+    ("registry", Some(FileName::Registry)),
     ("00000000000000000000.log", Some(FileName::Log(0))),
     ("00000000000000368769.log", Some(FileName::Log(368_769))),
     ("18446744073709551615.log", Some(FileName::Log(u64::MAX))),

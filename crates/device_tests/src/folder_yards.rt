@@ -4,8 +4,8 @@
 //! over the device. A test never holds one.
 
 use crate::yard_calls::{
-    are_used, disk_grows, is_named, log_grows, log_reads, name_fails, partitions_fail, store_fails,
-    store_fills,
+    are_used, disk_fails, disk_goes, disk_grows, is_named, log_grows, log_reads, name_fails,
+    partitions_fail, registry_goes, store_fails, store_fills,
 };
 use bytes::Bytes;
 use device_yard::Yard;
@@ -138,7 +138,7 @@ static FINISHED: [u8; 29] = [
 ];
 
 /// What the calls of a yard come to.
-fn yard_calls<Y: Yard>(alloc: Global, yard: &mut Y) -> [bool; 8] {
+fn yard_calls<Y: Yard>(alloc: Global, yard: &mut Y) -> [bool; 10] {
     let empty = is_named(yard, None);
     let disk = disk_grows(yard, PARTITION, BrokerId(1), 0);
     let store = store_fills(yard, PARTITION, &key(Part::Epochs), b"0\n0\n");
@@ -147,7 +147,11 @@ fn yard_calls<Y: Yard>(alloc: Global, yard: &mut Y) -> [bool; 8] {
     let one = log_reads(yard, PARTITION, 1);
     let second = log_grows(alloc, yard, PARTITION, &FINISHED, 1);
     let named = is_named(yard, Some("p3"));
-    [empty, disk, store, none, first, one, second, named]
+    let registry = registry_goes(yard, PARTITION, None, b"kept");
+    let kept = registry_goes(yard, PARTITION, Some(b"kept"), b"again");
+    [
+        empty, disk, store, none, first, one, second, named, registry, kept,
+    ]
 }
 
 /// What a yard is asked.
@@ -173,7 +177,7 @@ fn fails<Y: Yard>(yard: &mut Y) -> bool {
 /// Whether a yard is as it is asked.
 fn answers<Y: Yard>(alloc: Global, yard: &mut Y, ask: Ask) -> bool {
     match ask {
-        Ask::Calls => yard_calls(alloc, yard) == [true; 8],
+        Ask::Calls => yard_calls(alloc, yard) == [true; 10],
         Ask::Name(wanted) => is_named(yard, wanted),
         Ask::Used(wanted) => are_used(yard, wanted),
         Ask::Fails => fails(yard),
@@ -192,10 +196,11 @@ fn yard_in(rt: HostRuntime, dir: &str, ask: Ask) -> Result<(bool, usize, u64), A
 }
 
 /// Files of a yard's devices, and how long they are.
-static SIZES: [(&str, u64); 4] = [
+static SIZES: [(&str, u64); 5] = [
     ("yard_whole/p3/b1/manifest", 1),
     ("yard_whole/p3/meta/notes", 66),
     ("yard_whole/p3/meta/gate", 8),
+    ("yard_whole/p3/reg/registry", 5),
     (
         "yard_whole/p3/store/00030002-0000-0001-0000-000000000000.epochs",
         4,
@@ -205,7 +210,7 @@ static SIZES: [(&str, u64); 4] = [
 #[test]
 fn devices_stand_under_the_yards_folder(rt: HostRuntime) {
     let _ = fs::remove_dir_all(&rt, "yard_whole");
-    assert_eq!(rt; yard_in(rt, "yard_whole", Ask::Calls), Ok((true, 6, 0)));
+    assert_eq!(rt; yard_in(rt, "yard_whole", Ask::Calls), Ok((true, 8, 0)));
     for (path, size) in &SIZES {
         assert_eq!(rt; size_of(rt, path), Some(*size), "{path}");
     }
@@ -317,4 +322,62 @@ fn a_yard_over_a_file_fails(rt: HostRuntime) {
     assert!(rt; written.is_ok());
     assert_eq!(rt; yard_in(rt, "yard_file", Ask::Fails), Ok((true, 0, 3)));
     let _ = fs::remove_file(&rt, "yard_file");
+}
+
+/// Whether a yard works, another over the same folder fails meanwhile, and works once the first is gone.
+fn take_turns(rt: HostRuntime, dir: &str) -> Result<(bool, bool, bool), AllocError> {
+    let mut first = FolderYard::new(rt, dir)?;
+    let mut second = FolderYard::new(rt, dir)?;
+    let works = disk_goes(&mut first, PARTITION, BrokerId(0));
+    let named = name_fails(&mut second);
+    let waits = named & disk_fails(&mut second);
+    drop(first);
+    let free = is_named(&mut second, None);
+    Ok((works, waits, free))
+}
+
+#[test]
+fn one_yard_at_a_time_works_in_a_folder(rt: HostRuntime) {
+    let _ = fs::remove_dir_all(&rt, "yard_lock");
+    assert_eq!(rt; take_turns(rt, "yard_lock"), Ok((true, true, true)));
+    let _ = fs::remove_dir_all(&rt, "yard_lock");
+}
+
+/// Makes a folder with an object of a packed segment, one that was never put in its place, and a stranger's file.
+fn make_packs(rt: HostRuntime) -> io::Result<()> {
+    fs::create_dir(&rt, "yard_packs")?;
+    fs::write(&rt, "yard_packs/letter.pack", b"dear".as_slice())?;
+    fs::write(
+        &rt,
+        "yard_packs/00030002-0000-0001-0000-000000000000.pack",
+        b"whole".as_slice(),
+    )?;
+    fs::write(
+        &rt,
+        "yard_packs/00030002-0000-0001-0000-000000000001.pack.new",
+        b"half".as_slice(),
+    )
+}
+
+/// Whether the pack is the store's only object, and has these bytes.
+fn pack_in(rt: HostRuntime, path: &str, wanted: &[u8]) -> Result<bool, Trouble> {
+    match FolderStore::open(rt, path, PARTITION) {
+        Ok(mut store) => {
+            let only = has_key(&mut store, Part::Pack);
+            Ok(only & gives(&mut store, Part::Pack, 0, 9, wanted))
+        }
+        Err(trouble) => Err(trouble),
+    }
+}
+
+#[test]
+fn packs_are_objects_too(rt: HostRuntime) {
+    let _ = fs::remove_dir_all(&rt, "yard_packs");
+    let made = make_packs(rt).is_ok();
+    let found = pack_in(rt, "yard_packs", b"whole");
+    let left = names_in(rt, "yard_packs");
+    let _ = fs::remove_dir_all(&rt, "yard_packs");
+    assert!(rt; made);
+    assert_eq!(rt; found, Ok(true));
+    assert!(rt; matches!(left, Ok(2)));
 }

@@ -4,8 +4,9 @@
 
 use crate::yard_calls::{
     are_used, disk_fails, disk_goes, disk_grows, is_named, log_fails, log_reads, name_fails,
-    partitions_fail, store_fails, store_fills,
+    partitions_fail, registry_fails, registry_goes, store_fails, store_fills,
 };
+use device_yard::ReadRegistry;
 use memory_yard::MemoryYard;
 use object_store::{ObjectKey, Part};
 use std::alloc::{AllocError, Global};
@@ -26,6 +27,14 @@ enum Step<'a> {
     Store(u16),
     /// A metadata log has so many notes.
     Log(u16, usize),
+    /// The file of a partition's registry has these bytes, and then others.
+    Registry(u16, Option<&'a [u8]>, &'a [u8]),
+    /// It has not, or can't be read or replaced.
+    Broken(u16, Option<&'a [u8]>, &'a [u8]),
+    /// Disks that are handed out from now on let so many calls pass.
+    Fuse(u64),
+    /// The disks that came back lose what isn't synced.
+    Crash,
     /// The next call of each kind fails.
     Fails,
 }
@@ -60,7 +69,31 @@ fn fails(yard: &mut MemoryYard) -> bool {
     let disk = disk_fails(yard);
     let store = store_fails(yard);
     let log = log_fails(yard);
-    named & used & disk & store & log
+    let registry = registry_fails(yard);
+    named & used & disk & store & log & registry
+}
+
+/// Whether a registry's file has these bytes, takes others, and its disk is held then.
+fn registry(
+    yard: &mut MemoryYard,
+    partition: PartitionId,
+    wanted: Option<&[u8]>,
+    bytes: &[u8],
+) -> bool {
+    let went = registry_goes(yard, partition, wanted, bytes);
+    went & yard.held_registry(partition).is_some()
+}
+
+/// Sets a fuse.
+fn fuse(yard: &mut MemoryYard, calls: u64) -> bool {
+    yard.fuse(calls);
+    true
+}
+
+/// Crashes the disks.
+fn crash(yard: &mut MemoryYard) -> bool {
+    yard.crash();
+    true
 }
 
 /// Makes a call, and answers whether it came to what it should.
@@ -76,6 +109,14 @@ fn call(yard: &mut MemoryYard, step: Step) -> bool {
         }
         Step::Store(partition) => store(yard, PartitionId(partition)),
         Step::Log(partition, many) => log(yard, PartitionId(partition), many),
+        Step::Registry(partition, wanted, bytes) => {
+            registry(yard, PartitionId(partition), wanted, bytes)
+        }
+        Step::Broken(partition, wanted, bytes) => {
+            !registry(yard, PartitionId(partition), wanted, bytes)
+        }
+        Step::Fuse(calls) => fuse(yard, calls),
+        Step::Crash => crash(yard),
         Step::Fails => fails(yard),
     }
 }
@@ -172,6 +213,58 @@ fn used_partitions_are_named_in_rising_order(rt: HostRuntime) {
 
 #[test]
 fn planned_calls_fail_and_no_others(rt: HostRuntime) {
-    let came = came_of(rt.alloc(), &[], &[6, 5, 4, 3, 2], &PLANNED);
-    assert_eq!(rt; came, Ok((3, 5, 2)));
+    let came = came_of(rt.alloc(), &[], &[7, 6, 5, 4, 3, 2], &PLANNED);
+    assert_eq!(rt; came, Ok((3, 6, 2)));
+}
+
+/// A disk of a registry goes out, is fused, crashes, and goes out again. The names stay none.
+static FUSED: [Step<'static>; 12] = [
+    Step::Registry(1, None, b"old"),
+    Step::Registry(0, None, b"other"),
+    Step::Registry(1, Some(b"old"), b"older"),
+    Step::Name(None),
+    Step::Used(&[]),
+    Step::Disk(1, 0, 0),
+    Step::Disk(1, 0, 1),
+    // It can be read and not replaced.
+    Step::Fuse(1),
+    Step::Broken(1, Some(b"older"), b"new"),
+    Step::Crash,
+    // What isn't synced is gone, and the fuse too.
+    Step::Disk(1, 0, 0),
+    Step::Registry(1, Some(b"older"), b"new"),
+];
+
+/// What their disks handed last.
+static HANDED: [(u16, &[u8]); 5] = [
+    (1, b""),
+    (0, b""),
+    (1, b"old"),
+    (1, b"older"),
+    (1, b"older"),
+];
+
+/// Whether the disks of registries handed these bytes last.
+fn are_handed(found: &[ReadRegistry], wanted: &[(u16, &[u8])]) -> bool {
+    if found.len() != wanted.len() {
+        return false;
+    }
+    for (read, wanted) in found.iter().zip(wanted) {
+        if read.partition.0 != wanted.0 || read.handed.as_slice() != wanted.1 {
+            return false;
+        }
+    }
+    true
+}
+
+/// How many calls of a story went as they should, and whether these bytes were handed.
+fn hands(alloc: Global, steps: &[Step], wanted: &[(u16, &[u8])]) -> (usize, bool) {
+    let mut yard = MemoryYard::new(alloc, Vec::new(alloc), Vec::new(alloc));
+    let went = run(&mut yard, steps);
+    (went, are_handed(yard.registries(), wanted))
+}
+
+#[test]
+fn a_fused_disk_fails_until_a_crash(rt: HostRuntime) {
+    assert_eq!(rt; hands(rt.alloc(), &FUSED, &HANDED), (12, true));
 }

@@ -78,6 +78,34 @@ pub(crate) fn disk_goes<Y: Yard>(yard: &mut Y, partition: PartitionId, broker: B
     }
 }
 
+/// Whether a disk's registry file has these bytes.
+fn has_registry<D: Disk>(disk: &mut D, wanted: Option<&[u8]>) -> bool {
+    match (disk.read(FileName::Registry, 0), wanted) {
+        (Ok(Some(bytes)), Some(wanted)) => bytes.as_slice() == wanted,
+        (Ok(None), None) => true,
+        _ => false,
+    }
+}
+
+/// Whether a partition's registry file has these bytes. It is replaced, and its disk comes back armed.
+pub(crate) fn registry_goes<Y: Yard>(
+    yard: &mut Y,
+    partition: PartitionId,
+    wanted: Option<&[u8]>,
+    bytes: &[u8],
+) -> bool {
+    match yard.registry(partition) {
+        Ok(mut disk) => {
+            let has = has_registry(&mut disk, wanted);
+            let went = disk.replace(FileName::Registry, bytes).is_ok();
+            disk.arm();
+            yard.keep_registry(partition, disk);
+            has & went
+        }
+        Err(_) => false,
+    }
+}
+
 /// Whether a partition's store takes an object.
 pub(crate) fn store_fills<Y: Yard>(
     yard: &mut Y,
@@ -139,6 +167,10 @@ pub(crate) fn disk_fails<Y: Yard>(yard: &mut Y) -> bool {
 
 pub(crate) fn store_fails<Y: Yard>(yard: &mut Y) -> bool {
     matches!(yard.store(PartitionId(0)), Err(Trouble::Failed))
+}
+
+pub(crate) fn registry_fails<Y: Yard>(yard: &mut Y) -> bool {
+    matches!(yard.registry(PartitionId(0)), Err(Trouble::Failed))
 }
 
 pub(crate) fn log_fails<Y: Yard>(yard: &mut Y) -> bool {

@@ -1,10 +1,11 @@
--- What a yard always tells: its faults, the last first name, and how devices came back.
+-- What a yard always tells: its faults, the last first name, how devices came back, and what registries' disks were read as.
 --
 --   form                 says
 --   Names r old new      `first_name` answered r
 --   Asks f old new       a call ended so that hands nothing out
 --   Hands f old new      a device was handed out, or wasn't, by a call that ended so
 --   TakesBack c old new  a device came back with these counts
+--   TakesRegistry c r .. so did a registry's disk, which was read as r last
 --
 -- Before it is armed a device is opened, and the world that is made over it reads and writes. Of an armed device the faults
 -- are the world's to answer for, and no longer the yard's.
@@ -14,6 +15,7 @@ use Rattle.tier_base.specs.declared.fault.Trouble.{Trouble}
 use Rattle.tier_base.specs.Counts.{counted}
 use Rattle.tier_base.specs.Device.{Fate, Went, Fault, Dry, fate_of}
 use Rattle.device_yard.specs.declared.came.Came.{Came}
+use Rattle.device_yard.specs.declared.read_registry.ReadRegistry.{ReadRegistry}
 
 pub record Control : Type 0 where
   -- how many calls failed, and devices came back unarmed with faults
@@ -22,6 +24,8 @@ pub record Control : Type 0 where
   pub named : Option (List ℕ)
   -- the counts of the devices that came back, the first of them first
   pub returned : List Came
+  -- what the registries' disks handed last, in the order in which they came back
+  pub registries : List ReadRegistry
   -- how many devices are handed out
   pub out : ℕ
 
@@ -29,6 +33,7 @@ pub record Control : Type 0 where
 pub record IsFresh (c : Control) : Type 0 where
   pub faults : c.faults ≡ 0
   pub returned : c.returned ≡ []
+  pub registries : c.registries ≡ []
   pub out : c.out ≡ 0
 
 -- how many faults there are after a call that ended so
@@ -46,6 +51,7 @@ pub record Names (result : Result (Option (List ℕ)) Trouble) (old new : Contro
   pub faults : Faults (fate_of result) old.faults new.faults
   pub named : new.named ≡ named_after result old.named
   pub returned : new.returned ≡ old.returned
+  pub registries : new.registries ≡ old.registries
   pub out : new.out ≡ old.out
 
 -- a call that answers something and hands nothing out
@@ -53,6 +59,7 @@ pub record Asks (fate : Fate) (old new : Control) : Type 0 where
   pub faults : Faults fate old.faults new.faults
   pub named : new.named ≡ old.named
   pub returned : new.returned ≡ old.returned
+  pub registries : new.registries ≡ old.registries
   pub out : new.out ≡ old.out
 
 -- so many devices are out after a call that ended so
@@ -65,6 +72,7 @@ pub record Hands (fate : Fate) (old new : Control) : Type 0 where
   pub faults : Faults fate old.faults new.faults
   pub named : new.named ≡ old.named
   pub returned : new.returned ≡ old.returned
+  pub registries : new.registries ≡ old.registries
   pub out : new.out ≡ out_after fate old.out
 
 -- a device that came back so is a fault of the yard
@@ -75,4 +83,13 @@ pub record TakesBack (came : Came) (old new : Control) : Type 0 where
   pub faults : new.faults ≡ (if is_fault came then counted old.faults 1 else old.faults)
   pub named : new.named ≡ old.named
   pub returned : new.returned ≡ old.returned ++ came ∷ []
+  pub registries : new.registries ≡ old.registries
+  pub out : new.out + 1 ≡ old.out
+
+-- a registry's disk came back with these counts, and these bytes were handed last
+pub record TakesRegistry (came : Came) (read : ReadRegistry) (old new : Control) : Type 0 where
+  pub faults : new.faults ≡ (if is_fault came then counted old.faults 1 else old.faults)
+  pub named : new.named ≡ old.named
+  pub returned : new.returned ≡ old.returned ++ came ∷ []
+  pub registries : new.registries ≡ old.registries ++ read ∷ []
   pub out : new.out + 1 ≡ old.out

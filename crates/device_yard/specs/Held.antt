@@ -7,6 +7,7 @@
 --   IsFirst Named name       the first of the names, or none
 --   HandsDisk files held c   a disk with this content is handed out where that is held
 --   DiskIs p b now old new   that disk is held now, or none, and the rest stays
+--   RegistryIs p P old new   so does all but the disk of that registry, of which P holds
 --   Same old new             what a call leaves that hands nothing out
 --
 -- Its names are `p` with the number of each partition that has a file, an object or a note, and the strangers' ones. The
@@ -30,6 +31,8 @@ pub record Held (D S M : Type 0) : Type 0 where
   pub disks : PartitionId → BrokerId → Option D
   pub stores : PartitionId → Option S
   pub logs : PartitionId → Option M
+  -- the disks that keep registries
+  pub registries : PartitionId → Option D
 
 -- it is there, and has P
 abbrev pub Has : {X : Type 0} → (X → Type 0) → Option X → Type 0
@@ -72,6 +75,7 @@ module _ {D S M : Type 0} where
     pub others : (p : PartitionId) (b : BrokerId) → (p ≢ partition) ⊎ (b ≢ broker) → new.disks p b ≡ old.disks p b
     pub stores : (p : PartitionId) → new.stores p ≡ old.stores p
     pub logs : (p : PartitionId) → new.logs p ≡ old.logs p
+    pub registries : (p : PartitionId) → new.registries p ≡ old.registries p
 
   pub record StoreIs (partition : PartitionId) (now : Option S) (old new : Held D S M) : Type 0 where
     pub strays : new.strays ≡ old.strays
@@ -79,6 +83,7 @@ module _ {D S M : Type 0} where
     pub others : (p : PartitionId) → p ≢ partition → new.stores p ≡ old.stores p
     pub disks : (p : PartitionId) (b : BrokerId) → new.disks p b ≡ old.disks p b
     pub logs : (p : PartitionId) → new.logs p ≡ old.logs p
+    pub registries : (p : PartitionId) → new.registries p ≡ old.registries p
 
   pub record LogIs (partition : PartitionId) (now : Option M) (old new : Held D S M) : Type 0 where
     pub strays : new.strays ≡ old.strays
@@ -86,6 +91,16 @@ module _ {D S M : Type 0} where
     pub others : (p : PartitionId) → p ≢ partition → new.logs p ≡ old.logs p
     pub disks : (p : PartitionId) (b : BrokerId) → new.disks p b ≡ old.disks p b
     pub stores : (p : PartitionId) → new.stores p ≡ old.stores p
+    pub registries : (p : PartitionId) → new.registries p ≡ old.registries p
+
+  -- of the disk that keeps the registry P holds now, and the rest stays
+  pub record RegistryIs (partition : PartitionId) (P : Option D → Type 0) (old new : Held D S M) : Type 0 where
+    pub strays : new.strays ≡ old.strays
+    pub there : P (new.registries partition)
+    pub others : (p : PartitionId) → p ≢ partition → new.registries p ≡ old.registries p
+    pub disks : (p : PartitionId) (b : BrokerId) → new.disks p b ≡ old.disks p b
+    pub stores : (p : PartitionId) → new.stores p ≡ old.stores p
+    pub logs : (p : PartitionId) → new.logs p ≡ old.logs p
 
 module _ {D S M : Type 0} (files : D → disk.Content) (objects : S → store.Content) (notes : M → log.Content) where
   -- something of the partition stands
@@ -114,10 +129,19 @@ module _ {D S M : Type 0} (files : D → disk.Content) (objects : S → store.Co
     pub disks : (p : PartitionId) (b : BrokerId) → Both (λ d e. disk.Keeps (files d) (files e)) (old.disks p b) (new.disks p b)
     pub stores : (p : PartitionId) → Both (λ s t. store.Keeps (objects s) (objects t)) (old.stores p) (new.stores p)
     pub logs : (p : PartitionId) → Both (λ m n. log.Keeps (notes m) (notes n)) (old.logs p) (new.logs p)
+    pub registries : (p : PartitionId) → Both (λ d e. disk.Keeps (files d) (files e)) (old.registries p) (new.registries p)
 
   -- a name that stands in the yard
   abbrev pub IsName : Held D S M → List ℕ → Type 0
   IsName held text = In text held.strays ⊎ ((p : PartitionId) × IsUsed held p × (text ≡ codes "p" ++ decimal p.0))
+
+-- none is there
+abbrev pub IsOut : {X : Type 0} → Option X → Type 0
+IsOut held = held ≡ None
+
+-- a disk that came back is there, with what it held
+abbrev pub HoldsDisk : {D : Type 0} → (D → disk.Content) → D → Option D → Type 0
+HoldsDisk files d held = Has (λ e. disk.Keeps (files d) (files e)) held
 
 -- a disk that is handed out has what came back, or nothing
 abbrev pub HandsDisk : {D : Type 0} → (D → disk.Content) → Option D → disk.Content → Type 0

@@ -1,7 +1,7 @@
 -- The calls of a yard that are to fail, where it tells them.
 --
--- `first_name`, `partitions`, `disk`, `store` and `meta` are counted together, from 1. The three `keep` calls can't fail and
--- aren't counted.
+-- `first_name`, `partitions`, `disk`, `store`, `meta` and `registry` are counted together, from 1. The four `keep` calls can't
+-- fail and aren't counted.
 use Rattle.std.specs.Prelude.{◌≡◌, ◌↔◌, ℕ, ◌+◌, ◌-◌, ◌^◌, min, List, Contains, Option, Some, None}
 use Rattle.tier_base.specs.Device.{Fate, Fault}
 

@@ -1,11 +1,12 @@
-//! The counts of a yard: its faults, the last first name, and how devices came back.
+//! The counts of a yard: its faults, the last first name, how devices came back, and what registries' disks were read as.
 
 ghost use Rattle.std.specs.Prelude.{◌≡◌, ◌↔◌, ◌+◌, ◌<◌, ◌≤◌, ◌^◌, if◌then◌else◌, Ok, None, IfOk, OnOk};
 ghost use Rattle.tier_base.specs.Counts.{counted};
 ghost use Rattle.tier_base.specs.Device.{Fault, fate_of};
-ghost use Rattle.device_yard.specs.Control.{IsFresh, Names, Asks, Hands, TakesBack};
+ghost use Rattle.device_yard.specs.Control.{IsFresh, Names, Asks, Hands, TakesBack, TakesRegistry};
 
 use crate::came::Came;
+use crate::read_registry::ReadRegistry;
 use std::alloc::{AllocError, Global};
 use std::marker::Model;
 use tier_base::{Blob, Trouble};
@@ -17,6 +18,7 @@ pub struct YardCounts {
     faults: u64,
     named: Option<Blob>,
     returned: Vec<Came>,
+    registries: Vec<ReadRegistry>,
     out: usize,
 }
 
@@ -30,10 +32,12 @@ impl Model for YardCounts {
       faults = y.faults;
       named = y.named;
       returned = y.returned.items;
+      registries = y.registries.items;
       out = y.out;
     } };
 
-    ghost invariant = { λ y. vec_len y.returned + y.out ≤ vec_capacity y.returned };
+    ghost invariant = { λ y. (vec_len y.returned + y.out ≤ vec_capacity y.returned)
+        × (vec_len y.registries + y.out ≤ vec_capacity y.registries) };
 }
 
 impl YardCounts {
@@ -47,6 +51,7 @@ impl YardCounts {
             faults: 0,
             named: None,
             returned: Vec::new(alloc),
+            registries: Vec::new(alloc),
             out: 0,
         }
     }
@@ -71,6 +76,13 @@ impl YardCounts {
         ensures { result.now ≡ self.now.returned }
     {
         self.returned.as_slice()
+    }
+
+    /// Lends what the registries' disks handed last, in the order in which they came back.
+    pub fn registries(&self) -> &[ReadRegistry]
+        ensures { result.now ≡ self.now.registries }
+    {
+        self.registries.as_slice()
     }
 
     /// Notes the first name as it was found, and answers it.
@@ -111,6 +123,8 @@ impl YardCounts {
         match made {
             Ok(device) => {
                 self.returned.reserve(self.out + 1)?;
+                // Whatever device is out may come back as a registry's disk.
+                self.registries.reserve(self.out + 1)?;
                 self.out += 1;
                 Ok(device)
             }
@@ -128,6 +142,17 @@ impl YardCounts {
     {
         raise_if(&mut self.faults, came.is_fault());
         self.returned.push_reserved(came);
+        self.out -= 1;
+    }
+
+    /// Counts a registry's disk that comes back, and notes what it handed last.
+    pub fn take_registry(&mut self, came: Came, read: ReadRegistry)
+        requires { 1 ≤ self.old.out }
+        ensures { TakesRegistry came read self.old self.new }
+    {
+        raise_if(&mut self.faults, came.is_fault());
+        self.returned.push_reserved(came);
+        self.registries.push_reserved(read);
         self.out -= 1;
     }
 }

@@ -9,10 +9,12 @@ mod came;
 mod counts;
 mod laws;
 mod partition_set;
+mod read_registry;
 mod yard;
 
 pub use came::Came;
 pub use counts::YardCounts;
 pub use laws::{later_stay_unused, nameless_is_unused, same_stays_unused, unused_is_empty};
 pub use partition_set::PartitionSet;
+pub use read_registry::ReadRegistry;
 pub use yard::Yard;

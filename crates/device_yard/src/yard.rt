@@ -1,14 +1,14 @@
 //! What a yard's calls hand out and take back.
 //!
 //! A device is handed out unarmed and with no fault, and tells what it holds exactly where its yard tells. What is handed out
-//! comes back by one of the three `keep` calls, which can't be refused: the call that handed the device out made the room.
+//! comes back by one of the four `keep` calls, which can't be refused: the call that handed the device out made the room.
 
 ghost use Rattle.std.specs.Prelude.{◌≡◌, ◌≤◌, Option, Some, None, IfOk, OnOk, OnErr, IsTrue};
 ghost use Rattle.tier_base.specs.Device.{fate_of, IsFresh};
 ghost use Rattle.device_yard.specs.declared.came.Came.{Came};
-ghost use Rattle.device_yard.specs.Control.{Control, Names, Asks, Hands, TakesBack};
+ghost use Rattle.device_yard.specs.Control.{Control, Names, Asks, Hands, TakesBack, TakesRegistry};
 ghost use Rattle.device_yard.specs.Plan.{Plan, Counts};
-ghost use Rattle.device_yard.specs.Held.{Held, Same, DiskIs, StoreIs, LogIs, IsName, IsFirst, AreUsed, Rise, HandsDisk, HandsStore, HandsLog};
+ghost use Rattle.device_yard.specs.Held.{Held, Same, DiskIs, StoreIs, LogIs, RegistryIs, IsOut, HoldsDisk, IsName, IsFirst, AreUsed, Rise, HandsDisk, HandsStore, HandsLog};
 
 use disk_model::Disk;
 use meta_log::MetaLog;
@@ -94,6 +94,20 @@ pub trait Yard {
         ensures err { IsTrue (held self.old).tells → OnErr result
             (Same Self.D.content Self.S.content Self.M.content (held self.old) (held self.new)) };
 
+    /// Hands out the disk that keeps a partition's registry.
+    fn registry(&mut self, partition: PartitionId) -> Result<Self::D, Trouble>
+        ensures control { Hands (fate_of result) (control self.old) (control self.new) }
+        ensures plan { Counts (fate_of result) (plan self.old) (plan self.new) }
+        ensures tells { (held self.new).tells ≡ (held self.old).tells }
+        ensures fresh { IfOk result (λ disk. IsFresh (Self.D.control disk)) }
+        ensures told { IfOk result (λ disk. (Self.D.content disk).tells ≡ (held self.old).tells) }
+        ensures content { IsTrue (held self.old).tells → IfOk result (λ disk.
+            HandsDisk Self.D.content ((held self.old).registries partition) (Self.D.content disk)) }
+        ensures out { IsTrue (held self.old).tells → OnOk result
+            (RegistryIs partition IsOut (held self.old) (held self.new)) }
+        ensures err { IsTrue (held self.old).tells → OnErr result
+            (Same Self.D.content Self.S.content Self.M.content (held self.old) (held self.new)) };
+
     /// Takes a broker's disk back.
     fn keep_disk(&mut self, partition: PartitionId, broker: BrokerId, disk: Self::D)
         requires { 1 ≤ (control self.old).out }
@@ -129,4 +143,17 @@ pub trait Yard {
         ensures tells { (held self.new).tells ≡ (held self.old).tells }
         ensures held { IsTrue (held self.old).tells
             → LogIs partition (Some meta) (held self.old) (held self.new) };
+
+    /// Takes the disk back that keeps a partition's registry, and notes the bytes that it handed last.
+    fn keep_registry(&mut self, partition: PartitionId, disk: Self::D)
+        requires { 1 ≤ (control self.old).out }
+        ensures control { TakesRegistry (record {
+          faults = (Self.D.control disk).faults;
+          armed = (Self.D.control disk).armed;
+        }) (record { partition = partition; handed = (Self.D.control disk).handed })
+            (control self.old) (control self.new) }
+        ensures plan { plan self.new ≡ plan self.old }
+        ensures tells { (held self.new).tells ≡ (held self.old).tells }
+        ensures held { IsTrue (held self.old).tells
+            → RegistryIs partition (HoldsDisk Self.D.content disk) (held self.old) (held self.new) };
 }

@@ -1,13 +1,16 @@
 -- The files that may be removed as unfinished: those of a log, and objects, with the ending. A stranger's file is none.
 use Rattle.std.specs.Prelude.{◌≡◌, ◌⊎◌, ℕ, List, ◌++◌}
+use Rattle.tier_base.specs.declared.names.SegmentId.{SegmentId}
 use Rattle.tier_base.specs.declared.plain.FileName.{FileName}
-use Rattle.tier_base.specs.declared.object_key.ObjectKey.{ObjectKey}
+use Rattle.tier_base.specs.declared.plain.Part.{Part}
+use Rattle.tier_base.specs.Key.{IsId, id_text, part_text}
 use Rattle.folder_yard.specs.Name.{IsName, file_text, unfinished}
-use Rattle.folder_yard.specs.Object.{object_text}
 
 -- the name of a file of a log, or of an object
 abbrev pub IsOurs : List ℕ → Type 0
-IsOurs text = ((name : FileName) × IsName name × (file_text name ≡ text)) ⊎ ((key : ObjectKey) × (object_text key ≡ text))
+IsOurs text =
+    ((name : FileName) × IsName name × (file_text name ≡ text))
+    ⊎ ((id : SegmentId) × (part : Part) × IsId id × (id_text id ++ part_text part ≡ text))
 
 -- and the ending behind it
 pub record IsUnfinished (text : List ℕ) : Type 0 where

@@ -4,4 +4,4 @@ use Rattle.device_yard.specs.Held.{Held}
 
 -- nothing is told
 abbrev pub nothing_held : {D S M : Type 0} → Held D S M
-nothing_held = record { tells = false; strays = []; disks = λ p b. None; stores = λ p. None; logs = λ p. None }
+nothing_held = record { tells = false; strays = []; disks = λ p b. None; stores = λ p. None; logs = λ p. None; registries = λ p. None }

@@ -86,7 +86,7 @@ pub fn remove_unfinished<R: Files + AllocGlobal + Clone + Drop>(
 
 /// Whether this is the name of a file of a log, or of an object, that is written and not yet put in its place.
 pub fn is_unfinished(text: &[u8]) -> bool
-    ensures { IsTrue result → IsUnfinished text.now }
+    ensures { IsTrue result ↔ IsUnfinished text.now }
 {
     if text.len() < ENDING {
         return false;
@@ -107,9 +107,12 @@ fn ends_so(end: &[u8]) -> bool
 
 /// Whether this is the name of a file of a log, or of an object.
 fn is_ours(name: &[u8]) -> bool
-    ensures { IsTrue result → IsOurs name.now }
+    ensures { IsTrue result ↔ IsOurs name.now }
 {
-    read_name(name).is_some() || read_object(PartitionId(0), name).is_some()
+    match read_name(name) {
+        Some(_) => true,
+        None => read_object(PartitionId(0), name).is_some(),
+    }
 }
 
 /// Passes over a name that is no text, since none of ours is such.

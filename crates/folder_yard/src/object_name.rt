@@ -1,8 +1,8 @@
 //! The names of a partition's objects as text, both ways. The module Object of specs/ has the grammar.
 
-ghost use Rattle.std.specs.Prelude.{◌≡◌, ◌+◌, ◌≤◌, ◌++◌, length, IfSome, string_bytes, string_len, string_capacity};
-ghost use Rattle.tier_base.specs.Key.{id_text, part_text};
-ghost use Rattle.folder_yard.specs.Object.{object_text, IsNamed};
+ghost use Rattle.std.specs.Prelude.{◌≡◌, ◌+◌, ◌≤◌, ◌++◌, length, string_bytes, string_len, string_capacity};
+ghost use Rattle.tier_base.specs.Key.{id_text, part_text, ReadsPart};
+ghost use Rattle.folder_yard.specs.Object.{object_text, ReadsObject};
 
 use tier_base::{ObjectKey, Part, PartitionId, SegmentId};
 
@@ -50,7 +50,7 @@ pub fn push_object(text: &mut String, key: &ObjectKey, ending: &str)
 
 /// The part whose object's name ends so.
 fn part_of(end: &[u8]) -> Option<Part>
-    ensures { IfSome result (λ part. part_text part ≡ end.now) }
+    ensures { ReadsPart end.now result }
 {
     if end == b".log".as_slice() {
         return Some(Part::Log);
@@ -72,14 +72,18 @@ fn part_of(end: &[u8]) -> Option<Part>
 
 /// The object of a partition whose file has this name. Other names are no objects.
 pub fn read_object(partition: PartitionId, text: &[u8]) -> Option<ObjectKey>
-    ensures { IfSome result (λ key. IsNamed partition text.now key) }
+    ensures { ReadsObject partition text.now result }
 {
     if text.len() < ID_LETTERS {
         return None;
     }
     let (id, end) = text.split_at(ID_LETTERS);
-    let id = SegmentId::from_text(id)?;
-    let part = part_of(end)?;
+    let Some(id) = SegmentId::from_text(id) else {
+        return None;
+    };
+    let Some(part) = part_of(end) else {
+        return None;
+    };
     Some(ObjectKey {
         partition,
         id,

@@ -33,11 +33,21 @@ pub fn is_used<R: Files + AllocGlobal + Clone + Drop>(
         let Some(entry) = readable(entry)? else {
             return Ok(true);
         };
+        if is_registry(&entry)? {
+            continue;
+        }
         if !is_device(rt.alloc(), entry.file_name())? || holds(rt, &entry)? {
             return Ok(true);
         }
     }
     Ok(false)
+}
+
+/// Whether this is the folder of a partition's registry, which stands beside what the partition has.
+fn is_registry<R: Files + AllocGlobal + Clone + Drop>(
+    entry: &DirEntry<R, Global>,
+) -> io::Result<bool> {
+    Ok(entry.file_name() == "reg" && entry.file_type()?.is_dir())
 }
 
 /// Whether this is the name of a device's folder.

@@ -1,33 +1,42 @@
 //! A yard over a folder of the operating system.
 //!
-//! Under the folder `pP/bB` is the disk of broker B of partition P, `pP/store` holds the partition's objects, and `pP/meta`
-//! is the disk of its metadata log. The numbers are decimal.
+//! Under the folder `pP/bB` is the disk of broker B of partition P, `pP/store` holds the partition's objects, `pP/meta` is the
+//! disk of its metadata log, and `pP/reg` the one that keeps its registry. The numbers are decimal.
+//!
+//! While the yard is in use it holds the folder's lock, so that a second program over the same folder is answered a fault.
+//! Where the folder's file system has no such locks nothing guards against it.
 
 ghost use Rattle.std.specs.Prelude.{◌≡◌, None, IfOk};
 ghost use Rattle.tier_base.specs.Device.{IsFresh};
 ghost use Rattle.device_yard.specs.Control as control;
+ghost use Rattle.device_yard.specs.Held.{Rise};
 ghost use Rattle.folder_yard.specs.Yard.{nothing_held};
 
 use crate::first_name::first_name;
 use crate::folder_disk::{FolderDisk, told};
 use crate::folder_store::FolderStore;
+use crate::making::make_folder;
 use crate::partitions::partitions;
-use device_yard::{Came, Yard, YardCounts};
+use device_yard::{Came, ReadRegistry, Yard, YardCounts};
+use disk_model::Disk;
 use meta_file::{DiskLog, NotesRefusal};
 use std::alloc::{AllocError, Global};
+use std::fs::{File, TryLockError};
+use std::io::{self, ErrorKind};
 use std::rt::Files;
 use tier_base::{Blob, BrokerId, PartitionId, Row, Trouble};
 
 /// A yard whose devices stand in a folder. It tells nothing of what it holds, and lets go a device that comes back: what it
 /// held stands in the folder.
 #[derive(Drop)]
-pub struct FolderYard<R: Files + AllocGlobal + Clone + Drop> {
+pub struct FolderYard<R: Files<File = File> + AllocGlobal + Clone + Drop> {
     rt: R,
     dir: String,
     counts: YardCounts,
+    lock: Option<File>,
 }
 
-impl<R: Files + AllocGlobal + Clone + Drop> FolderYard<R> {
+impl<R: Files<File = File> + AllocGlobal + Clone + Drop> FolderYard<R> {
     /// Makes a yard over a folder, and touches no file. The folder is made with the first device.
     pub fn new(rt: R, dir: &str) -> Result<FolderYard<R>, AllocError>
         ensures fresh { IfOk result (λ yard. control.IsFresh (⟦<FolderYard<R> as Yard>⟧.control yard)) }
@@ -40,6 +49,7 @@ impl<R: Files + AllocGlobal + Clone + Drop> FolderYard<R> {
             rt,
             dir,
             counts: YardCounts::new(alloc),
+            lock: None,
         })
     }
 
@@ -57,9 +67,61 @@ impl<R: Files + AllocGlobal + Clone + Drop> FolderYard<R> {
         self.counts.returned()
     }
 
+    /// Lends what the registries' disks handed last, in the order in which they came back.
+    pub fn registries(&self) -> &[ReadRegistry]
+        ensures { result.now ≡ (⟦<FolderYard<R> as Yard>⟧.control self.now).registries }
+    {
+        self.counts.registries()
+    }
+
+    /// Locks the folder, unless this yard has its lock. An absent folder has none. Where another yard holds it, that is a
+    /// failure; where the file system knows no locks, it goes on without.
+    fn hold(&mut self) -> io::Result<()>
+        ensures { self.new.counts ≡ self.old.counts }
+    {
+        if self.lock.is_some() {
+            return Ok(());
+        }
+        let folder = match File::open(&self.rt, self.dir.as_str()) {
+            Ok(folder) => folder,
+            Err(error) if error.kind() == ErrorKind::NotFound => return Ok(()),
+            Err(error) => return Err(error),
+        };
+        if let Err(TryLockError::WouldBlock) = folder.try_lock() {
+            return Err(io::Error::from(ErrorKind::WouldBlock));
+        }
+        self.lock = Some(folder);
+        Ok(())
+    }
+
+    /// Makes the folder where it is absent, and locks it.
+    fn enter(&mut self) -> io::Result<()>
+        ensures { self.new.counts ≡ self.old.counts }
+    {
+        make_folder(&self.rt, self.dir.as_str())?;
+        self.hold()
+    }
+
+    /// The first of the names.
+    fn find_first(&mut self) -> io::Result<Option<Blob>>
+        ensures { self.new.counts ≡ self.old.counts }
+    {
+        self.hold()?;
+        first_name(&self.rt, self.dir.as_str())
+    }
+
+    /// The partitions of which something stands.
+    fn find_partitions(&mut self) -> io::Result<Row<PartitionId>>
+        ensures rise { IfOk result Rise }
+        ensures counts { self.new.counts ≡ self.old.counts }
+    {
+        self.hold()?;
+        partitions(&self.rt, self.dir.as_str())
+    }
+
     /// Opens a disk under the folder.
     fn open_disk(&self, path: &str) -> Result<FolderDisk<R>, Trouble>
-        ensures { IfOk result (λ disk. IsFresh (⟦<FolderDisk<R> as disk_model::Disk>⟧.control disk)) }
+        ensures { IfOk result (λ disk. IsFresh (⟦<FolderDisk<R> as Disk>⟧.control disk)) }
     {
         FolderDisk::open(self.rt.clone()?, path)
     }
@@ -79,7 +141,7 @@ fn disk_path(
     Ok(path)
 }
 
-/// The path of a partition's objects, or of its metadata log.
+/// The path of a partition's objects, of its metadata log, or of its registry.
 fn part_path(
     alloc: Global,
     dir: &str,
@@ -113,34 +175,54 @@ fn trouble_of(refusal: NotesRefusal) -> Trouble {
     }
 }
 
-impl<R: Files + AllocGlobal + Clone + Drop> FolderYard<R> {
+impl<R: Files<File = File> + AllocGlobal + Clone + Drop> FolderYard<R> {
     /// Opens a broker's disk.
-    fn make_disk(&self, partition: PartitionId, broker: BrokerId) -> Result<FolderDisk<R>, Trouble>
-        ensures { IfOk result (λ disk. IsFresh (⟦<FolderDisk<R> as disk_model::Disk>⟧.control disk)) }
+    fn make_disk(
+        &mut self,
+        partition: PartitionId,
+        broker: BrokerId,
+    ) -> Result<FolderDisk<R>, Trouble>
+        ensures fresh { IfOk result (λ disk. IsFresh (⟦<FolderDisk<R> as Disk>⟧.control disk)) }
+        ensures counts { self.new.counts ≡ self.old.counts }
     {
+        told(self.enter())?;
         let path = disk_path(self.rt.alloc(), self.dir.as_str(), partition, broker)?;
         self.open_disk(path.as_str())
     }
 
     /// Opens a partition's store.
-    fn make_store(&self, partition: PartitionId) -> Result<FolderStore<R>, Trouble>
-        ensures { IfOk result (λ store. IsFresh (⟦<FolderStore<R> as object_store::Store>⟧.control store)) }
+    fn make_store(&mut self, partition: PartitionId) -> Result<FolderStore<R>, Trouble>
+        ensures fresh { IfOk result (λ store. IsFresh (⟦<FolderStore<R> as object_store::Store>⟧.control store)) }
+        ensures counts { self.new.counts ≡ self.old.counts }
     {
+        told(self.enter())?;
         let path = part_path(self.rt.alloc(), self.dir.as_str(), partition, "store")?;
         FolderStore::open(self.rt.clone()?, path.as_str(), partition)
     }
 
     /// Opens a partition's metadata log.
-    fn make_log(&self, partition: PartitionId) -> Result<DiskLog<FolderDisk<R>>, Trouble>
-        ensures { IfOk result (λ log. IsFresh (⟦<DiskLog<FolderDisk<R>> as meta_log::MetaLog>⟧.control log)) }
+    fn make_log(&mut self, partition: PartitionId) -> Result<DiskLog<FolderDisk<R>>, Trouble>
+        ensures fresh { IfOk result (λ log. IsFresh (⟦<DiskLog<FolderDisk<R>> as meta_log::MetaLog>⟧.control log)) }
+        ensures counts { self.new.counts ≡ self.old.counts }
     {
+        told(self.enter())?;
         let path = part_path(self.rt.alloc(), self.dir.as_str(), partition, "meta")?;
         let disk = self.open_disk(path.as_str())?;
         open_log(self.rt.alloc(), disk)
     }
+
+    /// Opens the disk that keeps a partition's registry.
+    fn make_registry(&mut self, partition: PartitionId) -> Result<FolderDisk<R>, Trouble>
+        ensures fresh { IfOk result (λ disk. IsFresh (⟦<FolderDisk<R> as Disk>⟧.control disk)) }
+        ensures counts { self.new.counts ≡ self.old.counts }
+    {
+        told(self.enter())?;
+        let path = part_path(self.rt.alloc(), self.dir.as_str(), partition, "reg")?;
+        self.open_disk(path.as_str())
+    }
 }
 
-impl<R: Files + AllocGlobal + Clone + Drop> Yard for FolderYard<R> {
+impl<R: Files<File = File> + AllocGlobal + Clone + Drop> Yard for FolderYard<R> {
     type D = FolderDisk<R>;
 
     type S = FolderStore<R>;
@@ -154,12 +236,12 @@ impl<R: Files + AllocGlobal + Clone + Drop> Yard for FolderYard<R> {
     ghost plan = { λ y. None };
 
     fn first_name(&mut self) -> Result<Option<Blob>, Trouble> {
-        let found = told(first_name(&self.rt, self.dir.as_str()));
+        let found = told(self.find_first());
         self.counts.name(found)
     }
 
     fn partitions(&mut self) -> Result<Row<PartitionId>, Trouble> {
-        let found = told(partitions(&self.rt, self.dir.as_str()));
+        let found = told(self.find_partitions());
         self.counts.ask(found)
     }
 
@@ -175,6 +257,11 @@ impl<R: Files + AllocGlobal + Clone + Drop> Yard for FolderYard<R> {
 
     fn meta(&mut self, partition: PartitionId) -> Result<DiskLog<FolderDisk<R>>, Trouble> {
         let made = self.make_log(partition);
+        self.counts.hand(made)
+    }
+
+    fn registry(&mut self, partition: PartitionId) -> Result<FolderDisk<R>, Trouble> {
+        let made = self.make_registry(partition);
         self.counts.hand(made)
     }
 
@@ -203,5 +290,16 @@ impl<R: Files + AllocGlobal + Clone + Drop> Yard for FolderYard<R> {
             armed: meta.is_armed(),
         };
         self.counts.take_back(came);
+    }
+
+    fn keep_registry(&mut self, partition: PartitionId, disk: FolderDisk<R>) {
+        let came = Came {
+            faults: disk.faults(),
+            armed: disk.is_armed(),
+        };
+        let mut disk = disk;
+        let handed = disk.take_handed();
+        self.counts
+            .take_registry(came, ReadRegistry { partition, handed });
     }
 }

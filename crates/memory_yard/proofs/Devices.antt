@@ -4,6 +4,7 @@ use Rattle.std.proofs.Common.{◌∙◌, sym, subst, inl, inr, ⊎_elim, arith}
 use Rattle.std.proofs.lemmas.Bool.{false≢true}
 use Rattle.tier_base.specs.Told.{Names}
 use Rattle.disk_model.specs.Content.{Content, Lawful, Keeps}
+use Rattle.disk_model.specs.Memory.{IsEmptyDisk}
 
 -- one call after another that change nothing
 pub keeps_then : (a b c : Content) → Lawful a → Keeps a b → Keeps b c → Keeps a c
@@ -20,6 +21,14 @@ keeps_then a b c laws h k = record {
         (k.time.nothing_else t f (omega (arith, le, h.time.later)) left);
     keeps = λ t f le left. k.time.keeps t f (omega (arith, le, h.time.later)) (h.time.keeps t f le left);
   };
+}
+
+-- an empty disk stays empty
+pub empty_kept : (a b : Content) → IsEmptyDisk a → Keeps a b → IsEmptyDisk b
+empty_kept a b e k = record {
+  tells = subst IsTrue (sym k.tells) e.tells;
+  files = λ n. k.files n ∙ e.files n;
+  images = λ f left n. e.images f (k.images f left) n;
 }
 
 -- names are listed exactly where something is there

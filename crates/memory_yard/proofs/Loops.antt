@@ -58,6 +58,48 @@ module _ {K T : Type 0} (keeps : T → T → Type 0) where
       → (k : ℕ) → i + 1 ≤ k → slice_get (slice_set now i n) k ≡ slice_get old k
   rest_set old now i n rest k le = set_other now i k n (λ e. absurd (omega arith)) ∙ rest k (omega arith)
 
+-- a number is below another, or is at least that
+below_or_past : (k i : ℕ) → (k < i) ⊎ (i ≤ k)
+below_or_past k zero = inr (omega arith)
+below_or_past zero (suc i) = inl (omega arith)
+below_or_past (suc k) (suc i) = ⊎_elim (λ below. inl (omega (arith, below))) (λ past. inr (omega (arith, past))) (below_or_past k i)
+
+-- nothing stands past the end
+none_past : {A : Type 0} → (xs : List A) (k : ℕ) → length xs ≤ k → slice_get xs k ≡ None
+none_past [] k le = refl
+none_past (x ∷ xs) zero le = absurd (omega (arith, le))
+none_past (x ∷ xs) (suc k) le = none_past xs k (omega (arith, le))
+
+-- a loop that changes each slot
+module _ {K T : Type 0} (changes : T → T → Type 0) where
+  -- one more slot was passed
+  pub passed_set : (old now : List (Slot K T)) (i : ℕ) (s n : Slot K T) → ((k : ℕ) → k < i → Both (SlotKeeps changes) (slice_get old k) (slice_get now k))
+      → ((k : ℕ) → i ≤ k → slice_get now k ≡ slice_get old k) → slice_get now i ≡ Some s → SlotKeeps changes s n
+      → (k : ℕ) → k < i + 1 → Both (SlotKeeps changes) (slice_get old k) (slice_get (slice_set now i n) k)
+  passed_set old now i s n done rest e h k below =
+      ⊎_elim
+      (λ yes.
+      let old_is : slice_get old k ≡ Some s = ap (slice_get old) yes.1 ∙ (sym (rest i (omega arith)) ∙ e) in
+      let new_is : slice_get (slice_set now i n) k ≡ Some n = ap (slice_get (slice_set now i n)) yes.1 ∙ set_same now i s n e in
+      subst (λ o. Both (SlotKeeps changes) o (slice_get (slice_set now i n) k)) (sym old_is)
+      (subst (λ o. Both (SlotKeeps changes) (Some s) o) (sym new_is) h))
+      (λ no.
+      let other : k ≡ i → ⊥ = no.1 in
+      subst (λ o. Both (SlotKeeps changes) (slice_get old k) o) (sym (set_other now i k n other)) (done k (omega (arith, below))))
+      (eqb_tells k i)
+
+  -- all of them were
+  pub passed_all : (old now : List (Slot K T)) (i : ℕ) → i ≡ length old → ((k : ℕ) → k < i → Both (SlotKeeps changes) (slice_get old k) (slice_get now k))
+      → ((k : ℕ) → i ≤ k → slice_get now k ≡ slice_get old k) → AreStill changes old now
+  passed_all old now i end done rest k =
+      ⊎_elim
+      (λ below. done k below)
+      (λ past.
+      let none : slice_get old k ≡ None = none_past old k (omega (arith, end, past)) in
+      subst (λ o. Both (SlotKeeps changes) (slice_get old k) o) (sym (rest k past))
+      (subst (λ o. Both (SlotKeeps changes) o o) (sym none) tt))
+      (below_or_past k i)
+
 module _ {K T : Type 0} (partition_of : K → PartitionId) (used : T → Type 0) where
   below_split : (slots : List (Slot K T)) (i : ℕ) (s : Slot K T) (p : PartitionId) → slice_get slots i ≡ Some s
       → IsPartitionBelow partition_of used (i + 1) slots p → IsPartitionBelow partition_of used i slots p ⊎ IsPartitionOf partition_of used s p

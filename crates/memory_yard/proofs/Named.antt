@@ -24,13 +24,13 @@ use Rattle.memory_yard.specs.Shelf.{at, IsPartitionOn}
 use Rattle.memory_yard.specs.Yard.{held_by}
 use Rattle.memory_yard.proofs.Firsts.{first_same, first_then}
 
-module _ (strays : List (List ℕ)) (disks : List (Slot DiskPlace MemoryDisk)) (stores : List (Slot PartitionId MemoryStore)) (logs : List (Slot PartitionId MemoryLog)) where
+module _ (strays : List (List ℕ)) (disks : List (Slot DiskPlace MemoryDisk)) (stores : List (Slot PartitionId MemoryStore)) (logs : List (Slot PartitionId MemoryLog)) (registries : List (Slot PartitionId MemoryDisk)) where
   -- the partitions of which something stands are those of the three shelves
   used_of_all : (a b c : List PartitionId)
       → Adds (IsPartitionOn (λ (place : DiskPlace). place.partition) (λ x. (n : FileName) × IsSome (((disk.ghosts).content x).files n)) same_disk disks) [] a
       → Adds (IsPartitionOn (λ (place : PartitionId). place) (λ x. (k : ObjectKey) × IsSome (((store.ghosts).content x).objects k)) same_partition stores) a b
       → Adds (IsPartitionOn (λ (place : PartitionId). place) (λ x. ((log.ghosts).content x).notes ≢ []) same_partition logs) b c
-      → AreUsedOf (held_by strays disks stores logs) c
+      → AreUsedOf (held_by strays disks stores logs registries) c
   used_of_all a b c h m n p = (
     λ used. ⊎_elim
         (λ d. (n p).1 (inl ((m p).1 (inl ((h p).1 (inr (record { partition = p; broker = d.0 }, d.1, refl)))))))
@@ -59,10 +59,10 @@ module _ (strays : List (List ℕ)) (disks : List (Slot DiskPlace MemoryDisk)) (
       → Adds (IsPartitionOn (λ (place : DiskPlace). place.partition) (λ x. (n : FileName) × IsSome (((disk.ghosts).content x).files n)) same_disk disks) none a
       → Adds (IsPartitionOn (λ (place : PartitionId). place) (λ x. (k : ObjectKey) × IsSome (((store.ghosts).content x).objects k)) same_partition stores) a b
       → Adds (IsPartitionOn (λ (place : PartitionId). place) (λ x. ((log.ghosts).content x).notes ≢ []) same_partition logs) b c
-      → IfOk result (λ row. row ≡ c) → IfOk result (AreUsedOf (held_by strays disks stores logs))
+      → IfOk result (λ row. row ≡ c) → IfOk result (AreUsedOf (held_by strays disks stores logs registries))
   used_row none a b c (Err e) empty h m n is = is
   used_row none a b c (Ok row) empty h m n is =
-      subst (AreUsedOf (held_by strays disks stores logs)) (sym is)
+      subst (AreUsedOf (held_by strays disks stores logs registries)) (sym is)
       (used_of_all a b c
       (subst
       (λ xs. Adds (IsPartitionOn (λ (place : DiskPlace). place.partition) (λ x. (n : FileName) × IsSome (((disk.ghosts).content x).files n)) same_disk disks) xs a)

@@ -1,3 +1,4 @@
+pub mod Crash
 pub mod First
 pub mod Found
 pub mod Keeping

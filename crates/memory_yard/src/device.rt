@@ -6,6 +6,7 @@ ghost use Rattle.tier_base.specs.declared.object_key.ObjectKey.{ObjectKey};
 ghost use Rattle.disk_model.specs.Content as disk;
 ghost use Rattle.object_store.specs.Content as store;
 ghost use Rattle.meta_log.specs.Content as log;
+ghost use Rattle.memory_yard.specs.Crash.{DropsUnsynced};
 ghost use Rattle.memory_yard.specs.Keeping.{disk_keeps_itself, store_keeps_itself, log_keeps_itself};
 
 use disk_model::{Disk, MemoryDisk};
@@ -27,6 +28,13 @@ pub trait Device: Drop {
         ensures keeps { keeps self.old self.new }
         ensures used { IfOk result (λ answer. IsTrue answer ↔ used self.old) };
 
+    /// A crash of one leaves the other.
+    ghost crashes: { Self → Self → Type 0 };
+
+    /// Crashes: what isn't synced is dropped.
+    fn crash(&mut self)
+        ensures { crashes self.old self.new };
+
     /// A device keeps its own content.
     ghost keeps_itself: { (d : Self) → keeps d d };
 }
@@ -43,6 +51,12 @@ impl Device for MemoryDisk {
             Err(Trouble::NoMemory) => Err(AllocError),
             Err(Trouble::Failed) => unreachable!(),
         }
+    }
+
+    ghost crashes = { DropsUnsynced };
+
+    fn crash(&mut self) {
+        MemoryDisk::crash(self);
     }
 
     ghost keeps_itself = { λ d. disk_keeps_itself (⟦<MemoryDisk as Disk>⟧.content d) };
@@ -62,6 +76,11 @@ impl Device for MemoryStore {
         }
     }
 
+    ghost crashes = { λ s t. t ≡ s };
+
+    // An object stays once it is put.
+    fn crash(&mut self) {}
+
     ghost keeps_itself = { λ s. store_keeps_itself (⟦<MemoryStore as Store>⟧.content s) };
 }
 
@@ -78,6 +97,11 @@ impl Device for MemoryLog {
             Err(Trouble::Failed) => unreachable!(),
         }
     }
+
+    ghost crashes = { λ m n. n ≡ m };
+
+    // A note stays once it is appended.
+    fn crash(&mut self) {}
 
     ghost keeps_itself = { λ m. log_keeps_itself (⟦<MemoryLog as MetaLog>⟧.content m) };
 }

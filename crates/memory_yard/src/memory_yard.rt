@@ -8,7 +8,7 @@ ghost use Rattle.device_yard.specs.Control as control;
 ghost use Rattle.device_yard.specs.Plan.{Plan, Counts, next_of};
 ghost use Rattle.device_yard.specs.Held.{IsFirst, IsName, AreUsed, Rise, Same, HandsDisk, HandsStore, HandsLog};
 ghost use Rattle.memory_yard.specs.First.{IsFirstWith};
-ghost use Rattle.memory_yard.specs.Yard.{held_by, IsEmptyYard, HasRoom};
+ghost use Rattle.memory_yard.specs.Yard.{held_by, IsEmptyYard, CrashesHeld, HasRoom};
 ghost use Rattle.memory_yard.specs.Names.{SameHeld, IsFirstOf, AreUsedOf};
 
 use crate::call_plan::CallPlan;
@@ -16,15 +16,15 @@ use crate::first::{least_of, offer_partitions};
 use crate::handing::{hand_disk, hand_log, hand_store};
 use crate::place::DiskPlace;
 use crate::shelf::Shelf;
-use device_yard::{Came, PartitionSet, Yard, YardCounts};
-use disk_model::MemoryDisk;
+use device_yard::{Came, PartitionSet, ReadRegistry, Yard, YardCounts};
+use disk_model::{Disk, MemoryDisk};
 use meta_log::MemoryLog;
 use object_store::MemoryStore;
 use std::alloc::{AllocError, Global};
 use tier_base::{Blob, BrokerId, PartitionId, Row, Trouble};
 
 /// A yard whose devices are in memory. A device that came back is handed out with what it held, and an empty one where none
-/// did; the devices' own calls can't fail. Beside the names of its partitions it has those of strangers.
+/// did; the devices' own calls can't fail, but by a fuse. Beside the names of its partitions it has those of strangers.
 #[derive(Drop)]
 pub struct MemoryYard {
     alloc: Global,
@@ -34,14 +34,17 @@ pub struct MemoryYard {
     disks: Shelf<DiskPlace, MemoryDisk>,
     stores: Shelf<PartitionId, MemoryStore>,
     logs: Shelf<PartitionId, MemoryLog>,
+    registries: Shelf<PartitionId, MemoryDisk>,
+    fuse: Option<u64>,
     ghost disks_fit: { counts.out ≤ disks.room },
     ghost stores_fit: { counts.out ≤ stores.room },
     ghost logs_fit: { counts.out ≤ logs.room },
+    ghost registries_fit: { counts.out ≤ registries.room },
 }
 
 impl MemoryYard {
     /// Makes a yard without devices, in which the strays' names stand, and takes no memory. Of the calls `first_name`,
-    /// `partitions`, `disk`, `store` and `meta`, counted together from 1, those fail whose number the plan names.
+    /// `partitions`, `disk`, `store`, `meta` and `registry`, counted together from 1, those fail whose number the plan names.
     pub fn new(alloc: Global, strays: Vec<Blob>, plan: Vec<u32>) -> MemoryYard
         ensures fresh { control.IsFresh (⟦<MemoryYard as Yard>⟧.control result) }
         ensures named { (⟦<MemoryYard as Yard>⟧.control result).named ≡ None }
@@ -56,6 +59,8 @@ impl MemoryYard {
             disks: Shelf::new(alloc),
             stores: Shelf::new(alloc),
             logs: Shelf::new(alloc),
+            registries: Shelf::new(alloc),
+            fuse: None,
         }
     }
 
@@ -71,6 +76,37 @@ impl MemoryYard {
         ensures { result.now ≡ (⟦<MemoryYard as Yard>⟧.control self.now).returned }
     {
         self.counts.returned()
+    }
+
+    /// Lends what the registries' disks handed last, in the order in which they came back.
+    pub fn registries(&self) -> &[ReadRegistry]
+        ensures { result.now ≡ (⟦<MemoryYard as Yard>⟧.control self.now).registries }
+    {
+        self.counts.registries()
+    }
+
+    /// From now on each disk that is handed out lets so many calls pass, and then fails every call.
+    pub fn fuse(&mut self, calls: u64)
+        ensures held { ⟦<MemoryYard as Yard>⟧.held self.new ≡ ⟦<MemoryYard as Yard>⟧.held self.old }
+        ensures control { ⟦<MemoryYard as Yard>⟧.control self.new ≡ ⟦<MemoryYard as Yard>⟧.control self.old }
+        ensures plan { ⟦<MemoryYard as Yard>⟧.plan self.new ≡ ⟦<MemoryYard as Yard>⟧.plan self.old }
+        ensures fuse { self.new.fuse ≡ Some calls }
+    {
+        self.fuse = Some(calls);
+    }
+
+    /// Crashes each disk that came back, and ends the fuses. Stores and metadata logs lose nothing.
+    pub fn crash(&mut self)
+        ensures held { CrashesHeld (⟦<MemoryYard as Yard>⟧.held self.old) (⟦<MemoryYard as Yard>⟧.held self.new) }
+        ensures control { ⟦<MemoryYard as Yard>⟧.control self.new ≡ ⟦<MemoryYard as Yard>⟧.control self.old }
+        ensures plan { ⟦<MemoryYard as Yard>⟧.plan self.new ≡ ⟦<MemoryYard as Yard>⟧.plan self.old }
+        ensures fuse { self.new.fuse ≡ None }
+    {
+        self.fuse = None;
+        self.disks.crash();
+        self.stores.crash();
+        self.logs.crash();
+        self.registries.crash();
     }
 
     /// Lends a disk that came back.
@@ -97,12 +133,21 @@ impl MemoryYard {
         self.logs.get(partition)
     }
 
+    /// Lends the disk of a registry that came back.
+    pub fn held_registry(&self, partition: PartitionId) -> Option<&MemoryDisk>
+        ensures { option_copied result
+            ≡ (⟦<MemoryYard as Yard>⟧.held self.now).registries partition }
+    {
+        self.registries.get(partition)
+    }
+
     /// Makes room for one more device to come back.
     fn make_room(&mut self) -> Result<(), AllocError>
         ensures disks { self.new.disks.slots ≡ self.old.disks.slots }
         ensures stores { self.new.stores.slots ≡ self.old.stores.slots }
         ensures logs { self.new.logs.slots ≡ self.old.logs.slots }
-        ensures room { OnOk result (HasRoom self.new.counts.out self.new.disks.room self.new.stores.room self.new.logs.room) }
+        ensures registries { self.new.registries.slots ≡ self.old.registries.slots }
+        ensures room { OnOk result (HasRoom self.new.counts.out self.new.disks.room self.new.stores.room self.new.logs.room self.new.registries.room) }
         ensures strays { self.new.strays ≡ self.old.strays }
         ensures counts { self.new.counts ≡ self.old.counts }
         ensures plan { self.new.plan ≡ self.old.plan }
@@ -110,7 +155,8 @@ impl MemoryYard {
         let count = self.counts.out() + 1;
         self.disks.reserve(count)?;
         self.stores.reserve(count)?;
-        self.logs.reserve(count)
+        self.logs.reserve(count)?;
+        self.registries.reserve(count)
     }
 
     /// Counts a call that hands a device out, where it goes on.
@@ -120,6 +166,7 @@ impl MemoryYard {
         ensures disks { self.new.disks.slots ≡ self.old.disks.slots }
         ensures stores { self.new.stores.slots ≡ self.old.stores.slots }
         ensures logs { self.new.logs.slots ≡ self.old.logs.slots }
+        ensures registries { self.new.registries.slots ≡ self.old.registries.slots }
         ensures strays { self.new.strays ≡ self.old.strays }
     {
         let begun = self.begin();
@@ -133,7 +180,8 @@ impl MemoryYard {
         ensures disks { self.new.disks.slots ≡ self.old.disks.slots }
         ensures stores { self.new.stores.slots ≡ self.old.stores.slots }
         ensures logs { self.new.logs.slots ≡ self.old.logs.slots }
-        ensures room { OnOk result (HasRoom self.new.counts.out self.new.disks.room self.new.stores.room self.new.logs.room) }
+        ensures registries { self.new.registries.slots ≡ self.old.registries.slots }
+        ensures room { OnOk result (HasRoom self.new.counts.out self.new.disks.room self.new.stores.room self.new.logs.room self.new.registries.room) }
         ensures strays { self.new.strays ≡ self.old.strays }
         ensures counts { self.new.counts ≡ self.old.counts }
     {
@@ -205,7 +253,7 @@ impl Yard for MemoryYard {
 
     type M = MemoryLog;
 
-    ghost held = { λ y. held_by y.strays.items y.disks.slots y.stores.slots y.logs.slots };
+    ghost held = { λ y. held_by y.strays.items y.disks.slots y.stores.slots y.logs.slots y.registries.slots };
 
     ghost control = { λ y. y.counts };
 
@@ -224,7 +272,7 @@ impl Yard for MemoryYard {
     fn disk(&mut self, partition: PartitionId, broker: BrokerId) -> Result<MemoryDisk, Trouble> {
         self.hand_out()?;
         let place = DiskPlace { partition, broker };
-        Ok(hand_disk(self.alloc, &mut self.disks, place))
+        Ok(hand_disk(self.alloc, &mut self.disks, place, self.fuse))
     }
 
     fn store(&mut self, partition: PartitionId) -> Result<MemoryStore, Trouble> {
@@ -235,6 +283,11 @@ impl Yard for MemoryYard {
     fn meta(&mut self, partition: PartitionId) -> Result<MemoryLog, Trouble> {
         self.hand_out()?;
         Ok(hand_log(self.alloc, &mut self.logs, partition))
+    }
+
+    fn registry(&mut self, partition: PartitionId) -> Result<MemoryDisk, Trouble> {
+        self.hand_out()?;
+        Ok(hand_disk(self.alloc, &mut self.registries, partition, self.fuse))
     }
 
     fn keep_disk(&mut self, partition: PartitionId, broker: BrokerId, disk: MemoryDisk) {
@@ -262,5 +315,17 @@ impl Yard for MemoryYard {
         };
         self.logs.put(partition, meta);
         self.counts.take_back(came);
+    }
+
+    fn keep_registry(&mut self, partition: PartitionId, disk: MemoryDisk) {
+        let came = Came {
+            faults: disk.faults(),
+            armed: disk.is_armed(),
+        };
+        let mut disk = disk;
+        let handed = disk.take_handed();
+        self.registries.put(partition, disk);
+        self.counts
+            .take_registry(came, ReadRegistry { partition, handed });
     }
 }

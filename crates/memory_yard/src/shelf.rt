@@ -99,6 +99,23 @@ impl<K: Place, T: Device> Shelf<K, T> {
     {
         find_all(self.slots.as_mut_slice(), alloc, found)
     }
+
+    /// Crashes each device.
+    pub fn crash(&mut self)
+        ensures crashes { (q : _) → Both T.crashes (at K.same q self.old.slots) (at K.same q self.new.slots) }
+        ensures room { self.new.room ≡ self.old.room }
+    {
+        crash_all(self.slots.as_mut_slice());
+    }
+}
+
+/// Crashes each device of slots.
+fn crash_all<K: Place, T: Device>(slots: &mut [Slot<K, T>])
+    ensures { AreStill T.crashes slots.old slots.new }
+{
+    for slot in slots.iter_mut() {
+        slot.crash();
+    }
 }
 
 /// Adds the partitions of slots that have something to those that were found.

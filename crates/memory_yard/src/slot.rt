@@ -29,6 +29,15 @@ impl<K: Place, T: Device> Slot<K, T> {
         }
     }
 
+    /// Crashes its device, if that is here.
+    pub fn crash(&mut self)
+        ensures { SlotKeeps T.crashes self.old self.new }
+    {
+        if let Some(device) = &mut self.device {
+            device.crash();
+        }
+    }
+
     /// Adds its partition to those that were found, where something stands on its device.
     pub fn find(&mut self, alloc: Global, found: &mut PartitionSet) -> Result<(), AllocError>
         ensures keeps { SlotKeeps T.keeps self.old self.new }

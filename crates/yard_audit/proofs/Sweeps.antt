@@ -17,7 +17,7 @@ use Rattle.tier_sweep.proofs.Leaving.{swept_under}
 use Rattle.yard_audit.specs.Lines.{swept_text, line_of, lines_of}
 use Rattle.yard_audit.specs.Rounds.{partitions_of, AreAll, AreSwept, IsSweptIn, IsUnderSweepIn, LeavesUnderIn, HandedLeavesUnder}
 use Rattle.yard_audit.specs.Tiers.{object_on, notes_on, left_on, LeavesNoMore, AllRest, OthersRest, DisksRest, IsBack, HoldsTier, TierIs}
-use Rattle.yard_audit.proofs.Tiers.{is_or_not, below_is_other, held_still, held_before, back_then, handed_objects, handed_left}
+use Rattle.yard_audit.proofs.Tiers.{is_or_not, below_is_other, held_still, held_before, back_then, disks_then, handed_objects, handed_left}
 use Rattle.yard_audit.proofs.Audits.{lines_snoc, partitions_snoc, all_snoc}
 
 -- the first that a sweep may have come to is that it hasn't begun
@@ -225,9 +225,6 @@ module _ {D S M : Type 0} (files : D → disk.Content) (objects : S → store.Co
     is = swept_under is.before is.after count is.is;
   }
 
-  disks_then : (h0 h h' : Held D S M) → DisksRest files h0 h → DisksRest files h h' → DisksRest files h0 h'
-  disks_then h0 h h' a b p k name = b p k name ∙ a p k name
-
   -- one partition more was swept, or its sweep was refused
   module _ (p : PartitionId) (rest : List PartitionId) (h0 h h' : Held D S M) (c0 c : Control) where
     -- no partition is further than its sweep
@@ -268,7 +265,7 @@ module _ {D S M : Type 0} (files : D → disk.Content) (objects : S → store.Co
           };
       under = swept_more (p ∷ rest) text count refl so swept others;
       lists = left_more (p ∷ rest) text refl so leaves others;
-      disks = λ t. disks_then h0 h h' (so.disks t) (others (now t)).disks_rest;
+      disks = λ t. disks_then files objects notes h0 h h' (so.disks t) (others (now t)).disks_rest;
       text_is = ap (λ (before : List ℕ). before ++ line_of p (swept_text count)) so.text_is ∙ sym (lines_snoc swept_text so.found p count);
       tells = tells ∙ so.tells;
       back = back_then c0 c c' so.back back;

@@ -14,7 +14,7 @@ use Rattle.object_store.specs.Content as store
 use Rattle.meta_log.specs.Content as log
 use Rattle.device_yard.specs.Held.{Held, Same, Both, HandsStore, HandsLog}
 use Rattle.tier_sweep.specs.Sweeping.{Tier, tier_of}
-use Rattle.yard_audit.specs.Tiers.{file_on, object_on, notes_on, left_on, LeavesNoMore, HoldsTier, AllRest, TierIs, IsBack}
+use Rattle.yard_audit.specs.Tiers.{file_on, object_on, notes_on, left_on, LeavesNoMore, HoldsTier, AllRest, DisksRest, TierIs, IsBack}
 
 -- partitions of one number are one
 pub same_partition : (p q : PartitionId) → p.0 ≡ q.0 → p ≡ q
@@ -95,18 +95,27 @@ module _ {D S M : Type 0} (files : D → disk.Content) (objects : S → store.Co
     objects_rest = λ p. same_objects objects (old.stores p) (new.stores p) (same.stores p);
     notes_rest = λ p. same_notes notes (old.logs p) (new.logs p) (same.logs p);
     left_rests = λ p. same_left notes (old.logs p) (new.logs p) (same.logs p);
-    disks_rest = λ p b. same_files files (old.disks p b) (new.disks p b) (same.disks p b);
+    disks_rest = record {
+      brokers = λ p b. same_files files (old.disks p b) (new.disks p b) (same.disks p b);
+      registries = λ p. same_files files (old.registries p) (new.registries p) (same.registries p);
+    };
   }
 
   pub rests_none : (h : Held D S M) → AllRest files objects notes h h
-  rests_none h = record { objects_rest = λ p key. refl; notes_rest = λ p. refl; left_rests = λ p l at. at; disks_rest = λ p b name. refl }
+  rests_none h = record { objects_rest = λ p key. refl; notes_rest = λ p. refl; left_rests = λ p l at. at; disks_rest = record { brokers = λ p b name. refl; registries = λ p name. refl } }
+
+  pub disks_then : (h0 h h' : Held D S M) → DisksRest files h0 h → DisksRest files h h' → DisksRest files h0 h'
+  disks_then h0 h h' a b = record {
+    brokers = λ p k name. b.brokers p k name ∙ a.brokers p k name;
+    registries = λ p name. b.registries p name ∙ a.registries p name;
+  }
 
   pub rests_then : (h0 h h' : Held D S M) → AllRest files objects notes h0 h → AllRest files objects notes h h' → AllRest files objects notes h0 h'
   rests_then h0 h h' a b = record {
     objects_rest = λ p key. b.objects_rest p key ∙ a.objects_rest p key;
     notes_rest = λ p. b.notes_rest p ∙ a.notes_rest p;
     left_rests = λ p l at. a.left_rests p l (b.left_rests p l at);
-    disks_rest = λ p k name. b.disks_rest p k name ∙ a.disks_rest p k name;
+    disks_rest = disks_then h0 h h' a.disks_rest b.disks_rest;
   }
 
   -- the tier that is handed out is the one that is held
@@ -162,5 +171,8 @@ module _ {D S M : Type 0} (files : D → disk.Content) (objects : S → store.Co
           (λ l at. handed_left notes (h0.logs p) (notes m) says l (told.left l (subst (λ (held : Option M). left_on notes held l) back.log_is at)))
       | inr other ↦ λ l at. subst (λ (held : Option M). left_on notes held l) (back.logs q other ∙ out.logs q other) at
     ];
-    disks_rest = λ q b name. ap (λ (held : Option D). file_on files held name) (back.disks q b ∙ out.disks q b);
+    disks_rest = record {
+      brokers = λ q b name. ap (λ (held : Option D). file_on files held name) (back.disks q b ∙ out.disks q b);
+      registries = λ q name. ap (λ (held : Option D). file_on files held name) (back.registries q ∙ out.registries q);
+    };
   }

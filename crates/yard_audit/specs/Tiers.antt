@@ -55,9 +55,10 @@ module _ {D S M : Type 0} (objects : S → store.Content) (notes : M → log.Con
     pub notes_are : tier.notes ≡ notes_on notes (held.logs p)
 
 module _ {D S M : Type 0} (files : D → disk.Content) where
-  -- each disk's files are as they were
-  abbrev pub DisksRest : Held D S M → Held D S M → Type 0
-  DisksRest old new = (p : PartitionId) (b : BrokerId) (name : FileName) → file_on files (new.disks p b) name ≡ file_on files (old.disks p b) name
+  -- the files of each disk are as they were, of a broker's and of one that keeps a registry
+  pub record DisksRest (old new : Held D S M) : Type 0 where
+    pub brokers : (p : PartitionId) (b : BrokerId) (name : FileName) → file_on files (new.disks p b) name ≡ file_on files (old.disks p b) name
+    pub registries : (p : PartitionId) (name : FileName) → file_on files (new.registries p) name ≡ file_on files (old.registries p) name
 
 module _ {D S M : Type 0} (files : D → disk.Content) (objects : S → store.Content) (notes : M → log.Content) where
   -- each partition's tier is as it was, and each disk
@@ -82,6 +83,7 @@ module _ {D S M : Type 0} where
     pub stores : (q : PartitionId) → q ≢ p → new.stores q ≡ old.stores q
     pub logs : (q : PartitionId) → q ≢ p → new.logs q ≡ old.logs q
     pub disks : (q : PartitionId) (b : BrokerId) → new.disks q b ≡ old.disks q b
+    pub registries : (q : PartitionId) → new.registries q ≡ old.registries q
 
 -- as many devices are out as before; the count of faults, which stands still at its type's end, doesn't fall
 pub record IsBack (old new : Control) : Type 0 where

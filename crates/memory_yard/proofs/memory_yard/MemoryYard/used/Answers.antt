@@ -4,5 +4,5 @@ use Rattle.memory_yard.proofs.memory_yard.MemoryYard.used.Goals as goal
 pub returns-clause-used : goal.returns-clause-used
 returns-clause-used c =
     let y = c.args.self.now in
-    used_row y.strays.items y.disks.slots y.stores.slots y.logs.slots c.new-found.result c.find.new.found c.find-2.new.found c.find-3.new.found c.to_row.result
+    used_row y.strays.items y.disks.slots y.stores.slots y.logs.slots y.registries.slots c.new-found.result c.find.new.found c.find-2.new.found c.find-3.new.found c.to_row.result
     c.new-found.ensures c.in_ok-find.ensures.found c.in_ok-find-2.ensures.found c.in_ok-find-3.ensures.found c.to_row.ensures.are
