@@ -13,7 +13,7 @@ use Rattle.local_log.specs.Coheres.{Coheres}
 use Rattle.local_log.specs.Cutting.{whole_log}
 use Rattle.segment_file.specs.Growing.{Grown}
 use Rattle.log_steps.specs.Fronts.{Each}
-use Rattle.local_log.specs.Opening.{IsOf, IsOpenLog, OpenFails}
+use Rattle.local_log.specs.Opening.{IsOf, IsOpenLog, OpenFails, OpenFailsIn}
 use Rattle.local_log.proofs.Pieces.{up_to_all, consecutive_append}
 use Rattle.broker_log.specs.Seen.{Seen, Back, Up, Down, Goes, Stays, back_of, IsBack, returning, returns, ComesBack, ShowsOpen, ShowsClosed}
 use Rattle.local_log.specs.declared.refusal.OpenRefusal.TheVariants.{Damaged}
@@ -169,10 +169,11 @@ module _ {D : Type 0} (content : D → Content) (settings : Settings) (disk : D)
 
     -- what was handed has no reading, so nothing was seen of the log
     pub unopened : (control : D → Control call_code) (why : OpenRefusal) (name : FileName) (at : ℕ) → why ≡ Damaged name at → OpenFails (control disk').handed why
-        → (IsTrue (content disk).tells → (o : Opened) → Opens (content disk).files o → IsSoundCause why) → Unopened content control (Down settings disk) (Down settings disk') name at
-    unopened control why name at is fails sound = record {
+        → (IsTrue (content disk).tells → OpenFailsIn (content disk).files why) → (IsTrue (content disk).tells → (o : Opened) → Opens (content disk).files o → IsSoundCause why) → Unopened content control (Down settings disk) (Down settings disk') name at
+    unopened control why name at is fails place sound = record {
       stays = stays_by_closing;
       cause = subst (OpenFails (control disk').handed) is fails;
+      place = λ t. subst (OpenFailsIn (content disk).files) is (place t);
       unread = λ t o opens. subst IsSoundCause is (sound t o opens);
       unseen = λ s h. (let o = h.again.opens (content disk).files (laws.reads h.told) in subst IsSoundCause is (sound h.told o.0 o.1));
     }

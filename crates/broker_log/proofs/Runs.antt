@@ -3,7 +3,8 @@ use Rattle.std.proofs.Common.{◌≡◌, ◌∙◌, ap, sym, subst, refl, ℕ, �
 use Rattle.std.specs.Prelude.{nat_lt, IsOk, Option, Some, None, IfSome, Result, Ok, Err, IfOk, IfErr, IsErrOf, IsTrue}
 use Rattle.tier_base.specs.declared.plain.Stop.{Stop}
 use Rattle.tier_base.specs.declared.plain.Stop.TheVariants.{Mark, Piece, Limit}
-use Rattle.tier_base.specs.Device.{Control}
+use Rattle.tier_base.specs.Device.{Control, Went, Ran}
+use Rattle.disk_model.specs.declared.call.DiskCall.TheVariants.{Read}
 use Rattle.tier_base.specs.declared.plain.FileName.{FileName}
 use Rattle.disk_model.specs.Call.{call_code}
 use Rattle.disk_model.specs.Content.{Content, Keeps}
@@ -19,7 +20,7 @@ use Rattle.local_log.specs.Log.{Log, Becomes}
 use Rattle.local_log.specs.Coheres.{Coheres}
 use Rattle.local_log.specs.declared.refusal.ReadRefusal.{ReadRefusal}
 use Rattle.local_log.specs.declared.refusal.ReadRefusal.TheVariants.{Damaged}
-use Rattle.local_log.specs.Reading.{segment_at, IsRunOf, IsEdge, IsCut, RunFails, IsOfDevice, piece_of, passes}
+use Rattle.local_log.specs.Reading.{segment_at, IsRunOf, IsEdge, IsCut, RunFails, IsOfDevice, ReadOnce, piece_of, passes}
 use Rattle.broker_log.specs.Seen.{Seen, Up, Stays, ShowsOpen}
 use Rattle.broker_log.specs.Turns.{IsRunIn, IsSegmentOf, Reads, Misreads, StopIs}
 use Rattle.broker_log.proofs.Showing.{stays_by}
@@ -101,10 +102,15 @@ module _ {D : Type 0} (content : D → Content) (log : Log D) (s : Seen) (h : Sh
         piece = (r.within, r.stop_is);
       }
 
--- three facts of an answer make one
-pub ok_three : {T E : Type 0} (P Q R S : T → Type 0) (r : Result T E) → ((x : T) → P x → Q x → R x → S x) → IfOk r P → IfOk r Q → IfOk r R → IfOk r S
-ok_three P Q R S (Ok x) f p q h = f x p q h
-ok_three P Q R S (Err e) f p q h = tt
+-- four facts of an answer make one
+pub ok_four : {T E : Type 0} (P Q R S U : T → Type 0) (r : Result T E) → ((x : T) → P x → Q x → R x → S x → U x) → IfOk r P → IfOk r Q → IfOk r R → IfOk r S → IfOk r U
+ok_four P Q R S U (Ok x) f p q h k = f x p q h k
+ok_four P Q R S U (Err e) f p q h k = tt
+
+-- the read of a call that went well did so
+pub ran_ok : {T : Type 0} (P : Type 0) (r : Result T ReadRefusal) (old new : Control call_code) → (IsOk r → P) → (P → ReadOnce r old new) → IfOk r (λ x. Ran Read Went old new)
+ran_ok P (Ok x) old new ok ran = ran (ok refl)
+ran_ok P (Err e) old new ok ran = tt
 
 -- what a refusal tells
 pub err_told : {T : Type 0} (P Q : ReadRefusal → Type 0) (r : Result T ReadRefusal) (cause : ReadRefusal) → IfErr r P → IfErr r Q → IsErrOf r cause → P cause × Q cause
@@ -119,10 +125,11 @@ module _ {D : Type 0} (content : D → Content) (old new : Log D) (b : Becomes c
   module _ (control : D → Control call_code) (offset limit mark : ℕ) (from : old.local_start ≤ offset) (below : offset < mark) where
     -- the run that was read
     pub reads_by : (IsTrue (content old.disk).tells → Coheres old) → (out : RunOut) → (IsTrue (content old.disk).tells → IsRunOf old offset limit mark out) → out.base ≡ (segment_at old offset).base
-        → IsCut old.line (control new.disk).handed offset limit mark (piece_of old offset) out → Reads content control (Up old) (Up new) offset limit mark out
-    reads_by coheres out run base part = record {
+        → IsCut old.line (control new.disk).handed offset limit mark (piece_of old offset) out → Ran Read Went (control old.disk) (control new.disk) → Reads content control (Up old) (Up new) offset limit mark out
+    reads_by coheres out run base part ran = record {
       stays = reading_stays;
       base = base;
+      ran = ran;
       part = part;
       run = λ s h ends. run_in content old s h (coheres h.told) offset limit mark out from below ends (run h.told);
     }

@@ -14,7 +14,7 @@
 use Rattle.std.specs.Prelude.{◌≡◌, ◌⊎◌, ◌≤◌, [], ◌∷◌, ℕ, Bool, true, false, List, ◌++◌, Option, Some, None, IsTrue, IsSomeAnd}
 use Rattle.tier_base.specs.declared.plain.Settings.{Settings}
 use Rattle.tier_base.specs.Device.{Control, Lasts}
-use Rattle.tier_base.specs.Counts.{Rose}
+use Rattle.tier_base.specs.Counts.{counted, Rose}
 use Rattle.disk_model.specs.Call.{call_code}
 use Rattle.disk_model.specs.Content.{Content, Files, Image}
 use Rattle.log_terms.specs.Log.{IsConsecutive, EndsAt, up_to, from_offset, end_of}
@@ -219,6 +219,18 @@ module _ {D : Type 0} where
   -- the disk's count of faults rose
   abbrev pub Faulted : (D → Control call_code) → Kept D → Kept D → Type 0
   Faulted control old new = OnDisk old (λ d. OnDisk new (λ d'. Rose (control d).faults (control d').faults))
+
+  -- no call of the disk failed
+  abbrev pub NoFault : (D → Control call_code) → Kept D → Kept D → Type 0
+  NoFault control old new = OnDisk old (λ d. OnDisk new (λ d'. (control d').faults ≡ (control d).faults))
+
+  -- one call of the disk failed
+  abbrev pub OneFault : (D → Control call_code) → Kept D → Kept D → Type 0
+  OneFault control old new = OnDisk old (λ d. OnDisk new (λ d'. (control d').faults ≡ counted (control d).faults 1))
+
+  -- the disk's plan and calm last, and no call of it failed
+  abbrev pub Quiet : (D → Control call_code) → Kept D → Kept D → Type 0
+  Quiet control old new = Lasting control old new × NoFault control old new
 
 -- a call leaves the log as it was
 pub record Stays {D : Type 0} (content : D → Content) (old new : Kept D) : Type 0 where

@@ -6,14 +6,15 @@ use Rattle.segment_file.specs.Run.{Fits, StopIs as StopsIn}
 use Rattle.local_log.specs.declared.reading.RunOut.{RunOut}
 use Rattle.tier_base.specs.declared.plain.FileName.{FileName}
 use Rattle.tier_base.specs.declared.plain.Settings.{Settings}
-use Rattle.tier_base.specs.Device.{Control}
+use Rattle.tier_base.specs.Device.{Control, Went, Ran}
+use Rattle.disk_model.specs.declared.call.DiskCall.TheVariants.{Read}
 use Rattle.disk_model.specs.Call.{call_code}
 use Rattle.segment_file.specs.Growing.{Grown}
 use Rattle.local_log.specs.declared.refusal.ReadRefusal.TheVariants as refusal
 use Rattle.local_log.specs.declared.refusal.OpenRefusal.TheVariants.{Damaged, LastIncarnation}
 use Rattle.local_log.specs.Cutting.{cut_point, cut_at as cut_log, restarted as restarted_log}
 use Rattle.local_log.specs.Dropping.{SpansFirst, start_behind, dropped as dropped_log}
-use Rattle.local_log.specs.Opening.{OpenFails, HoldsLast}
+use Rattle.local_log.specs.Opening.{OpenFails, IsDamage, HoldsLast, Lists}
 use Rattle.segment_file.specs.Closed.{Whole as Closed}
 use Rattle.local_log.specs.Reading.{segment_at, piece_of, passes, IsCut, RunFails}
 use Rattle.disk_model.specs.Content.{Content}
@@ -285,6 +286,7 @@ module _ {D : Type 0} (content : D → Content) (control : D → Control call_co
     pub stays : Stays content old new
     -- its segment's base
     pub base : WhileUp old (λ log. out.base ≡ (segment_at log offset).base)
+    pub ran : OnDisk old (λ d. OnDisk new (λ d'. Ran Read Went (control d) (control d')))
     pub part : WhileUp old (λ log. OnDisk new (λ d. IsCut log.line (control d).handed offset limit mark (piece_of log offset) out))
     pub run : (s : Seen) → Shows content old s → EndsAt mark s.batches → IsRunIn old s offset limit mark out
 
@@ -298,6 +300,8 @@ module _ {D : Type 0} (content : D → Content) (control : D → Control call_co
   pub record Unopened (old new : Kept D) (name : FileName) (at : ℕ) : Type 0 where
     pub stays : Stays content old new
     pub cause : OnDisk new (λ d. OpenFails (control d).handed (Damaged name at))
+    -- of a disk that tells it is the first place of its files that has none
+    pub place : OnDisk old (λ d. IsTrue (content d).tells → IsDamage (content d).files name at)
     -- nor do the files of a disk that tells open
     pub unread : OnDisk old (λ d. IsTrue (content d).tells → (o : Opened) → OpenAs (content d).files o → ⊥)
     pub unseen : (s : Seen) → Shows content old s → ⊥
@@ -333,6 +337,8 @@ pub record ComesUp {D : Type 0} (content : D → Content) (old new : Kept D) (en
   pub settings : settings_in new ≡ settings_in old
   -- its segments' indexes have the settings' interval
   pub intervals : WhileUp new (λ log. Each (λ (segment : Grown). segment.interval ≡ log.settings.index_interval) (log.closed ++ log.active ∷ []))
+  -- its segments are those that the manifest of a disk that tells lists
+  pub layout : OnDisk old (λ d. IsTrue (content d).tells → WhileUp new (λ log. Lists (content d).files (log.closed ++ log.active ∷ [])))
   -- what the files of a disk that tells open as is seen, whatever batches lead up to it
   pub read : OnDisk old (λ d. IsTrue (content d).tells → (o : Opened) × OpenAs (content d).files o
       × ((below : List (List ℕ)) → LeadsTo below o.local_start → Shows content new (read_behind o below)))

@@ -1,15 +1,15 @@
 //! A broker's log and its calls.
 
-ghost use Rattle.std.specs.Prelude.{◌≡◌, ◌⊎◌, ◌↔◌, ◌≤◌, ◌<◌, ◌^◌, ◌+◌, ℕ, List, true, false, IfOk, OnOk, OnErr, IsTrue, IsErrOf};
+ghost use Rattle.std.specs.Prelude.{◌≡◌, ◌≢◌, ◌⊎◌, ◌↔◌, ◌≤◌, ◌<◌, ◌^◌, ◌+◌, ℕ, List, true, false, IfOk, OnOk, OnErr, IsTrue, IsErrOf};
 ghost use Rattle.std.specs.Prelude.{length, Some, None, Ok, Err, IsOk, IfErr, IfSome, option_map};
 ghost use Rattle.tier_base.specs.declared.plain.FileName.{FileName};
-ghost use Rattle.tier_base.specs.Counts.{Rose};
+ghost use Rattle.tier_base.specs.Counts.{counted, Rose};
 ghost use Rattle.tier_base.specs.Device.{Lasts, Arms};
 ghost use Rattle.log_steps.specs.Reopens.{Reopens};
 ghost use Rattle.log_terms.specs.Log.{up_to, end_of, EndsAt};
 ghost use Rattle.local_log.specs.Log.{AreSettings};
 ghost use Rattle.local_log.specs.Cutting.{cut_point};
-ghost use Rattle.local_log.specs.Reading.{RunFails, IsOfDevice, first_past};
+ghost use Rattle.local_log.specs.Reading.{RunFails, IsOfDevice, ReadOnce, first_past, segment_at, is_edge};
 ghost use Rattle.local_log.specs.declared.refusal.CreateRefusal.TheVariants as create;
 ghost use Rattle.std.specs.Option.{ForSome};
 ghost use Rattle.log_terms.specs.Batch.{last_of};
@@ -21,7 +21,7 @@ ghost use Rattle.local_log.specs.declared.refusal.AppendRefusal.TheVariants as a
 ghost use Rattle.local_log.specs.declared.refusal.RollRefusal.TheVariants as roll;
 ghost use Rattle.local_log.specs.declared.refusal.ReadRefusal.TheVariants as reading;
 ghost use Rattle.local_log.specs.declared.refusal.OpenRefusal.TheVariants as opening;
-ghost use Rattle.broker_log.specs.Seen.{Seen, Down, Shows, Goes, Stays, WhileUp, OnDisk, Lasting, Faulted, is_up, end_in, stable_in, line_in, local_in, incarnation_in, closed_in, layout_in, settings_in};
+ghost use Rattle.broker_log.specs.Seen.{Seen, Down, Shows, Goes, Stays, WhileUp, OnDisk, Lasting, Faulted, NoFault, OneFault, is_up, end_in, stable_in, line_in, local_in, incarnation_in, closed_in, layout_in, settings_in};
 ghost use Rattle.broker_log.specs.Turns.{IsFirst, Appends, Settles, Cuts, MayCut, cut_back, Drops, DropBreaks, Restarts, RestartBreaks, IsSegmentOf, Breaks, BreaksIf, BreaksUnsaved, loosened, torn, IsEndUpTo, Rolls, Reads, Misreads, Unopened, IsSpent, Stops, ComesUp};
 ghost use Rattle.log_steps.specs.Fronts.{Each};
 ghost use Rattle.local_log.specs.Dropping.{IsFirstStable};
@@ -70,6 +70,9 @@ impl<D: Disk> BrokerLog<D> {
         ensures control { IfOk result (λ broker. OnDisk broker (λ d. Lasts (D.control disk) (D.control d))) }
         ensures control_err { IfErr result (λ e. Lasts (D.control disk) (D.control e.0)) }
         ensures cause { IfErr result (λ e. e.1 ≡ create.DiskFault → Rose (D.control disk).faults (D.control e.0).faults) }
+        ensures quiet { IfOk result (λ broker. OnDisk broker (λ d. (D.control d).faults ≡ (D.control disk).faults)) }
+        ensures quiet_err { IfErr result (λ e. (e.1 ≡ create.DiskFault → ⊥) → (D.control e.0).faults ≡ (D.control disk).faults) }
+        ensures once { IfErr result (λ e. e.1 ≡ create.DiskFault → (D.control e.0).faults ≡ counted (D.control disk).faults 1) }
     {
         match LocalLog::create(alloc, disk, settings) {
             Ok(log) => Ok(BrokerLog {
@@ -237,6 +240,8 @@ impl<D: Disk> BrokerLog<D> {
         ensures fault { IsErrOf result Failed → Breaks D.content self.old self.new (λ s. loosened s (end_of s.batches, s.line, s.local)) }
         ensures control { Lasting D.control self.old self.new }
         ensures cause { IsErrOf result Failed → Faulted D.control self.old self.new }
+        ensures quiet { (IsErrOf result Failed → ⊥) → NoFault D.control self.old self.new }
+        ensures once { IsErrOf result Failed → OneFault D.control self.old self.new }
     {
         let mut log = taken(&mut self.place);
         let settings = *log.settings();
@@ -263,6 +268,8 @@ impl<D: Disk> BrokerLog<D> {
         ensures fault { IsErrOf result append.DiskFault → BreaksUnsaved D.content self.old self.new }
         ensures control { Lasting D.control self.old self.new }
         ensures cause { IsErrOf result append.DiskFault → Faulted D.control self.old self.new }
+        ensures quiet { (IsErrOf result append.DiskFault → ⊥) → NoFault D.control self.old self.new }
+        ensures once { IsErrOf result append.DiskFault → OneFault D.control self.old self.new }
     {
         let mut log = taken(&mut self.place);
         let settings = *log.settings();
@@ -283,6 +290,8 @@ impl<D: Disk> BrokerLog<D> {
             (λ s. loosened s (end_of s.batches, assign s.line epoch (end_of s.batches), s.local)) }
         ensures control { Lasting D.control self.old self.new }
         ensures cause { IsErrOf result Failed → Faulted D.control self.old self.new }
+        ensures quiet { (IsErrOf result Failed → ⊥) → NoFault D.control self.old self.new }
+        ensures once { IsErrOf result Failed → OneFault D.control self.old self.new }
     {
         let mut log = taken(&mut self.place);
         let settings = *log.settings();
@@ -311,6 +320,8 @@ impl<D: Disk> BrokerLog<D> {
         ensures fault { IsErrOf result roll.DiskFault → BreaksUnsaved D.content self.old self.new }
         ensures control { Lasting D.control self.old self.new }
         ensures cause { IsErrOf result roll.DiskFault → Faulted D.control self.old self.new }
+        ensures quiet { (IsErrOf result roll.DiskFault → ⊥) → NoFault D.control self.old self.new }
+        ensures once { IsErrOf result roll.DiskFault → OneFault D.control self.old self.new }
     {
         let mut log = taken(&mut self.place);
         let settings = *log.settings();
@@ -329,6 +340,8 @@ impl<D: Disk> BrokerLog<D> {
         ensures fault { IsErrOf result Failed → BreaksIf D.content self.old self.new (MayCut end) (λ s. torn s (cut_back s end)) }
         ensures control { Lasting D.control self.old self.new }
         ensures cause { IsErrOf result Failed → Faulted D.control self.old self.new }
+        ensures quiet { (IsErrOf result Failed → ⊥) → NoFault D.control self.old self.new }
+        ensures once { IsErrOf result Failed → OneFault D.control self.old self.new }
     {
         let mut log = taken(&mut self.place);
         let settings = *log.settings();
@@ -361,6 +374,8 @@ impl<D: Disk> BrokerLog<D> {
         ensures fault { IsErrOf result Failed → DropBreaks D.content self.old self.new }
         ensures control { Lasting D.control self.old self.new }
         ensures cause { IsErrOf result Failed → Faulted D.control self.old self.new }
+        ensures quiet { (IsErrOf result Failed → ⊥) → NoFault D.control self.old self.new }
+        ensures once { IsErrOf result Failed → OneFault D.control self.old self.new }
     {
         let mut log = taken(&mut self.place);
         let settings = *log.settings();
@@ -381,6 +396,8 @@ impl<D: Disk> BrokerLog<D> {
         ensures fault { IsErrOf result Failed → RestartBreaks D.content self.old self.new start line }
         ensures control { Lasting D.control self.old self.new }
         ensures cause { IsErrOf result Failed → Faulted D.control self.old self.new }
+        ensures quiet { (IsErrOf result Failed → ⊥) → NoFault D.control self.old self.new }
+        ensures once { IsErrOf result Failed → OneFault D.control self.old self.new }
     {
         let mut log = taken(&mut self.place);
         let settings = *log.settings();
@@ -398,8 +415,12 @@ impl<D: Disk> BrokerLog<D> {
         ensures part { IfOk result (λ segment. (s : Seen) → Shows D.content self.old s → IfSome segment (λ segment. IsSegmentOf s segment)) }
         ensures err { IfErr result (λ e. WhileUp self.old (λ log. OnDisk self.new (λ d. ClosedFails log offset (D.control d).handed e))) }
         ensures whole { IfErr result (λ e. (s : Seen) → Shows D.content self.old s → IsOfDevice e) }
+        ensures ran { WhileUp self.old (λ log. first_past offset log.closed ≢ None
+            → OnDisk self.old (λ d. OnDisk self.new (λ d'. ReadOnce result (D.control d) (D.control d')))) }
         ensures control { Lasting D.control self.old self.new }
         ensures cause { IsErrOf result reading.DiskFault → Faulted D.control self.old self.new }
+        ensures quiet { (IsErrOf result reading.DiskFault → ⊥) → NoFault D.control self.old self.new }
+        ensures once { IsErrOf result reading.DiskFault → OneFault D.control self.old self.new }
     {
         let mut log = taken(&mut self.place);
         log.coheres();
@@ -421,8 +442,12 @@ impl<D: Disk> BrokerLog<D> {
             → Misreads D.content D.control self.old self.new offset limit mark name at }
         ensures refused { IfErr result (λ e. WhileUp self.old (λ log. OnDisk self.new (λ d.
             RunFails log offset limit mark (D.control d).handed e))) }
+        ensures ran { WhileUp self.old (λ log. is_edge (segment_at log mark) mark ≡ true
+            → OnDisk self.old (λ d. OnDisk self.new (λ d'. ReadOnce result (D.control d) (D.control d')))) }
         ensures control { Lasting D.control self.old self.new }
         ensures cause { IsErrOf result reading.DiskFault → Faulted D.control self.old self.new }
+        ensures quiet { (IsErrOf result reading.DiskFault → ⊥) → NoFault D.control self.old self.new }
+        ensures once { IsErrOf result reading.DiskFault → OneFault D.control self.old self.new }
     {
         let mut log = taken(&mut self.place);
         log.coheres();
@@ -489,6 +514,8 @@ impl<D: Disk> BrokerLog<D> {
         ensures last { IsErrOf result opening.LastIncarnation → IsSpent D.content D.control self.old self.new }
         ensures control { Lasting D.control self.old self.new }
         ensures cause { IsErrOf result opening.DiskFault → Faulted D.control self.old self.new }
+        ensures quiet { (IsErrOf result opening.DiskFault → ⊥) → NoFault D.control self.old self.new }
+        ensures once { IsErrOf result opening.DiskFault → OneFault D.control self.old self.new }
     {
         let (settings, disk) = taken_disk(&mut self.place);
         match LocalLog::open_at(self.alloc, disk, settings) {

@@ -50,10 +50,10 @@ fn open(alloc: Global, manifest: &[u8], name: FileName, bytes: &[u8]) -> Opened 
     }
 }
 
-/// The manifest with other bytes at a place.
-fn with(alloc: Global, at: usize, other: &[u8]) -> Result<Vec<u8>, AllocError> {
+/// Bytes with other ones at a place.
+fn with(alloc: Global, of: &[u8], at: usize, other: &[u8]) -> Result<Vec<u8>, AllocError> {
     let mut bytes = Vec::new(alloc);
-    for (i, byte) in FLUSHED.iter().enumerate() {
+    for (i, byte) in of.iter().enumerate() {
         bytes.push(*other.get(i.wrapping_sub(at)).unwrap_or(byte))?;
     }
     Ok(bytes)
@@ -61,7 +61,7 @@ fn with(alloc: Global, at: usize, other: &[u8]) -> Result<Vec<u8>, AllocError> {
 
 /// What the opening comes to of a log whose manifest has other bytes at a place.
 fn open_with(alloc: Global, at: usize, other: &[u8]) -> Opened {
-    match with(alloc, at, other) {
+    match with(alloc, FLUSHED.as_slice(), at, other) {
         Ok(manifest) => open(alloc, manifest.as_slice(), LOG, SEGMENT.as_slice()),
         Err(AllocError) => Err(OpenRefusal::NoMemory),
     }
@@ -93,20 +93,37 @@ fn openings_tell_their_causes(rt: HostRuntime) {
     assert!(rt; openings(rt.alloc()) == wanted);
 }
 
-/// Whether an opening with another byte at a place tells what it should: the manifest's kind, a log of another incarnation,
-/// or else a log or a place.
-fn is_told(at: usize, opened: Opened) -> bool {
-    match at {
-        0..=3 => opened == damaged(FileName::Manifest, 0),
-        4..=7 => opened == Ok(2),
-        _ => matches!(opened, Ok(_) | Err(OpenRefusal::Damaged { .. })),
+/// What the opening comes to of a log whose segment has a byte turned over.
+fn open_turned(alloc: Global, at: usize) -> Opened {
+    let other = [!SEGMENT[at]];
+    match with(alloc, SEGMENT.as_slice(), at, other.as_slice()) {
+        Ok(segment) => open(alloc, FLUSHED.as_slice(), LOG, segment.as_slice()),
+        Err(AllocError) => Err(OpenRefusal::NoMemory),
     }
 }
 
-/// The first place at which another byte isn't told as it should be.
+/// What an opening comes to whose manifest has the byte 255 at a place: the first field that breaks a rule then, or what
+/// the segment lacks that is longer then, or whose epoch the line doesn't give.
+fn told_of_manifest(at: usize) -> Opened {
+    match at {
+        0..=3 => damaged(FileName::Manifest, 0),
+        4..=7 => Ok(2),
+        8 => damaged(FileName::Manifest, 8),
+        9..=15 | 20..=27 => damaged(FileName::Manifest, 20),
+        16..=18 => damaged(FileName::Manifest, 16),
+        19 | 40 => damaged(FileName::Manifest, 40),
+        28 => damaged(FileName::Manifest, 28),
+        29..=31 => damaged(LOG, 138),
+        32..=35 => damaged(FileName::Manifest, 48),
+        36 => damaged(FileName::Manifest, 36),
+        _ => damaged(LOG, 0),
+    }
+}
+
+/// The first byte of the manifest that is told otherwise.
 fn first_untold(alloc: Global) -> Option<usize> {
     for at in 0..FLUSHED.len() {
-        if !is_told(at, open_with(alloc, at, [0xff].as_slice())) {
+        if open_with(alloc, at, [0xff].as_slice()) != told_of_manifest(at) {
             return Some(at);
         }
     }
@@ -114,8 +131,23 @@ fn first_untold(alloc: Global) -> Option<usize> {
 }
 
 #[test]
-fn each_spoilt_byte_is_told_or_passes(rt: HostRuntime) {
+fn each_spoilt_byte_of_the_manifest_has_its_place(rt: HostRuntime) {
     assert_eq!(rt; first_untold(rt.alloc()), None);
+}
+
+/// The first byte of the segment that isn't told where its batch begins.
+fn first_unplaced(alloc: Global) -> Option<usize> {
+    for at in 0..SEGMENT.len() {
+        if open_turned(alloc, at) != damaged(LOG, (at / SIZE * SIZE) as u64) {
+            return Some(at);
+        }
+    }
+    None
+}
+
+#[test]
+fn each_spoilt_byte_of_a_segment_is_told_where_its_batch_begins(rt: HostRuntime) {
+    assert_eq!(rt; first_unplaced(rt.alloc()), None);
 }
 
 /// Whether an opening told a place in a file of the log.

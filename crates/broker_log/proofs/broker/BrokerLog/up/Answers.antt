@@ -17,6 +17,7 @@ returns-in-Ok-clause-ok g c =
       stable_is = ap Some (e.log.stable ∙ sym c.end-end.ensures);
       settings = rw now_is (ap Some e.log.settings_are);
       intervals = intervals_of settings log e.log;
+      layout = rw now_is (λ t. e.segments t);
       read = rw now_is (read_by content settings disk (g.met.D.Disk.lawful disk) log e.tells e.log.stable e.log.broken e.opened (c.coheres.ensures e.log.broken) e.durable);
       seen = rw (now_is, c.end-end.ensures) (opens_by content settings disk (g.met.D.Disk.lawful disk) log e.tells e.log.stable e.log.broken e.opened (c.coheres.ensures e.log.broken) e.durable);
     }
@@ -38,4 +39,4 @@ returns-in-Err-clause-damaged g c name at is =
     let e = c.in-Err.ensures in
     let now_is : c.args.self.now ≡ Down settings disk = sym c.self.view_is ∙ c.taken_disk-disk.ensures in
     let why_is : c.in-Err.refusal ≡ Damaged name at = cc is in
-    rw now_is (unopened content settings disk (g.met.D.Disk.lawful disk) c.in-Err.disk (g.met.D.Disk.lawful c.in-Err.disk) e.tells_err e.any_moment_err e.again g.D.Disk.control c.in-Err.refusal name at why_is e.err e.sound)
+    rw now_is (unopened content settings disk (g.met.D.Disk.lawful disk) c.in-Err.disk (g.met.D.Disk.lawful c.in-Err.disk) e.tells_err e.any_moment_err e.again g.D.Disk.control c.in-Err.refusal name at why_is e.err e.place e.sound)
