@@ -1,14 +1,22 @@
 -- What the parts of a sweep do to the device that they call, each a run of calls.
 --
 -- What is said of content holds where the device tells it.
-use Rattle.std.specs.Prelude.{◌≡◌, ℕ, Bool, false, List, ◌++◌, None, IsOk, IsTrue, Ok, Err}
+--
+--   form                          says
+--   MetaRuns result old new       calls of the metadata log: no fault of it is hidden, whatever is answered
+--   StoreRuns result old new      the same of the store
+--   Deletes result old new        so many deletions went, or the last one failed and nothing was called behind it
+--   ListsFirst Behind old new     one listing went before all others
+use Rattle.std.specs.Prelude.{◌≡◌, ◌⊎◌, ℕ, ◌+◌, Bool, false, List, ◌++◌, None, IsOk, IsTrue, Ok, Err}
 use Rattle.std.specs.declared.result.Result.{Result}
 use Rattle.tier_base.specs.declared.object_key.ObjectKey.{ObjectKey}
 use Rattle.tier_base.specs.Counts.{Rose}
-use Rattle.tier_base.specs.Device.{Control, RanQuietly, Went, Lasts}
+use Rattle.tier_base.specs.Device.{Control, RanQuietly, Went, Fault, Lasts}
 use Rattle.tier_base.specs.Told.{In, removed}
 use Rattle.segment_meta.specs.declared.note.Entry.{Entry}
 use Rattle.segment_meta.specs.declared.note.Note.{Note}
+use Rattle.object_store.specs.declared.call.StoreCall.TheVariants.{Delete, Keys}
+use Rattle.object_store.specs.Call.{call_code}
 use Rattle.object_store.specs.Content as store
 use Rattle.meta_log.specs.Content.{Content, Left}
 use Rattle.tier_sweep.specs.declared.refusal.SweepRefusal.{SweepRefusal}
@@ -28,6 +36,16 @@ StoreCause (Err StoreFault) before now = Rose before now
 StoreCause (Err MetaFault) before now = ⊥
 StoreCause result before now = Unit {0}
 
+-- and so leaves the count of faults, but where that fault is told
+abbrev pub MetaQuiet : {T : Type 0} → Result T SweepRefusal → ℕ → ℕ → Type 0
+MetaQuiet (Err MetaFault) before now = Unit {0}
+MetaQuiet result before now = now ≡ before
+
+-- the same of the store
+abbrev pub StoreQuiet : {T : Type 0} → Result T SweepRefusal → ℕ → ℕ → Type 0
+StoreQuiet (Err StoreFault) before now = Unit {0}
+StoreQuiet result before now = now ≡ before
+
 -- calls that all went well, one behind the other
 pub data AllWent {K : Type 0} {code : K → ℕ} (old : Control code) : Control code → Type 0 where
   NoCall : AllWent old old
@@ -37,13 +55,49 @@ pub data AllWent {K : Type 0} {code : K → ℕ} (old : Control code) : Control 
 pub record MetaRuns {T K : Type 0} {code : K → ℕ} (result : Result T SweepRefusal) (old new : Control code) : Type 0 where
   pub lasts : Lasts old new
   pub cause : MetaCause result old.faults new.faults
+  pub quiet : MetaQuiet result old.faults new.faults
   pub went : IsOk result → AllWent old new
 
 -- a run of calls of the store
 pub record StoreRuns {T K : Type 0} {code : K → ℕ} (result : Result T SweepRefusal) (old new : Control code) : Type 0 where
   pub lasts : Lasts old new
   pub cause : StoreCause result old.faults new.faults
+  pub quiet : StoreQuiet result old.faults new.faults
   pub went : IsOk result → AllWent old new
+
+-- so many deletions that all went
+pub data Deleted (old : Control call_code) : ℕ → Control call_code → Type 0 where
+  NoDeletion : Deleted old 0 old
+  OneDeletion : (count : ℕ) (mid new : Control call_code) → Deleted old count mid → RanQuietly Delete Went mid new → Deleted old (count + 1) new
+
+-- deletions that went, and a last one that failed
+pub record FailsToDelete (old new : Control call_code) : Type 0 where
+  pub count : ℕ
+  pub mid : Control call_code
+  pub before : Deleted old count mid
+  pub last : RanQuietly Delete Fault mid new
+
+-- so many deletions that went, or some and a last one that failed
+abbrev pub Deletes : Result ℕ SweepRefusal → Control call_code → Control call_code → Type 0
+Deletes (Ok count) old new = Deleted old count new
+Deletes (Err StoreFault) old new = FailsToDelete old new
+Deletes (Err e) old new = ⊥
+
+-- one deletion
+abbrev pub DeletesOne : {T : Type 0} → Result T SweepRefusal → Control call_code → Control call_code → Type 0
+DeletesOne (Ok x) old new = RanQuietly Delete Went old new
+DeletesOne (Err StoreFault) old new = RanQuietly Delete Fault old new
+DeletesOne (Err e) old new = ⊥
+
+-- one listing that went, and deletions behind it
+pub record ListsFirst (Behind : Control call_code → Control call_code → Type 0) (old new : Control call_code) : Type 0 where
+  pub mid : Control call_code
+  pub lists : RanQuietly Keys Went old mid
+  pub behind : Behind mid new
+
+-- the deletions of a sweep that was refused: all went, or the last one failed
+abbrev pub SomeDeleted : Control call_code → Control call_code → Type 0
+SomeDeleted old new = ((count : ℕ) × Deleted old count new) ⊎ FailsToDelete old new
 
 -- these notes are told, or after a refusal some, from the first on
 abbrev pub Tells : {T : Type 0} → List Note → Result T SweepRefusal → List Note → List Note → Type 0

@@ -125,3 +125,9 @@ abbrev pub HasCause : {T : Type 0} → Result T SweepRefusal → ℕ → ℕ →
 HasCause (Err StoreFault) store store_now log log_now = Rose store store_now
 HasCause (Err MetaFault) store store_now log log_now = Rose log log_now
 HasCause result store store_now log log_now = Unit {0}
+
+-- and no other answer hides a fault: the counts of faults are as before, but that of the device whose fault is told
+abbrev pub IsQuiet : {T : Type 0} → Result T SweepRefusal → ℕ → ℕ → ℕ → ℕ → Type 0
+IsQuiet (Err StoreFault) store store_now log log_now = log_now ≡ log
+IsQuiet (Err MetaFault) store store_now log log_now = store_now ≡ store
+IsQuiet result store store_now log log_now = (store_now ≡ store) × (log_now ≡ log)

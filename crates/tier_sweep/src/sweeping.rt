@@ -3,14 +3,15 @@
 //! The metadata log is told of all deletions before the first object goes, so nobody reads a segment whose objects are going; and
 //! told that they are finished once none of their objects stands. A sweep that was refused leaves what a further one ends.
 
-ghost use Rattle.std.specs.Prelude.{◌≡◌, IfOk, OnOk, OnErr, IsTrue};
+ghost use Rattle.std.specs.Prelude.{◌≡◌, ◌⊎◌, IfOk, OnOk, OnErr, IsTrue};
 ghost use Rattle.tier_base.specs.Told.{Names};
-ghost use Rattle.tier_base.specs.Device.{Lasts};
+ghost use Rattle.tier_base.specs.Device.{RanQuietly, Went, Lasts};
+ghost use Rattle.object_store.specs.declared.call.StoreCall.TheVariants.{Keys};
 ghost use Rattle.object_store.specs.Content as objects;
 ghost use Rattle.meta_log.specs.Content as notes;
 ghost use Rattle.remote_view.specs.Fold.{fold};
-ghost use Rattle.tier_sweep.specs.Sweeping.{IsSwept, IsUnderSweep, LeavesUnder, HasCause, tier_of};
-ghost use Rattle.tier_sweep.specs.Parts.{MetaRuns, StoreRuns, AllWent};
+ghost use Rattle.tier_sweep.specs.Sweeping.{IsSwept, IsUnderSweep, LeavesUnder, HasCause, IsQuiet, tier_of};
+ghost use Rattle.tier_sweep.specs.Parts.{MetaRuns, StoreRuns, AllWent, Deleted, SomeDeleted, ListsFirst};
 
 use crate::refusal::SweepRefusal;
 use crate::taking::take_all;
@@ -45,8 +46,15 @@ pub fn sweep<S: Store, M: MetaLog>(
     ensures meta_tells { (M.content meta.new).tells ≡ (M.content meta.old).tells }
     ensures store_calls { Lasts (S.control store.old) (S.control store.new) }
     ensures meta_calls { Lasts (M.control meta.old) (M.control meta.new) }
-    ensures store_went { OnOk result (AllWent (S.control store.old) (S.control store.new)) }
+    ensures quiet { IsQuiet result (S.control store.old).faults (S.control store.new).faults
+        (M.control meta.old).faults (M.control meta.new).faults }
+    ensures store_went { IfOk result (λ swept.
+        ListsFirst (λ old new. Deleted old swept new) (S.control store.old) (S.control store.new)) }
     ensures meta_went { OnOk result (AllWent (M.control meta.old) (M.control meta.new)) }
+
+    // Nothing is told before the store was listed.
+    ensures listed { ListsFirst SomeDeleted (S.control store.old) (S.control store.new)
+        ⊎ notes.Keeps (M.content meta.old) (M.content meta.new) }
 {
     let view = read_view(alloc, meta)?;
     let keys = list(store)?;
@@ -77,6 +85,7 @@ fn list<S: Store>(store: &mut S) -> Result<Row<ObjectKey>, SweepRefusal>
     ensures keys { IsTrue (S.content store.old).tells
         → IfOk result (λ keys. Names (S.content store.old).objects keys) }
     ensures content { objects.Keeps (S.content store.old) (S.content store.new) }
+    ensures once { OnOk result (RanQuietly Keys Went (S.control store.old) (S.control store.new)) }
     ensures calls { StoreRuns result (S.control store.old) (S.control store.new) }
 {
     match store.keys() {

@@ -3,7 +3,7 @@
 ghost use Rattle.std.specs.Prelude.{◌≡◌, IfOk, IsTrue};
 ghost use Rattle.tier_sweep.specs.Rest.{stays};
 ghost use Rattle.tier_sweep.specs.Sweeping.{count_swept};
-ghost use Rattle.tier_sweep.specs.Parts.{StoreRuns, Takes, TakesEach};
+ghost use Rattle.tier_sweep.specs.Parts.{StoreRuns, Deletes, DeletesOne, Takes, TakesEach};
 
 use crate::refusal::SweepRefusal;
 use object_store::{ObjectKey, Store};
@@ -20,6 +20,7 @@ pub(crate) fn take_all<S: Store>(
     ensures objects { IsTrue (S.content store.old).tells → TakesEach view.now.entries keys.now result
         (S.content store.old).objects (S.content store.new).objects }
     ensures count { IfOk result (λ swept. swept ≡ count_swept view.now.entries keys.now) }
+    ensures deletes { Deletes result (S.control store.old) (S.control store.new) }
     ensures calls { StoreRuns result (S.control store.old) (S.control store.new) }
 {
     let mut swept = 0;
@@ -37,6 +38,7 @@ fn take<S: Store>(store: &mut S, key: &ObjectKey) -> Result<(), SweepRefusal>
     ensures tells { (S.content store.new).tells ≡ (S.content store.old).tells }
     ensures objects { IsTrue (S.content store.old).tells
         → Takes key.now result (S.content store.old).objects (S.content store.new).objects }
+    ensures deletes { DeletesOne result (S.control store.old) (S.control store.new) }
     ensures calls { StoreRuns result (S.control store.old) (S.control store.new) }
 {
     match store.delete(key) {

@@ -1,12 +1,25 @@
-use Rattle.std.proofs.Common.{refl, rules, IsTrue}
+use Rattle.std.proofs.Common.{refl, rules, inl, IsTrue}
 use Rattle.meta_log.specs.Content.{LeavesTold}
 use Rattle.tier_sweep.specs.Sweeping.{IsSwept, tier_of}
 use Rattle.tier_sweep.proofs.Leaving.{none_under, whole_under}
-use Rattle.tier_sweep.proofs.Went.{went_then}
+use Rattle.tier_sweep.specs.Parts.{NoDeletion}
+use Rattle.tier_sweep.proofs.Went.{went_then, some_deleted}
 use Rattle.tier_sweep.proofs.sweeping.sweep.Goals as goal
 
 pub returns-clause-store_went : goal.returns-clause-store_went
-returns-clause-store_went g c = went_then _ _ _ (c.in_ok-keys.ensures.calls.went refl) (c.in_ok-swept.ensures.calls.went refl)
+returns-clause-store_went g c = record { mid = _; lists = c.in_ok-keys.ensures.once; behind = c.in_ok-swept.ensures.deletes }
+
+pub returns-clause-listed : goal.returns-clause-listed
+returns-clause-listed g c = inl (record { mid = _; lists = c.in_ok-keys.ensures.once; behind = inl (_, c.in_ok-swept.ensures.deletes) })
+
+pub returns-in_err-tell_ends-clause-listed : goal.returns-in_err-tell_ends-clause-listed
+returns-in_err-tell_ends-clause-listed g c = inl (record { mid = _; lists = c.in_ok-keys.ensures.once; behind = inl (_, c.in_ok-swept.ensures.deletes) })
+
+pub returns-in_err-swept-clause-listed : goal.returns-in_err-swept-clause-listed
+returns-in_err-swept-clause-listed g c = inl (record { mid = _; lists = c.in_ok-keys.ensures.once; behind = some_deleted c.take_all.result _ _ c.take_all.ensures.deletes })
+
+pub returns-in_err-tell_starts-clause-listed : goal.returns-in_err-tell_starts-clause-listed
+returns-in_err-tell_starts-clause-listed g c = inl (record { mid = _; lists = c.in_ok-keys.ensures.once; behind = inl (0, NoDeletion) })
 
 pub returns-clause-meta_went : goal.returns-clause-meta_went
 returns-clause-meta_went g c =

@@ -1,7 +1,7 @@
 use Rattle.std.proofs.Common.{◌≡◌, take, IsTrue}
 use Rattle.tier_base.specs.Device.{Lasts}
 use Rattle.tier_sweep.specs.Sweeping.{count_swept}
-use Rattle.tier_sweep.specs.Parts.{AllWent, TakesAll}
+use Rattle.tier_sweep.specs.Parts.{AllWent, Deleted, TakesAll}
 use Rattle.tier_sweep.proofs.taking.take_all.Given as goal
 
 -- those of the keys so far are taken away and counted
@@ -15,4 +15,6 @@ invariant-loop-key g l =
       count : l.swept ≡ count_swept l.view.entries (take l.key-index l.keys);
       calls : Lasts (g.S.Store.control l.fn.store) (g.S.Store.control l.store);
       went : AllWent (g.S.Store.control l.fn.store) (g.S.Store.control l.store);
+      quiet : (g.S.Store.control l.store).faults ≡ (g.S.Store.control l.fn.store).faults;
+      deleted : Deleted (g.S.Store.control l.fn.store) l.swept (g.S.Store.control l.store);
     }

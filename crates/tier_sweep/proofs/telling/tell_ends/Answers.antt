@@ -33,6 +33,7 @@ loop-entry-init g c = record {
   left = λ told only. only;
   calls = lasts_same (g.M.MetaLog.control c.args.meta.now);
   went = NoCall;
+  quiet = refl;
 }
 
 pub loop-entry-preserved : goal.loop-entry-preserved
@@ -52,6 +53,7 @@ loop-entry-preserved g c =
             left = λ told only. (let t = so_far.tells ∙ told in told_alone (g.M.MetaLog.content w.tell.new.meta) ((g.M.MetaLog.content c.loop-entry.meta).notes ++ note_of DeleteFinished entry ∷ []) (w.in_ok-tell.ensures.notes t) (w.in_ok-tell.ensures.left t (so_far.left told only)));
             calls = lasts_then _ _ _ so_far.calls w.tell.ensures.calls.lasts;
             went = went_then _ _ _ so_far.went (w.tell.ensures.calls.went went);
+            quiet = w.in_ok-tell.ensures.calls.quiet ∙ so_far.quiet;
           }))
       | else-is_under_way w ↦
           (let fails : is_under_way entry.state ≡ false = cc in
@@ -61,5 +63,6 @@ loop-entry-preserved g c =
             left = so_far.left;
             calls = so_far.calls;
             went = so_far.went;
+            quiet = so_far.quiet;
           }))
     ]

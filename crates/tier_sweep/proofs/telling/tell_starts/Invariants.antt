@@ -16,4 +16,5 @@ invariant-loop-entry g l =
       left : IsTrue (content l.fn.meta).tells → LeavesTold (content l.fn.meta) → LeavesTold (content l.meta);
       calls : Lasts (g.M.MetaLog.control l.fn.meta) (g.M.MetaLog.control l.meta);
       went : AllWent (g.M.MetaLog.control l.fn.meta) (g.M.MetaLog.control l.meta);
+      quiet : (g.M.MetaLog.control l.meta).faults ≡ (g.M.MetaLog.control l.fn.meta).faults;
     }
