@@ -1,5 +1,5 @@
 -- A copy's log on its way: the batch that comes next, and where none does.
-use Rattle.std.proofs.Common.{◌≡◌, ◌≢◌, ◌∙◌, ap, sym, refl, subst, ℕ, zero, suc, ◌+◌, ◌^◌, ◌<◌, ◌≤◌, ℤ, List, [], ◌∷◌, ◌++◌, length, take, drop, IsOk, arith, append_assoc, append-nil, length-append}
+use Rattle.std.proofs.Common.{◌≡◌, ◌≢◌, ◌∙◌, ap, sym, refl, subst, ℕ, zero, suc, ◌+◌, ◌^◌, ◌<◌, ◌≤◌, ℤ, List, [], ◌∷◌, ◌++◌, length, take, drop, Option, Some, None, IsOk, arith, append_assoc, append-nil, length-append}
 use Rattle.std.specs.Prelude.{◌≤ℤ◌}
 use Rattle.std.specs.Int.{w32, cast_unsigned, int_max}
 use Rattle.std.specs.Int.Signed.{≤ℤ_refl}
@@ -8,11 +8,8 @@ use Rattle.std.proofs.lemmas.Int.{ints}
 use Rattle.std.proofs.lemmas.List.{length-take-le}
 use mathlib.Core.List.{IsPrefix}
 use Rattle.log_terms.specs.Batch.{base_of, epoch_of, last_of, max_ts_of}
-use Rattle.log_terms.specs.Line.{line_of}
+use Rattle.log_terms.specs.Line.{line_of, epoch_at}
 use Rattle.log_terms.specs.Log.{joined, end_from}
-use Rattle.log_terms.proofs.Lists.{prefix_take}
-use Rattle.epoch_line.specs.Line.{IsLine}
-use Rattle.epoch_line.proofs.Spelling.{line-front}
 use Rattle.record_batch.specs.declared.head.Head.{Head}
 use Rattle.record_batch.specs.Check.{checked}
 use Rattle.record_batch.proofs.Passing.{checked_long}
@@ -33,8 +30,8 @@ use Rattle.remote_view.specs.Fold.{IsKept}
 use Rattle.tier_audit.specs.declared.log_part.Front.{Front}
 use Rattle.tier_audit.specs.Whole.{Describes}
 use Rattle.tier_audit.specs.Flaws.{IsFirstBad, MayBegin}
-use Rattle.tier_audit.specs.Logs.{IsFront, IsNear, MayCome, ComesNext, NothingNext, Gains, IsStopped, IsAll, HasBatches}
-use Rattle.tier_audit.proofs.Lines.{line_push, epochs_up, line_front}
+use Rattle.tier_audit.specs.Logs.{AreBegun, BeginsMore, IsFront, IsNear, MayCome, ComesNext, NothingNext, Gains, IsStopped, IsAll, HasBatches}
+use Rattle.tier_audit.proofs.Lines.{line_push, line_front, epochs_up, own_epochs}
 
 -- a batch that may come has a head that says so
 pub near_by : (entry : Entry) (front : Front) (batch : List ℕ) (head : Head) → Tells batch head → MayCome entry front batch → IsNear entry front head
@@ -47,17 +44,18 @@ near_by entry front batch head t m = record {
 }
 
 -- the batch that was found may come, where its head says so
-pub comes_next : (entry : Entry) (bytes : List ℕ) (front : Front) (head : Head) (next : Placed) (more : ℕ) → AreBytes bytes → front.at ≤ length bytes
-    → found_at front.at (drop front.at bytes) ≡ found.Batch head → IsNear entry front head → next ≡ placed_in front.at head → more ≤ length entry.map
-    → with_epoch (take front.begun entry.map) (cast_unsigned w32 head.leader_epoch) front.end ≡ take more entry.map → ComesNext entry bytes front (next, more)
-comes_next entry bytes front head next more clean inside e near place few begun =
+pub comes_next : (entry : Entry) (bytes : List ℕ) (front : Front) (head : Head) (next : Placed) (more : Option ℕ) → AreBytes bytes → front.at ≤ length bytes
+    → found_at front.at (drop front.at bytes) ≡ found.Batch head → IsNear entry front head → next ≡ placed_in front.at head → epoch_at entry.map front.end ≡ Some (cast_unsigned w32 head.leader_epoch)
+    → BeginsMore entry.map front.begun (cast_unsigned w32 head.leader_epoch) front.end more → ComesNext entry bytes front (next, more)
+comes_next entry bytes front head next more clean inside e near place has begun =
     let s = standing front.at bytes head clean inside e in
     let clean' : AreBytes s.batch = front_bytes s.batch _ (subst AreBytes s.parts (bytes_drop front.at bytes clean)) in
     let t : Tells s.batch head = subst (Tells s.batch) (sym s.head_is) (tells s.batch clean' s.is) in
     let start : front.end ≡ base_of s.batch = sym near.begins ∙ t.base in
     let size : size_in head ≡ length s.batch = s.size in
-    let map : with_epoch (take front.begun entry.map) (epoch_of s.batch) (base_of s.batch) ≡ take more entry.map =
-    ap (λ n. with_epoch (take front.begun entry.map) n (base_of s.batch)) (sym t.epoch) ∙ (ap (with_epoch (take front.begun entry.map) (cast_unsigned w32 head.leader_epoch)) (sym start) ∙ begun) in
+    let own : epoch_at entry.map (base_of s.batch) ≡ Some (epoch_of s.batch) = ap (epoch_at entry.map) (sym start) ∙ has ∙ ap (λ (n : ℕ). Some n) t.epoch in
+    let map : BeginsMore entry.map front.begun (epoch_of s.batch) (base_of s.batch) more =
+    subst (λ (n : ℕ). BeginsMore entry.map front.begun (epoch_of s.batch) n more) start (subst (λ (n : ℕ). BeginsMore entry.map front.begun n front.end more) t.epoch begun) in
     let d = t.delta in
     let w = near.within in
     let n = near.near in
@@ -73,11 +71,10 @@ comes_next entry bytes front head next more clean inside e near place few begun 
         near = omega (arith, start, d, n);
         small = omega (arith, size, f);
         times = subst (λ (z : ℤ). z ≤ℤ entry.max_ts) t.max_ts near.times;
-        epochs = subst (λ (xs : List (ℕ × ℕ)). IsPrefix xs entry.map) (sym map) (prefix_take more entry.map);
+        epochs = own;
       };
       placed_is = place ∙ placed_same front.at s.batch head t;
       begun_is = map;
-      few = few;
     }
 
 -- what holds of each in a list and of one more
@@ -85,9 +82,15 @@ all_push : {X : Type 0} (P : X → Type 0) (xs : List X) (x : X) → AllByRecurs
 all_push P [] x all one = (one, tt)
 all_push P (y ∷ xs) x all one = (all.0, all_push P xs x all.1 one)
 
--- what begins a line is one
-prefix_line : (xs line : List (ℕ × ℕ)) → IsPrefix xs line → IsLine line → IsLine xs
-prefix_line xs line p is = line-front xs p.0 (subst IsLine (sym p.1) is)
+-- the entries of a map that have begun with a batch more
+begun_more : (map : List (ℕ × ℕ)) (xs : List (List ℕ)) (batch : List ℕ) (begun more : Option ℕ) → AreBegun map xs begun → BeginsMore map begun (epoch_of batch) (base_of batch) more → AreBegun map (xs ++ batch ∷ []) more
+begun_more map xs batch None more are is =
+    subst (AreBegun map (xs ++ batch ∷ [])) (sym is) (λ (p : IsPrefix (line_of (xs ++ batch ∷ [])) map). are (let front = line_front xs (batch ∷ []) in (front.0 ++ p.0, sym (append_assoc (line_of xs) front.0 p.0) ∙ (ap (λ (line : List (ℕ × ℕ)). line ++ p.0) front.1 ∙ p.1))))
+begun_more map xs batch (Some n) None are is =
+    let same : line_of (xs ++ batch ∷ []) ≡ with_epoch (take n map) (epoch_of batch) (base_of batch) = line_push xs batch ∙ ap (λ (line : List (ℕ × ℕ)). with_epoch line (epoch_of batch) (base_of batch)) are.0 in
+    λ p. is (subst (λ (line : List (ℕ × ℕ)). IsPrefix line map) same p)
+begun_more map xs batch (Some n) (Some m) are is =
+    (line_push xs batch ∙ (ap (λ (line : List (ℕ × ℕ)). with_epoch line (epoch_of batch) (base_of batch)) are.0 ∙ is.0), is.1)
 
 -- a front may begin the log with a batch more that may come
 begins_more : (entry : Entry) (bytes : List ℕ) (front : Front) (batch : List ℕ) → IsKept entry → (f : IsFront entry bytes front) → IsOk (checked batch) → MayCome entry front batch
@@ -101,9 +104,7 @@ begins_more entry bytes front batch kept f ok m =
     let near = m.near in
     let within = m.within in
     let small = m.small in
-    let same : line_of (f.batches ++ batch ∷ []) ≡ with_epoch (take front.begun entry.map) (epoch_of batch) (base_of batch) =
-    line_push f.batches batch ∙ ap (λ xs. with_epoch xs (epoch_of batch) (base_of batch)) f.begun_are in
-    let up = epochs_up f.batches (epoch_of batch) (base_of batch) (subst IsLine (line_push f.batches batch) (prefix_line (line_of (f.batches ++ batch ∷ [])) entry.map (subst (λ (xs : List (ℕ × ℕ)). IsPrefix xs entry.map) (sym same) m.epochs) kept.map.line)) in
+    let up = epochs_up entry.map entry.start f.batches (epoch_of batch) (base_of batch) kept.map.line b.is.consecutive b.epochs (omega (arith, start, from)) m.epochs in
     let bounded = kept.bounded in
     let low : last_of batch + 1 ≤ 2 ^ 62 = omega (arith, within, bounded) in record {
       is = segment_push entry.start f.batches batch b.is (record {
@@ -116,7 +117,7 @@ begins_more entry bytes front batch kept f ok m =
         small = omega (arith, at, small);
       });
       within = omega (arith, end, within);
-      epochs = subst (λ (xs : List (ℕ × ℕ)). IsPrefix xs entry.map) (sym same) m.epochs;
+      epochs = all_push (λ (x : List ℕ). epoch_at entry.map (base_of x) ≡ Some (epoch_of x)) f.batches batch b.epochs m.epochs;
       times = all_push (λ (x : List ℕ). max_ts_of x ≤ℤ entry.max_ts) f.batches batch b.times m.times;
     }
 
@@ -134,7 +135,7 @@ greatest_push at (x ∷ xs) batch all e =
     rw (not_empty at (omega (arith, e, long, size))) (greatest_from_push (max_ts_of x) xs batch)
 
 -- the front with the batch that comes next
-pub front_more : (entry : Entry) (bytes : List ℕ) (old new : Front) (next : Placed × ℕ) → IsKept entry → IsFront entry bytes old → ComesNext entry bytes old next → Gains old next new → IsFront entry bytes new
+pub front_more : (entry : Entry) (bytes : List ℕ) (old new : Front) (next : Placed × Option ℕ) → IsKept entry → IsFront entry bytes old → ComesNext entry bytes old next → Gains old next new → IsFront entry bytes new
 front_more entry bytes old new next kept f n g =
     let batch = n.batch in
     let more = joined_push f.batches batch in
@@ -143,9 +144,7 @@ front_more entry bytes old new next kept f n g =
     let place : next.0 ≡ placed old.at batch = n.placed_is in
     let to : new.at ≡ old.at + length batch = g.at_is ∙ ap (λ (p : Placed). p.to) place in
     let inside = n.inside in
-    let m : MayCome entry old batch = n.may in
-    let same : line_of (f.batches ++ batch ∷ []) ≡ with_epoch (take old.begun entry.map) (epoch_of batch) (base_of batch) =
-    line_push f.batches batch ∙ ap (λ xs. with_epoch xs (epoch_of batch) (base_of batch)) f.begun_are in record {
+    let m : MayCome entry old batch = n.may in record {
       batches = f.batches ++ batch ∷ [];
       parts = f.parts ∙ (ap (λ (z : List ℕ). joined f.batches ++ z) (n.parts ∙ ap (λ k. batch ++ drop k bytes) (sym to))
           ∙ (sym (append_assoc (joined f.batches) batch (drop new.at bytes)) ∙ ap (λ (z : List ℕ). z ++ drop new.at bytes) (sym more)));
@@ -155,8 +154,7 @@ front_more entry bytes old new next kept f n g =
       end_is = g.end_is ∙ (ap (λ (p : Placed). p.last + 1) place ∙ sym (end_push entry.start f.batches batch));
       max_ts_is = g.max_ts_is ∙ (ap (λ z. later_ts old.at z next.0.max_ts) f.max_ts_is ∙ (ap (λ (p : Placed). later_ts old.at (greatest_ts f.batches) p.max_ts) place ∙ sym (greatest_push old.at f.batches batch f.begins.is.checked was)));
       placed_are = g.batches_are ∙ (ap (λ ps. ps ++ next.0 ∷ []) f.placed_are ∙ (ap (λ (p : Placed). placed_from 0 f.batches ++ p ∷ []) (place ∙ ap (λ k. placed k batch) (let zero_at : old.at ≡ 0 + length (joined f.batches) = omega (arith, was) in zero_at)) ∙ sym (placed_push 0 f.batches batch)));
-      begun_are = same ∙ (n.begun_is ∙ ap (λ k. take k entry.map) (sym g.begun_is));
-      few = (let few = n.few in let b = g.begun_is in omega (arith, few, b));
+      begun_are = subst (AreBegun entry.map (f.batches ++ batch ∷ [])) (sym g.begun_is) (begun_more entry.map f.batches batch old.begun next.1 f.begun_are n.begun_is);
     }
 
 drop_front : (xs ys : List ℕ) → drop (length xs) (xs ++ ys) ≡ ys
@@ -179,7 +177,7 @@ may_come entry bytes front batch f b =
       near = omega (arith, near);
       small = omega (arith, at, small);
       times = (all_parts (λ (x : List ℕ). max_ts_of x ≤ℤ entry.max_ts) f.batches (batch ∷ []) b.times).1.0;
-      epochs = subst (λ (xs : List (ℕ × ℕ)). IsPrefix xs entry.map) (line_push f.batches batch ∙ ap (λ xs. with_epoch xs (epoch_of batch) (base_of batch)) f.begun_are) b.epochs;
+      epochs = (all_parts (λ (x : List ℕ). epoch_at entry.map (base_of x) ≡ Some (epoch_of x)) f.batches (batch ∷ []) b.epochs).1.0;
     }
 
 -- where none comes next the front goes no further
@@ -237,7 +235,7 @@ describes_begins entry xs ys d =
     let last = d.last_is in record {
       is = segment_front entry.start xs ys d.is;
       within = omega (arith, end, up, last);
-      epochs = subst (IsPrefix (line_of xs)) (sym d.map_is) (line_front xs ys);
+      epochs = (all_parts (λ (x : List ℕ). epoch_at entry.map (base_of x) ≡ Some (epoch_of x)) xs ys (subst (λ (line : List (ℕ × ℕ)). AllByRecursion (λ (x : List ℕ). epoch_at line (base_of x) ≡ Some (epoch_of x)) (xs ++ ys)) (sym d.map_is) (own_epochs entry.start (xs ++ ys) d.is.consecutive))).0;
       times = (all_parts (λ (x : List ℕ). max_ts_of x ≤ℤ entry.max_ts) xs ys (subst (λ z. AllByRecursion (λ (x : List ℕ). max_ts_of x ≤ℤ z) (xs ++ ys)) (sym d.max_ts_is) (each_up (xs ++ ys)))).0;
     }
 
@@ -266,7 +264,7 @@ has_batches entry bytes front found f a same =
         some = λ e. (let zero_at : front.at ≡ 0 = at ∙ ap (λ bs. length (joined bs)) e in omega (arith, zero_at, some));
         is = f.begins.is;
         last_is = sym a.end_is ∙ f.end_is;
-        map_is = sym (take_all front.begun entry.map a.begun_is) ∙ sym f.begun_are;
+        map_is = (let all : AreBegun entry.map f.batches (Some (length entry.map)) = subst (AreBegun entry.map f.batches) a.begun_is f.begun_are in sym (take_all (length entry.map) entry.map refl) ∙ sym all.0);
         max_ts_is = sym a.max_ts_is ∙ f.max_ts_is;
         size_is = sym size ∙ at;
       };
@@ -276,6 +274,11 @@ has_batches entry bytes front found f a same =
 
 prefix_short : (xs line : List (ℕ × ℕ)) (n : ℕ) → xs ≡ take n line → n ≤ length line → line ≡ xs → n ≡ length line
 prefix_short xs line n e few same = (let long = ap length e ∙ length-take-le n line few in let other = ap length same in omega (arith, long, other))
+
+-- batches whose epochs are the map begin each of its entries
+all_begun : (map : List (ℕ × ℕ)) (xs : List (List ℕ)) (begun : Option ℕ) → AreBegun map xs begun → map ≡ line_of xs → begun ≡ Some (length map)
+all_begun map xs None are same = absurd (are ([], append-nil (line_of xs) ∙ sym same))
+all_begun map xs (Some n) are same = ap (λ (k : ℕ). Some k) (prefix_short (line_of xs) map n are.0 are.1 same)
 
 -- batches that are right come to all
 comes_to_all : (entry : Entry) (bytes : List ℕ) (front : Front) → (f : IsFront entry bytes front) → Describes entry f.batches → length (drop front.at bytes) ≡ 0 → IsAll entry (length bytes) front
@@ -287,7 +290,7 @@ comes_to_all entry bytes front f d none =
       whole = omega (arith, at, parts, none);
       size_is = at ∙ sym size;
       end_is = f.end_is ∙ sym d.last_is;
-      begun_is = prefix_short (line_of f.batches) entry.map front.begun f.begun_are f.few d.map_is;
+      begun_is = all_begun entry.map f.batches front.begun f.begun_are d.map_is;
       max_ts_is = f.max_ts_is ∙ sym d.max_ts_is;
     }
   where

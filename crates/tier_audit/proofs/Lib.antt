@@ -8,3 +8,4 @@ pub mod Straying
 pub mod Deciding
 pub mod Saying
 pub mod Putting
+pub mod Asked

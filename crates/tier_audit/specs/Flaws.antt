@@ -4,7 +4,7 @@
 -- copy the custom metadata comes first, and then its parts in their order. Of a part that isn't right the place in its object is told
 -- of the first batch, index entry or text line that can't stand: the front before it can, and with it no longer. Where no single one
 -- breaks it, or something lacks, that is the object's end; so it is where an index isn't cut into whole entries, and where the object
--- ends before the part does.
+-- ends before the part does. A batch has the epoch that the entry's map has at its base offset, or it can't stand.
 --
 --   form                                 says
 --   IsFirstBad spelled MayBegin b at     the first place in bytes at which an item can't stand
@@ -15,7 +15,6 @@ use Rattle.std.specs.Prelude.{◌≡◌, ◌≢◌, ◌⊎◌, ℕ, ◌+◌, ◌
 use Rattle.std.specs.List.{AllByRecursion, concat}
 use Rattle.std.specs.Ordering.{nat_cmp, is_gt}
 use Rattle.std.specs.Cmp.Lexicographic.{slice_cmp}
-use mathlib.Core.List.{IsPrefix}
 use Rattle.tier_base.specs.declared.plain.Part.{Part}
 use Rattle.tier_base.specs.declared.plain.Part.TheVariants.{Log, Index, TimeIndex, Epochs, Pack}
 use Rattle.tier_base.specs.declared.plain.State.{State}
@@ -23,8 +22,8 @@ use Rattle.tier_base.specs.declared.plain.State.TheVariants.{CopyFinished, Delet
 use Rattle.tier_base.specs.declared.object_key.ObjectKey.{ObjectKey}
 use Rattle.tier_base.specs.Key.{key_text}
 use Rattle.tier_base.specs.Told.{Names}
-use Rattle.log_terms.specs.Batch.{max_ts_of}
-use Rattle.log_terms.specs.Line.{line_of}
+use Rattle.log_terms.specs.Batch.{base_of, epoch_of, max_ts_of}
+use Rattle.log_terms.specs.Line.{epoch_at}
 use Rattle.log_terms.specs.Log.{joined, end_from}
 use Rattle.sparse_index.specs.Bytes.{bytes_of}
 use Rattle.sparse_index.specs.Offsets.{entry_bytes}
@@ -52,11 +51,11 @@ pub record IsFirstBad {X : Type 0} (spelled : List X → List ℕ) (MayBegin : L
   pub begins : MayBegin before
   pub stops : (item : X) (more : List ℕ) → bytes ≡ spelled (before ++ item ∷ []) ++ more → MayBegin (before ++ item ∷ []) → ⊥
 
--- batches may begin the log of a copy: they end within it, and none is past its epochs and its greatest timestamp
+-- batches may begin the log of a copy: they end within it, each has the map's epoch at its base, and none is past its greatest timestamp
 pub record MayBegin (entry : Entry) (batches : List (List ℕ)) : Type 0 where
   pub is : IsSegment entry.start batches
   pub within : end_from entry.start batches ≤ entry.end + 1
-  pub epochs : IsPrefix (line_of batches) entry.map
+  pub epochs : AllByRecursion (λ batch. epoch_at entry.map (base_of batch) ≡ Some (epoch_of batch)) batches
   pub times : AllByRecursion (λ batch. max_ts_of batch ≤ℤ entry.max_ts) batches
 
 -- the place that is told of entries of one width

@@ -1,9 +1,9 @@
 -- A copy's log on its way, batch by batch, beside the copy's entry.
-use Rattle.std.specs.Prelude.{◌≡◌, ◌≢◌, ℕ, ◌+◌, ◌^◌, ◌<◌, ◌≤◌, ◌≤ℤ◌, List, [], ◌∷◌, ◌++◌, length, take, drop, IsOk}
+use Rattle.std.specs.Prelude.{◌≡◌, ◌≢◌, ℕ, ◌+◌, ◌^◌, ◌<◌, ◌≤◌, ◌≤ℤ◌, List, [], ◌∷◌, ◌++◌, length, take, drop, Option, Some, None, IsOk}
 use Rattle.std.specs.Int.{w32, w64, cast_unsigned}
 use mathlib.Core.List.{IsPrefix}
 use Rattle.log_terms.specs.Batch.{base_of, epoch_of, last_of, max_ts_of}
-use Rattle.log_terms.specs.Line.{line_of}
+use Rattle.log_terms.specs.Line.{line_of, epoch_at}
 use Rattle.log_terms.specs.Log.{joined, end_from}
 use Rattle.record_batch.specs.declared.head.Head.{Head}
 use Rattle.record_batch.specs.Check.{checked}
@@ -19,6 +19,17 @@ use Rattle.tier_audit.specs.declared.log_part.LogPart.TheVariants.{Right, Wrong}
 use Rattle.tier_audit.specs.Whole.{Describes}
 use Rattle.tier_audit.specs.Flaws.{IsFirstBad, MayBegin}
 
+-- so many of a map's entries are the epochs of batches; none where these don't begin the map entry by entry
+abbrev pub AreBegun : List (ℕ × ℕ) → List (List ℕ) → Option ℕ → Type 0
+AreBegun map batches None = IsPrefix (line_of batches) map → ⊥
+AreBegun map batches (Some begun) = (line_of batches ≡ take begun map) × (begun ≤ length map)
+
+-- and with a batch more, of this epoch at this base
+abbrev pub BeginsMore : List (ℕ × ℕ) → Option ℕ → ℕ → ℕ → Option ℕ → Type 0
+BeginsMore map None epoch base more = more ≡ None
+BeginsMore map (Some begun) epoch base None = IsPrefix (with_epoch (take begun map) epoch base) map → ⊥
+BeginsMore map (Some begun) epoch base (Some more) = (with_epoch (take begun map) epoch base ≡ take more map) × (more ≤ length map)
+
 -- the batches of a log's front come to this, and may begin the log
 pub record IsFront (entry : Entry) (bytes : List ℕ) (front : Front) : Type 0 where
   pub batches : List (List ℕ)
@@ -29,8 +40,7 @@ pub record IsFront (entry : Entry) (bytes : List ℕ) (front : Front) : Type 0 w
   pub end_is : front.end ≡ end_from entry.start batches
   pub max_ts_is : front.max_ts ≡ greatest_ts batches
   pub placed_are : front.batches.items ≡ placed_from 0 batches
-  pub begun_are : line_of batches ≡ take front.begun entry.map
-  pub few : front.begun ≤ length entry.map
+  pub begun_are : AreBegun entry.map batches front.begun
 
 -- the batch of a head begins where the front ends, and goes past nothing
 pub record IsNear (entry : Entry) (front : Front) (head : Head) : Type 0 where
@@ -47,18 +57,17 @@ pub record MayCome (entry : Entry) (front : Front) (batch : List ℕ) : Type 0 w
   pub near : last_of batch < entry.start + 2 ^ 31
   pub small : front.at + length batch < 2 ^ 31
   pub times : max_ts_of batch ≤ℤ entry.max_ts
-  pub epochs : IsPrefix (with_epoch (take front.begun entry.map) (epoch_of batch) (base_of batch)) entry.map
+  pub epochs : epoch_at entry.map (base_of batch) ≡ Some (epoch_of batch)
 
 -- such a batch stands behind the front: how it is placed, and how many epochs have begun with it
-pub record ComesNext (entry : Entry) (bytes : List ℕ) (front : Front) (next : Placed × ℕ) : Type 0 where
+pub record ComesNext (entry : Entry) (bytes : List ℕ) (front : Front) (next : Placed × Option ℕ) : Type 0 where
   pub batch : List ℕ
   pub is : IsOk (checked batch)
   pub parts : drop front.at bytes ≡ batch ++ drop (front.at + length batch) bytes
   pub inside : front.at + length batch ≤ length bytes
   pub may : MayCome entry front batch
   pub placed_is : next.0 ≡ placed front.at batch
-  pub begun_is : with_epoch (take front.begun entry.map) (epoch_of batch) (base_of batch) ≡ take next.1 entry.map
-  pub few : next.1 ≤ length entry.map
+  pub begun_is : BeginsMore entry.map front.begun (epoch_of batch) (base_of batch) next.1
 
 -- none does
 abbrev pub NothingNext : Entry → List ℕ → Front → Type 0
@@ -66,7 +75,7 @@ NothingNext entry bytes front =
     (batch more : List ℕ) → drop front.at bytes ≡ batch ++ more → IsOk (checked batch) → MayCome entry front batch → ⊥
 
 -- a batch was added
-pub record Gains (old : Front) (next : Placed × ℕ) (new : Front) : Type 0 where
+pub record Gains (old : Front) (next : Placed × Option ℕ) (new : Front) : Type 0 where
   pub at_is : new.at ≡ next.0.to
   pub end_is : new.end ≡ next.0.last + 1
   pub begun_is : new.begun ≡ next.1
@@ -84,7 +93,7 @@ pub record IsAll (entry : Entry) (size : ℕ) (front : Front) : Type 0 where
   pub whole : front.at ≡ size
   pub size_is : front.at ≡ entry.size
   pub end_is : front.end ≡ entry.end + 1
-  pub begun_is : front.begun ≡ length entry.map
+  pub begun_is : front.begun ≡ Some (length entry.map)
   pub max_ts_is : front.max_ts ≡ entry.max_ts
 
 -- the batches of a right log, as they stand in it

@@ -7,7 +7,7 @@ ghost use Rattle.object_store.specs.Content.{Keeps};
 ghost use Rattle.meta_log.specs.Content.{Keeps as KeepsNotes};
 ghost use Rattle.remote_view.specs.Fold.{fold};
 ghost use Rattle.tier_audit.specs.declared.refusal.AuditRefusal.TheVariants.{StoreFault, MetaFault};
-ghost use Rattle.tier_audit.specs.Asking.{Asks};
+ghost use Rattle.tier_audit.specs.Asking.{Asks, Audits, AsksStore, AsksLog};
 ghost use Rattle.tier_audit.specs.Flaws.{IsVerdict};
 
 use crate::copies::find_unreadable;
@@ -34,6 +34,10 @@ pub fn audit<S: Store, M: MetaLog>(
     ensures store_calls { Lasts (S.control store.old) (S.control store.new) }
     ensures meta_calls { Lasts (M.control meta.old) (M.control meta.new) }
 
+    // No call is made again, whatever it answered.
+    ensures asks_store { AsksStore result (S.control store.old) (S.control store.new) }
+    ensures asks_log { AsksLog result (M.control meta.old) (M.control meta.new) }
+
     // Each cause.
     ensures store_fault { result ≡ Err StoreFault → Rose (S.control store.old).faults (S.control store.new).faults }
     ensures meta_fault { result ≡ Err MetaFault → Rose (M.control meta.old).faults (M.control meta.new).faults }
@@ -54,6 +58,7 @@ pub fn audit<S: Store, M: MetaLog>(
 /// Says whether the store holds what a view of the whole metadata log says.
 fn audit_store<S: Store>(alloc: Global, view: &View, store: &mut S) -> Result<Verdict, Trouble>
     ensures asks { Asks S.content S.control (fate_of result) store.old store.new }
+    ensures calls { Audits (fate_of result) (S.control store.old) (S.control store.new) }
     ensures verdict { IsTrue (S.content store.old).tells
         → IfOk result (λ verdict. IsVerdict (S.content store.old).objects view.now.entries verdict) }
 {

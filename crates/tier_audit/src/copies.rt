@@ -8,7 +8,7 @@ ghost use Rattle.tier_base.specs.Device.{fate_of};
 ghost use Rattle.object_store.specs.Place.{capped, short_of};
 ghost use Rattle.segment_file.specs.Index.{placed_from};
 ghost use Rattle.remote_view.specs.Fold.{IsKept, AreKept};
-ghost use Rattle.tier_audit.specs.Asking.{Asks};
+ghost use Rattle.tier_audit.specs.Asking.{Asks, Reads};
 ghost use Rattle.tier_audit.specs.declared.verdict.Flaw.TheVariants.{Wrong};
 ghost use Rattle.tier_audit.specs.Entries.{ArePlaced};
 ghost use Rattle.tier_audit.specs.Whole.{place_of};
@@ -43,6 +43,7 @@ pub(crate) fn find_unreadable<S: Store>(
 ) -> Result<Option<Flaw>, Trouble>
     requires { AreKept entries.now }
     ensures asks { Asks S.content S.control (fate_of result) store.old store.new }
+    ensures reads { Reads (fate_of result) (S.control store.old) (S.control store.new) }
     ensures found { IsTrue (S.content store.old).tells
         → IfOk result (λ found. FindsCopies (S.content store.old).objects entries.now found) }
 {
@@ -62,6 +63,7 @@ fn check_entry<S: Store>(
 ) -> Result<Option<Flaw>, Trouble>
     requires { IsKept entry.now }
     ensures asks { Asks S.content S.control (fate_of result) store.old store.new }
+    ensures reads { Reads (fate_of result) (S.control store.old) (S.control store.new) }
     ensures found { IsTrue (S.content store.old).tells
         → IfOk result (λ found. FindsCopy (S.content store.old).objects entry.now found) }
 {
@@ -79,6 +81,7 @@ fn check_copy<S: Store>(
 ) -> Result<Option<Flaw>, Trouble>
     requires { IsKept entry.now }
     ensures asks { Asks S.content S.control (fate_of result) store.old store.new }
+    ensures reads { Reads (fate_of result) (S.control store.old) (S.control store.new) }
     ensures found { IsTrue (S.content store.old).tells
         → IfOk result (λ found. FindsParts (S.content store.old).objects entry.now found) }
 {
@@ -92,6 +95,7 @@ fn check_copy<S: Store>(
 fn check_log<S: Store>(alloc: Global, entry: &Entry, store: &mut S) -> Result<LogFound, Trouble>
     requires { IsKept entry.now }
     ensures asks { Asks S.content S.control (fate_of result) store.old store.new }
+    ensures reads { Reads (fate_of result) (S.control store.old) (S.control store.new) }
     ensures placed { IfOk result (λ found. PlacesLog entry.now found) }
     ensures found { IsTrue (S.content store.old).tells
         → IfOk result (λ found. FindsLog (S.content store.old).objects entry.now found) }
@@ -118,6 +122,7 @@ fn check_parts<S: Store>(
     requires kept { IsKept entry.now }
     requires placed { ArePlaced entry.now.start batches.now }
     ensures asks { Asks S.content S.control (fate_of result) store.old store.new }
+    ensures reads { Reads (fate_of result) (S.control store.old) (S.control store.new) }
     ensures found { IsTrue (S.content store.old).tells → HasPlaced (S.content store.old).objects entry.now batches.now
         → IfOk result (λ found. FindsParts (S.content store.old).objects entry.now found) }
 {
@@ -143,6 +148,7 @@ fn check_part<S: Store>(
     requires part { part ≢ Log }
     requires own { part ≢ Pack }
     ensures asks { Asks S.content S.control (fate_of result) store.old store.new }
+    ensures reads { Reads (fate_of result) (S.control store.old) (S.control store.new) }
     ensures found { IsTrue (S.content store.old).tells → (log : List (List ℕ)) → batches.now ≡ placed_from 0 log
         → IfOk result (λ found. FindsPart (S.content store.old).objects entry.now log part found) }
 {

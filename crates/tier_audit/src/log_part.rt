@@ -1,18 +1,21 @@
 //! A copy's log, read batch by batch beside its entry.
 //!
 //! The batches go on as long as they may begin the log of the copy: they are consecutive from its first offset on, end
-//! within it, begin the epochs that its map has, and none is past its greatest timestamp. The log is right where they
-//! come to all that the entry says, at the end of the bytes.
+//! within it, each has the epoch of the copy's map at its base offset, and none is past the copy's greatest timestamp. The
+//! log is right where they come to all that the entry says, at the end of the bytes: also where each entry of the map
+//! begins with one of them.
 
-ghost use Rattle.std.specs.Prelude.{◌≡◌, ◌↔◌, ◌+◌, ◌≤◌, ◌<◌, ◌^◌, ℕ, List, IfOk, OnOk, IfSome, None, IsTrue, length, take};
+ghost use Rattle.std.specs.Prelude.{◌≡◌, ◌↔◌, ◌+◌, ◌≤◌, ◌<◌, ◌^◌, ℕ, List, IfOk, OnOk, IfSome, Some, None, IsTrue, length, take};
+ghost use Rattle.std.specs.Option.{ForSome};
 ghost use Rattle.std.specs.Int.{w32, w64, cast_unsigned};
 ghost use mathlib.Core.List.{IsPrefix};
+ghost use Rattle.log_terms.specs.Line.{epoch_at};
 ghost use Rattle.epoch_line.specs.Line.{IsLine, last_epoch};
 ghost use Rattle.segment_file.specs.Gathering.{with_epoch, later_ts};
 ghost use Rattle.segment_file.specs.Walk.{size_in};
 ghost use Rattle.segment_file.specs.Index.{placed_in};
 ghost use Rattle.remote_view.specs.Fold.{IsKept};
-ghost use Rattle.tier_audit.specs.Logs.{IsFront, IsNear, ComesNext, NothingNext, Gains, IsAll, ReadsLog, IsStopped};
+ghost use Rattle.tier_audit.specs.Logs.{IsFront, IsNear, BeginsMore, ComesNext, NothingNext, Gains, IsAll, ReadsLog, IsStopped};
 
 use record_batch::Head;
 use segment_file::{Found, Placed, walk};
@@ -22,13 +25,13 @@ use std::alloc::{AllocError, Global};
 /// The greatest size of a segment, and how far offsets reach past its base: below 2^31.
 const REACH: u64 = 1 << 31;
 
-/// What the batches up to a place come to: the place, the offset after them, how many of the map's epochs they begin,
-/// their greatest timestamp, and where each of them stands.
+/// What the batches up to a place come to: the place, the offset after them, how many of the map's entries they begin (none
+/// where they pass one over), their greatest timestamp, and where each of them stands.
 #[derive(Drop)]
 pub(crate) struct Front {
     pub at: u32,
     pub end: u64,
-    pub begun: usize,
+    pub begun: Option<usize>,
     pub max_ts: i64,
     pub batches: Vec<Placed>,
 }
@@ -80,14 +83,14 @@ fn nothing_yet(alloc: Global, entry: &Entry) -> Front
     Front {
         at: 0,
         end: entry.start,
-        begun: 0,
+        begun: Some(0),
         max_ts: -1,
         batches: Vec::new(alloc),
     }
 }
 
-/// The batch that stands next and may come there, and how many of the map's epochs have begun with it.
-fn next_batch(entry: &Entry, front: &Front, bytes: &[u8]) -> Option<(Placed, usize)>
+/// The batch that stands next and may come there, and how many of the map's entries have begun with it.
+fn next_batch(entry: &Entry, front: &Front, bytes: &[u8]) -> Option<(Placed, Option<usize>)>
     requires kept { IsKept entry.now }
     requires front { IsFront entry.now bytes.now front.now }
     ensures some { IfSome result (λ next. ComesNext entry.now bytes.now front.now next) }
@@ -100,10 +103,11 @@ fn next_batch(entry: &Entry, front: &Front, bytes: &[u8]) -> Option<(Placed, usi
         return None;
     }
     let epoch = head.leader_epoch.cast_unsigned();
-    match begun_with(entry.map.entries(), front.begun, epoch, front.end) {
-        Some(begun) => Some((place(&head, front), begun)),
-        None => None,
+    if !has_epoch(entry, front.end, epoch) {
+        return None;
     }
+    let begun = begun_after(entry.map.entries(), front.begun, epoch, front.end);
+    Some((place(&head, front), begun))
 }
 
 /// Whether the batch of a head begins where the front ends, ends within the copy and what a segment reaches, and isn't
@@ -125,6 +129,25 @@ fn is_near(entry: &Entry, front: &Front, head: &Head) -> bool
         return false;
     }
     head.max_ts <= entry.max_ts
+}
+
+/// Whether a copy's map has this epoch at an offset.
+fn has_epoch(entry: &Entry, offset: u64, epoch: u32) -> bool
+    ensures { IsTrue result ↔ (epoch_at entry.now.map offset ≡ Some epoch) }
+{
+    entry.map.epoch_at(offset) == Some(epoch)
+}
+
+/// How many entries of a map have begun with a batch of this epoch more, at this base, if none is passed over.
+fn begun_after(map: &[(u32, u64)], begun: Option<usize>, epoch: u32, base: u64) -> Option<usize>
+    requires line { IsLine map.now }
+    requires few { ForSome begun (λ n. n ≤ length map.now) }
+    ensures { BeginsMore map.now begun epoch base result }
+{
+    match begun {
+        Some(begun) => begun_with(map, begun, epoch, base),
+        None => None,
+    }
 }
 
 /// How many entries of a map have begun with a batch of this epoch more, at this start, where the map has it so.
@@ -184,7 +207,7 @@ fn place(head: &Head, front: &Front) -> Placed
 }
 
 /// Adds a batch.
-fn gain(front: &mut Front, batch: Placed, begun: usize) -> Result<(), AllocError>
+fn gain(front: &mut Front, batch: Placed, begun: Option<usize>) -> Result<(), AllocError>
     requires { batch.last < 2 ^ 62 }
     ensures { OnOk result (Gains front.old (batch, begun) front.new) }
 {
@@ -211,7 +234,7 @@ fn is_all(entry: &Entry, size: usize, front: &Front) -> bool
     if front.at == 0 || front.at as usize != size || front.at != entry.size {
         return false;
     }
-    if front.end != entry.end + 1 || front.begun != entry.map.entries().len() {
+    if front.end != entry.end + 1 || front.begun != Some(entry.map.entries().len()) {
         return false;
     }
     front.max_ts == entry.max_ts

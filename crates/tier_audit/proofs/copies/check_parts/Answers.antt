@@ -1,9 +1,12 @@
-use Rattle.std.proofs.Common.{◌∙◌, subst, IfOk}
+use Rattle.std.proofs.Common.{◌∙◌, subst, rules, IfOk}
+use Rattle.tier_base.specs.Device.{fate_of}
+use Rattle.tier_audit.specs.Asking.{Reads}
 use Rattle.tier_base.specs.declared.plain.Part.TheVariants.{Index, TimeIndex, Epochs}
 use Rattle.object_store.specs.Content.{Objects}
 use Rattle.tier_audit.specs.Whole.{Stands}
 use Rattle.tier_audit.specs.Copies.{FindsPart}
 use Rattle.tier_audit.proofs.Copying.{objects_same, tells_on, index_flaw, times_flaw, last_found}
+use Rattle.tier_audit.proofs.Asked.{reads_then}
 use Rattle.tier_audit.proofs.copies.check_parts.Goals as goal
 
 pub returns-in-Some-clause-found : goal.returns-in-Some-clause-found
@@ -41,3 +44,14 @@ returns-clause-found g c =
     let on' = tells_on (g.S.Store.content c.check_part.new.store) (g.S.Store.content c.check_part-2.new.store) keeps' on in
     last_found objects c.args.entry.now p.batches p.log index times c.check_part-3.result
     (subst (λ (o : Objects). IfOk c.check_part-3.result (λ found. FindsPart o c.args.entry.now p.batches Epochs found)) same' (c.check_part-3.ensures.found on' p.batches p.found_are))
+
+pub returns-in_err-flaw-2-clause-reads : goal.returns-in_err-flaw-2-clause-reads
+returns-in_err-flaw-2-clause-reads g c =
+    let reads : Reads (fate_of c.from_residual-in_err-flaw-2.result) (g.S.Store.control c.check_part.new.store) (g.S.Store.control c.check_part-2.new.store) = search rules in
+    reads_then _ _ _ _ c.in_ok-flaw.ensures.reads reads
+
+pub returns-in-Some-2-clause-reads : goal.returns-in-Some-2-clause-reads
+returns-in-Some-2-clause-reads g c = reads_then _ _ _ _ c.in_ok-flaw.ensures.reads c.in_ok-flaw-2.ensures.reads
+
+pub returns-clause-reads : goal.returns-clause-reads
+returns-clause-reads g c = reads_then _ _ _ _ (reads_then _ _ _ _ c.in_ok-flaw.ensures.reads c.in_ok-flaw-2.ensures.reads) c.check_part-3.ensures.reads

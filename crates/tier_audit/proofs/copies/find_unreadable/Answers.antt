@@ -1,9 +1,11 @@
-use Rattle.std.proofs.Common.{subst, Some}
-use Rattle.tier_base.specs.Device.{Went}
+use Rattle.std.proofs.Common.{subst, rules, Some}
+use Rattle.tier_base.specs.Device.{Went, fate_of}
+use Rattle.tier_audit.specs.Asking.{Reads}
 use Rattle.object_store.specs.Content.{Objects}
 use Rattle.tier_audit.specs.Whole.{IsReadable}
 use Rattle.tier_audit.specs.Copies.{FindsCopy}
-use Rattle.tier_audit.proofs.Copying.{objects_same, tells_on, asks_then, readable_more, first_unreadable}
+use Rattle.tier_audit.proofs.Copying.{objects_same, tells_on, asks_none, asks_then, readable_more, first_unreadable}
+use Rattle.tier_audit.proofs.Asked.{reads_then, reads_none, went_no_fault}
 use Rattle.tier_audit.proofs.copies.find_unreadable.Goals as goal
 
 pub returns-in-Some-clause-found : goal.returns-in-Some-clause-found
@@ -20,6 +22,7 @@ returns-in-Some-clause-found g c =
 
 pub loop-entry-preserved : goal.loop-entry-preserved
 loop-entry-preserved g c = record {
+  reads = reads_then Went _ _ _ c.loop-entry.invariant.reads c.in_ok-flaw.ensures.reads;
   asks = asks_then g.S.Store.content g.S.Store.control Went c.args.store.now c.loop-entry.store c.check_entry.new.store c.loop-entry.invariant.asks c.in_ok-flaw.ensures.asks;
   readable = λ tells.
       let entry = c.entry-item.result in
@@ -30,3 +33,18 @@ loop-entry-preserved g c = record {
       let one : IsReadable objects entry = subst (FindsCopy objects entry) c.in_default.is (subst (λ (o : Objects). FindsCopy o entry c.in_ok-flaw.field-0) same (c.in_ok-flaw.ensures.found on)) in
       readable_more objects c.args.entries.now c.loop-entry.entry-index entry c.loop-entry-test.true (c.loop-entry.invariant.readable tells) (subst (IsReadable objects) c.entry-item.is one);
 }
+
+pub loop-entry-init : goal.loop-entry-init
+loop-entry-init g c = record {
+  reads = reads_none Went (g.S.Store.control c.args.store.now) went_no_fault;
+  asks = asks_none g.S.Store.content g.S.Store.control c.args.store.now;
+  readable = λ tells. tt;
+}
+
+pub returns-in_err-flaw-clause-reads : goal.returns-in_err-flaw-clause-reads
+returns-in_err-flaw-clause-reads g c =
+    let reads : Reads (fate_of c.from_residual.result) (g.S.Store.control c.loop-entry.store) (g.S.Store.control c.check_entry.new.store) = search rules in
+    reads_then _ _ _ _ c.loop-entry.invariant.reads reads
+
+pub returns-in-Some-clause-reads : goal.returns-in-Some-clause-reads
+returns-in-Some-clause-reads g c = reads_then _ _ _ _ c.loop-entry.invariant.reads c.in_ok-flaw.ensures.reads

@@ -1,14 +1,15 @@
-use Rattle.std.proofs.Common.{◌≡◌, ◌≤◌, ◌∙◌, ap, sym, refl, rules, subst, length, drop, take, arith, true, ℕ, List, w32}
+use Rattle.std.proofs.Common.{◌≡◌, ◌≤◌, ◌∙◌, ap, sym, refl, rules, subst, length, drop, arith, true, Some, ℕ, List, w32}
 use Rattle.std.specs.Int.{cast_unsigned}
-use mathlib.Core.List.{IsPrefix}
 use Rattle.log_terms.specs.Batch.{epoch_of}
+use Rattle.log_terms.specs.Line.{epoch_at}
 use Rattle.record_batch.specs.Head.{head_of}
 use Rattle.segment_file.specs.Walk.{found_at}
-use Rattle.segment_file.specs.Gathering.{Tells, with_epoch}
+use Rattle.segment_file.specs.Gathering.{Tells}
 use Rattle.segment_file.specs.declared.walking.Found.TheVariants as found
 use Rattle.segment_file.proofs.Finding.{batch_found}
 use Rattle.segment_file.proofs.Standing.{AreBytes, same_head, bytes_drop, front_bytes}
 use Rattle.segment_file.proofs.Telling.{tells}
+use Rattle.tier_audit.specs.Logs.{BeginsMore}
 use Rattle.tier_audit.proofs.Fronts.{near_by, comes_next}
 use Rattle.tier_audit.proofs.log_part.next_batch.Goals as goal
 
@@ -33,23 +34,23 @@ returns-then-not-is_near-clause-none c =
     let sure : c.is_near.result ≡ true = c.is_near.ensures.1 near in
     cc (sure, c.if-not-is_near.true)
 
-pub returns-in-Some-clause-some : goal.returns-in-Some-clause-some
-returns-in-Some-clause-some c =
+pub returns-clause-some : goal.returns-clause-some
+returns-clause-some c =
     let bytes = c.args.bytes.now in
     let clean : AreBytes bytes = λ i. let b = c.type_inv.bytes i in omega (arith, b) in
     let head = c.in-Batch.head in
     let map = c.args.entry.now.map in
     let yes : c.is_near.result ≡ true = search rules in
     let epoch : c.cast_unsigned-epoch.result ≡ cast_unsigned w32 head.leader_epoch = search rules in
-    let few : c.in-Some.begun ≤ length c.entries.result.now = c.in-Some.ensures.some.0 in
-    let begun = c.in-Some.ensures.some.1 in
-    comes_next c.args.entry.now bytes c.args.front.now head c.place.result c.in-Some.begun clean c.requires.front.inside (sym c.walk.ensures ∙ c.in-Batch.is)
-    (c.is_near.ensures.0 yes) c.place.ensures (subst (λ (xs : List (ℕ × ℕ)). c.in-Some.begun ≤ length xs) c.entries.ensures.entries few)
-    (ap (λ n. with_epoch (take c.args.front.now.begun map) n c.args.front.now.end) (sym epoch)
-    ∙ subst (λ (xs : List (ℕ × ℕ)). with_epoch (take c.args.front.now.begun xs) c.cast_unsigned-epoch.result c.args.front.now.end ≡ take c.in-Some.begun xs) c.entries.ensures.entries begun)
+    let own : c.has_epoch.result ≡ true = search rules in
+    let has : epoch_at map c.args.front.now.end ≡ Some c.cast_unsigned-epoch.result = c.has_epoch.ensures.0 own in
+    let begun = subst (λ (xs : List (ℕ × ℕ)). BeginsMore xs c.args.front.now.begun c.cast_unsigned-epoch.result c.args.front.now.end c.begun_after-begun.result) c.entries.ensures.entries c.begun_after-begun.ensures in
+    comes_next c.args.entry.now bytes c.args.front.now head c.place.result c.begun_after-begun.result clean c.requires.front.inside (sym c.walk.ensures ∙ c.in-Batch.is)
+    (c.is_near.ensures.0 yes) c.place.ensures (has ∙ ap (λ (n : ℕ). Some n) epoch)
+    (subst (λ (n : ℕ). BeginsMore map c.args.front.now.begun n c.args.front.now.end c.begun_after-begun.result) epoch begun)
 
-pub returns-in-None-clause-none : goal.returns-in-None-clause-none
-returns-in-None-clause-none c =
+pub returns-then-not-has_epoch-clause-none : goal.returns-then-not-has_epoch-clause-none
+returns-then-not-has_epoch-clause-none c =
     λ none batch more parts is may.
     let bytes = c.args.bytes.now in
     let at = c.args.front.now.at in
@@ -62,7 +63,6 @@ returns-in-None-clause-none c =
     let t : Tells batch head = subst (Tells batch) same (tells batch clean' is) in
     let epoch : c.cast_unsigned-epoch.result ≡ cast_unsigned w32 head.leader_epoch = search rules in
     let told : epoch_of batch ≡ c.cast_unsigned-epoch.result = sym t.epoch ∙ sym epoch in
-    let prefix : IsPrefix (with_epoch (take c.args.front.now.begun map) c.cast_unsigned-epoch.result c.args.front.now.end) map =
-    subst (λ n. IsPrefix (with_epoch (take c.args.front.now.begun map) n c.args.front.now.end) map) told
-    (subst (λ n. IsPrefix (with_epoch (take c.args.front.now.begun map) (epoch_of batch) n) map) may.begins may.epochs) in
-    c.in-None.ensures.none refl (subst (λ (xs : List (ℕ × ℕ)). IsPrefix (with_epoch (take c.args.front.now.begun xs) c.cast_unsigned-epoch.result c.args.front.now.end) xs) (sym c.entries.ensures.entries) prefix)
+    let own : epoch_at map c.args.front.now.end ≡ Some c.cast_unsigned-epoch.result = ap (epoch_at map) (sym may.begins) ∙ may.epochs ∙ ap (λ (n : ℕ). Some n) told in
+    let sure : c.has_epoch.result ≡ true = c.has_epoch.ensures.1 own in
+    cc (sure, c.if-not-has_epoch.true)
