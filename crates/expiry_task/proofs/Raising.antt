@@ -73,12 +73,12 @@ own_within copying local offset known closed k s e = by (copying || nat_lt offse
     by false e = passed_within offset known closed k s e
 
 -- what holds of each in two lists holds of each in both together
-of_both : (P : ℕ → Type 0) (xs ys : List ℕ) → ((k s : ℕ) → slice_get xs k ≡ Some s → P s) → ((k s : ℕ) → slice_get ys k ≡ Some s → P s) → (k s : ℕ) → slice_get (xs ++ ys) k ≡ Some s → P s
+pub of_both : (P : ℕ → Type 0) (xs ys : List ℕ) → ((k s : ℕ) → slice_get xs k ≡ Some s → P s) → ((k s : ℕ) → slice_get ys k ≡ Some s → P s) → (k s : ℕ) → slice_get (xs ++ ys) k ≡ Some s → P s
 of_both P [] ys left right k s e = right k s e
 of_both P (x ∷ xs) ys left right zero s e = left zero s e
 of_both P (x ∷ xs) ys left right (suc k) s e = of_both P xs ys (λ k s e. left (suc k) s e) right k s e
 
-first_of : (P : ℕ → Type 0) (ends : List ℕ) → ((k s : ℕ) → slice_get ends k ≡ Some s → P s) → (count s : ℕ) → end_of_first count ends ≡ Some s → P s
+pub first_of : (P : ℕ → Type 0) (ends : List ℕ) → ((k s : ℕ) → slice_get ends k ≡ Some s → P s) → (count s : ℕ) → end_of_first count ends ≡ Some s → P s
 first_of P ends each zero s e = cc
 first_of P ends each (suc count) s e = each count s e
 

@@ -1,12 +1,14 @@
-//! A law of retention, the contract of a function that does nothing.
+//! Laws of retention, each the contract of a function that does nothing.
 
-ghost use Rattle.std.specs.Prelude.{◌≡◌, ◌<◌, ◌≤◌, ℕ, ℤ, Bool, List, Some};
+ghost use Rattle.std.specs.Prelude.{◌≡◌, ◌<◌, ◌≤◌, ℕ, ℤ, Bool, true, List, Some};
+ghost use Rattle.std.specs.Option.{IsSome};
+ghost use Rattle.std.specs.List.{AllByRecursion};
 ghost use Rattle.epoch_line.specs.Line.{IsLine};
 ghost use Rattle.segment_file.specs.Growing.{Grown};
 ghost use Rattle.tier_base.specs.declared.plain.Keep.{Keep};
 ghost use Rattle.segment_meta.specs.declared.note.Entry.{Entry};
 ghost use Rattle.remote_view.specs.Fold.{AreKept, AreDistinct};
-ghost use Rattle.remote_find.specs.Pieces.{chain};
+ghost use Rattle.remote_find.specs.Pieces.{piece_at, covered_to, chain};
 ghost use Rattle.expiry_task.specs.Rule.{end_from, uncopied, raised_to};
 
 /// Where retention moves a log start, it rises, and to the known mark at most.
@@ -17,4 +19,20 @@ pub fn a_log_start_rises_up_to_the_known_mark()
         → raised_to entries (chain entries line log_end start known)
         (uncopied copying local (end_from start (chain entries line log_end start known)) known closed) rest now keep ≡ Some s
         → (start < s) × (s ≤ known) }
+{}
+
+/// While segments are copied, a log start moves no further than the pieces reach: each offset that goes is in a finished copy.
+#[tactic(auto, using(crate::proofs::Copied::raised_copied, crate::proofs::Copied::gone_copied))]
+pub fn only_what_is_copied_goes()
+    ensures reach { (entries : List Entry) (line : List (ℕ × ℕ)) (log_end start known local : ℕ) (closed : List Grown)
+        (rest : ℕ) (now : ℤ) (keep : Keep) (s : ℕ) → AreKept entries → AreDistinct entries → IsLine line
+        → raised_to entries (chain entries line log_end start known)
+        (uncopied true local (end_from start (chain entries line log_end start known)) known closed) rest now keep ≡ Some s
+        → s ≤ covered_to entries line log_end start }
+    ensures each { (entries : List Entry) (line : List (ℕ × ℕ)) (log_end start known local : ℕ) (closed : List Grown)
+        (rest : ℕ) (now : ℤ) (keep : Keep) (s offset : ℕ) → AreKept entries → AreDistinct entries → IsLine line
+        → AllByRecursion (λ begin. begin.1 ≤ log_end) line
+        → raised_to entries (chain entries line log_end start known)
+        (uncopied true local (end_from start (chain entries line log_end start known)) known closed) rest now keep ≡ Some s
+        → start ≤ offset → offset < s → IsSome (piece_at entries line log_end offset) }
 {}

@@ -9,7 +9,7 @@ mod rule;
 mod turn;
 mod turns;
 
-pub use laws::a_log_start_rises_up_to_the_known_mark;
+pub use laws::{a_log_start_rises_up_to_the_known_mark, only_what_is_copied_goes};
 pub use rule::{Uncopied, end_behind, end_from, find_uncopied, raised_to, rest_behind};
 pub use turn::{Doomed, ExpiryTurn, Next};
 pub use turns::expiry_turn;

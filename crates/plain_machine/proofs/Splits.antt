@@ -1,5 +1,8 @@
 -- Where an offset splits a log, and where a log ends.
-use Rattle.std.proofs.Common.{◌≡◌, ap, ℕ, zero, suc, ◌+◌, ◌-◌, ◌<◌, ◌≤◌, List, [], ◌∷◌, take, drop, length, get_or, arith, refl, ◌∙◌}
+use Rattle.std.proofs.Common.{◌≡◌, ap, ℕ, zero, suc, ◌+◌, ◌-◌, ◌<◌, ◌≤◌, List, [], ◌∷◌, take, drop, length, get_or, true, false, nat_lt, arith, refl, ◌∙◌}
+use Rattle.std.specs.List.Sorted.{IsNonDecreasingBy, IsPartitionPoint}
+use Rattle.std.proofs.lemmas.Bool.{ltb-true, ltb-false}
+use Rattle.std.proofs.lemmas.List.Sorted.{IsNonDecreasingBy-from_default}
 use Rattle.log_terms.specs.Batch.{last_of}
 use Rattle.log_terms.specs.Log.{IsConsecutive, end_from, up_to, from_offset}
 use Rattle.log_terms.proofs.Logs.{lt_true, lt_false}
@@ -51,11 +54,6 @@ split_after n (v ∷ log) (suc count) l b a =
     let r = split_after n log count (omega arith) (λ k below. b (suc k) (omega arith)) (λ below. a (omega arith)) in
     rw (lt_true (last_of v) n (b 0 (omega arith))) r
 
--- all up to a batch that ends below n do
-pub more_below : (n : ℕ) (log : List (List ℕ)) (middle : ℕ) → IsConsecutive 0 log → middle < length log
-    → last_of (get_or log middle []) < n → AreBelow n log (middle + 1)
-more_below n log middle h b l = λ k below. let r = last_rises 0 log k middle h (omega arith) b in omega (arith, r, l)
-
 -- a log ends after its last batch
 pub end_last : (n : ℕ) (log : List (List ℕ)) (d : List ℕ) → 0 < length log
     → end_from n log ≡ last_of (get_or log (length log - 1) d) + 1
@@ -72,7 +70,21 @@ get_any [] k d e b = absurd (omega arith)
 get_any (v ∷ log) zero d e b = refl
 get_any (v ∷ log) (suc k) d e b = get_any log k d e (omega arith)
 
--- where a batch that was read ends
-pub at_place : (log : List (List ℕ)) (k : ℕ) (v w : List ℕ) → k < length log → v ≡ get_or log k v → w ≡ v
-    → last_of w ≡ last_of (get_or log k [])
-at_place log k v w b is same = ap last_of (same ∙ (is ∙ get_any log k v [] b))
+-- no batch ends below the one before it
+pub lasts_rise : (log : List (List ℕ)) → IsConsecutive 0 log → IsNonDecreasingBy last_of log
+lasts_rise log h = IsNonDecreasingBy-from_default last_of log [] (λ i j le b. last_rises 0 log i j h le b)
+
+-- the place where the test fails first is the one that the batches part at
+pub point_before : (n : ℕ) (log : List (List ℕ)) (count : ℕ) → count ≤ length log
+    → IsPartitionPoint (λ v. nat_lt (last_of v) n ≡ true) (λ v. nat_lt (last_of v) n ≡ false) log count
+    → up_to n log ≡ take count log
+point_before n log count l h =
+    split_before n log count l (λ k b. ltb-true (last_of (get_or log k [])) n (h.0 k [] (omega arith) b))
+    (λ b. ltb-false (last_of (get_or log count [])) n (h.1 count [] (omega arith) b))
+
+pub point_after : (n : ℕ) (log : List (List ℕ)) (count : ℕ) → count ≤ length log
+    → IsPartitionPoint (λ v. nat_lt (last_of v) n ≡ true) (λ v. nat_lt (last_of v) n ≡ false) log count
+    → from_offset n log ≡ drop count log
+point_after n log count l h =
+    split_after n log count l (λ k b. ltb-true (last_of (get_or log k [])) n (h.0 k [] (omega arith) b))
+    (λ b. ltb-false (last_of (get_or log count [])) n (h.1 count [] (omega arith) b))

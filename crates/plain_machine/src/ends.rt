@@ -37,17 +37,7 @@ pub(crate) fn count_up_to(n: u64, log: &[Bytes]) -> usize
     ensures before { up_to n log.now ≡ take result log.now }
     ensures after { from_offset n log.now ≡ drop result log.now }
 {
-    let mut low = 0;
-    let mut high = log.len();
-    while low < high {
-        let middle = low + (high - low) / 2;
-        if last_offset(log[middle].as_slice()) < u128::from(n) {
-            low = middle + 1;
-        } else {
-            high = middle;
-        }
-    }
-    low
+    log.partition_point(|batch| last_offset(batch.as_slice()) < u128::from(n))
 }
 
 /// Whether the registry's epoch is above this one.

@@ -1,34 +1,15 @@
-use Rattle.std.proofs.Common.{◌≡◌, ◌+◌, ◌-◌, ◌/◌, ℕ, subst, arith}
-use Rattle.plain_machine.proofs.Splits.{IsAbove, split_before, split_after, more_below, at_place}
+use Rattle.std.proofs.Common.{rules, nat_lt}
+use Rattle.std.proofs.lemmas.List.Sorted.{IsPartitionPoint-from_clause, IsPartitionedBy-ltb}
+use Rattle.log_terms.specs.Batch.{last_of}
+use Rattle.plain_machine.proofs.Splits.{lasts_rise, point_before, point_after}
 use Rattle.plain_machine.proofs.ends.count_up_to.Goals as goal
 
 pub returns : goal.returns
 returns c =
-    let e : c.loop-low.high ≡ c.loop-low.low = omega arith in
-    let above = subst (λ (z : ℕ). IsAbove c.args.n c.args.log.now z) e c.loop-low.invariant.above in
+    let parted = IsPartitionedBy-ltb last_of c.args.log.now c.args.n (lasts_rise c.args.log.now c.requires) in
+    let point = IsPartitionPoint-from_clause (λ v. nat_lt (last_of v) c.args.n) _ _ c.partition_point.ensures.partitioned parted (λ a r q k. search rules) in
     record {
-      within = omega arith;
-      before = split_before c.args.n c.args.log.now c.loop-low.low (omega arith) c.loop-low.invariant.below above;
-      after = split_after c.args.n c.args.log.now c.loop-low.low (omega arith) c.loop-low.invariant.below above;
+      within = c.partition_point.ensures.bound;
+      before = point_before c.args.n c.args.log.now c.partition_point.result c.partition_point.ensures.bound point;
+      after = point_after c.args.n c.args.log.now c.partition_point.result c.partition_point.ensures.bound point;
     }
-
-pub loop-low-preserved : goal.loop-low-preserved
-loop-low-preserved c = record {
-  order = omega arith;
-  within = omega arith;
-  below = c.loop-low.invariant.below;
-  above = λ l. let is = at_place c.args.log.now (c.loop-low.low + (c.loop-low.high - c.loop-low.low) / 2) c.index-log-middle.result c.as_slice.result.now l c.index-log-middle.is c.as_slice.ensures in
-      omega (arith, is);
-}
-
-pub loop-low-preserved-then-last_offset-from : goal.loop-low-preserved-then-last_offset-from
-loop-low-preserved-then-last_offset-from c = record {
-  order = omega arith;
-  within = omega arith;
-  below = let is = at_place c.args.log.now (c.loop-low.low + (c.loop-low.high - c.loop-low.low) / 2) c.index-log-middle.result c.as_slice.result.now (omega arith) c.index-log-middle.is c.as_slice.ensures in
-      more_below c.args.n c.args.log.now (c.loop-low.low + (c.loop-low.high - c.loop-low.low) / 2) c.requires (omega arith) (omega (arith, is));
-  above = c.loop-low.invariant.above;
-}
-
-pub loop-low-init : goal.loop-low-init
-loop-low-init c = record { order = omega arith; within = omega arith; below = λ k b. absurd (omega arith); above = λ l. absurd (omega arith) }
