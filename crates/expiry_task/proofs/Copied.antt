@@ -65,8 +65,8 @@ raised_copied entries line log_end start known local closed rest now keep s kept
     let pieces = chain entries line log_end start known in
     first_of (λ n. n ≤ covered_to entries line log_end start) (all_ends pieces [])
     (of_both (λ n. n ≤ covered_to entries line log_end start) (map (λ (p : Piece). p.to) pieces) []
-      (ends_reached (piece_at entries line log_end) on known (log_end - start) start)
-      (λ k s e. cc))
+    (ends_reached (piece_at entries line log_end) on known (log_end - start) start)
+    (λ k s e. cc))
     (start_due (all_items entries pieces []) rest now keep) s e
 
 pub gone_copied : (entries : List Entry) (line : List (ℕ × ℕ)) (log_end start known local : ℕ) (closed : List Grown) (rest : ℕ) (now : ℤ) (keep : Keep) (s offset : ℕ)

@@ -22,7 +22,6 @@ pub fn a_log_start_rises_up_to_the_known_mark()
 {}
 
 /// While segments are copied, a log start moves no further than the pieces reach: each offset that goes is in a finished copy.
-#[tactic(auto, using(crate::proofs::Copied::raised_copied, crate::proofs::Copied::gone_copied))]
 pub fn only_what_is_copied_goes()
     ensures reach { (entries : List Entry) (line : List (ℕ × ℕ)) (log_end start known local : ℕ) (closed : List Grown)
         (rest : ℕ) (now : ℤ) (keep : Keep) (s : ℕ) → AreKept entries → AreDistinct entries → IsLine line
