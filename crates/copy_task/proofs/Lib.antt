@@ -1,2 +1,4 @@
 pub mod Mapping
+pub mod Short
+pub mod Splitting
 pub mod Telling

@@ -53,7 +53,7 @@ long_batch batch ok = go (checked batch) refl ok
     go (Err why) e ok = absurd (cc)
 
 -- a batch has 61 bytes at least
-many_bytes : (bs : List (List ℕ)) → AllByRecursion (λ (batch : List ℕ). IsOk (checked batch)) bs → 61 * length bs ≤ length (joined bs)
+pub many_bytes : (bs : List (List ℕ)) → AllByRecursion (λ (batch : List ℕ). IsOk (checked batch)) bs → 61 * length bs ≤ length (joined bs)
 many_bytes [] ok = omega arith
 many_bytes (b ∷ bs) ok =
     let one = long_batch b ok.0 in

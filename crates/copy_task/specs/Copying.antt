@@ -9,12 +9,16 @@ use Rattle.log_terms.specs.Line.{line_of}
 use Rattle.log_terms.specs.Log.{joined, end_from}
 use Rattle.segment_file.specs.Segment.{IsSegment, greatest_ts}
 use Rattle.segment_file.specs.Closed.{Whole}
-use Rattle.segment_bundle.specs.Parts.{Parts, parts_of, layout_of, can_pack}
+use Rattle.segment_bundle.specs.Parts.{Parts, Bundled, parts_of, layout_of, can_pack}
 use Rattle.object_store.specs.Place.{keys_of}
 use Rattle.segment_meta.specs.declared.note.Entry.{Entry}
 use Rattle.segment_meta.specs.declared.note.Note.{Note}
 use Rattle.segment_meta.specs.declared.note.Note.TheVariants.{Add, Update}
 use Rattle.meta_log.specs.declared.teller.Teller.{Teller}
+use Rattle.copy_task.specs.Source.{batches_in}
+
+-- A copy keeps a segment, its log's line and the interval of its indexes. What it puts is a function of these: whether the bundle
+-- has been made yet, and by whom, is nowhere seen.
 
 -- a closed segment under a remote id, with the line of its log and the interval of its indexes; packed, it gets one object
 pub record Copied : Type 0 where
@@ -37,6 +41,25 @@ pub record IsCopied (copy : Copied) : Type 0 where
   pub epochs_are : copy.segment.epochs ≡ line_of batches
   pub parts_are : copy.parts ≡ parts_of batches copy.line copy.interval
   pub packs : copy.packed ≡ true → can_pack copy.parts ≡ true
+
+-- the copy of a closed segment: its parts are those of the batches that the segment's bytes are
+abbrev pub copied_of : SegmentId → PartitionId → Bool → Whole → List (ℕ × ℕ) → ℕ → Copied
+copied_of id partition packed segment line interval = record {
+  id = id;
+  partition = partition;
+  packed = packed;
+  segment = segment;
+  line = line;
+  interval = interval;
+  parts = parts_of (batches_in segment.bytes) line interval;
+}
+
+-- a bundle is of the copy's segment, line and interval
+pub record IsBundleOf (copy : Copied) (bundle : Bundled) : Type 0 where
+  pub source_is : bundle.source ≡ copy.segment.bytes
+  pub line_is : bundle.line ≡ copy.line
+  pub interval_is : bundle.interval ≡ copy.interval
+  pub parts_are : bundle.parts ≡ copy.parts
 
 -- the keys of its objects
 abbrev pub keys : Copied → List ObjectKey

@@ -1,3 +1,4 @@
+pub mod Source
 pub mod Copying
 pub mod Candidate
 pub mod Turns

@@ -1,9 +1,9 @@
 //! A segment that is copied.
 
-ghost use Rattle.std.specs.Prelude.{◌≡◌, ◌&&◌, IfOk, slice_get};
+ghost use Rattle.std.specs.Prelude.{◌≡◌, ◌&&◌, true, IfOk, IfSome, slice_get};
 ghost use Rattle.segment_meta.specs.Rules.{IsNote};
 ghost use Rattle.segment_bundle.specs.Parts.{part_in, can_pack};
-ghost use Rattle.copy_task.specs.Copying.{Copied, keys, custom_of, start_note, finish_note};
+ghost use Rattle.copy_task.specs.Copying.{Copied, IsBundleOf, keys, custom_of, start_note, finish_note};
 
 use bytes::Bytes;
 use epoch_line::Line;
@@ -16,40 +16,32 @@ use std::alloc::{AllocError, Global};
 use std::marker::Model;
 use tier_base::{Blob, Part, PartitionId, SegmentId, State};
 
-/// A closed segment under a remote id, and what its objects hold. Its bytes are shared, not copied.
+/// The most entries of a line whose text has room in any layout: a line of text has 32 bytes at most, and 32 * 2^26 + 14 < 2^32.
+const SHORT_LINE: usize = 1 << 26;
+
+/// A closed segment under a remote id, and what its objects hold. The bundle of its parts is made when a turn first needs it, or is
+/// given by who made it elsewhere; from then on it is kept. No clause tells which. The segment's bytes are shared, not copied.
 #[derive(Drop)]
 pub struct Copying {
     id: SegmentId,
     partition: PartitionId,
     packed: bool,
     segment: Closed,
-    bundle: Bundle,
+    line: Line,
+    interval: u32,
+    bundle: Option<Bundle>,
 }
 
 impl Model for Copying {
-    ghost use Rattle.copy_task.specs.Copying.{Copied, IsCopied};
+    ghost use Rattle.std.specs.Prelude.{IfSome};
+    ghost use Rattle.copy_task.specs.Copying.{Copied, copied_of, IsCopied, IsBundleOf};
 
     ghost Value = { Copied };
 
-    ghost view = { λ c. record {
-      id = c.id;
-      partition = c.partition;
-      packed = c.packed;
-      segment = c.segment;
-      line = c.bundle.line;
-      interval = c.bundle.interval;
-      parts = c.bundle.parts;
-    } };
+    ghost view = { λ c. copied_of c.id c.partition c.packed c.segment c.line c.interval };
 
-    ghost invariant = { λ c. IsCopied (record {
-      id = c.id;
-      partition = c.partition;
-      packed = c.packed;
-      segment = c.segment;
-      line = c.bundle.line;
-      interval = c.bundle.interval;
-      parts = c.bundle.parts;
-    }) };
+    ghost invariant = { λ c. IsCopied (copied_of c.id c.partition c.packed c.segment c.line c.interval)
+        × IfSome c.bundle (IsBundleOf (copied_of c.id c.partition c.packed c.segment c.line c.interval)) };
 }
 
 impl Copying {
@@ -71,15 +63,117 @@ impl Copying {
         ensures interval { IfOk result (λ copy. copy.interval ≡ interval) }
         ensures packed { IfOk result (λ copy. copy.packed ≡ (packed && can_pack copy.parts)) }
     {
-        let bundle = Bundle::of(alloc, &segment, line, interval)?;
         let _whole = segment.bytes();
-        Ok(Copying {
+        let mut copying = Copying {
             id,
             partition,
-            packed: packed && bundle.layout().is_some(),
+            packed: false,
             segment,
-            bundle,
-        })
+            line: line.copy(alloc)?,
+            interval,
+            bundle: None,
+        };
+        if packed && copying.packs(alloc)? {
+            copying.pack();
+        }
+        Ok(copying)
+    }
+
+    /// Whether the parts can be packed. Those of a short line can. Of another one the length of the text decides, so the bundle is made
+    /// at once.
+    fn packs(&mut self, alloc: Global) -> Result<bool, AllocError>
+        ensures packs { IfOk result (λ packs. packs ≡ can_pack self.old.parts) }
+        ensures same { self.new ≡ self.old }
+    {
+        if self.line.entries().len() <= SHORT_LINE {
+            return Ok(true);
+        }
+        let bundle = self.take_bundle(alloc)?;
+        let packs = bundle.layout().is_some();
+        self.bundle = Some(bundle);
+        Ok(packs)
+    }
+
+    /// Packs the segment.
+    fn pack(&mut self)
+        requires { can_pack self.old.parts ≡ true }
+        ensures { self.new ≡ record self.old { packed = true } }
+    {
+        self.packed = true;
+    }
+
+    /// Takes the bundle out, which is made where there is none yet.
+    fn take_bundle(&mut self, alloc: Global) -> Result<Bundle, AllocError>
+        ensures bundle { IfOk result (IsBundleOf self.old) }
+        ensures same { self.new ≡ self.old }
+    {
+        match self.bundle.take() {
+            Some(bundle) => Ok(bundle),
+            None => Bundle::of(alloc, &self.segment, &self.line, self.interval),
+        }
+    }
+
+    /// Lends the segment, until there is a bundle of it.
+    pub fn closed(&self) -> Option<&Closed>
+        ensures { IfSome result (λ closed. closed.now ≡ self.now.segment) }
+    {
+        match &self.bundle {
+            Some(_) => None,
+            None => Some(&self.segment),
+        }
+    }
+
+    /// Lends the line of its log, until there is a bundle of the segment.
+    pub fn line(&self) -> Option<&Line>
+        ensures { IfSome result (λ line. line.now ≡ self.now.line) }
+    {
+        match &self.bundle {
+            Some(_) => None,
+            None => Some(&self.line),
+        }
+    }
+
+    /// The interval of its indexes, in bytes.
+    pub fn interval(&self) -> u32
+        ensures { result ≡ self.now.interval }
+    {
+        self.interval
+    }
+
+    /// Keeps a bundle that was made elsewhere, where there is none yet and it is of this segment, its line and its interval. It is
+    /// dropped otherwise.
+    pub fn give(self, bundle: Bundle) -> Copying
+        ensures { result ≡ self }
+    {
+        if self.bundle.is_some() || !self.is_of(&bundle) {
+            return self;
+        }
+        self.with_bundle(bundle)
+    }
+
+    /// Keeps a bundle.
+    fn with_bundle(mut self, bundle: Bundle) -> Copying
+        requires { IsBundleOf self bundle }
+        ensures { result ≡ self }
+    {
+        self.bundle = Some(bundle);
+        self
+    }
+
+    /// Whether a bundle is of this segment, its line and its interval.
+    fn is_of(&self, bundle: &Bundle) -> bool
+        ensures { result ≡ true → IsBundleOf self.now bundle.now }
+    {
+        if bundle.interval() != self.interval {
+            return false;
+        }
+        if !same_line(bundle.line(), &self.line) {
+            return false;
+        }
+        if !same_bytes(bundle.source(), self.segment.bytes()) {
+            return false;
+        }
+        true
     }
 
     /// The id under which the segment is copied.
@@ -122,11 +216,15 @@ impl Copying {
         }
     }
 
-    /// The bytes of a part.
-    pub fn part(&self, alloc: Global, part: Part) -> Result<Bytes, AllocError>
-        ensures { IfOk result (λ bytes. bytes ≡ part_in self.now.parts part) }
+    /// The bytes of a part. From then on the bundle is kept.
+    pub fn part(&mut self, alloc: Global, part: Part) -> Result<Bytes, AllocError>
+        ensures bytes { IfOk result (λ bytes. bytes ≡ part_in self.old.parts part) }
+        ensures same { self.new ≡ self.old }
     {
-        self.bundle.part(alloc, part)
+        let bundle = self.take_bundle(alloc)?;
+        let bytes = bundle.part(alloc, part);
+        self.bundle = Some(bundle);
+        bytes
     }
 
     /// What a broker tells of the copy as it starts.
@@ -154,9 +252,10 @@ impl Copying {
     }
 
     /// What a broker tells of the copy once its objects stand.
-    pub fn finish_note(&self, alloc: Global, teller: Teller) -> Result<Note, AllocError>
-        ensures note { IfOk result (λ note. note ≡ finish_note self.now teller) }
+    pub fn finish_note(&mut self, alloc: Global, teller: Teller) -> Result<Note, AllocError>
+        ensures note { IfOk result (λ note. note ≡ finish_note self.old teller) }
         ensures rules { IfOk result IsNote }
+        ensures same { self.new ≡ self.old }
     {
         Ok(Note::Update {
             id: self.id,
@@ -168,12 +267,33 @@ impl Copying {
     }
 
     /// The custom metadata of what is put.
-    fn custom(&self, alloc: Global) -> Result<Option<Blob>, AllocError>
-        ensures { IfOk result (λ custom. custom ≡ custom_of self.now) }
+    fn custom(&mut self, alloc: Global) -> Result<Option<Blob>, AllocError>
+        ensures custom { IfOk result (λ custom. custom ≡ custom_of self.old) }
+        ensures same { self.new ≡ self.old }
     {
-        match self.bundle.layout() {
-            Some(layout) if self.packed => Ok(Some(layout.to_bytes(alloc)?)),
-            _ => Ok(None),
+        if !self.packed {
+            return Ok(None);
+        }
+        let bundle = self.take_bundle(alloc)?;
+        let layout = bundle.layout();
+        self.bundle = Some(bundle);
+        match layout {
+            Some(layout) => Ok(Some(layout.to_bytes(alloc)?)),
+            None => unreachable!(),
         }
     }
+}
+
+/// Whether two lines have the same entries.
+fn same_line(line: &Line, other: &Line) -> bool
+    ensures { result ≡ true → line.now ≡ other.now }
+{
+    line.entries() == other.entries()
+}
+
+/// Whether two pieces have the same bytes.
+fn same_bytes(bytes: &Bytes, other: &Bytes) -> bool
+    ensures { result ≡ true → bytes.now ≡ other.now }
+{
+    bytes.as_slice() == other.as_slice()
 }

@@ -18,16 +18,17 @@ use view_refresh::refresh;
 /// Takes the next turn of a copy.
 pub fn copy_turn<S: Store, M: MetaLog>(
     alloc: Global,
-    copying: &Copying,
+    copying: &mut Copying,
     next: Next,
     teller: Teller,
     view: &mut View,
     store: &mut S,
     meta: &mut M,
 ) -> Result<CopyTurn, AllocError>
-    ensures { CopyRow S.content S.control M.content M.control copying.now teller next result
+    ensures row { CopyRow S.content S.control M.content M.control copying.old teller next result
         (record { view = view.old; store = store.old; meta = meta.old })
         (record { view = view.new; store = store.new; meta = meta.new }) }
+    ensures same { copying.new ≡ copying.old }
 {
     match next {
         Next::Start => start(alloc, copying, teller, meta),
@@ -58,12 +59,13 @@ fn start<M: MetaLog>(
 /// Puts an object, where one has this number.
 fn put<S: Store>(
     alloc: Global,
-    copying: &Copying,
+    copying: &mut Copying,
     n: u8,
     store: &mut S,
 ) -> Result<CopyTurn, AllocError>
-    ensures { PutRow S.content S.control copying.now n (slice_get (keys copying.now) n) result
+    ensures row { PutRow S.content S.control copying.old n (slice_get (keys copying.old) n) result
         store.old store.new }
+    ensures same { copying.new ≡ copying.old }
 {
     let Some(key) = copying.key(n) else {
         return Ok(CopyTurn::Goes(Next::Finish));
@@ -89,11 +91,12 @@ fn put_at(copying: &Copying, n: u8) -> Next
 /// Tells the metadata log that a copy is whole.
 fn finish<M: MetaLog>(
     alloc: Global,
-    copying: &Copying,
+    copying: &mut Copying,
     teller: Teller,
     meta: &mut M,
 ) -> Result<CopyTurn, AllocError>
-    ensures { FinishRow M.content M.control copying.now teller result meta.old meta.new }
+    ensures row { FinishRow M.content M.control copying.old teller result meta.old meta.new }
+    ensures same { copying.new ≡ copying.old }
 {
     let note = copying.finish_note(alloc, teller)?;
     match meta.append(&note) {

@@ -18,6 +18,7 @@ use disk_model::Disk;
 use epoch_line::Line;
 use partition_seen::{Begun, LocalStart, Taken, Turned};
 use plain_log::{Answer, Command, Order, Registry, Role, Which};
+use record_batch::Checked;
 use std::alloc::{AllocError, Global};
 use tier_base::Row;
 
@@ -131,9 +132,15 @@ impl<D: Disk> Held<D> {
         }
     }
 
-    /// Carries out the first turn of a command, where the remote tier has no part in it.
+    /// Carries out the first turn of a command, where the remote tier has no part in it. What is known of a check is used where the
+    /// command's bytes are those that were checked.
     #[tactic(auto, using(crate::proofs::Writes::can_stop))]
-    pub fn first_turn(&mut self, alloc: Global, order: &Order) -> Result<Option<Turned>, AllocError>
+    pub fn first_turn(
+        &mut self,
+        alloc: Global,
+        order: &Order,
+        known: Option<&Checked>,
+    ) -> Result<Option<Turned>, AllocError>
         requires node { CanStop self.old order.now.broker.0 }
         requires sound { HeldSound (length self.old.nodes) self.old }
         requires fit { IsInRange order.now.command }
@@ -147,7 +154,7 @@ impl<D: Disk> Held<D> {
         let (broker, b) = (order.broker, order.broker.0 as usize);
         match &order.command {
             Command::Append(recs) => Ok(at_once(self.append(alloc, b, recs.as_slice())?)),
-            Command::Raw(bytes) => Ok(at_once(self.raw(alloc, b, bytes.as_slice())?)),
+            Command::Raw(bytes) => Ok(at_once(self.raw(alloc, b, bytes.as_slice(), known)?)),
             Command::Flush => Ok(at_once(self.flush(b)?)),
             Command::Roll => Ok(at_once(self.roll(b)?)),
             Command::Elect => Ok(at_once(self.elect(broker))),

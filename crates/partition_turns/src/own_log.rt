@@ -18,20 +18,20 @@ use disk_model::Disk;
 use partition_seen::Turned;
 use plain_log::{Answer, Place, Tier};
 use record_batch::{
-    BatchRefusal, BuildRefusal, Rec, build, built_head_tells, check, checked_is_batch, stamp,
-    stamp_sets_base_and_epoch, stamped_is_checked,
+    BatchRefusal, BuildRefusal, Checked, Rec, build, built_head_tells, check_known,
+    checked_is_batch, stamp, stamp_sets_base_and_epoch, stamped_is_checked,
 };
 use std::alloc::{AllocError, Global};
 use tier_base::{OFFSET_LIMIT, Trouble};
 
-/// Checks bytes from outside, and answers how many records the batch has.
-fn count_checked(bytes: &[u8]) -> Result<u32, BatchRefusal>
+/// Checks bytes from outside, or takes what is known of them, and answers how many records the batch has.
+fn count_checked(bytes: &[u8], known: Option<&Checked>) -> Result<u32, BatchRefusal>
     ensures ok { IfOk result (λ count.
         IsOk (checked bytes.now) × (count ≡ last_offset_delta_of bytes.now + 1) × (61 ≤ length bytes.now)) }
     ensures err { (cause : BatchCause) → IsErrOf result cause → checked bytes.now ≡ Err cause }
 {
     checked_is_batch();
-    let head = check(bytes)?;
+    let head = check_known(bytes, known)?;
     Ok(head.last_offset_delta.cast_unsigned() + 1)
 }
 
@@ -83,12 +83,13 @@ impl<D: Disk> Held<D> {
         self.put(b, batch.as_slice(), base, end - 1, epoch)
     }
 
-    /// Appends bytes from outside to the leader's log, where they are a batch.
+    /// Appends bytes from outside to the leader's log, where they are a batch. What is known of the check of equal bytes is used.
     pub(crate) fn raw(
         &mut self,
         alloc: Global,
         b: usize,
         bytes: &[u8],
+        known: Option<&Checked>,
     ) -> Result<Answer, AllocError>
         requires node { CanStop self.old b }
         requires sound { HeldSound (length self.old.nodes) self.old }
@@ -104,7 +105,7 @@ impl<D: Disk> Held<D> {
         let Some(epoch) = leading(node.role) else {
             return Ok(Answer::NotLeader);
         };
-        let count = match count_checked(bytes) {
+        let count = match count_checked(bytes, known) {
             Ok(count) => count,
             Err(why) => return Ok(Answer::Refused(why)),
         };

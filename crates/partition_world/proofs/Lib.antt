@@ -55,3 +55,4 @@ pub mod ExpiryCentral
 pub mod OffsetCentral
 pub mod RebuildEnds
 pub mod RebuildCentral
+pub mod Wanting

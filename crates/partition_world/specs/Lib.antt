@@ -21,3 +21,4 @@ pub mod InTurn
 pub mod Left
 pub mod Cold
 pub mod Laws
+pub mod Ready

@@ -254,16 +254,17 @@ impl<S: Store, M: MetaLog> Tier<S, M> {
         alloc: Global,
         broker: BrokerId,
         noted: &Begun,
-        copying: &Copying,
+        copying: &mut Copying,
         next: Next,
         held: &Held<D>,
     ) -> Result<Outcome, AllocError>
         requires node { broker.0 < length held.now.nodes }
         requires side { broker.0 < length self.old.sides }
         ensures row { IfOk result (λ outcome. AtNode held.now broker.0 (λ x. AtSide self.old broker.0 (λ side.
-            CopyOnRow S.Store M.MetaLog held.now self.old broker.0 x side noted.now copying.now next outcome self.new))) }
+            CopyOnRow S.Store M.MetaLog held.now self.old broker.0 x side noted.now copying.old next outcome self.new))) }
         ensures err { OnErr result (AtSide self.old broker.0 (λ side.
-            WantsForCopy S.Store M.MetaLog held.now self.old broker.0 side copying.now next self.new)) }
+            WantsForCopy S.Store M.MetaLog held.now self.old broker.0 side copying.old next self.new)) }
+        ensures same { copying.new ≡ copying.old }
     {
         let b = broker.0 as usize;
         if !keeps_lead(held.nodes.get(b), noted) {

@@ -61,7 +61,7 @@ pub(crate) fn fresh_desk(alloc: Global, count: usize) -> Result<Row<Seat>, Alloc
 }
 
 /// Puts a work at a seat.
-fn set_seat(desk: &mut Row<Seat>, place: usize, number: u32, work: Work)
+pub(crate) fn set_seat(desk: &mut Row<Seat>, place: usize, number: u32, work: Work)
     requires { place < length desk.old }
     ensures { desk.new ≡ slice_set desk.old place (record { number = number; work = work }) }
 {
@@ -69,7 +69,7 @@ fn set_seat(desk: &mut Row<Seat>, place: usize, number: u32, work: Work)
 }
 
 /// Takes what stands at a seat.
-fn take_seat(desk: &mut Row<Seat>, place: usize) -> Seat
+pub(crate) fn take_seat(desk: &mut Row<Seat>, place: usize) -> Seat
     requires { place < length desk.old }
     ensures seat { slice_get desk.old place ≡ Some result }
     ensures desk { desk.new ≡ slice_set desk.old place fresh_seat }

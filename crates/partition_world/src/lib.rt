@@ -22,6 +22,7 @@ mod expiries;
 mod fetches;
 mod laws;
 mod offsets;
+mod ready;
 mod rebuilds;
 mod runs;
 mod seat;
@@ -36,6 +37,7 @@ pub use laws::{
     reopens_central, steps_keep_central,
 };
 pub use partition_turns::{Held, Node, WorldRefusal};
+pub use ready::{Ready, Want};
 pub use runs::{run_in_order, run_to_end};
 pub use seat::{Outcome, Seat, Work};
 pub use tier::{Devices, Side, Tier};

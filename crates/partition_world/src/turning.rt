@@ -21,29 +21,33 @@ use partition_seen::Begun;
 use partition_turns::Held;
 use plain_log::{Command, Config, Order, Which};
 use rebuild_task::Next as Rebuild;
+use record_batch::Checked;
 use std::alloc::{AllocError, Global};
 use tier_base::PartitionId;
 use tier_fetch::Next as Search;
 use time_find::Next as Dating;
 
 impl<S: Store, M: MetaLog> Tier<S, M> {
-    /// Carries out a turn of a command, of which so much is kept.
+    /// Carries out a turn of a command, of which so much is kept. What is known of a check is used where it is of the command's bytes;
+    /// a copy keeps the bundle that the turn made.
     pub(crate) fn turn<D: Disk>(
         &mut self,
         alloc: Global,
         partition: PartitionId,
         config: Config,
         order: &Order,
-        work: &Work,
+        work: &mut Work,
+        known: Option<&Checked>,
         held: &mut Held<D>,
     ) -> Result<Outcome, AllocError>
         requires node { order.now.broker.0 < length held.old.nodes }
         requires side { order.now.broker.0 < length self.old.sides }
         requires sound { HeldSound (length held.old.nodes) held.old }
         requires fit { IsInRange order.now.command }
-        requires work { IsWorkFor order.now.command work.now }
+        requires work { IsWorkFor order.now.command work.old }
         ensures row { IfOk result (λ outcome. TurnRow D.Disk S.Store M.MetaLog partition config held.old self.old
-            order.now.broker.0 work.now order.now.command outcome held.new self.new) }
+            order.now.broker.0 work.old order.now.command outcome held.new self.new) }
+        ensures same { work.new ≡ work.old }
         ensures err { OnErr result (StaysTier D.Disk S.Store M.MetaLog held.old self.old order.now.broker.0 held.new self.new) }
         ensures wants { OnErr result (CanStop held.old order.now.broker.0 → IsTrue (takes_memory order.now.command)) }
     {
@@ -51,7 +55,7 @@ impl<S: Store, M: MetaLog> Tier<S, M> {
             return Err(AllocError);
         }
         match work {
-            Work::Idle => self.begin(alloc, order, held),
+            Work::Idle => self.begin(alloc, order, known, held),
             Work::Noted(noted) => self.go_on(alloc, partition, config, order, noted, held),
             Work::Copies(noted, copying, next) => {
                 self.go_copying(alloc, order, noted, copying, *next, held)
@@ -76,6 +80,7 @@ impl<S: Store, M: MetaLog> Tier<S, M> {
         &mut self,
         alloc: Global,
         order: &Order,
+        known: Option<&Checked>,
         held: &mut Held<D>,
     ) -> Result<Outcome, AllocError>
         requires node { CanStop held.old order.now.broker.0 }
@@ -94,7 +99,7 @@ impl<S: Store, M: MetaLog> Tier<S, M> {
             Command::Offset(Which::LatestTiered | Which::At(_)) => {
                 self.begin_leading(alloc, order.broker.0 as usize, held)
             }
-            _ => self.begin_own(alloc, order, held),
+            _ => self.begin_own(alloc, order, known, held),
         }
     }
 
@@ -103,6 +108,7 @@ impl<S: Store, M: MetaLog> Tier<S, M> {
         &mut self,
         alloc: Global,
         order: &Order,
+        known: Option<&Checked>,
         held: &mut Held<D>,
     ) -> Result<Outcome, AllocError>
         requires node { CanStop held.old order.now.broker.0 }
@@ -114,7 +120,7 @@ impl<S: Store, M: MetaLog> Tier<S, M> {
         ensures err { OnErr result (StaysTier D.Disk S.Store M.MetaLog held.old self.old order.now.broker.0 held.new self.new) }
         ensures wants { OnErr result (IsTrue (takes_memory order.now.command)) }
     {
-        match held.first_turn(alloc, order)? {
+        match held.first_turn(alloc, order, known)? {
             Some(turned) => Ok(outcome_of(turned)),
             None => unreachable!(),
         }
@@ -178,15 +184,16 @@ impl<S: Store, M: MetaLog> Tier<S, M> {
         alloc: Global,
         order: &Order,
         noted: &Begun,
-        copying: &Copying,
+        copying: &mut Copying,
         next: Next,
         held: &mut Held<D>,
     ) -> Result<Outcome, AllocError>
         requires node { order.now.broker.0 < length held.old.nodes }
         requires side { order.now.broker.0 < length self.old.sides }
-        requires work { IsWorkFor order.now.command (Copies noted.now copying.now next) }
+        requires work { IsWorkFor order.now.command (Copies noted.now copying.old next) }
         ensures row { IfOk result (λ outcome. AtNode held.old order.now.broker.0 (λ x. AtSide self.old order.now.broker.0 (λ side.
-            CopyingRow S.Store M.MetaLog held.old self.old order.now.broker.0 x side noted.now copying.now next order.now.command outcome held.new self.new))) }
+            CopyingRow S.Store M.MetaLog held.old self.old order.now.broker.0 x side noted.now copying.old next order.now.command outcome held.new self.new))) }
+        ensures same { copying.new ≡ copying.old }
         ensures err { OnErr result (StaysTier D.Disk S.Store M.MetaLog held.old self.old order.now.broker.0 held.new self.new) }
     {
         self.copy_on(alloc, order.broker, noted, copying, next, held)

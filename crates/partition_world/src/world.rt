@@ -18,11 +18,13 @@ ghost use Rattle.partition_world.specs.Central.{IsCentral, KeepsCentral};
 ghost use Rattle.partition_world.specs.Left.{IsCentralLeft, KeepsCentralLeft};
 ghost use Rattle.meta_log.specs.Content.{LeavesTold};
 ghost use Rattle.partition_world.specs.Reaches.{HasAnswered};
+ghost use Rattle.partition_world.specs.Ready.{IsWanted, Prepares};
 
 use crate::desk::{count_entries, enter, fresh_desk, place_of};
 use crate::laws::{
     fresh_is_central, fresh_is_central_left, reopens_central, steps_keep_central, steps_keep_left,
 };
+use crate::ready::{Ready, Want, prepared, want_of};
 use crate::seat::Seat;
 use crate::tier::{Devices, Side, Tier};
 use disk_model::Disk;
@@ -309,18 +311,50 @@ impl<D: Disk, S: Store, M: MetaLog> World<D, S, M> {
         number <= seat.number || list.orders.len() <= seat.number as usize
     }
 
-    /// Takes the next turn of an actor's commands.
+    /// Answers what the next turn of an actor's commands would have made ready.
+    pub fn wanted(&self, alloc: Global, actor: ActorId) -> Result<Want, AllocError>
+        ensures { IfOk result (IsWanted self.now actor.0) }
+    {
+        let Some(place) = place_of(self.lists.as_slice(), actor) else {
+            return Ok(Want::Nothing);
+        };
+        let seat = self.desk.get(place);
+        let list = self.lists.get(place);
+        if seat.number as usize >= list.orders.len() {
+            return Ok(Want::Nothing);
+        }
+        let order = list.orders.get(seat.number as usize);
+        want_of(alloc, &seat.work, &order.command)
+    }
+
+    /// Makes what a turn wants, without the world.
+    pub fn prepare(alloc: Global, want: Want) -> Result<Ready, AllocError>
+        ensures { IfOk result (Prepares want) }
+    {
+        prepared(alloc, want)
+    }
+
+    /// Takes the next turn of an actor's commands, with nothing ready.
     pub fn step(&mut self, alloc: Global, actor: ActorId) -> Stepped
+        ensures steps { Steps D.Disk S.Store M.MetaLog self.old actor.0 result self.new }
+        ensures central { KeepsCentral D.Disk S.Store M.MetaLog self.old self.new }
+        ensures left { KeepsCentralLeft D.Disk S.Store M.MetaLog self.old self.new }
+    {
+        self.step_with(alloc, actor, Ready::Nothing)
+    }
+
+    /// Takes the next turn of an actor's commands. What is ready is used where it is of what the turn works on, and dropped otherwise.
+    pub fn step_with(&mut self, alloc: Global, actor: ActorId, ready: Ready) -> Stepped
         ensures steps { Steps D.Disk S.Store M.MetaLog self.old actor.0 result self.new }
         ensures central { KeepsCentral D.Disk S.Store M.MetaLog self.old self.new }
         ensures left { KeepsCentralLeft D.Disk S.Store M.MetaLog self.old self.new }
     {
         steps_keep_central::<D, S, M>();
         steps_keep_left::<D, S, M>();
-        self.take_turn(alloc, actor)
+        self.take_turn(alloc, actor, ready)
     }
 
-    fn take_turn(&mut self, alloc: Global, actor: ActorId) -> Stepped
+    fn take_turn(&mut self, alloc: Global, actor: ActorId, ready: Ready) -> Stepped
         ensures { Steps D.Disk S.Store M.MetaLog self.old actor.0 result self.new }
     {
         let Some(place) = place_of(self.lists.as_slice(), actor) else {
@@ -334,12 +368,14 @@ impl<D: Disk, S: Store, M: MetaLog> World<D, S, M> {
         }
         let order = list.orders.get(number as usize);
         let actor = list.actor;
-        match self.tier.turn(
+        match self.tier.turn_at(
             alloc,
             self.partition,
             self.config,
             order,
-            &seat.work,
+            &mut self.desk,
+            place,
+            ready,
             &mut self.held,
         ) {
             Ok(outcome) => enter(

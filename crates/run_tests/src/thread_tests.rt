@@ -67,6 +67,8 @@ impl Gate for Hold {
         self.note((actor.0, turn));
         self.hold((actor.0, turn));
     }
+
+    fn prepare(&self, _actor: ActorId, _turn: u64) {}
 }
 
 /// Two calls, each of which is held until the other is made.
@@ -76,18 +78,55 @@ struct Meeting {
     other: Hold,
 }
 
-impl Gate for Meeting {
-    fn pass(&self, actor: ActorId, turn: u64) {
-        let call = (actor.0, turn);
+impl Meeting {
+    /// The calls of this number of the first two actors.
+    fn at(turn: u64) -> Meeting {
+        Meeting {
+            one: Hold::new((0, turn), (1, turn)),
+            other: Hold::new((1, turn), (0, turn)),
+        }
+    }
+
+    /// Notes the call, and holds it if it is one of the two.
+    fn meet(&self, call: Call) {
         self.one.note(call);
         self.other.note(call);
         self.one.hold(call);
         self.other.hold(call);
     }
+
+    /// Whether each of the held calls went on because the other one came.
+    fn have_met(&self) -> bool {
+        self.one.has_seen() && self.other.has_seen()
+    }
+}
+
+impl Gate for Meeting {
+    fn pass(&self, actor: ActorId, turn: u64) {
+        self.meet((actor.0, turn));
+    }
+
+    fn prepare(&self, _actor: ActorId, _turn: u64) {}
+}
+
+/// The same of two actors that make what their turns want.
+#[derive(Drop)]
+struct Makers(Meeting);
+
+impl Gate for Makers {
+    fn pass(&self, _actor: ActorId, _turn: u64) {}
+
+    fn prepare(&self, actor: ActorId, turn: u64) {
+        self.0.meet((actor.0, turn));
+    }
 }
 
 /// Two actors, of which one makes what the other has appended stable.
 const TWO: &str = "0 0 0 flush\n1 0 0 append 1000,-,:a\n";
+
+/// Two actors of one partition, each with a batch from outside.
+const RAW: &str =
+    "0 0 0 raw 0000000000000000000000390000000002ebf1884b00000000000000000000000003e800000000000003e8ffffffffffffffffffffffffffff000000010e00000001026100\n1 0 0 raw 0000000000000000000000390000000002ebf1884b00000000000000000000000003e800000000000003e8ffffffffffffffffffffffffffff000000010e00000001026100\n";
 
 /// Makes a call of the program that runs a script by threads, which pass this gate: the number of its status, and whether what is
 /// told and written is as it should be.
@@ -133,13 +172,25 @@ fn run<H: AllocGlobal + Threads + Wait + Sync, G: Gate + Sync>(
 
 #[test]
 fn each_actor_has_a_thread_of_its_own(rt: HostRuntime) {
-    let gate = Meeting {
-        one: Hold::new((0, 1), (1, 1)),
-        other: Hold::new((1, 1), (0, 1)),
-    };
+    let gate = Meeting::at(1);
     // Either of them may be the next to have the lock.
     let _ended = run(&rt, &gate, TWO, "");
-    assert!(rt; (gate.one.has_seen(), gate.other.has_seen()) == (true, true));
+    assert!(rt; gate.have_met());
+}
+
+#[test]
+fn no_thread_keeps_the_lock_over_its_list(rt: HostRuntime) {
+    // Each comes to its second call while the other one has yet to take a turn more.
+    let gate = Meeting::at(2);
+    let _ended = run(&rt, &gate, TWO, "");
+    assert!(rt; gate.have_met());
+}
+
+#[test]
+fn two_actors_of_a_partition_check_their_batches_at_once(rt: HostRuntime) {
+    let gate = Makers(Meeting::at(1));
+    let _ended = run(&rt, &gate, RAW, "");
+    assert!(rt; gate.0.have_met());
 }
 
 #[test]

@@ -8,6 +8,9 @@ pub trait Gate {
     /// Lets the thread of an actor go on to its n-th call, counted from 1. For an actor that no thread could be made for, the
     /// caller of the run makes these calls; a gate that waits for another actor may then wait for good.
     fn pass(&self, actor: ActorId, turn: u64);
+
+    /// Called without a lock where the n-th turn of an actor wants something made ready, right before that is made.
+    fn prepare(&self, actor: ActorId, turn: u64);
 }
 
 /// A gate that holds nobody.
@@ -16,4 +19,6 @@ pub struct OpenGate;
 
 impl Gate for OpenGate {
     fn pass(&self, _actor: ActorId, _turn: u64) {}
+
+    fn prepare(&self, _actor: ActorId, _turn: u64) {}
 }

@@ -8,6 +8,7 @@ use disk_model::Disk;
 use meta_log::MetaLog;
 use object_store::Store;
 use partition_seen::Stepped;
+use partition_world::{Ready, Want, World};
 use std::alloc::{AllocError, Global};
 use std::sync::{Mutex, Wait};
 use std::thread;
@@ -52,7 +53,7 @@ pub fn run_threads<
     unlocked(rt.alloc(), locks)
 }
 
-/// Has an actor take its turns, each under the lock.
+/// Has an actor take its turns, each under the lock. What a turn wants is asked under the lock, and made without it.
 fn run_actor<H: AllocGlobal + Wait, D: Disk, S: Store, M: MetaLog, G: Gate>(
     rt: &H,
     lock: &Mutex<Traced<D, S, M>>,
@@ -61,11 +62,44 @@ fn run_actor<H: AllocGlobal + Wait, D: Disk, S: Store, M: MetaLog, G: Gate>(
 ) {
     for turn in 1..u64::MAX {
         gate.pass(actor, turn);
+        let want = asked(rt, lock, actor);
+        let ready = made::<D, S, M, G>(rt.alloc(), gate, actor, turn, want);
         let mut part = lock.lock(rt);
-        match part.step(rt.alloc(), actor) {
+        match part.step_with(rt.alloc(), actor, ready) {
             Stepped::Nothing | Stepped::NoMemory => return,
             _ => {}
         }
+    }
+}
+
+/// What an actor's next turn wants. Without memory to tell it is nothing, and the turn makes what it needs.
+fn asked<H: AllocGlobal + Wait, D: Disk, S: Store, M: MetaLog>(
+    rt: &H,
+    lock: &Mutex<Traced<D, S, M>>,
+    actor: ActorId,
+) -> Want {
+    let part = lock.lock(rt);
+    match part.world().wanted(rt.alloc(), actor) {
+        Ok(want) => want,
+        Err(_) => Want::Nothing,
+    }
+}
+
+/// Makes what a turn wants. Without memory it is left to the turn.
+fn made<D: Disk, S: Store, M: MetaLog, G: Gate>(
+    alloc: Global,
+    gate: &G,
+    actor: ActorId,
+    turn: u64,
+    want: Want,
+) -> Ready {
+    if let Want::Nothing = want {
+        return Ready::Nothing;
+    }
+    gate.prepare(actor, turn);
+    match World::<D, S, M>::prepare(alloc, want) {
+        Ok(ready) => ready,
+        Err(_) => Ready::Nothing,
     }
 }
 

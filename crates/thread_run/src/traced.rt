@@ -13,7 +13,7 @@ use disk_model::Disk;
 use meta_log::MetaLog;
 use object_store::Store;
 use partition_seen::Stepped;
-use partition_world::{World, ends_are_complete, reaches_in_turn, reaches_later};
+use partition_world::{Ready, World, ends_are_complete, reaches_in_turn, reaches_later};
 use plain_log::{Journal, fresh_is_safe, replays_keep_safe};
 use std::alloc::{AllocError, Global};
 use std::marker::Model;
@@ -106,8 +106,19 @@ impl<D: Disk, S: Store, M: MetaLog> Traced<D, S, M> {
         self.ended
     }
 
-    /// Takes the next turn of an actor's commands. Room for the turn's note is taken first.
+    /// Takes the next turn of an actor's commands, with nothing ready.
     pub fn step(&mut self, alloc: Global, actor: ActorId) -> Stepped
+        ensures steps { result ≢ NoMemory → Steps D.Disk S.Store M.MetaLog self.old.world actor.0 result self.new.world }
+        ensures central { result ≢ NoMemory → KeepsCentral D.Disk S.Store M.MetaLog self.old.world self.new.world }
+        ensures turns { result ≢ NoMemory → self.new.turns ≡ self.old.turns ++ actor ∷ [] }
+        ensures goes_on { result ≢ NoMemory → GoesOn self.old self.new }
+        ensures ended { result ≡ NoMemory → self.new.ended ≡ true }
+    {
+        self.step_with(alloc, actor, Ready::Nothing)
+    }
+
+    /// Takes the next turn of an actor's commands, with what is ready for it. Room for the turn's note is taken first.
+    pub fn step_with(&mut self, alloc: Global, actor: ActorId, ready: Ready) -> Stepped
         ensures steps { result ≢ NoMemory → Steps D.Disk S.Store M.MetaLog self.old.world actor.0 result self.new.world }
         ensures central { result ≢ NoMemory → KeepsCentral D.Disk S.Store M.MetaLog self.old.world self.new.world }
         ensures turns { result ≢ NoMemory → self.new.turns ≡ self.old.turns ++ actor ∷ [] }
@@ -121,7 +132,7 @@ impl<D: Disk, S: Store, M: MetaLog> Traced<D, S, M> {
             self.ended = true;
             return Stepped::NoMemory;
         };
-        let stepped = self.world.step(alloc, actor);
+        let stepped = self.world.step_with(alloc, actor, ready);
         if let Stepped::NoMemory = stepped {
             self.ended = true;
         }

@@ -14,6 +14,7 @@ use meta_log::{MemoryLog, MetaCall, MetaLog, Teller};
 use object_store::{MemoryStore, ObjectKey, Store, StoreCall, place};
 use plain_log::{Answer, Place};
 use remote_view::View;
+use segment_bundle::Bundle;
 use segment_file::{Closed, Growing};
 use segment_meta::{Note, encode};
 use std::alloc::{AllocError, Global};
@@ -166,7 +167,7 @@ impl Trial {
     fn turn(&mut self, next: Next) -> Came {
         match copy_turn(
             self.alloc,
-            &self.copying,
+            &mut self.copying,
             next,
             TELLER,
             &mut self.view,
@@ -579,5 +580,51 @@ static CHOSEN: [(Option<(u64, u64)>, u64, Option<u64>); 8] = [
 fn the_first_segment_past_the_copied_mark_is_copied(rt: HostRuntime) {
     for (i, (past, known, base)) in CHOSEN.iter().enumerate() {
         assert_eq!(rt; chosen(rt.alloc(), *past, *known), *base, "row {i}");
+    }
+}
+
+/// Whether a copy is without its bundle.
+fn lacks(copying: &Copying) -> bool {
+    copying.closed().is_some() && copying.line().is_some()
+}
+
+/// Whether a copy is without its bundle, and whether it is once it was given that of its segment and line with an interval.
+fn lacks_until_given(
+    alloc: Global,
+    interval: u32,
+    packed: bool,
+) -> Result<(bool, bool), AllocError> {
+    let copying = copying(alloc, packed)?;
+    let before = lacks(&copying);
+    let Some(line) = copying.line() else {
+        return Ok((before, false));
+    };
+    let bundle = Bundle::of(alloc, &segment(alloc)?, line, interval)?;
+    let copying = copying.give(bundle);
+    Ok((before, lacks(&copying)))
+}
+
+/// Whether a copy is without its bundle before and after it puts its log.
+fn lacks_until_put(alloc: Global, packed: bool) -> Result<(bool, bool), AllocError> {
+    let store = failing_store(alloc, None, false)?;
+    let meta = failing_log(alloc, None, false)?;
+    let mut trial = Trial::over(alloc, copying(alloc, packed)?, store, meta);
+    let before = lacks(&trial.copying);
+    let _came = trial.turn(Next::Put(0));
+    Ok((before, lacks(&trial.copying)))
+}
+
+#[test]
+fn a_copy_keeps_its_bundle(rt: HostRuntime) {
+    for packed in [false, true] {
+        assert_eq!(rt;
+            lacks_until_given(rt.alloc(), 4096, packed),
+            Ok((true, false))
+        );
+        assert_eq!(rt;
+            lacks_until_given(rt.alloc(), 4097, packed),
+            Ok((true, true))
+        );
+        assert_eq!(rt; lacks_until_put(rt.alloc(), packed), Ok((true, false)));
     }
 }

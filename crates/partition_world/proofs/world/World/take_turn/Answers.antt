@@ -2,6 +2,7 @@ use Rattle.std.proofs.Common.{◌≡◌, ◌++◌, refl, arith, slice_set}
 use Rattle.log_terms.proofs.Lists.{within}
 use Rattle.partition_seen.proofs.Lists.{some_at}
 use Rattle.partition_world.specs.Seats.{seat_after, told_of}
+use Rattle.partition_world.specs.Turns.{TurnRow}
 use Rattle.partition_world.proofs.WorldSound.{at_end, list_at, order_at, room_at, sound_after, sound_after_none, steps_of}
 use Rattle.partition_world.proofs.world.World.take_turn.Goals as goal
 
@@ -15,27 +16,30 @@ returns-then-number-len g c =
       refl,
     )
 
-pub turn-requires-clause-node : goal.turn-requires-clause-node
-turn-requires-clause-node g c =
+pub turn_at-requires-clause-node : goal.turn_at-requires-clause-node
+turn_at-requires-clause-node g c =
     let order = order_at g.D.Disk g.S.Store g.M.MetaLog c.self.inside.config c.self.inside.lists c.self.inside.held c.self.inside.tier.sides c.self.inside.desk c.self.inside.journal.room c.in-Some.place c.get-seat.result.now.number
     c.get-list.result.now c.get-order.result.now c.self.invariant.0 c.get-list.ensures c.get-order.ensures in
     omega (arith, order.broker, c.self.invariant.0.held.count)
 
-pub turn-requires-clause-fit : goal.turn-requires-clause-fit
-turn-requires-clause-fit g c =
+pub turn_at-requires-clause-fit : goal.turn_at-requires-clause-fit
+turn_at-requires-clause-fit g c =
     (order_at g.D.Disk g.S.Store g.M.MetaLog c.self.inside.config c.self.inside.lists c.self.inside.held c.self.inside.tier.sides c.self.inside.desk c.self.inside.journal.room c.in-Some.place c.get-seat.result.now.number
     c.get-list.result.now c.get-order.result.now c.self.invariant.0 c.get-list.ensures c.get-order.ensures).command
 
-pub turn-requires-clause-work : goal.turn-requires-clause-work
-turn-requires-clause-work g c = c.self.invariant.0.works c.in-Some.place c.get-list.result.now c.get-seat.result.now c.get-order.result.now c.get-list.ensures c.get-seat.ensures c.get-order.ensures
+pub turn_at-requires-clause-place : goal.turn_at-requires-clause-place
+turn_at-requires-clause-place g c = within c.self.inside.desk _ c.get-seat.result.now c.get-seat.ensures
+
+pub turn_at-requires-clause-work : goal.turn_at-requires-clause-work
+turn_at-requires-clause-work g c = rw c.get-seat.ensures (c.self.invariant.0.works c.in-Some.place c.get-list.result.now c.get-seat.result.now c.get-order.result.now c.get-list.ensures c.get-seat.ensures c.get-order.ensures)
 
 pub enter-requires-clause-place : goal.enter-requires-clause-place
-enter-requires-clause-place g c = within c.self.inside.desk _ c.get-seat.result.now c.get-seat.ensures
+enter-requires-clause-place g c = rw c.turn_at.ensures.desk (within c.self.inside.desk _ c.get-seat.result.now c.get-seat.ensures)
 
 pub enter-requires-clause-few : goal.enter-requires-clause-few
 enter-requires-clause-few g c =
     let list = list_at g.D.Disk g.S.Store g.M.MetaLog c.self.inside.config c.self.inside.lists c.self.inside.held c.self.inside.tier.sides c.self.inside.desk c.self.inside.journal.room c.in-Some.place c.get-list.result.now c.self.invariant.0 c.get-list.ensures in
-    rw c.get-seat.ensures (omega (arith, list.few, c.len.ensures, c.if-number-len.false))
+    rw (c.turn_at.ensures.desk, c.get-seat.ensures) (omega (arith, list.few, c.len.ensures, c.if-number-len.false))
 
 pub enter-requires-clause-room : goal.enter-requires-clause-room
 enter-requires-clause-room g c =
@@ -44,17 +48,19 @@ enter-requires-clause-room g c =
 
 pub invariant_of-self : goal.invariant_of-self
 invariant_of-self g c =
-    let desk = some_at (λ seat. c.enter.new.desk ≡ slice_set c.self.inside.desk c.in-Some.place (seat_after seat c.in-Ok.outcome)) c.self.inside.desk c.in-Some.place c.get-seat.result.now c.enter.ensures.desk c.get-seat.ensures in (
-      sound_after g.D.Disk g.S.Store g.M.MetaLog c.self.inside.config c.self.inside.lists c.self.inside.partition c.self.inside.held c.self.inside.tier c.turn.new.held c.turn.new.self c.self.inside.desk c.enter.new.desk c.self.inside.journal.room _ c.in-Some.place
+    let desk = some_at (λ seat. c.enter.new.desk ≡ slice_set c.self.inside.desk c.in-Some.place (seat_after seat c.in-Ok.outcome)) c.self.inside.desk c.in-Some.place c.get-seat.result.now (rw c.turn_at.ensures.desk at c.enter.ensures.desk) c.get-seat.ensures in
+    let row = some_at (λ seat. TurnRow g.D.Disk g.S.Store g.M.MetaLog c.self.inside.partition c.self.inside.config c.self.inside.held c.self.inside.tier c.get-order.result.now.broker.0 seat.work c.get-order.result.now.command c.in-Ok.outcome c.turn_at.new.held c.turn_at.new.self)
+    c.self.inside.desk c.in-Some.place c.get-seat.result.now c.in-Ok.ensures.row c.get-seat.ensures in (
+      sound_after g.D.Disk g.S.Store g.M.MetaLog c.self.inside.config c.self.inside.lists c.self.inside.partition c.self.inside.held c.self.inside.tier c.turn_at.new.held c.turn_at.new.self c.self.inside.desk c.enter.new.desk c.self.inside.journal.room _ c.in-Some.place
           c.get-list.result.now c.get-seat.result.now c.get-order.result.now c.in-Ok.outcome c.self.invariant.0 c.get-list.ensures c.get-seat.ensures c.get-order.ensures (omega (arith, c.len.ensures, c.if-number-len.false))
-          c.in-Ok.ensures.row desk c.enter.ensures.room,
+          row desk c.enter.ensures.room,
       c.self.invariant.1,
       c.self.invariant.2,
     )
 
 pub invariant_of-self-in-Err : goal.invariant_of-self-in-Err
-invariant_of-self-in-Err g c = (
-  sound_after_none g.D.Disk g.S.Store g.M.MetaLog c.self.inside.config c.self.inside.lists c.self.inside.held c.self.inside.tier c.get-order.result.now.broker.0 c.turn.new.held c.turn.new.self c.self.inside.desk c.self.inside.journal.room c.self.invariant.0
+invariant_of-self-in-Err g c = rw c.turn_at.ensures.desk (
+  sound_after_none g.D.Disk g.S.Store g.M.MetaLog c.self.inside.config c.self.inside.lists c.self.inside.held c.self.inside.tier c.get-order.result.now.broker.0 c.turn_at.new.held c.turn_at.new.self c.self.inside.desk c.self.inside.journal.room c.self.invariant.0
       c.in-Err.ensures.err,
   c.self.invariant.1,
   c.self.invariant.2,
@@ -63,8 +69,10 @@ invariant_of-self-in-Err g c = (
 pub returns-in-Ok : goal.returns-in-Ok
 returns-in-Ok g c =
     let actor = some_at (λ l. l.actor.0 ≡ c.args.actor.0) c.self.inside.lists c.in-Some.place c.get-list.result.now (rw c.as_slice.ensures at c.in-Some.ensures.found) c.get-list.ensures in
-    let desk = some_at (λ seat. c.enter.new.desk ≡ slice_set c.self.inside.desk c.in-Some.place (seat_after seat c.in-Ok.outcome)) c.self.inside.desk c.in-Some.place c.get-seat.result.now c.enter.ensures.desk c.get-seat.ensures in
-    let entered = some_at (λ seat. c.enter.new.journal.items ≡ c.self.inside.journal.items ++ told_of c.get-list.result.now.actor seat.number c.get-order.result.now.command c.in-Ok.outcome) c.self.inside.desk c.in-Some.place c.get-seat.result.now c.enter.ensures.entered c.get-seat.ensures in
+    let desk = some_at (λ seat. c.enter.new.desk ≡ slice_set c.self.inside.desk c.in-Some.place (seat_after seat c.in-Ok.outcome)) c.self.inside.desk c.in-Some.place c.get-seat.result.now (rw c.turn_at.ensures.desk at c.enter.ensures.desk) c.get-seat.ensures in
+    let entered = some_at (λ seat. c.enter.new.journal.items ≡ c.self.inside.journal.items ++ told_of c.get-list.result.now.actor seat.number c.get-order.result.now.command c.in-Ok.outcome) c.self.inside.desk c.in-Some.place c.get-seat.result.now (rw c.turn_at.ensures.desk at c.enter.ensures.entered) c.get-seat.ensures in
+    let row = some_at (λ seat. TurnRow g.D.Disk g.S.Store g.M.MetaLog c.self.inside.partition c.self.inside.config c.self.inside.held c.self.inside.tier c.get-order.result.now.broker.0 seat.work c.get-order.result.now.command c.in-Ok.outcome c.turn_at.new.held c.turn_at.new.self)
+    c.self.inside.desk c.in-Some.place c.get-seat.result.now c.in-Ok.ensures.row c.get-seat.ensures in
     rw (← c.self.view_is, c.enter.ensures.stepped) (steps_of g.D.Disk g.S.Store g.M.MetaLog _ c.args.actor.0 c.in-Ok.outcome _ (record {
       place = c.in-Some.place;
       list = c.get-list.result.now;
@@ -72,7 +80,7 @@ returns-in-Ok g c =
       order = c.get-order.result.now;
       at = record { list = c.get-list.ensures; actor = actor; seat_is = c.get-seat.ensures };
       next = c.get-order.ensures;
-      row = c.in-Ok.ensures.row;
+      row = row;
       desk = desk;
       entered = entered;
       partition = refl;
@@ -85,7 +93,7 @@ returns-in-Err g c =
     let actor = some_at (λ l. l.actor.0 ≡ c.args.actor.0) c.self.inside.lists c.in-Some.place c.get-list.result.now (rw c.as_slice.ensures at c.in-Some.ensures.found) c.get-list.ensures in
     let order = order_at g.D.Disk g.S.Store g.M.MetaLog c.self.inside.config c.self.inside.lists c.self.inside.held c.self.inside.tier.sides c.self.inside.desk c.self.inside.journal.room c.in-Some.place c.get-seat.result.now.number
     c.get-list.result.now c.get-order.result.now c.self.invariant.0 c.get-list.ensures c.get-order.ensures in
-    rw (← c.self.view_is) (record {
+    rw (← c.self.view_is, c.turn_at.ensures.desk) (record {
       place = c.in-Some.place;
       list = c.get-list.result.now;
       seat = c.get-seat.result.now;

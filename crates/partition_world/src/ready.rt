@@ -1,0 +1,167 @@
+//! What a turn has to do that the partition has no part in, and what of it was done before.
+//!
+//! The check of a batch from outside and the bundle of a segment that is copied take time in proportion to the bytes, and are functions
+//! of these alone. So a thread may make them without the partition's lock: it asks what an actor's next turn wants (`World::wanted`),
+//! makes it (`World::prepare`), and hands it in (`World::step_with`). A turn uses what is handed in only where it is of the very bytes,
+//! line and interval that the turn has; it makes its own otherwise. So a turn comes to the same whatever is handed in, and no clause
+//! of a step mentions it.
+
+ghost use Rattle.std.specs.Prelude.{◌≡◌, ◌<◌, length, slice_get, IfOk, OnErr, IsTrue, IsSomeAnd};
+ghost use Rattle.plain_log.specs.Orders.{IsInRange};
+ghost use Rattle.partition_turns.specs.Held.{CanStop};
+ghost use Rattle.partition_turns.specs.Sound.{HeldSound};
+ghost use Rattle.partition_turns.specs.Turns.{takes_memory};
+ghost use Rattle.partition_world.specs.Ready.{IsWantOf, IsWantOfCopy, Prepares};
+ghost use Rattle.partition_world.specs.Sound.{IsWorkFor};
+ghost use Rattle.partition_world.specs.Turns.{TurnRow, StaysTier};
+
+use crate::desk::{set_seat, take_seat};
+use crate::seat::{Outcome, Seat, Work};
+use crate::tier::Tier;
+use bytes::Bytes;
+use copy_task::Copying;
+use disk_model::Disk;
+use epoch_line::Line;
+use meta_log::MetaLog;
+use object_store::Store;
+use partition_turns::Held;
+use plain_log::{Command, Config, Order};
+use record_batch::Checked;
+use segment_bundle::Bundle;
+use segment_file::Closed;
+use std::alloc::{AllocError, Global};
+use tier_base::{PartitionId, Row};
+
+/// What an actor's next turn would have made ready.
+#[derive(Drop)]
+pub enum Want {
+    /// Nothing.
+    Nothing,
+    /// The check of these bytes: the turn is the first of a `raw`.
+    Check(Bytes),
+    /// The bundle of this segment: the turn is one of a copy that has none yet. The line is that of the broker's log as the segment was
+    /// chosen, the interval that of its indexes in bytes.
+    Bundle {
+        closed: Closed,
+        line: Line,
+        interval: u32,
+    },
+}
+
+/// What was made ready for a turn.
+#[derive(Drop)]
+pub enum Ready {
+    /// Nothing: the turn makes what it needs.
+    Nothing,
+    /// Bytes that were checked.
+    Checked(Checked),
+    /// A bundle.
+    Bundle(Bundle),
+}
+
+/// What the next turn of a command wants, of which so much is kept.
+pub(crate) fn want_of(alloc: Global, work: &Work, command: &Command) -> Result<Want, AllocError>
+    ensures { IfOk result (IsWantOf command.now work.now) }
+{
+    match work {
+        Work::Copies(_, copying, _) => want_of_copy(alloc, copying),
+        Work::Idle => match command {
+            Command::Raw(bytes) => Ok(Want::Check(bytes.clone()?)),
+            _ => Ok(Want::Nothing),
+        },
+        _ => Ok(Want::Nothing),
+    }
+}
+
+/// What a copy wants: its bundle, until it has one.
+fn want_of_copy(alloc: Global, copying: &Copying) -> Result<Want, AllocError>
+    ensures { IfOk result (IsWantOfCopy copying.now) }
+{
+    match (copying.closed(), copying.line()) {
+        (Some(closed), Some(line)) => Ok(Want::Bundle {
+            closed: closed.copy(alloc)?,
+            line: line.copy(alloc)?,
+            interval: copying.interval(),
+        }),
+        _ => Ok(Want::Nothing),
+    }
+}
+
+/// Makes what is wanted.
+pub(crate) fn prepared(alloc: Global, want: Want) -> Result<Ready, AllocError>
+    ensures { IfOk result (Prepares want) }
+{
+    match want {
+        Want::Nothing => Ok(Ready::Nothing),
+        Want::Check(bytes) => Ok(Ready::Checked(Checked::of(bytes))),
+        Want::Bundle {
+            closed,
+            line,
+            interval,
+        } => Ok(Ready::Bundle(Bundle::of(alloc, &closed, &line, interval)?)),
+    }
+}
+
+/// The work with what is ready for it, and a check that may be of its command's bytes.
+fn with_ready(work: Work, ready: Ready) -> (Work, Option<Checked>)
+    ensures { result.0 ≡ work }
+{
+    match ready {
+        Ready::Nothing => (work, None),
+        Ready::Checked(checked) => (work, Some(checked)),
+        Ready::Bundle(bundle) => (given(work, bundle), None),
+    }
+}
+
+/// A copy is given a bundle, which it keeps where it is its own.
+fn given(work: Work, bundle: Bundle) -> Work
+    ensures { result ≡ work }
+{
+    match work {
+        Work::Copies(begun, copying, next) => Work::Copies(begun, copying.give(bundle), next),
+        other => other,
+    }
+}
+
+impl<S: Store, M: MetaLog> Tier<S, M> {
+    /// Carries out a turn of a command at its seat, which keeps of it what it kept.
+    #[tactic(auto, using(crate::proofs::Sides::set_twice, crate::proofs::Sides::set_same))]
+    pub(crate) fn turn_at<D: Disk>(
+        &mut self,
+        alloc: Global,
+        partition: PartitionId,
+        config: Config,
+        order: &Order,
+        desk: &mut Row<Seat>,
+        place: usize,
+        ready: Ready,
+        held: &mut Held<D>,
+    ) -> Result<Outcome, AllocError>
+        requires node { order.now.broker.0 < length held.old.nodes }
+        requires side { order.now.broker.0 < length self.old.sides }
+        requires sound { HeldSound (length held.old.nodes) held.old }
+        requires fit { IsInRange order.now.command }
+        requires place { place < length desk.old }
+        requires work { IsSomeAnd (slice_get desk.old place) (λ seat. IsWorkFor order.now.command seat.work) }
+        ensures row { IfOk result (λ outcome. IsSomeAnd (slice_get desk.old place) (λ seat. TurnRow D.Disk S.Store M.MetaLog partition
+            config held.old self.old order.now.broker.0 seat.work order.now.command outcome held.new self.new)) }
+        ensures err { OnErr result (StaysTier D.Disk S.Store M.MetaLog held.old self.old order.now.broker.0 held.new self.new) }
+        ensures wants { OnErr result (CanStop held.old order.now.broker.0 → IsTrue (takes_memory order.now.command)) }
+        ensures desk { desk.new ≡ desk.old }
+    {
+        let seat = take_seat(desk, place);
+        let number = seat.number;
+        let (mut work, checked) = with_ready(seat.work, ready);
+        let outcome = self.turn(
+            alloc,
+            partition,
+            config,
+            order,
+            &mut work,
+            checked.as_ref(),
+            held,
+        );
+        set_seat(desk, place, number, work);
+        outcome
+    }
+}
