@@ -26,7 +26,8 @@ use Rattle.plain_log.specs.declared.command.Command.TheVariants.{Copy}
 use Rattle.plain_log.specs.declared.state.State.{State}
 use Rattle.partition_seen.specs.declared.begun.Begun.{Begun}
 use Rattle.partition_seen.proofs.Standing.{get_put}
-use Rattle.broker_log.specs.Seen.{Faulted}
+use Rattle.broker_log.specs.Seen.{Lasting, Faulted, OneFault}
+use Rattle.partition_turns.proofs.LastingDisks.{one_faulted}
 use Rattle.partition_turns.specs.declared.held.Node.{Node}
 use Rattle.partition_turns.specs.declared.held.Held.{Held}
 use Rattle.partition_turns.specs.Held.{AtNode}
@@ -75,7 +76,9 @@ module _ {D S M : Type 0} (disk : DiskGhosts D) (store : StoreGhosts S) (meta : 
     reads : (g : Begun) (n : ReadsNext disk w.partition w.held w.tier b z.x z.side (Answers answer) w'.held w'.tier) (k : Answer)
         → ReadRow disk w.partition b z.x z.side (copied_to z.x z.side w.held.registry.start) (Answers k) n.node n.side_after → ChoiceCause disk store meta w b z.x z.side g k w'
     reads g n DiskFault row =
-        let failed : Faulted disk.control z.x.log n.node.log = rw row.0.reads.after row.0.cause in
+        let lasts : Lasting disk.control z.x.log n.node.log = rw row.0.reads.after row.0.reads.lasts in
+        let one : OneFault disk.control z.x.log n.node.log = rw row.0.reads.after row.0.cause in
+        let failed : Faulted disk.control z.x.log n.node.log = one_faulted disk.control z.x.log n.node.log lasts one in
         let there : slice_get w'.held.nodes b ≡ Some n.node = ap (λ (h : Held D). slice_get h.nodes b) n.held ∙ get_put w.held.nodes b z.x n.node z.at in
         some_at (λ (x : Node D). AtNode w'.held b (λ y. Faulted disk.control x.log y.log)) (slice_get w.held.nodes b) z.x z.at
         (some_at (λ (y : Node D). Faulted disk.control z.x.log y.log) (slice_get w'.held.nodes b) n.node there failed)

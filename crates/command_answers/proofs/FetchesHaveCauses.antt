@@ -36,6 +36,7 @@ use Rattle.plain_log.specs.declared.command.Command.TheVariants.{Fetch}
 use Rattle.plain_log.specs.declared.state.State.{State}
 use Rattle.plain_log.specs.State.{leading}
 use Rattle.broker_log.specs.Seen.{Faulted}
+use Rattle.partition_turns.proofs.LastingDisks.{one_faulted}
 use Rattle.partition_seen.specs.declared.begun.Begun.{Begun}
 use Rattle.partition_seen.specs.declared.begun.Turned.{Turned}
 use Rattle.partition_seen.specs.declared.begun.Turned.TheVariants as turned
@@ -155,7 +156,7 @@ module _ {D S M : Type 0} (disk : DiskGhosts D) (store : StoreGhosts S) (meta : 
         let there : slice_get w'.held.nodes b ≡ Some (record z.x { log = f.0 }) =
         ap (λ (h : Held D). slice_get h.nodes b) f.4 ∙ get_put w.held.nodes b z.x (record z.x { log = f.0 }) z.at in
         some_at (λ (x : Node D). AtNode w'.held b (λ y. Faulted disk.control x.log y.log)) (slice_get w.held.nodes b) z.x z.at
-        (some_at (λ (y : Node D). Faulted disk.control z.x.log y.log) (slice_get w'.held.nodes b) (record z.x { log = f.0 }) there f.3)
+        (some_at (λ (y : Node D). Faulted disk.control z.x.log y.log) (slice_get w'.held.nodes b) (record z.x { log = f.0 }) there (one_faulted disk.control z.x.log f.0 f.2 f.3))
     first (Damaged (File name) at) row = absurd (row.4.misreads.unmarked z.s z.sees.shows (marked disk store meta opening w c t.place t.list t.seat t.order z))
     first (Run tier size stop bytes) row =
         let g = row.4 in

@@ -23,6 +23,7 @@ use Rattle.plain_log.specs.declared.command.Command.TheVariants.{Join}
 use Rattle.plain_log.specs.declared.state.State.{State}
 use Rattle.plain_log.specs.State.{followed}
 use Rattle.broker_log.specs.Seen.{Faulted, end_in}
+use Rattle.partition_turns.proofs.LastingDisks.{one_faulted}
 use Rattle.partition_seen.specs.declared.begun.Begun.{Begun}
 use Rattle.partition_seen.specs.declared.begun.Turned.TheVariants as turned
 use Rattle.partition_seen.proofs.BoolTests.{some_of}
@@ -104,7 +105,7 @@ module _ {D S M : Type 0} (disk : DiskGhosts D) (store : StoreGhosts S) (meta : 
     first (DiskFaultAt n) row =
         let y = some_of (λ y. (e m : ℕ) × (followed z.x.role ≡ Some e) × IsMeet z.x y m × CutRow disk.content disk.control w.held b z.x e m (DiskFaultAt n) w'.held) (the_leader w.held) row.2 in
         let breaks = y.2.4.1 in
-        failed _ breaks.after breaks.cause
+        failed _ breaks.after (one_faulted disk.control z.x.log breaks.kept breaks.lasts breaks.cause)
     first other row = elim row [ ]
 
     own : OwnRow disk w.held w.tier b z.x Join (Answers answer) w'.held w'.tier → FirstCause disk store meta w b z.x answer w'
@@ -117,7 +118,7 @@ module _ {D S M : Type 0} (disk : DiskGhosts D) (store : StoreGhosts S) (meta : 
     restarts g line (StaleEpoch n) row = (row.0, row.1, row.2)
     restarts g line (Passed n) row = (row.0, row.1, row.2)
     restarts g line (BelowStart start) row = (row.0, row.1, row.2, row.3, row.4)
-    restarts g line (DiskFaultAt n) row = failed _ row.2.after row.2.cause
+    restarts g line (DiskFaultAt n) row = failed _ row.2.after (one_faulted disk.control z.x.log row.2.kept row.2.lasts row.2.cause)
     restarts g line (Rebuilt n) row = (row.1, ends_at _ n row.2.after row.2.restarts.end_is)
     restarts g line other row = elim row [ ]
 
@@ -126,7 +127,7 @@ module _ {D S M : Type 0} (disk : DiskGhosts D) (store : StoreGhosts S) (meta : 
     begun g (StaleEpoch n) row = (row.0, row.1, row.2)
     begun g (Passed n) row = (row.0, row.1, row.2)
     begun g (BelowStart start) row = (row.0, row.1, row.2, row.3, row.4)
-    begun g (DiskFaultAt n) row = failed _ row.2.after row.2.cause
+    begun g (DiskFaultAt n) row = failed _ row.2.after (one_faulted disk.control z.x.log row.2.kept row.2.lasts row.2.cause)
     begun g (Rebuilt n) row = (row.1, ends_at _ n row.2.after row.2.restarts.end_is)
     begun g other row = elim row [ ]
 

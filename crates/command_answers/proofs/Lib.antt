@@ -31,4 +31,5 @@ pub mod Found
 pub mod RowsWithoutDamage
 pub mod RunsWithoutDamage
 pub mod FaultsOfJournals
+pub mod ToldOfJournals
 pub mod FailedByPlan

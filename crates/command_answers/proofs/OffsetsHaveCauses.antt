@@ -24,6 +24,7 @@ use Rattle.partition_seen.specs.declared.begun.Begun.{Begun}
 use Rattle.partition_seen.specs.declared.begun.Turned.{Turned}
 use Rattle.partition_seen.specs.declared.begun.Turned.TheVariants as turned
 use Rattle.partition_seen.proofs.Standing.{get_put}
+use Rattle.partition_turns.proofs.LastingDisks.{one_faulted}
 use Rattle.partition_turns.specs.declared.held.Node.{Node}
 use Rattle.partition_turns.specs.declared.held.Held.{Held}
 use Rattle.partition_turns.specs.Held.{AtNode, line_of, local_of}
@@ -104,7 +105,7 @@ module _ {D S M : Type 0} (disk : DiskGhosts D) (store : StoreGhosts S) (meta : 
 
       reads : (to : TimeTurn) → ReadRow disk.content disk.control x.log asked (passed_over asked.ts from (closed_in x.log)) to s.kept
           → Tells to
-      reads (Ends DiskFault) row = failed row.2
+      reads (Ends DiskFault) row = failed (one_faulted disk.control x.log s.kept row.1 row.2)
       reads (Ends (Damaged (File name) place)) row = tt
       reads to row =
           searched_told (DiskFailed disk b w w') (Unit {0}) (StoreFailed store w w') (MetaFailed meta w w') asked

@@ -11,6 +11,7 @@ use Rattle.partition_world.specs.Fresh.{IsNew}
 use Rattle.partition_world.specs.Reaches.{Reaches}
 use Rattle.partition_world.specs.Whole.{Whole}
 use Rattle.command_answers.specs.Counted.{FaultsAreCounted}
+use Rattle.command_answers.specs.Told.{FaultsAreTold}
 use Rattle.command_answers.specs.ByPlan.{AreRuled, HaveFailedByPlan}
 
 module _ {D S M : Type 0} (disk : DiskGhosts D) (store : StoreGhosts S) (meta : MetaGhosts M) where
@@ -18,6 +19,11 @@ module _ {D S M : Type 0} (disk : DiskGhosts D) (store : StoreGhosts S) (meta : 
   abbrev pub ReachesCounted : Type 0
   ReachesCounted = (config : Config) (lists : List ActorList) (w : Whole D S M) (schedule : List Pace) (w' : Whole D S M)
       → AreListsFor config lists → IsNew lists w → Reaches disk store meta w schedule w' → FaultsAreCounted disk store meta w w'
+
+  -- and as many are told of each device as its count has risen by
+  abbrev pub ReachesTold : Type 0
+  ReachesTold = (config : Config) (lists : List ActorList) (w : Whole D S M) (schedule : List Pace) (w' : Whole D S M)
+      → AreListsFor config lists → IsNew lists w → Reaches disk store meta w schedule w' → FaultsAreTold disk store meta w w'
 
   -- over devices of which the plans alone decide which calls fail: as many failed as they name of those that were made
   abbrev pub ReachesByPlan : Type 0

@@ -21,5 +21,6 @@ pub mod LawsOfSearches
 pub mod Damage
 pub mod LawsOfDamage
 pub mod Counted
+pub mod Told
 pub mod ByPlan
 pub mod LawsOfFaults

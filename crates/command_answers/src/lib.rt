@@ -27,7 +27,7 @@ pub use copy_laws::{
     turns_keep_known, unfailing_are_copied, unhindered_are_copied,
 };
 pub use damage_laws::{no_answer_is_damaged, runs_meet_no_damage};
-pub use fault_laws::{reaches_by_plan, reaches_counted};
+pub use fault_laws::{reaches_by_plan, reaches_counted, reaches_told};
 pub use fetch_laws::{
     fetches_have_causes, new_has_spans, no_fetch_is_damaged, pieces_end, reaches_spans,
     turns_keep_spans, unfailing_are_served, unhindered_are_served,

@@ -17,7 +17,9 @@ use Rattle.plain_log.specs.Safe.{PlainSafe}
 use Rattle.plain_log.proofs.Grows.{replay_led, replay_runs}
 use Rattle.command_answers.specs.LawsOfDamage.{RunsMeetNoDamage}
 use Rattle.command_answers.specs.Counted.{FaultsAreCounted}
+use Rattle.command_answers.specs.ByPlan.{HaveFailedByPlan}
 use Rattle.command_answers.proofs.FaultsOfJournals.{reaches_counted}
+use Rattle.command_answers.proofs.ToldOfJournals.{reaches_told}
 use Rattle.command_answers.specs.LawsOfFaults.{ReachesByPlan}
 use Rattle.partition_world.specs.Whole.{Whole}
 use Rattle.partition_world.specs.Turn.{IsAtEnd}
@@ -27,10 +29,9 @@ use Rattle.partition_world.specs.Laws.{EndsAreComplete, ReachesLater, ReachesInT
 use Rattle.partition_world.specs.Reaches.{GoesUntil, HasAnswered, Reaches}
 use Rattle.partition_seen.proofs.Lists.{one_list}
 use Rattle.partition_world.proofs.LaterLaw.{all_ended}
-use Rattle.partition_world.proofs.LastingRuns.{reaches_lasting, fresh_new}
+use Rattle.partition_world.proofs.LastingRuns.{fresh_new}
 use Rattle.script_lang.specs.Fit.{StepsTo, StepsToEnds}
 use Rattle.script_lang.specs.declared.script.PartScript.{PartScript}
-use Rattle.memory_run.specs.Planned.{FaultsArePlanned}
 use Rattle.memory_run.specs.Run.{StartsWith, IsRunOf}
 use Rattle.memory_run.proofs.Faulting.{faults_planned}
 use Rattle.memory_run.proofs.Ruled.{starts_ruled}
@@ -87,6 +88,7 @@ module _ {D S M : Type 0} (disk : DiskGhosts D) (store : StoreGhosts S) (meta : 
       subst (λ (k : Config). IsPlainRun k lists w'.journal.items) same (subst (λ (k : List ActorList). IsPlainRun w'.config k w'.journal.items) its whole.run) in
       let counted : FaultsAreCounted disk store meta w w' =
       reaches_counted disk store meta config lists w part.schedule w' fit new reaches in
+      let as_planned : HaveFailedByPlan disk store meta w w' = by_plan w part.schedule w' (starts_ruled disk store meta part config w starts) reaches in
       let safe : PlainSafe run.last = keeps lists (fresh config) w'.journal.items run.last run.replays (opens config) in
       record {
         partition = refl;
@@ -97,9 +99,6 @@ module _ {D S M : Type 0} (disk : DiskGhosts D) (store : StoreGhosts S) (meta : 
         led = replay_led lists (fresh config) w'.journal.items run.last run.replays (opens config);
         committed = λ clean. replay_runs lists (fresh config) w'.journal.items run.last run.replays (opens config) clean;
         undamaged = undamaged (fresh config) lists w part.schedule w' new c reaches;
-        planned = subst (λ (k : List ActorList). FaultsArePlanned k part.faults w'.journal.items) its
-            (faults_planned disk store meta part.partition config lists part.faults w w' starts
-            (reaches_lasting disk store meta lists w part.schedule w' new reaches) counted);
         reached = record {
           first = w;
           last = w';
@@ -107,7 +106,9 @@ module _ {D S M : Type 0} (disk : DiskGhosts D) (store : StoreGhosts S) (meta : 
           reaches = reaches;
           central = later.central (fresh config) c;
           counted = counted;
-          by_plan = by_plan w part.schedule w' (starts_ruled disk store meta part config w starts) reaches;
+          told = reaches_told disk store meta config lists w part.schedule w' fit new reaches;
+          by_plan = as_planned;
+          planned = faults_planned disk store meta part.partition config lists part.faults w w' starts as_planned counted;
           its = refl;
         };
       }

@@ -20,6 +20,7 @@ use Rattle.partition_world.specs.Fresh.{IsFresh, IsSeenEmpty}
 use Rattle.partition_world.specs.InTurn.{IsInTurn}
 use Rattle.partition_world.specs.Reaches.{Reaches}
 use Rattle.command_answers.specs.Counted.{FaultsAreCounted}
+use Rattle.command_answers.specs.Told.{FaultsAreTold}
 use Rattle.command_answers.specs.Damage.{MeetsNoDamage}
 use Rattle.command_answers.specs.ByPlan.{HaveFailedByPlan}
 use Rattle.script_lang.specs.declared.fault.Fault.{Fault}
@@ -40,7 +41,7 @@ module _ {D S M : Type 0} (disk : DiskGhosts D) (store : StoreGhosts S) (meta : 
 
   -- the journal is that of a world which the partition's schedule reaches from the fresh one over its faults; in it the central
   -- fact holds: its logs are the plain log's, and the remote tier beside them keeps its safety rules; its devices have counted
-  -- each fault that is told, and of their calls as many failed as the plans name of those that were made
+  -- each fault that is told and no other, and of their calls those have failed that the plans name of those that were made
   pub record IsReached (config : Config) (part : PartScript) (journal : List JournalEntry) : Type 0 where
     pub first : Whole D S M
     pub last : Whole D S M
@@ -48,13 +49,15 @@ module _ {D S M : Type 0} (disk : DiskGhosts D) (store : StoreGhosts S) (meta : 
     pub reaches : Reaches disk store meta first part.schedule last
     pub central : IsCentral disk store meta (fresh config) last
     pub counted : FaultsAreCounted disk store meta first last
+    pub told : FaultsAreTold disk store meta first last
     pub by_plan : HaveFailedByPlan disk store meta first last
+    pub planned : FaultsArePlanned disk store meta part.faults last
     pub its : last.journal.items ≡ journal
 
   -- a partition's number and journal: a run of the plain log over the partition's lists, by its schedule, which ends with
   -- the safety rules; each command is answered once and in order, and begins at most once, right before its answer; each
   -- fetch is given a part of the log of a leader epoch as the run ends, and while elections are clean of what is committed
-  -- then; no command is answered `Damaged`; a fault is told only of a device of which the partition's faults name a call
+  -- then; no command is answered `Damaged`; and it is that of a world which the schedule reaches so
   pub record IsRunOf (config : Config) (part : PartScript) (run : ℕ × List JournalEntry) : Type 0 where
     pub partition : run.0 ≡ part.partition.0
     pub plain : IsPlainRun config part.lists run.1
@@ -64,5 +67,4 @@ module _ {D S M : Type 0} (disk : DiskGhosts D) (store : StoreGhosts S) (meta : 
     pub led : AllByRecursion (IsRunOfPath part.lists plain.last.paths) run.1
     pub committed : plain.last.unclean ≡ false → AllByRecursion (IsCommittedRun part.lists plain.last.committed) run.1
     pub undamaged : MeetsNoDamage run.1
-    pub planned : FaultsArePlanned part.lists part.faults run.1
     pub reached : IsReached config part run.1

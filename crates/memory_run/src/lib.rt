@@ -3,8 +3,8 @@
 //!
 //! `run_partition` runs it by its own schedule. `specs/Run.antt` says what a run is: its journal is one of the plain log, in
 //! which each command is answered once and in order, and that of a world which the schedule reaches. Of its devices' calls
-//! as many failed as the lines name of those that were made; each fault that is told is counted, and none is told of a
-//! device that no line names.
+//! as many failed as the lines name of those that were made; as many faults are told of each device as it has counted,
+//! and a call that a line names was made of each of which one is told.
 #![tactic(auto)]
 
 mod devices;

@@ -64,7 +64,7 @@ module _ {D : Type 0} (content : D → Content) (control : D → Control call_co
         kept = w.kept;
         out = w.out;
         reads = subst (λ (m : ℕ). Reads content control y.log w.kept m limit (end_of y) w.out) (ap (λ (k : Begun). k.end) (sym w.is)) w.reads;
-        lasts = w.lasts;
+        quiet = w.quiet;
         batches = ap (λ (k : Begun). k.batches) w.is;
         after = w.after;
       },

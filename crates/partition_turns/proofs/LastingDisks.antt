@@ -1,14 +1,14 @@
 -- The brokers' disks last, over no call and over many, and a fault of one of them goes on to be counted.
 use Rattle.std.proofs.Common.{◌≡◌, sym, subst, ℕ, zero, suc, ◌+◌, ◌≤◌, List, [], ◌∷◌, slice_get, slice_set, Some, Option, IsSomeAnd, arith}
 use Rattle.std.specs.Prelude.{◌-◌, ◌^◌, min}
-use Rattle.tier_base.specs.Counts.{Rose}
+use Rattle.tier_base.specs.Counts.{counted, Rose}
 use Rattle.tier_base.specs.Device.{Control, Lasts}
 use Rattle.tier_base.proofs.Lasting.{lasts_same, lasts_then}
 use Rattle.disk_model.specs.Call.{call_code}
 use Rattle.registry.specs.declared.registry.Registry.{Registry}
 use Rattle.plain_log.specs.declared.command.Command.{Command}
 use Rattle.plain_log.specs.declared.command.Command.TheVariants.{Follow}
-use Rattle.broker_log.specs.Seen.{Kept, Up, Down, Away, OnDisk, Lasting, Faulted}
+use Rattle.broker_log.specs.Seen.{Kept, Up, Down, Away, OnDisk, Lasting, Faulted, OneFault}
 use Rattle.partition_seen.proofs.BoolTests.{some_of}
 use Rattle.partition_turns.specs.declared.held.Node.{Node}
 use Rattle.partition_turns.specs.declared.held.Held.{Held}
@@ -30,6 +30,13 @@ rose_on before now later rose up = go rose up
     go : min (before + 1) (2 ^ 64 - 1) ≤ now → now ≤ later → min (before + 1) (2 ^ 64 - 1) ≤ later
     go rose up = omega (arith, rose, up)
 
+-- one more than before
+rose_once : (before now : ℕ) → now ≡ counted before 1 → Rose before now
+rose_once before now is = go is
+  where
+    go : now ≡ min (before + 1) (2 ^ 64 - 1) → min (before + 1) (2 ^ 64 - 1) ≤ now
+    go is = omega (arith, is)
+
 module _ {D : Type 0} where
   pub disk_map : (P Q : D → Type 0) (k : Kept D) → ((d : D) → P d → Q d) → OnDisk k P → OnDisk k Q
   disk_map P Q (Up l) to on = to l.disk on
@@ -40,6 +47,16 @@ module _ {D : Type 0} where
   disk_both P Q X (Up l) to p q = to l.disk p q
   disk_both P Q X (Down i d) to p q = to d p q
   disk_both P Q X Away to p q = absurd p
+
+  -- two facts of one disk and the next
+  pub disk_pair : (R S T : D → D → Type 0) (a b : Kept D) → ((d e : D) → R d e → S d e → T d e) → OnDisk a (λ d. OnDisk b (R d)) → OnDisk a (λ d. OnDisk b (S d)) → OnDisk a (λ d. OnDisk b (T d))
+  disk_pair R S T (Up l) (Up m) to r s = to l.disk m.disk r s
+  disk_pair R S T (Up l) (Down j e) to r s = to l.disk e r s
+  disk_pair R S T (Up l) Away to r s = absurd r
+  disk_pair R S T (Down i d) (Up m) to r s = to d m.disk r s
+  disk_pair R S T (Down i d) (Down j e) to r s = to d e r s
+  disk_pair R S T (Down i d) Away to r s = absurd r
+  disk_pair R S T Away b to r s = absurd r
 
   -- from one disk to the next, and to the one after it
   pub disk_then : (R S T : D → D → Type 0) (a b c : Kept D) → ((d e f : D) → R d e → S e f → T d f) → OnDisk a (λ d. OnDisk b (R d)) → OnDisk b (λ e. OnDisk c (S e)) → OnDisk a (λ d. OnDisk c (T d))
@@ -75,6 +92,12 @@ module _ {D : Type 0} (control : D → Control call_code) where
   faulted_after a b c one two =
       disk_then (λ d e. Lasts (control d) (control e)) (λ d e. Rose (control d).faults (control e).faults) (λ d e. Rose (control d).faults (control e).faults) a b c
       (λ d e f p q. rose_from (control d).faults (control e).faults (control f).faults p.never_falls q) one two
+
+  -- one call that failed has raised the count
+  pub one_faulted : (a b : Kept D) → Lasting control a b → OneFault control a b → Faulted control a b
+  one_faulted a b lasts one =
+      disk_pair (λ d e. Lasts (control d) (control e)) (λ d e. (control e).faults ≡ counted (control d).faults 1) (λ d e. Rose (control d).faults (control e).faults) a b
+      (λ d e l is. rose_once (control d).faults (control e).faults is) lasts one
 
   faulted_before : (a b c : Kept D) → Faulted control a b → Lasting control b c → Faulted control a c
   faulted_before a b c one two =

@@ -31,7 +31,7 @@ use Rattle.partition_turns.specs.TurnsOfElections.{ElectRow, UncleanRow, LearnRo
 use Rattle.partition_turns.specs.TurnsOfFollowers.{JoinRow, JoinOnRow, FollowRow, FollowOnRow}
 use Rattle.partition_turns.proofs.SoundLaw.{leader_at}
 use Rattle.partition_turns.proofs.Told.{Told, OwnTold, told_map}
-use Rattle.partition_turns.proofs.LastingDisks.{Keeps, FailsAlone, FailsFor, keeps_same, keeps_put, keeps_log, keeps_leaves, fails_put}
+use Rattle.partition_turns.proofs.LastingDisks.{Keeps, FailsAlone, FailsFor, keeps_same, keeps_put, keeps_log, keeps_leaves, fails_put, one_faulted}
 
 module _ {D : Type 0} (content : D → Content) (control : D → Control call_code) where
   -- what a turn of the broker leaves that works on its own log, where it is answered so
@@ -50,17 +50,17 @@ module _ {D : Type 0} (content : D → Content) (control : D → Control call_co
   )
 
   fails_lasts : (h : Held D) (b : ℕ) (x : Node D) (h' : Held D) → slice_get h.nodes b ≡ Some x → Fails content control h b x h' → FailsAlone control h b h'
-  fails_lasts h b x h' at k = fails_put control h b x (record x { log = k.0 }) h' at k.2 k.3 k.4
+  fails_lasts h b x h' at k = fails_put control h b x (record x { log = k.0 }) h' at k.2 (one_faulted control x.log k.0 k.2 k.3) k.4
 
   breaks_lasts : (h : Held D) (b : ℕ) (x : Node D) (makes : log.Seen → log.Seen) (h' : Held D) → slice_get h.nodes b ≡ Some x → Breaks content control h b x makes h' → FailsAlone control h b h'
-  breaks_lasts h b x makes h' at k = fails_put control h b x (record (stopped x) { log = k.kept }) h' at k.lasts k.cause k.after
+  breaks_lasts h b x makes h' at k = fails_put control h b x (record (stopped x) { log = k.kept }) h' at k.lasts (one_faulted control x.log k.kept k.lasts k.cause) k.after
 
   -- whatever the write that failed makes of the log
   broken_lasts : (h : Held D) (b : ℕ) (x : Node D) (B : Kept D → Kept D → Type 0) (h' : Held D) → slice_get h.nodes b ≡ Some x → BreaksBy content control h b x B h' → FailsAlone control h b h'
-  broken_lasts h b x B h' at k = fails_put control h b x (record (stopped x) { log = k.kept }) h' at k.lasts k.cause k.after
+  broken_lasts h b x B h' at k = fails_put control h b x (record (stopped x) { log = k.kept }) h' at k.lasts (one_faulted control x.log k.kept k.lasts k.cause) k.after
 
   gains_lasts : (h : Held D) (b : ℕ) (x : Node D) (batch : List ℕ) (h' : Held D) → slice_get h.nodes b ≡ Some x → Gains content control h b x batch h' → Keeps control h h'
-  gains_lasts h b x batch h' at k = keeps_put control h b x (record x { log = k.0 }) h' at k.4 k.5
+  gains_lasts h b x batch h' at k = keeps_put control h b x (record x { log = k.0 }) h' at k.4.0 k.5
 
   append_lasts : (h : Held D) (b : ℕ) (x : Node D) (batch : List ℕ) (answer : Answer) (h' : Held D) → slice_get h.nodes b ≡ Some x → AppendRow content control h b x batch answer h' → Leaving h b h' answer
   append_lasts h b x batch Down h' at w = (keeps_same control h h' w.1, tt)
@@ -84,7 +84,7 @@ module _ {D : Type 0} (content : D → Content) (control : D → Control call_co
   flush_lasts : (h : Held D) (b : ℕ) (x : Node D) (answer : Answer) (h' : Held D) → slice_get h.nodes b ≡ Some x → FlushRow content control h b x answer h' → Leaving h b h' answer
   flush_lasts h b x Down h' at w = (keeps_same control h h' w.1, tt)
   flush_lasts h b x DiskFault h' at w = breaks_lasts h b x _ h' at w.1
-  flush_lasts h b x (OkAt n) h' at w = (keeps_put control h b x (record x { log = w.1.0 }) h' at w.1.2 w.1.3, tt)
+  flush_lasts h b x (OkAt n) h' at w = (keeps_put control h b x (record x { log = w.1.0 }) h' at w.1.2.0 w.1.3, tt)
   flush_lasts h b x other h' at w = elim w [ ]
 
   roll_lasts : (h : Held D) (b : ℕ) (x : Node D) (answer : Answer) (h' : Held D) → slice_get h.nodes b ≡ Some x → RollRow content control h b x answer h' → Leaving h b h' answer
@@ -92,7 +92,7 @@ module _ {D : Type 0} (content : D → Content) (control : D → Control call_co
   roll_lasts h b x EmptySegment h' at w = (keeps_same control h h' w.2, tt)
   roll_lasts h b x TooManySegments h' at w = (keeps_same control h h' w.2, tt)
   roll_lasts h b x DiskFault h' at w = breaks_lasts h b x _ h' at w.2
-  roll_lasts h b x (OkAt n) h' at w = (keeps_put control h b x (record x { log = w.3.0 }) h' at w.3.2 w.3.3, tt)
+  roll_lasts h b x (OkAt n) h' at w = (keeps_put control h b x (record x { log = w.3.0 }) h' at w.3.2.0 w.3.3, tt)
   roll_lasts h b x other h' at w = elim w [ ]
 
   fetch_lasts : (h : Held D) (b : ℕ) (x : Node D) (offset limit : ℕ) (answer : Answer) (h' : Held D) → slice_get h.nodes b ≡ Some x
@@ -101,9 +101,9 @@ module _ {D : Type 0} (content : D → Content) (control : D → Control call_co
   fetch_lasts h b x offset limit NotLeader h' at w = (keeps_same control h h' w.2, tt)
   fetch_lasts h b x offset limit (OutOfRange start end) h' at w = (keeps_same control h h' w.5, tt)
   fetch_lasts h b x offset limit Empty h' at w = (keeps_same control h h' w.4, tt)
-  fetch_lasts h b x offset limit (Run tier size stop bytes) h' at w = (keeps_put control h b x (record x { log = w.4.kept }) h' at w.4.lasts w.4.after, tt)
+  fetch_lasts h b x offset limit (Run tier size stop bytes) h' at w = (keeps_put control h b x (record x { log = w.4.kept }) h' at w.4.quiet.0 w.4.after, tt)
   fetch_lasts h b x offset limit DiskFault h' at w = fails_lasts h b x h' at w.4
-  fetch_lasts h b x offset limit (Damaged (File name) from) h' at w = (keeps_put control h b x (record x { log = w.4.kept }) h' at w.4.lasts w.4.after, tt)
+  fetch_lasts h b x offset limit (Damaged (File name) from) h' at w = (keeps_put control h b x (record x { log = w.4.kept }) h' at w.4.quiet.0 w.4.after, tt)
   fetch_lasts h b x offset limit other h' at w = elim w [ ]
 
   elect_lasts : (h : Held D) (b : ℕ) (x : Node D) (answer : Answer) (h' : Held D) → ElectRow h b x answer h' → Leaving h b h' answer
@@ -125,7 +125,7 @@ module _ {D : Type 0} (content : D → Content) (control : D → Control call_co
   learn_lasts h b x Known h' at w = (keeps_same control h h' w.2, tt)
   learn_lasts h b x (Follows n) h' at w = (keeps_log control h b x _ h' at refl w.4, tt)
   learn_lasts h b x (NeedsElection n) h' at w = (keeps_same control h h' w.5, tt)
-  learn_lasts h b x (Leads n) h' at w = let g = w.4.1 in (keeps_put control h b x _ h' at g.lasts g.after, tt)
+  learn_lasts h b x (Leads n) h' at w = let g = w.4.1 in (keeps_put control h b x _ h' at g.quiet.0 g.after, tt)
   learn_lasts h b x DiskFault h' at w = breaks_lasts h b x _ h' at w.4
   learn_lasts h b x other h' at w = elim w [ ]
 
@@ -168,15 +168,15 @@ module _ {D : Type 0} (content : D → Content) (control : D → Control call_co
 
   stop_lasts : (h : Held D) (b : ℕ) (x : Node D) (answer : Answer) (h' : Held D) → slice_get h.nodes b ≡ Some x → StopRow content control h b x answer h' → Leaving h b h' answer
   stop_lasts h b x Down h' at w = (keeps_same control h h' w.1, tt)
-  stop_lasts h b x Ok h' at w = (keeps_put control h b x _ h' at w.1.2 w.1.3, tt)
+  stop_lasts h b x Ok h' at w = (keeps_put control h b x _ h' at w.1.2.0 w.1.3, tt)
   stop_lasts h b x other h' at w = elim w [ ]
 
   up_lasts : (h : Held D) (b : ℕ) (x : Node D) (answer : Answer) (h' : Held D) → slice_get h.nodes b ≡ Some x → UpRow content control h b x answer h' → Leaving h b h' answer
   up_lasts h b x IsUp h' at w = (keeps_same control h h' w.1, tt)
-  up_lasts h b x (IsOpen n) h' at w = (keeps_put control h b x _ h' at w.1.2 w.1.3, tt)
+  up_lasts h b x (IsOpen n) h' at w = (keeps_put control h b x _ h' at w.1.2.0 w.1.3, tt)
   up_lasts h b x DiskFault h' at w = fails_lasts h b x h' at w.1
-  up_lasts h b x (Damaged (File name) from) h' at w = (keeps_put control h b x _ h' at w.1.2 w.1.3, tt)
-  up_lasts h b x LastIncarnation h' at w = (keeps_put control h b x _ h' at w.1.2 w.1.3, tt)
+  up_lasts h b x (Damaged (File name) from) h' at w = (keeps_put control h b x _ h' at w.1.2.0 w.1.3, tt)
+  up_lasts h b x LastIncarnation h' at w = (keeps_put control h b x _ h' at w.1.2.0 w.1.3, tt)
   up_lasts h b x other h' at w = elim w [ ]
 
   clock_lasts : (h : Held D) (b : ℕ) (ms : ℤ) (answer : Answer) (h' : Held D) → ClockRow h ms answer h' → Leaving h b h' answer
@@ -228,9 +228,9 @@ module _ {D : Type 0} (content : D → Content) (control : D → Control call_co
   join_lasts h b x (Answers NotFollower) h' at w = (keeps_same control h h' w.2, tt)
   join_lasts h b x (Answers (StaleEpoch e)) h' at w = (keeps_same control h h' w.3, tt)
   join_lasts h b x (Answers NoLeader) h' at w = (keeps_same control h h' w.3, tt)
-  join_lasts h b x (Answers (Cut n)) h' at w = let g = (some_of _ (the_leader h) w.2).2.5 in (keeps_put control h b x _ h' at g.lasts g.after, tt)
+  join_lasts h b x (Answers (Cut n)) h' at w = let g = (some_of _ (the_leader h) w.2).2.5 in (keeps_put control h b x _ h' at g.quiet.0 g.after, tt)
   join_lasts h b x (Answers (DiskFaultAt n)) h' at w = broken_lasts h b x _ h' at (some_of _ (the_leader h) w.2).2.4.1
-  join_lasts h b x (Begins g) h' at w = let k = (some_of _ (the_leader h) w.2).2.4.cuts in (keeps_put control h b x _ h' at k.lasts k.after, tt)
+  join_lasts h b x (Begins g) h' at w = let k = (some_of _ (the_leader h) w.2).2.4.cuts in (keeps_put control h b x _ h' at k.quiet.0 k.after, tt)
   join_lasts h b x other h' at w = elim w [ ]
 
   join_on_lasts : (h : Held D) (b : ℕ) (x : Node D) (g : Begun) (answer : Answer) (h' : Held D) → slice_get h.nodes b ≡ Some x → JoinOnRow content control h b x g answer h' → Leaving h b h' answer
@@ -239,7 +239,7 @@ module _ {D : Type 0} (content : D → Content) (control : D → Control call_co
   join_on_lasts h b x g (Passed n) h' at w = (keeps_same control h h' w.3, tt)
   join_on_lasts h b x g (BelowStart start) h' at w = (keeps_same control h h' w.5, tt)
   join_on_lasts h b x g (DiskFaultAt n) h' at w = broken_lasts h b x _ h' at w.2
-  join_on_lasts h b x g (Rebuilt n) h' at w = (keeps_put control h b x (record x { log = w.2.kept }) h' at w.2.lasts w.2.after, tt)
+  join_on_lasts h b x g (Rebuilt n) h' at w = (keeps_put control h b x (record x { log = w.2.kept }) h' at w.2.quiet.0 w.2.after, tt)
   join_on_lasts h b x g other h' at w = elim w [ ]
 
   trim_lasts : (h : Held D) (b : ℕ) (x : Node D) (turned : Turned) (h' : Held D) → TrimRow content control h x turned h' → LeavingFor Trim h b h' turned
@@ -251,7 +251,7 @@ module _ {D : Type 0} (content : D → Content) (control : D → Control call_co
   trim_on_lasts h b x g Stopped h' at w = (keeps_same control h h' w.1, tt)
   trim_on_lasts h b x g Remains h' at w = (keeps_same control h h' w.1, tt)
   trim_on_lasts h b x g DiskFault h' at w = broken_lasts h b x _ h' at w.2
-  trim_on_lasts h b x g (Dropped base last) h' at w = (keeps_put control h b x (record x { log = w.2.0 }) h' at w.2.2 w.2.3, tt)
+  trim_on_lasts h b x g (Dropped base last) h' at w = (keeps_put control h b x (record x { log = w.2.0 }) h' at w.2.2.0 w.2.3, tt)
   trim_on_lasts h b x g other h' at w = elim w [ ]
 
   follow_lasts : (h : Held D) (b : ℕ) (x : Node D) (limit : ℕ) (turned : Turned) (h' : Held D) → FollowRow content control h b x limit turned h' → LeavingFor (Follow limit) h b h' turned
@@ -267,10 +267,10 @@ module _ {D : Type 0} (content : D → Content) (control : D → Control call_co
   follow_lasts h b x limit (Answers (Moved n)) h' w = (keeps_same control h h' w.3, tt)
   follow_lasts h b x limit (Answers (Damaged (File name) from)) h' w =
       let y = some_of _ (the_leader h) w.2 in
-      (keeps_put control h h.registry.leader.0 y.0 (record y.0 { log = y.2.2.kept }) h' (leader_at h y.0 y.1) y.2.2.lasts y.2.2.after, tt)
+      (keeps_put control h h.registry.leader.0 y.0 (record y.0 { log = y.2.2.kept }) h' (leader_at h y.0 y.1) y.2.2.quiet.0 y.2.2.after, tt)
   follow_lasts h b x limit (Begins g) h' w =
       let y = some_of _ (the_leader h) w.2 in
-      (keeps_put control h h.registry.leader.0 y.0 (record y.0 { log = y.2.2.kept }) h' (leader_at h y.0 y.1) y.2.2.lasts y.2.2.after, tt)
+      (keeps_put control h h.registry.leader.0 y.0 (record y.0 { log = y.2.2.kept }) h' (leader_at h y.0 y.1) y.2.2.quiet.0 y.2.2.after, tt)
   follow_lasts h b x limit other h' w = elim w [ ]
 
   follow_on_lasts : (h : Held D) (b : ℕ) (x : Node D) (g : Begun) (answer : Answer) (h' : Held D) → slice_get h.nodes b ≡ Some x
@@ -280,7 +280,7 @@ module _ {D : Type 0} (content : D → Content) (control : D → Control call_co
   follow_on_lasts h b x g (Passed n) h' at w = (keeps_same control h h' w.3, tt)
   follow_on_lasts h b x g TooManySegments h' at w = (keeps_same control h h' w.3, tt)
   follow_on_lasts h b x g DiskFault h' at w = breaks_lasts h b x _ h' at w.3
-  follow_on_lasts h b x g (Copied n) h' at w = (keeps_put control h b x (record x { log = w.3.kept }) h' at w.3.lasts w.3.after, tt)
+  follow_on_lasts h b x g (Copied n) h' at w = (keeps_put control h b x (record x { log = w.3.kept }) h' at w.3.quiet.0 w.3.after, tt)
   follow_on_lasts h b x g other h' at w = elim w [ ]
 
   first_lasts : (h : Held D) (b : ℕ) (x : Node D) (command : Command) (turned : Turned) (h' : Held D) → slice_get h.nodes b ≡ Some x

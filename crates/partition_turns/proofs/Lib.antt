@@ -15,6 +15,8 @@ pub mod SoundLaw
 pub mod Told
 pub mod LastingDisks
 pub mod LastingRows
+pub mod CountingDisks
+pub mod CountingRows
 pub mod CalmRows
 pub mod FreshSound
 pub mod FreshNodes

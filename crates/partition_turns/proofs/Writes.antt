@@ -1,5 +1,5 @@
 -- Writes that change nothing, and answers that say more.
-use Rattle.std.proofs.Common.{◌≡◌, ◌<◌, ℕ, zero, suc, List, [], ◌∷◌, length, slice_get, slice_set, Some, arith}
+use Rattle.std.proofs.Common.{◌≡◌, ◌∙◌, sym, ◌<◌, ℕ, zero, suc, List, [], ◌∷◌, length, slice_get, slice_set, Some, arith}
 use Rattle.std.specs.declared.result.Result.{Result}
 use Rattle.std.specs.declared.result.Result.TheVariants.{Ok, Err}
 use Rattle.std.specs.Prelude.{IfOk, IsSomeAnd}
@@ -15,6 +15,10 @@ set_same xs i x e = set-same xs i x e
 pub ok_more : {T E : Type 0} (P Q : T → Type 0) (r : Result T E) → ((x : T) → P x → Q x) → IfOk r P → IfOk r Q
 ok_more P Q (Ok x) f h = f x h
 ok_more P Q (Err e) f h = tt
+
+-- what ended so didn't end otherwise
+pub never : {A : Type 0} {x y z : A} → x ≡ y → (y ≡ z → ⊥) → x ≡ z → ⊥
+never is no was = no (sym is ∙ was)
 
 -- what stands at a place is within the list
 within : {A : Type 0} (P : A → Type 0) (xs : List A) (i : ℕ) → IsSomeAnd (slice_get xs i) P → i < length xs

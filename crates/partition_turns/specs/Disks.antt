@@ -1,10 +1,12 @@
 -- What turns leave of the brokers' disks.
-use Rattle.std.specs.Prelude.{◌≡◌, ℕ, List, [], ◌∷◌, Some, IsTrue, slice_get}
+use Rattle.std.specs.Prelude.{◌≡◌, ℕ, zero, suc, Bool, true, false, List, [], ◌∷◌, Some, IsTrue, slice_get}
 use Rattle.disk_model.specs.Content.{Content}
 use Rattle.log_steps.specs.Reopens.{Reopens}
 use Rattle.tier_base.specs.Device.{Control}
 use Rattle.disk_model.specs.Call.{call_code}
-use Rattle.broker_log.specs.Seen.{OnDisk, Lasting, Faulted, is_up}
+use Rattle.plain_log.specs.declared.command.Command.{Command}
+use Rattle.plain_log.specs.declared.command.Command.TheVariants.{Follow}
+use Rattle.broker_log.specs.Seen.{OnDisk, Lasting, Faulted, NoFault, OneFault, is_up}
 use Rattle.partition_turns.specs.declared.held.Node.{Node}
 use Rattle.partition_turns.specs.declared.held.Held.{Held}
 use Rattle.partition_turns.specs.Held.{AtNode}
@@ -26,6 +28,29 @@ module _ {D : Type 0} (control : D → Control call_code) where
   -- a call of the broker's disk failed
   abbrev pub DiskFails : ℕ → Held D → Held D → Type 0
   DiskFails b h h' = AtNode h b (λ x. AtNode h' b (λ y. Faulted control x.log y.log))
+
+  -- no call of a broker's disk failed
+  abbrev pub NoneFails : List (Node D) → List (Node D) → Type 0
+  NoneFails [] [] = Unit {0}
+  NoneFails (x ∷ xs) (y ∷ ys) = NoFault control x.log y.log × NoneFails xs ys
+  NoneFails [] (y ∷ ys) = ⊥
+  NoneFails (x ∷ xs) [] = ⊥
+
+  -- one call failed, of this broker's disk
+  abbrev pub OneFails : ℕ → List (Node D) → List (Node D) → Type 0
+  OneFails zero (x ∷ xs) (y ∷ ys) = OneFault control x.log y.log × NoneFails xs ys
+  OneFails (suc b) (x ∷ xs) (y ∷ ys) = NoFault control x.log y.log × OneFails b xs ys
+  OneFails b xs ys = ⊥
+
+  -- one call failed, of the disk that a command of this broker works on: a follow also reads the log of its leader
+  abbrev pub FailsOnce : Command → ℕ → List (Node D) → List (Node D) → Type 0
+  FailsOnce (Follow limit) b xs ys = (leader : ℕ) × OneFails leader xs ys
+  FailsOnce command b xs ys = OneFails b xs ys
+
+  -- so where a turn of the command is answered a fault of a disk; at any other none failed
+  abbrev pub DisksCount : Command → ℕ → Bool → List (Node D) → List (Node D) → Type 0
+  DisksCount command b true xs ys = FailsOnce command b xs ys
+  DisksCount command b false xs ys = NoneFails xs ys
 
 module _ {D : Type 0} (content : D → Content) where
   -- the log of a broker that is up can be opened again from its disk, also after a power cut

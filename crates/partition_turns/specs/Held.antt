@@ -12,7 +12,7 @@ use Rattle.local_log.specs.Run.{is_due}
 use Rattle.registry.specs.Calls.{when}
 use Rattle.plain_log.specs.declared.state.Role.TheVariants.{Idle}
 use Rattle.plain_log.specs.State.{leads_in}
-use Rattle.broker_log.specs.Seen.{Kept, Shows, Stays, WhileUp, Lasting, Faulted, is_up as is_open, end_in, stable_in, line_in, local_in}
+use Rattle.broker_log.specs.Seen.{Kept, Shows, Stays, WhileUp, Lasting, OneFault, Quiet, is_up as is_open, end_in, stable_in, line_in, local_in}
 use Rattle.broker_log.specs.Turns.{Misreads}
 use Rattle.broker_log.specs.Seen as log
 use Rattle.broker_log.specs.Turns as turns
@@ -101,14 +101,14 @@ module _ {D : Type 0} (content : D → Content) (control : D → Control call_co
 
   -- a broker's disk failed in a read, and the log is as it was
   abbrev pub Fails : Held D → ℕ → Node D → Held D → Type 0
-  Fails h b x h' = (kept : Kept D) × Stays content x.log kept × Lasting control x.log kept × Faulted control x.log kept
+  Fails h b x h' = (kept : Kept D) × Stays content x.log kept × Lasting control x.log kept × OneFault control x.log kept
       × (h' ≡ put_node h b (record x { log = kept }))
 
   -- a read of a broker's log found damage there, and the log is as it was
   pub record FindsDamage (h : Held D) (b : ℕ) (x : Node D) (offset limit mark : ℕ) (name : FileName) (at : ℕ) (h' : Held D) : Type 0 where
     pub kept : Kept D
     pub misreads : Misreads content control x.log kept offset limit mark name at
-    pub lasts : Lasting control x.log kept
+    pub quiet : Quiet control x.log kept
     pub after : h' ≡ put_node h b (record x { log = kept })
 
   -- nothing that is seen has changed
@@ -119,7 +119,7 @@ module _ {D : Type 0} (content : D → Content) (control : D → Control call_co
   pub record BreaksBy (h : Held D) (b : ℕ) (x : Node D) (B : Kept D → Kept D → Type 0) (h' : Held D) : Type 0 where
     pub kept : Kept D
     pub breaks : B x.log kept
-    pub cause : Faulted control x.log kept
+    pub cause : OneFault control x.log kept
     pub lasts : Lasting control x.log kept
     pub after : h' ≡ put_node h b (record (stopped x) { log = kept })
 
@@ -127,7 +127,7 @@ module _ {D : Type 0} (content : D → Content) (control : D → Control call_co
   pub record Breaks (h : Held D) (b : ℕ) (x : Node D) (makes : log.Seen → log.Seen) (h' : Held D) : Type 0 where
     pub kept : Kept D
     pub breaks : turns.Breaks content x.log kept makes
-    pub cause : Faulted control x.log kept
+    pub cause : OneFault control x.log kept
     pub lasts : Lasting control x.log kept
     pub after : h' ≡ put_node h b (record (stopped x) { log = kept })
 

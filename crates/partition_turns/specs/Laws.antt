@@ -14,7 +14,8 @@ use Rattle.partition_turns.specs.declared.held.Node.{Node}
 use Rattle.partition_turns.specs.declared.held.Held.{Held}
 use Rattle.partition_turns.specs.Held.{node_of}
 use Rattle.partition_turns.specs.Calm.{AreCalm, HasNoFault}
-use Rattle.partition_turns.specs.Disks.{HaveDisks, DisksLast}
+use Rattle.partition_turns.specs.Faults.{is_answered, is_of_disk}
+use Rattle.partition_turns.specs.Disks.{HaveDisks, DisksLast, DisksCount}
 use Rattle.partition_turns.specs.Shown.{Sees, Refines, Knows, KnowsBegun}
 use Rattle.partition_turns.specs.Sound.{HeldSound}
 use Rattle.partition_turns.specs.Turns.{Row}
@@ -39,6 +40,12 @@ module _ {D : Type 0} (content : D → Content) (control : D → Control call_co
   RowsLast = (h : Held D) (b : ℕ) (x : Node D) (begun : Option Begun) (command : Command) (turned : Turned) (h' : Held D)
       → slice_get h.nodes b ≡ Some x → HaveDisks h.nodes → Row content control h b x begun command turned h'
       → DisksLast control h.nodes h'.nodes
+
+  -- over any disks one call of a disk fails over a row that tells of a fault of one, and none over any other
+  abbrev pub RowsCountFaults : Type 0
+  RowsCountFaults = (h : Held D) (b : ℕ) (x : Node D) (begun : Option Begun) (command : Command) (turned : Turned) (h' : Held D)
+      → slice_get h.nodes b ≡ Some x → HaveDisks h.nodes → Row content control h b x begun command turned h'
+      → DisksCount control command b (is_answered is_of_disk turned) h.nodes h'.nodes
 
   -- over disks of which no call can fail each row leaves them so, and tells of no fault
   abbrev pub RowsStayCalm : Type 0

@@ -6,6 +6,7 @@ pub mod TurnsOfFollowers
 pub mod Turns
 pub mod Sound
 pub mod Disks
+pub mod Faults
 pub mod Calm
 pub mod Fresh
 pub mod Shown

@@ -18,7 +18,7 @@ use Rattle.plain_log.specs.declared.command.Which.{Which}
 use Rattle.plain_log.specs.declared.command.Which.TheVariants.{Earliest, Latest, EarliestLocal, LatestTiered, At}
 use Rattle.plain_log.specs.State.{leads}
 use Rattle.plain_log.specs.RowsOfReads.{is_long}
-use Rattle.broker_log.specs.Seen.{Kept, Lasting}
+use Rattle.broker_log.specs.Seen.{Kept, Quiet}
 use Rattle.broker_log.specs.Turns.{Stops, ComesUp, Unopened, IsSpent}
 use Rattle.partition_seen.specs.declared.begun.Begun.{Begun}
 use Rattle.partition_seen.specs.declared.begun.Turned.{Turned}
@@ -98,20 +98,20 @@ module _ {D : Type 0} (content : D → Content) (control : D → Control call_co
   -- stop
   abbrev pub StopRow : Held D → ℕ → Node D → Answer → Held D → Type 0
   StopRow h b x Down h' = (is_up x ≡ false) × (h' ≡ h)
-  StopRow h b x Ok h' = (is_up x ≡ true) × ((kept : Kept D) × Stops content x.log kept × Lasting control x.log kept
+  StopRow h b x Ok h' = (is_up x ≡ true) × ((kept : Kept D) × Stops content x.log kept × Quiet control x.log kept
       × (h' ≡ put_node h b (record (stopped x) { log = kept })))
   StopRow h b x other h' = ⊥
 
   -- up: what wasn't stable is gone; after a write that failed, what it was to make stable may be there
   abbrev pub UpRow : Held D → ℕ → Node D → Answer → Held D → Type 0
   UpRow h b x IsUp h' = (is_up x ≡ true) × (h' ≡ h)
-  UpRow h b x (Up n) h' = (is_up x ≡ false) × ((kept : Kept D) × ComesUp content x.log kept n × Lasting control x.log kept
+  UpRow h b x (Up n) h' = (is_up x ≡ false) × ((kept : Kept D) × ComesUp content x.log kept n × Quiet control x.log kept
       × (h' ≡ put_node h b (record x { log = kept })))
   UpRow h b x DiskFault h' = (is_up x ≡ false) × Fails content control h b x h'
   UpRow h b x (Damaged (File name) at) h' = (is_up x ≡ false) × ((kept : Kept D) × Unopened content control x.log kept name at
-      × Lasting control x.log kept × (h' ≡ put_node h b (record x { log = kept })))
+      × Quiet control x.log kept × (h' ≡ put_node h b (record x { log = kept })))
   UpRow h b x LastIncarnation h' = (is_up x ≡ false) × ((kept : Kept D) × IsSpent content control x.log kept
-      × Lasting control x.log kept × (h' ≡ put_node h b (record x { log = kept })))
+      × Quiet control x.log kept × (h' ≡ put_node h b (record x { log = kept })))
   UpRow h b x other h' = ⊥
 
   -- a command of one turn

@@ -17,7 +17,7 @@ use Rattle.plain_log.specs.declared.answer.Answer.{Answer}
 use Rattle.plain_log.specs.declared.answer.Answer.TheVariants.{Ok, OkAt, Down, NotLeader, DiskFault, LastEpoch, NotInSync, DownBroker, BehindStart, Known, Follows, NeedsElection, Leads, NotJoined, StaleEpoch, IsLeader, Behind, NotAbove, AboveMark}
 use Rattle.plain_log.specs.declared.state.Role.TheVariants.{Leads as LeadsIn, Follows as FollowsIn}
 use Rattle.plain_log.specs.State.{leads, acking, epoch_in}
-use Rattle.broker_log.specs.Seen.{Kept, WhileUp, Lasting}
+use Rattle.broker_log.specs.Seen.{Kept, WhileUp, Quiet}
 use Rattle.broker_log.specs.Turns.{Settles, loosened}
 use Rattle.partition_turns.specs.declared.held.Node.{Node}
 use Rattle.partition_turns.specs.declared.held.Held.{Held}
@@ -107,7 +107,7 @@ module _ {D : Type 0} (content : D → Content) (control : D → Control call_co
     pub kept : Kept D
     pub end : ℕ
     pub settles : Settles content x.log kept (λ line end. assign line epoch end) end
-    pub lasts : Lasting control x.log kept
+    pub quiet : Quiet control x.log kept
     pub after : h' ≡ put_node h b (record x { role = LeadsIn epoch; log = kept; known = min h.registry.mark end })
 
   -- an epoch that the node's line doesn't have

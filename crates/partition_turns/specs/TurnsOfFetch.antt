@@ -12,7 +12,7 @@ use Rattle.plain_log.specs.declared.answer.Tier.{Tier}
 use Rattle.plain_log.specs.declared.answer.Tier.TheVariants.{Local}
 use Rattle.tier_base.specs.declared.plain.Stop.{Stop}
 use Rattle.plain_log.specs.State.{leads}
-use Rattle.broker_log.specs.Seen.{Kept, Lasting}
+use Rattle.broker_log.specs.Seen.{Kept, Quiet}
 use Rattle.broker_log.specs.Turns.{Reads}
 use Rattle.partition_turns.specs.declared.held.Node.{Node}
 use Rattle.partition_turns.specs.declared.held.Held.{Held}
@@ -36,7 +36,7 @@ module _ {D : Type 0} (content : D → Content) (control : D → Control call_co
     pub kept : Kept D
     pub out : RunOut
     pub reads : Reads content control x.log kept offset limit x.known out
-    pub lasts : Lasting control x.log kept
+    pub quiet : Quiet control x.log kept
     pub after : h' ≡ put_node h b (record x { log = kept })
     pub tier_is : tier ≡ Local out.base
     pub bytes_are : bytes ≡ out.bytes

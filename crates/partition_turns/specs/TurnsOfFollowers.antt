@@ -18,7 +18,7 @@ use Rattle.plain_log.specs.declared.answer.Answer.TheVariants.{Down, NotFollower
 use Rattle.plain_log.specs.declared.answer.Place.TheVariants.{File}
 use Rattle.plain_log.specs.declared.state.Role.TheVariants.{Joined}
 use Rattle.plain_log.specs.State.{followed, joined}
-use Rattle.broker_log.specs.Seen.{Kept, WhileUp, Lasting}
+use Rattle.broker_log.specs.Seen.{Kept, WhileUp, Quiet}
 use Rattle.broker_log.specs.Turns.{Appends, Cuts, Reads, IsEndUpTo, BreaksIf, Restarts, RestartBreaks, cut_back, torn}
 use Rattle.broker_log.specs.Turns as turns
 use Rattle.partition_seen.specs.declared.begun.Begun.{Begun}
@@ -79,7 +79,7 @@ module _ {D : Type 0} (content : D → Content) (control : D → Control call_co
   pub record CutsNode (h : Held D) (b : ℕ) (x : Node D) (epoch met n : ℕ) (h' : Held D) : Type 0 where
     pub kept : Kept D
     pub cuts : Cuts content x.log kept met n
-    pub lasts : Lasting control x.log kept
+    pub quiet : Quiet control x.log kept
     pub after : h' ≡ put_node h b (record x { role = Joined epoch; log = kept; known = min x.known n })
 
   -- a cut to where the logs meet
@@ -117,7 +117,7 @@ module _ {D : Type 0} (content : D → Content) (control : D → Control call_co
   pub record RestartsNode (h : Held D) (b : ℕ) (x : Node D) (n : ℕ) (line : List (ℕ × ℕ)) (h' : Held D) : Type 0 where
     pub kept : Kept D
     pub restarts : Restarts content x.log kept n line
-    pub lasts : Lasting control x.log kept
+    pub quiet : Quiet control x.log kept
     pub after : h' ≡ put_node h b (record x { log = kept })
 
   -- join, later turns
@@ -141,7 +141,7 @@ module _ {D : Type 0} (content : D → Content) (control : D → Control call_co
     pub kept : Kept D
     pub out : RunOut
     pub reads : Reads content control y.log kept g.end limit (end_of y) out
-    pub lasts : Lasting control y.log kept
+    pub quiet : Quiet control y.log kept
     pub batches : g.batches ≡ parts out.bytes
     pub after : h' ≡ put_node h h.registry.leader.0 (record y { log = kept })
 
@@ -150,7 +150,7 @@ module _ {D : Type 0} (content : D → Content) (control : D → Control call_co
     pub kept : Kept D
     pub out : RunOut
     pub reads : Reads content control y.log kept noted.end limit (end_of y) out
-    pub lasts : Lasting control y.log kept
+    pub quiet : Quiet control y.log kept
     pub is : g ≡ record noted { batches = parts out.bytes }
     pub after : h' ≡ put_node h l (record y { log = kept })
 
@@ -188,7 +188,7 @@ module _ {D : Type 0} (content : D → Content) (control : D → Control call_co
     pub kept : Kept D
     pub span : ℕ × ℕ
     pub appends : Appends content x.log kept run span
-    pub lasts : Lasting control x.log kept
+    pub quiet : Quiet control x.log kept
     pub after : h' ≡ put_node h b (record x { log = kept })
     pub end : n ≡ span.1 + 1
 

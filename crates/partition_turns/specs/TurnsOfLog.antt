@@ -17,7 +17,7 @@ use Rattle.plain_log.specs.State.{leads}
 use Rattle.plain_log.specs.RowsOfLog.{offset_limit}
 use Rattle.local_log.specs.Dropping.{IsFirstStable}
 use Rattle.local_log.specs.Stored.{size_of}
-use Rattle.broker_log.specs.Seen.{Kept, back_of, WhileUp, Lasting}
+use Rattle.broker_log.specs.Seen.{Kept, back_of, WhileUp, Quiet}
 use Rattle.broker_log.specs.Turns.{Appends, Settles, Rolls, Drops, DropBreaks, loosened}
 use Rattle.partition_seen.specs.declared.begun.Begun.{Begun}
 use Rattle.partition_seen.specs.declared.begun.Turned.{Turned}
@@ -78,7 +78,7 @@ module _ {D : Type 0} (content : D → Content) (control : D → Control call_co
   -- the batch stands at the end of the broker's log
   abbrev pub Gains : Held D → ℕ → Node D → List ℕ → Held D → Type 0
   Gains h b x batch h' = (kept : Kept D) × (span : ℕ × ℕ) × IsOk (checked batch) × Appends content x.log kept batch span
-      × Lasting control x.log kept × (h' ≡ put_node h b (record x { log = kept }))
+      × Quiet control x.log kept × (h' ≡ put_node h b (record x { log = kept }))
 
   -- a batch that may be put
   abbrev pub PutRow : Held D → ℕ → Node D → List ℕ → ℕ → ℕ → ℕ → Answer → Held D → Type 0
@@ -119,12 +119,12 @@ module _ {D : Type 0} (content : D → Content) (control : D → Control call_co
   FlushRow h b x Down h' = (is_up x ≡ false) × (h' ≡ h)
   FlushRow h b x DiskFault h' = (is_up x ≡ true) × Breaks content control h b x (λ s. loosened s (end_of_log s.batches, s.line, s.local)) h'
   FlushRow h b x (OkAt n) h' = (is_up x ≡ true) × ((kept : Kept D) × Settles content x.log kept (λ line end. line) n
-      × Lasting control x.log kept × (h' ≡ put_node h b (record x { log = kept })))
+      × Quiet control x.log kept × (h' ≡ put_node h b (record x { log = kept })))
   FlushRow h b x other h' = ⊥
 
   -- the broker's open segment is closed
   abbrev pub RollsNode : Held D → ℕ → Node D → Held D → Type 0
-  RollsNode h b x h' = (kept : Kept D) × Rolls content x.log kept × Lasting control x.log kept
+  RollsNode h b x h' = (kept : Kept D) × Rolls content x.log kept × Quiet control x.log kept
       × (h' ≡ put_node h b (record x { log = kept }))
 
   -- roll: the open segment is closed, and the next begins at the log's end
@@ -146,7 +146,7 @@ module _ {D : Type 0} (content : D → Content) (control : D → Control call_co
   abbrev pub DropRow : Held D → ℕ → Node D → Answer → Held D → Type 0
   DropRow h b x DiskFault h' = BreaksBy content control h b x (DropBreaks content) h'
   DropRow h b x (Dropped base last) h' = (kept : Kept D) × Drops content x.log kept (base, last)
-      × Lasting control x.log kept × (h' ≡ put_node h b (record x { log = kept }))
+      × Quiet control x.log kept × (h' ≡ put_node h b (record x { log = kept }))
   DropRow h b x other h' = ⊥
 
   -- trim, later turns

@@ -1,6 +1,6 @@
 //! Laws of the rows. Each is the contract of a function that does nothing: calling it cites the law.
 
-ghost use Rattle.partition_turns.specs.Laws.{RowsAreSeen, RowsKeepSound, RowsLast, RowsStayCalm};
+ghost use Rattle.partition_turns.specs.Laws.{RowsAreSeen, RowsKeepSound, RowsLast, RowsCountFaults, RowsStayCalm};
 
 use disk_model::Disk;
 
@@ -17,6 +17,12 @@ pub fn rows_keep_sound<D: Disk>()
 /// Over any disks each of them lasts over each row.
 pub fn rows_last<D: Disk>()
     ensures { RowsLast D.content D.control }
+{}
+
+/// Over a row that tells of a fault of a disk one call of a disk fails, and over any other none, whatever
+/// the disks.
+pub fn rows_count_faults<D: Disk>()
+    ensures { RowsCountFaults D.content D.control }
 {}
 
 /// Over disks of which no call can fail each row stays so, and tells of no fault.

@@ -30,7 +30,7 @@ use Rattle.plain_log.specs.declared.command.Command.{Command}
 use Rattle.plain_log.specs.declared.command.Command.TheVariants.{Join, Copy, Trim, Expire, Fetch, Raise, Offset}
 use Rattle.plain_log.specs.declared.command.Which.TheVariants.{LatestTiered, At}
 use Rattle.plain_log.specs.declared.command.Config.{Config}
-use Rattle.broker_log.specs.Seen.{Lasting, Faulted, closed_in}
+use Rattle.broker_log.specs.Seen.{Lasting, OneFault, closed_in}
 use Rattle.partition_seen.specs.declared.begun.Begun.{Begun}
 use Rattle.partition_seen.specs.declared.begun.Turned.{Turned}
 use Rattle.partition_seen.specs.declared.begun.Turned.TheVariants as turned
@@ -55,7 +55,7 @@ use Rattle.partition_world.specs.TurnsOfTrim.{TrimFirstRow, TrimOnRow}
 use Rattle.partition_world.specs.Turns.{OwnOnRow, BeginRow, NotedRow, CopyingRow, SeekingRow, DatingRow, DeletingRow, JoinSecondRow, RebuildingRow, Row}
 use Rattle.partition_turns.specs.Disks.{DiskFails}
 use Rattle.partition_turns.proofs.Told.{told_map}
-use Rattle.partition_turns.proofs.LastingDisks.{Keeps, FailsFor, keeps_same, keeps_put, keeps_log, fails_put}
+use Rattle.partition_turns.proofs.LastingDisks.{Keeps, FailsFor, keeps_same, keeps_put, keeps_log, fails_put, one_faulted}
 use Rattle.partition_turns.proofs.LastingRows.{LeavingFor, row_lasts}
 use Rattle.partition_world.proofs.TurnsTold.{TurnTold, StoreLasts, StoreRose, MetaLasts, MetaRose, store_same, meta_same, meta_ran}
 use Rattle.partition_world.proofs.LastingCopies.{copy_lasts}
@@ -165,8 +165,8 @@ module _ {D S M : Type 0} (disk : DiskGhosts D) (store : StoreGhosts S) (meta : 
       go : (o : Outcome) → ReadRow disk p b x side offset o y z → Leaving (DiskFails disk.control b h h') h b t o h' t'
       go (Answers DiskFault) w =
           let lasts : Lasting disk.control x.log y.log = rw w.0.reads.after w.0.reads.lasts in
-          let rose : Faulted disk.control x.log y.log = rw w.0.reads.after w.0.cause in
-          (all w.0.reads, (fails_put disk.control h b x y h' at lasts rose held).1)
+          let one : OneFault disk.control x.log y.log = rw w.0.reads.after w.0.cause in
+          (all w.0.reads, (fails_put disk.control h b x y h' at lasts (one_faulted disk.control x.log y.log lasts one) held).1)
       go (Answers (Damaged (File name) place)) w = (all w.0.reads, tt)
       go (Chose copy) w = (all w.0.reads, tt)
       go other w = elim w [ ]
@@ -277,10 +277,10 @@ module _ {D S M : Type 0} (disk : DiskGhosts D) (store : StoreGhosts S) (meta : 
 
       reads : (to : TimeTurn) → RunRow disk.content disk.control x.log asked (passed_over asked.ts cursor (closed_in x.log)) to w.kept
           → Leaving (DiskFails disk.control b h h') h b t (date_outcome to) h' t'
-      reads (dating.Ends DiskFault) row = (lasting row.1, (fails_put disk.control h b x y h' at row.1 row.2 w.after).1)
-      reads (dating.Ends (Damaged (File name) place)) row = (lasting row.1, tt)
+      reads (dating.Ends DiskFault) row = (lasting row.1, (fails_put disk.control h b x y h' at row.1 (one_faulted disk.control x.log w.kept row.1 row.2) w.after).1)
+      reads (dating.Ends (Damaged (File name) place)) row = (lasting row.1.0, tt)
       reads to row = (
-        lasting row.lasts,
+        lasting row.quiet.0,
         searched_told (DiskFails disk.control b h h') (DiskFails disk.control b h h') (StoreRose store t.store t'.store)
             (MetaRose meta t.meta t'.meta) asked
             (passed_over asked.ts cursor (closed_in x.log)) row.out.bytes to row.searched,

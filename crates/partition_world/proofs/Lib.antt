@@ -24,6 +24,12 @@ pub mod LastingSearches
 pub mod LastingDates
 pub mod LastingTurns
 pub mod LastingRuns
+pub mod CountingCalls
+pub mod CountingCopies
+pub mod CountingDeletions
+pub mod CountingSearches
+pub mod CountingDates
+pub mod CountingTurns
 pub mod CalmLaw
 pub mod Chains
 pub mod FreshLaw

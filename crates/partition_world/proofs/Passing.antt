@@ -232,11 +232,11 @@ module _ {D : Type 0} (content : D → Content) (control : D → Control call_co
 
   -- what a turn leaves of the log
   run_rests : (old new : Kept D) (asked : Asked) (at : ℕ) (turn : TimeTurn) → SearchesRun content control old asked at turn new → Stays content old new × Lasting control old new
-  run_rests old new asked at turn r = (r.reads.stays, r.lasts)
+  run_rests old new asked at turn r = (r.reads.stays, r.quiet.0)
 
   read_rests : (old new : Kept D) (asked : Asked) (at : ℕ) (turn : TimeTurn) → ReadRow content control old asked at turn new → Stays content old new × Lasting control old new
   read_rests old new asked at (Ends DiskFault) row = (row.0, row.1)
-  read_rests old new asked at (Ends (Damaged (File name) place)) row = (row.0.stays, row.1)
+  read_rests old new asked at (Ends (Damaged (File name) place)) row = (row.0.stays, row.1.0)
   read_rests old new asked at turn row = run_rests old new asked at turn row
 
   pub own_rests : (old new : Kept D) (asked : Asked) (cursor : ℕ) (turn : TimeTurn) → OwnRow content control old asked cursor turn new

@@ -16,6 +16,7 @@ pub mod Calm
 pub mod Fresh
 pub mod Later
 pub mod Lasting
+pub mod Answered
 pub mod Reaches
 pub mod InTurn
 pub mod Left

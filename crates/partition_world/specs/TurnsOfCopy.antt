@@ -31,7 +31,7 @@ use Rattle.plain_log.specs.declared.answer.Answer.TheVariants.{Down, NotLeader, 
 use Rattle.plain_log.specs.declared.answer.Place.TheVariants.{File}
 use Rattle.plain_log.specs.State.{leads}
 use Rattle.tier_safe.specs.Views.{IsIdOf}
-use Rattle.broker_log.specs.Seen.{Kept, Seen, Shows, Stays, WhileUp, OnDisk, Lasting, Faulted, closed_in, incarnation_in}
+use Rattle.broker_log.specs.Seen.{Kept, Seen, Shows, Stays, WhileUp, OnDisk, Lasting, NoFault, OneFault, closed_in, incarnation_in}
 use Rattle.broker_log.specs.Turns.{IsSegmentOf}
 use Rattle.partition_seen.specs.declared.begun.Begun.{Begun}
 use Rattle.partition_turns.specs.declared.held.Node.{Node}
@@ -110,17 +110,19 @@ module _ {D : Type 0} (disk : DiskGhosts D) where
     pub reads : ReadsLog x x'
     pub handed : WhileUp x.log (λ log. OnDisk reads.kept (λ d. IsClosedFrom log offset (disk.control d).handed (Some segment)))
     pub part : (s : Seen) → Shows disk.content x.log s → IsSegmentOf s segment
+    pub quiet : NoFault disk.control x.log reads.kept
 
   -- the disk failed
   pub record FailsToReadLog (x x' : Node D) : Type 0 where
     pub reads : ReadsLog x x'
-    pub cause : Faulted disk.control x.log reads.kept
+    pub cause : OneFault disk.control x.log reads.kept
 
   -- what the disk handed is no segment from this place of this file on
   pub record ReadsNoSegment (x : Node D) (offset : ℕ) (name : FileName) (at : ℕ) (x' : Node D) : Type 0 where
     pub reads : ReadsLog x x'
     pub bad : WhileUp x.log (λ log. OnDisk reads.kept (λ d. ClosedFails log offset (disk.control d).handed (refusal.Damaged name at)))
     pub unseen : (s : Seen) → Shows disk.content x.log s → ⊥
+    pub quiet : NoFault disk.control x.log reads.kept
 
   -- the first closed segment that ends past an offset is read, and is to be copied under the next id
   abbrev pub ReadRow : PartitionId → ℕ → Node D → Side → ℕ → Outcome → Node D → Side → Type 0

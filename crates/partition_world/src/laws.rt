@@ -1,6 +1,7 @@
 //! Laws of worlds. Each is the contract of a function that does nothing: calling it cites the law.
 
 ghost use Rattle.partition_world.specs.Left.{StepsKeepCentralLeft, LeftIsCentral, FreshIsCentralLeft};
+ghost use Rattle.partition_world.specs.Answered.{TurnsAnswerFaults};
 ghost use Rattle.partition_world.specs.Cold.{ReopensCentral};
 ghost use Rattle.partition_world.specs.Laws.{StepsKeepCentral, FreshIsCentral, ReachesLater, EndsAreComplete, ReachesInTurn, EndsAreAnswered, ReopenedRuns, ReachesLasting, ReachesUnfailing, FreshIsUnfailing, ReopenedIsUnfailing};
 
@@ -66,6 +67,12 @@ pub fn ends_are_answered<D: Disk, S: Store, M: MetaLog>()
 /// In a world that a schedule reaches from a new one each device has lasted, whatever the devices.
 pub fn reaches_lasting<D: Disk, S: Store, M: MetaLog>()
     ensures { ReachesLasting D.Disk S.Store M.MetaLog }
+{}
+
+/// A turn that is answered a fault of a device has raised that device's count of faults by one, and no other
+/// count has risen, whatever the devices.
+pub fn turns_answer_faults<D: Disk, S: Store, M: MetaLog>()
+    ensures { TurnsAnswerFaults D.Disk S.Store M.MetaLog }
 {}
 
 /// Over devices of which no call can fail, no turn that a schedule leads through is answered a fault.

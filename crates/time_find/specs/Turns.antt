@@ -32,7 +32,7 @@ use Rattle.meta_log.specs.Content as meta
 use Rattle.disk_model.specs.Call as disk_call
 use Rattle.disk_model.specs.Content as disk
 use Rattle.local_log.specs.declared.reading.RunOut.{RunOut}
-use Rattle.broker_log.specs.Seen.{Kept, Stays, Lasting, Faulted, closed_in}
+use Rattle.broker_log.specs.Seen.{Kept, Stays, Lasting, OneFault, Quiet, closed_in}
 use Rattle.broker_log.specs.Turns.{Reads, Misreads}
 use Rattle.remote_view.specs.Fold.{Seen, entry_of}
 use Rattle.remote_find.specs.declared.piece.Piece.{Piece}
@@ -201,18 +201,18 @@ module _ {D : Type 0} (content : D → disk.Content) (control : D → Control di
   pub record SearchesRun (old : Kept D) (asked : Asked) (at : ℕ) (turn : TimeTurn) (new : Kept D) : Type 0 where
     pub out : RunOut
     pub reads : Reads content control old new at (2 ^ 64 - 1) asked.mark out
-    pub lasts : Lasting control old new
+    pub quiet : Quiet control old new
     pub searched : IsSearched asked at out.bytes turn
 
   -- the disk failed in a read, and the log is as it was
   abbrev pub Fails : Kept D → Kept D → Type 0
-  Fails old new = Stays content old new × Lasting control old new × Faulted control old new
+  Fails old new = Stays content old new × Lasting control old new × OneFault control old new
 
   -- a search in the local log that has come to an offset
   abbrev pub ReadRow : Kept D → Asked → ℕ → TimeTurn → Kept D → Type 0
   ReadRow old asked at (Ends DiskFault) new = Fails old new
   ReadRow old asked at (Ends (Damaged (File name) place)) new =
-      Misreads content control old new at (2 ^ 64 - 1) asked.mark name place × Lasting control old new
+      Misreads content control old new at (2 ^ 64 - 1) asked.mark name place × Quiet control old new
   ReadRow old asked at turn new = SearchesRun old asked at turn new
 
   -- a turn of a search in the local log: nothing is read at or past the known mark

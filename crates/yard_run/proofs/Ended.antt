@@ -18,6 +18,7 @@ use Rattle.plain_log.specs.Laws.{FreshIsSafe, ReplaysKeepSafe}
 use Rattle.plain_log.proofs.Grows.{replay_led, replay_runs}
 use Rattle.command_answers.specs.LawsOfDamage.{RunsMeetNoDamage}
 use Rattle.command_answers.specs.LawsOfFaults.{ReachesCounted}
+use Rattle.command_answers.proofs.ToldOfJournals.{reaches_told}
 use Rattle.partition_turns.specs.Fresh.{DisksTell, AllSeen, ComeBack}
 use Rattle.partition_world.specs.Whole.{Whole}
 use Rattle.partition_world.specs.declared.tier.Devices.{Devices}
@@ -154,6 +155,7 @@ module _ {D S M : Type 0} (disk : DiskGhosts D) (store : StoreGhosts S) (meta : 
         };
         its_devices = its;
         counted = counted config lists w part.schedule w' fit new reaches;
+        told = reaches_told disk store meta config lists w part.schedule w' fit new reaches;
         log_run = λ blank. is_log_run config part devices w w' law goes opens keeps undamaged fits fit f (seen_empty part config devices w f told blank) (central blank) reaches
             (all_at_end config part devices w w' goes fit ends f reaches);
         central = λ blank. later.central (fresh config) (central blank);

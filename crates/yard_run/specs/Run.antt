@@ -12,6 +12,7 @@ use Rattle.plain_log.specs.Fresh.{fresh}
 use Rattle.plain_log.specs.Runs.{IsPlainRun, IsComplete}
 use Rattle.plain_log.specs.Safe.{PlainSafe}
 use Rattle.command_answers.specs.Counted.{FaultsAreCounted}
+use Rattle.command_answers.specs.Told.{FaultsAreTold}
 use Rattle.command_answers.specs.Damage.{MeetsNoDamage}
 use Rattle.partition_turns.specs.Fresh.{AreDisksOf}
 use Rattle.partition_world.specs.declared.tier.Devices.{Devices}
@@ -46,7 +47,7 @@ module _ {D S M : Type 0} (disk : DiskGhosts D) (store : StoreGhosts S) (meta : 
     pub meta_is : m ≡ w.tier.meta
 
   -- the journal is that of a world which the partition's schedule reaches from the fresh one over the first devices, and the
-  -- last ones are that world's, which have counted each fault that it tells of; where the first tell and hold nothing, it is
+  -- last ones are that world's, which have counted each fault that it tells of and no other; where the first tell and hold nothing, it is
   -- a run of the plain log, and the central fact holds in that world
   pub record IsRun (config : Config) (part : PartScript) (devices : Devices D S M) (journal : List JournalEntry) (back : Devices D S M)
       : Type 0 where
@@ -58,6 +59,7 @@ module _ {D S M : Type 0} (disk : DiskGhosts D) (store : StoreGhosts S) (meta : 
     pub orderly : IsOrderly part.lists journal
     pub its_devices : AreOf last back.disks.items back.store back.meta
     pub counted : FaultsAreCounted disk store meta first last
+    pub told : FaultsAreTold disk store meta first last
     pub log_run : AreBlank disk store meta devices.disks.items devices.store devices.meta → IsLogRun config part.lists journal
     pub central : AreBlank disk store meta devices.disks.items devices.store devices.meta → IsCentral disk store meta (fresh config) last
 

@@ -8,6 +8,7 @@ use Rattle.broker_log.specs.Seen.{Seen, Shows, WhileUp, OnDisk}
 use Rattle.broker_log.specs.Turns.{IsSegmentOf}
 use Rattle.tier_safe.specs.Views.{IsIdOf}
 use Rattle.partition_world.specs.Tier.{next_of, counted}
+use Rattle.partition_turns.proofs.Writes.{never}
 use Rattle.partition_world.proofs.Dispatch.{interval_up}
 use Rattle.partition_world.proofs.copies.read_next.Goals as goal
 
@@ -24,6 +25,7 @@ returns-in_ok-copying-in-Ok-Some-clause-row g c =
         reads = record { kept = kept; stays = c.closed_from.ensures.stays; lasts = c.closed_from.ensures.control; after = refl };
         handed = subst (λ (w : Whole). WhileUp x.log (λ log. OnDisk kept (λ d. IsClosedFrom log c.args.offset (g.D.Disk.control d).handed (Some w)))) (sym copy.segment) read;
         part = λ s shows. subst (λ (w : Whole). IsSegmentOf s w) (sym copy.segment) (part s shows);
+        quiet = c.closed_from.ensures.quiet (never c.in-Ok-Some.is (λ no. cc));
       },
       record {
         is = copy.is;
@@ -42,7 +44,7 @@ pub returns-in-Err-DiskFault-clause-row : goal.returns-in-Err-DiskFault-clause-r
 returns-in-Err-DiskFault-clause-row g c = (
   record {
     reads = record { kept = c.closed_from.new.self; stays = c.closed_from.ensures.stays; lasts = c.closed_from.ensures.control; after = refl };
-    cause = c.closed_from.ensures.cause (c.in-Err-DiskFault.is ∙ ap (λ (e : ReadRefusal). Err e) c.in-Err-DiskFault.field-0-is);
+    cause = c.closed_from.ensures.once (c.in-Err-DiskFault.is ∙ ap (λ (e : ReadRefusal). Err e) c.in-Err-DiskFault.field-0-is);
   },
   refl,
 )
@@ -55,6 +57,6 @@ returns-in-Err-Damaged-clause-row g c =
     let bad = subst (λ (e : ReadRefusal). WhileUp x.log (λ log. OnDisk kept (λ d. ClosedFails log c.args.offset (g.D.Disk.control d).handed e))) e.field-0-is e.ensures.err in
     let whole = subst (λ (e : ReadRefusal). (s : Seen) → Shows g.D.Disk.content x.log s → IsOfDevice e) e.field-0-is e.ensures.whole in
     rw e.field-0-is (
-      record { reads = record { kept = kept; stays = c.closed_from.ensures.stays; lasts = c.closed_from.ensures.control; after = refl }; bad = bad; unseen = whole },
+      record { reads = record { kept = kept; stays = c.closed_from.ensures.stays; lasts = c.closed_from.ensures.control; after = refl }; bad = bad; unseen = whole; quiet = c.closed_from.ensures.quiet (never (e.is ∙ ap (λ (k : ReadRefusal). Err k) e.field-0-is) (λ no. cc)) },
       refl,
     )

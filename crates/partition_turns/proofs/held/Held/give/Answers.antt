@@ -2,6 +2,7 @@ use Rattle.std.proofs.Common.{◌∙◌, ap, refl, subst, ℕ, Err}
 use Rattle.broker_log.specs.Turns.{Reads, Misreads}
 use Rattle.partition_turns.specs.TurnsOfFetch.{MayGive}
 use Rattle.partition_turns.proofs.Staying.{at_node, stays_at}
+use Rattle.partition_turns.proofs.Writes.{never}
 use Rattle.partition_turns.proofs.Putting.{of_node}
 use Rattle.partition_turns.proofs.held.Held.give.Goals as goal
 
@@ -13,7 +14,7 @@ returns-in-Ok-clause-row g c =
       kept = c.read_run.new.self;
       out = c.in-Ok.run';
       reads = subst (λ (known : ℕ). Reads g.D.Disk.content g.D.Disk.control node.log c.read_run.new.self c.args.offset c.args.limit known c.in-Ok.run') may.1 c.in-Ok.ensures.ok;
-      lasts = c.read_run.ensures.control;
+      quiet = (c.read_run.ensures.control, c.read_run.ensures.quiet (never c.in-Ok.is (λ no. cc)));
       after = refl;
       tier_is = refl;
       bytes_are = refl;
@@ -34,6 +35,6 @@ returns-in-Err-Damaged-clause-row g c =
       kept = c.read_run.new.self;
       misreads = subst (λ (known : ℕ). Misreads g.D.Disk.content g.D.Disk.control node.log c.read_run.new.self c.args.offset c.args.limit known e.file e.at) may.1
           (c.read_run.ensures.damaged e.file e.at (e.is ∙ ap Err e.field-0-is));
-      lasts = c.read_run.ensures.control;
+      quiet = (c.read_run.ensures.control, c.read_run.ensures.quiet (never (e.is ∙ ap Err e.field-0-is) (λ no. cc)));
       after = refl;
     })

@@ -3,6 +3,7 @@ use Rattle.broker_log.specs.Turns.{Misreads}
 use Rattle.partition_turns.specs.TurnsOfFollowers.{MayTake}
 use Rattle.partition_turns.proofs.Putting.{of_node}
 use Rattle.partition_turns.proofs.Staying.{at_node, stays_at}
+use Rattle.partition_turns.proofs.Writes.{never}
 use Rattle.partition_turns.proofs.held.Held.take.Goals as goal
 
 pub returns-clause-err : goal.returns-clause-err
@@ -19,6 +20,6 @@ returns-in-Err-Damaged-clause-row g c =
       kept = c.read_run.new.self;
       misreads = subst (λ (bound : ℕ). Misreads g.D.Disk.content g.D.Disk.control node.log c.read_run.new.self end c.args.limit bound e.file e.at) may.1
           (c.read_run.ensures.damaged e.file e.at (e.is ∙ ap Err e.field-0-is));
-      lasts = c.read_run.ensures.control;
+      quiet = (c.read_run.ensures.control, c.read_run.ensures.quiet (never (e.is ∙ ap Err e.field-0-is) (λ no. cc)));
       after = refl;
     })

@@ -1,5 +1,6 @@
 use Rattle.std.proofs.Common.{◌≡◌, ◌∙◌, ap, sym, refl, false, Some, Err}
 use Rattle.partition_turns.proofs.Staying.{at_node, stays_at}
+use Rattle.partition_turns.proofs.Writes.{never}
 use Rattle.partition_turns.specs.Held.{is_up}
 use Rattle.partition_turns.proofs.held.Held.up.Goals as goal
 
@@ -17,4 +18,4 @@ returns-in-Err-Damaged-clause-row g c =
     let same : c.get.result.now ≡ c.at_mut.result.now = one (sym c.get.ensures ∙ c.at_mut.ensures.value) in
     let down : is_up c.at_mut.result.now ≡ false = ap is_up (sym same) ∙ (sym c.is_up.ensures ∙ c.if-is_up.false) in
     at_node c.args.self.now c.args.b c.at_mut.result.now _ c.at_mut.ensures.value
-    (down, (c.up.new.self, c.up.ensures.damaged e.file e.at (e.is ∙ ap Err e.field-0-is), c.up.ensures.control, refl))
+    (down, (c.up.new.self, c.up.ensures.damaged e.file e.at (e.is ∙ ap Err e.field-0-is), (c.up.ensures.control, c.up.ensures.quiet (never (e.is ∙ ap Err e.field-0-is) (λ no. cc))), refl))

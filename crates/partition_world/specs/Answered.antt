@@ -1,0 +1,33 @@
+-- A fault of a device that a turn meets is what its command is answered.
+use Rattle.std.specs.Prelude.{◌≡◌, ℕ, Bool, false}
+use Rattle.disk_model.specs.declared.disk.Disk.{Ghosts as DiskGhosts}
+use Rattle.object_store.specs.declared.store.Store.{Ghosts as StoreGhosts}
+use Rattle.meta_log.specs.declared.log.MetaLog.{Ghosts as MetaGhosts}
+use Rattle.plain_log.specs.declared.answer.Answer.{Answer}
+use Rattle.plain_log.specs.declared.command.Order.{Order}
+use Rattle.partition_turns.specs.Disks.{HaveDisks, DisksCount}
+use Rattle.partition_turns.specs.Faults.{is_of_disk, is_of_store, is_of_meta, after_fault}
+use Rattle.partition_world.specs.declared.seat.Outcome.{Outcome}
+use Rattle.partition_world.specs.declared.seat.Outcome.TheVariants.{Answers}
+use Rattle.partition_world.specs.Turn.{IsTurn}
+use Rattle.partition_world.specs.Whole.{Whole}
+
+-- a turn was answered so
+abbrev pub is_answered : (Answer → Bool) → Outcome → Bool
+is_answered is (Answers answer) = is answer
+is_answered is other = false
+
+module _ {D S M : Type 0} (disk : DiskGhosts D) (store : StoreGhosts S) (meta : MetaGhosts M) where
+  -- a turn of the order that is answered a fault has raised the count of that device by one, and no other count has risen: a disk's
+  -- that the command works on, the store's, or the metadata log's
+  pub record AnswersFaults (order : Order) (outcome : Outcome) (w w' : Whole D S M) : Type 0 where
+    pub disks : DisksCount disk.control order.command order.broker.0 (is_answered is_of_disk outcome) w.held.nodes w'.held.nodes
+    pub store_counts : (store.control w'.tier.store).faults
+        ≡ after_fault (is_answered is_of_store outcome) (store.control w.tier.store).faults
+    pub meta_counts : (meta.control w'.tier.meta).faults
+        ≡ after_fault (is_answered is_of_meta outcome) (meta.control w.tier.meta).faults
+
+  -- each turn does, over any devices
+  abbrev pub TurnsAnswerFaults : Type 0
+  TurnsAnswerFaults = (w : Whole D S M) (a : ℕ) (outcome : Outcome) (w' : Whole D S M) (t : IsTurn disk store meta w a outcome w')
+      → HaveDisks w.held.nodes → AnswersFaults t.order outcome w w'
