@@ -29,6 +29,25 @@ static STARTED: [u8; 75] = [
     0, 0, 0, 0, 0, 0, 0, 0, // its start
 ];
 
+/// The same, of epoch 1 from offset 1 on, which no batch begins.
+static PARTED: [u8; 87] = [
+    0, 0, // version, kind
+    0, 0, 0, 0, 0, 0, 0, 1, 0, 0, 0, 0, 0, 0, 0, 0, // id
+    0, 0, // partition
+    0, 0, 0, 0, 0, 0, 0, 0, // start
+    0, 0, 0, 0, 0, 0, 0, 1, // end
+    0, 0, 0, 0, 0, 0, 3, 0xe8, // max_ts
+    0, 0, // broker
+    0, 0, 0, 0, 0, 0, 0, 5, // event_ts
+    0, 0, 0, 0x8a, // size
+    0, // state
+    0, 0, 0, 2, // count
+    0, 0, 0, 0, // epoch
+    0, 0, 0, 0, 0, 0, 0, 0, // its start
+    0, 0, 0, 1, // epoch
+    0, 0, 0, 0, 0, 0, 0, 1, // its start
+];
+
 /// Its time index: the first batch has the greatest timestamp.
 static TIMES: [u8; 12] = [0, 0, 0, 0, 0, 0, 3, 0xe8, 0, 0, 0, 0];
 
@@ -380,14 +399,44 @@ fn left(alloc: Global, store: &mut MemoryStore, meta: &mut MemoryLog) -> Came {
     }
 }
 
-/// What an audit comes to over fresh devices: of a copy whose deletion is finished, or of one beside a stranger.
-fn over_fresh(alloc: Global, is_left: bool) -> Came {
+/// What an audit comes to of a whole copy whose entry has an epoch that no batch begins.
+fn parted(alloc: Global, store: &mut MemoryStore, meta: &mut MemoryLog) -> Came {
+    let stood = holds(alloc, store, Part::Log, How::Right);
+    let stood = stood & tells(alloc, meta, PARTED.as_slice());
+    if stood & tells(alloc, meta, FINISHED.as_slice()) {
+        audited(alloc, store, meta)
+    } else {
+        Came::Other
+    }
+}
+
+/// What is audited over fresh devices.
+#[derive(Clone, Copy)]
+enum Tier {
+    /// A whole copy beside an object of another attempt.
+    Beside,
+    /// A copy whose deletion is finished, and whose objects stand.
+    Left,
+    /// A whole copy whose entry has an epoch that no batch begins.
+    Parted,
+}
+
+/// What its audit comes to.
+fn over(alloc: Global, store: &mut MemoryStore, meta: &mut MemoryLog, tier: Tier) -> Came {
+    match tier {
+        Tier::Beside => beside(alloc, store, meta),
+        Tier::Left => left(alloc, store, meta),
+        Tier::Parted => parted(alloc, store, meta),
+    }
+}
+
+/// The same over fresh devices.
+fn over_fresh(alloc: Global, tier: Tier) -> Came {
     match (
         failing_store(alloc, None, false),
         failing_log(alloc, None, false),
     ) {
-        (Ok(mut store), Ok(mut meta)) if is_left => left(alloc, &mut store, &mut meta),
-        (Ok(mut store), Ok(mut meta)) => beside(alloc, &mut store, &mut meta),
+        (Ok(mut store), Ok(mut meta)) => over(alloc, &mut store, &mut meta, tier),
         _ => Came::Other,
     }
 }
@@ -428,8 +477,14 @@ fn custom_metadata_that_is_no_layout(rt: HostRuntime) {
 #[test]
 fn objects_that_are_to_go(rt: HostRuntime) {
     let alloc = rt.alloc();
-    assert_eq!(rt; over_fresh(alloc, false), Came::NoEntry(Part::Index));
-    assert_eq!(rt; over_fresh(alloc, true), Came::Left(Part::Epochs));
+    assert_eq!(rt; over_fresh(alloc, Tier::Beside), Came::NoEntry(Part::Index));
+    assert_eq!(rt; over_fresh(alloc, Tier::Left), Came::Left(Part::Epochs));
+}
+
+#[test]
+fn a_batch_without_its_epoch_is_the_place(rt: HostRuntime) {
+    let came = over_fresh(rt.alloc(), Tier::Parted);
+    assert_eq!(rt; came, Came::Wrong(Part::Log, 69));
 }
 
 #[test]

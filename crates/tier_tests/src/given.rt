@@ -169,7 +169,7 @@ pub(crate) fn takes(
 }
 
 /// Whether a metadata log is told a note of these bytes.
-pub(crate) fn tells(alloc: Global, meta: &mut MemoryLog, note: &[u8]) -> bool {
+pub(crate) fn tells<M: MetaLog>(alloc: Global, meta: &mut M, note: &[u8]) -> bool {
     match decode(alloc, note) {
         Ok(note) => meta.append(&note).is_ok(),
         Err(_) => false,
@@ -177,9 +177,9 @@ pub(crate) fn tells(alloc: Global, meta: &mut MemoryLog, note: &[u8]) -> bool {
 }
 
 /// Whether a metadata log is told a note of an attempt, with a byte of its own at a place.
-pub(crate) fn tells_with(
+pub(crate) fn tells_with<M: MetaLog>(
     alloc: Global,
-    meta: &mut MemoryLog,
+    meta: &mut M,
     note: &[u8],
     attempt: u8,
     at: usize,

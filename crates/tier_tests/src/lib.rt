@@ -22,6 +22,8 @@ mod rebuilds;
 #[cfg(test)]
 mod refreshes;
 #[cfg(test)]
+mod rounds;
+#[cfg(test)]
 mod sweeps;
 #[cfg(test)]
 mod views;

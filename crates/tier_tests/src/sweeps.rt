@@ -4,15 +4,15 @@ use crate::given::{
     END, ONE_EPOCH, PACKED_STARTED, PARTITION, STATE, UPDATE, failing_log, failing_store, id, puts,
     tells_with,
 };
-use meta_log::MemoryLog;
-use object_store::{MemoryStore, ObjectKey};
+use meta_log::{MemoryLog, MetaLog};
+use object_store::{MemoryStore, ObjectKey, Store};
 use std::alloc::{AllocError, Global};
 use tier_base::Part;
 use tier_sweep::sweep;
 
 /// What brokers left that stopped for good.
 #[derive(Clone, Copy)]
-enum Left {
+pub(crate) enum Left {
     /// The copy of this attempt started.
     Started(u8),
     /// It started, packed.
@@ -24,7 +24,12 @@ enum Left {
 }
 
 /// Whether so much is left.
-fn is_left(alloc: Global, store: &mut MemoryStore, meta: &mut MemoryLog, left: Left) -> bool {
+pub(crate) fn is_left<S: Store, M: MetaLog>(
+    alloc: Global,
+    store: &mut S,
+    meta: &mut M,
+    left: Left,
+) -> bool {
     match left {
         Left::Started(attempt) => tells_with(alloc, meta, &ONE_EPOCH, attempt, END, 14),
         Left::Packed(attempt) => tells_with(alloc, meta, &PACKED_STARTED, attempt, END, 1),
@@ -41,7 +46,12 @@ fn is_left(alloc: Global, store: &mut MemoryStore, meta: &mut MemoryLog, left: L
 }
 
 /// Whether all of it is.
-fn are_left(alloc: Global, store: &mut MemoryStore, meta: &mut MemoryLog, all: &[Left]) -> bool {
+pub(crate) fn are_left<S: Store, M: MetaLog>(
+    alloc: Global,
+    store: &mut S,
+    meta: &mut M,
+    all: &[Left],
+) -> bool {
     for left in all {
         if !is_left(alloc, store, meta, *left) {
             return false;
@@ -70,7 +80,7 @@ fn swept_twice(
 
 /// A finished copy, a copy under way with two objects, a deletion under way with one, an object without an entry, and a packed copy
 /// under way with its object.
-static LEFT: [Left; 16] = [
+pub(crate) static LEFT: [Left; 16] = [
     Left::Started(0),
     Left::Came(0, 1),
     Left::Stands(0, Part::Log),
