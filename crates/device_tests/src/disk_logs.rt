@@ -13,7 +13,7 @@ use segment_meta::{Entry, Note};
 use std::alloc::{AllocError, Global};
 
 /// The copy of offsets 0 and 1 starts, of epoch 0: 75 bytes.
-static STARTED: [u8; 75] = [
+pub(crate) static STARTED: [u8; 75] = [
     0, 0, // version, kind
     0, 0, 0, 0, 0, 0, 0, 1, 0, 0, 0, 0, 0, 0, 0, 0, // id
     0, 0, // partition
@@ -268,7 +268,7 @@ fn logs_go_through_their_stories(rt: HostRuntime) {
 }
 
 /// A disk that tells nothing, with these two files.
-fn disk_of(alloc: Global, notes: &[u8], gate: &[u8]) -> Result<DeafDisk, AllocError> {
+pub(crate) fn disk_of(alloc: Global, notes: &[u8], gate: &[u8]) -> Result<DeafDisk, AllocError> {
     let mut files = Vec::new(alloc);
     files.push((FileName::Notes, Bytes::copy_from_slice(alloc, notes)?))?;
     files.push((FileName::Gate, Bytes::copy_from_slice(alloc, gate)?))?;
@@ -287,7 +287,7 @@ fn damage(alloc: Global, notes: &[u8], gate: &[u8]) -> Option<u64> {
 }
 
 /// The end of a copy behind its length.
-static UPDATE: [u8; 33] = [
+pub(crate) static UPDATE: [u8; 33] = [
     0, 0, 0, 29, // length
     0, 1, // version, kind
     0, 0, 0, 0, 0, 0, 0, 1, 0, 0, 0, 0, 0, 0, 0, 0, // id

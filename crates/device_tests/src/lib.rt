@@ -6,6 +6,8 @@
 #[cfg(test)]
 mod counts;
 #[cfg(test)]
+mod damaged_logs;
+#[cfg(test)]
 mod disk_calls;
 #[cfg(test)]
 mod disk_logs;
