@@ -18,7 +18,7 @@ ok_more P Q (Err e) f h = tt
 
 -- what ended so didn't end otherwise
 pub never : {A : Type 0} {x y z : A} → x ≡ y → (y ≡ z → ⊥) → x ≡ z → ⊥
-never is no was = no (sym is ∙ was)
+never is other was = other (sym is ∙ was)
 
 -- what stands at a place is within the list
 within : {A : Type 0} (P : A → Type 0) (xs : List A) (i : ℕ) → IsSomeAnd (slice_get xs i) P → i < length xs
