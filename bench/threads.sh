@@ -1,10 +1,10 @@
 #!/usr/bin/env bash
-# Times `./tiered sim --threads` beside `./tiered sim`, and beside four processes at once that have a quarter of the work each.
-# A line a kind of script (bench/thread_script.py says which there are): the bytes of the script, the seconds of `sim`, of
-# `sim --threads`, and of the four processes (the least of ROUNDS each), how many times as fast as `sim` the threads and the
-# processes are, and the seconds that `sim` takes to read a script of as many comments, which no thread shares.
-# usage: bench/threads.sh [ROUNDS [KIND..]]   five rounds of all kinds if it isn't said. The scripts lie in a folder of their own,
-# which goes at the end. PROGRAM before it names another program than ./tiered.
+# Times `./tiered sim --threads` beside `./tiered sim`, and beside four processes that run a quarter of the work each.
+# A line a kind of script (bench/thread_script.py has them): bytes of the script; seconds of `sim`, of `sim --threads` and of the
+# four processes (the least of ROUNDS); how many times as fast as `sim` threads and processes are; and the seconds that `sim` takes
+# to read a script of as many comments, which no thread shares.
+# usage: bench/threads.sh [ROUNDS [KIND..]]   five rounds of all kinds by default. PROGRAM in the environment names another program
+# than ./tiered. The scripts are made in a temporary folder.
 set -euo pipefail
 cd "$(dirname "$0")/.."
 program=${PROGRAM:-./tiered}
