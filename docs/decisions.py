@@ -9,7 +9,7 @@ import re
 import sys
 
 PATH = os.path.join(os.path.dirname(os.path.abspath(__file__)), "DECISIONS.md")
-INDEX = re.compile(r"(<!-- index -->\n).*?(\n<!-- end -->)", re.S)
+INDEX = re.compile(r"(<!-- index -->\n).*?(<!-- end -->)", re.S)
 
 
 def anchor(title):
@@ -29,7 +29,10 @@ def index(page):
 def main():
     with open(PATH, encoding="utf-8") as f:
         page = f.read()
-    made = INDEX.sub(lambda m: m[1] + index(page) + m[2], page)
+    made, found = INDEX.subn(lambda m: m[1] + index(page) + "\n" + m[2], page)
+    if found != 1:
+        print("docs/DECISIONS.md: there is no place for the index")
+        return 1
     if sys.argv[1:] == ["write"]:
         with open(PATH, "w", encoding="utf-8") as f:
             f.write(made)

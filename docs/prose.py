@@ -115,7 +115,10 @@ def bad_links(name, number, line, pages):
 
 
 def is_wide(line):
-    return len(line) > COLUMNS and not line.lstrip().startswith(("|", "#", "<!--")) and " " in line.strip()
+    """A line that is too long. A point of a list that is a link alone can't be broken."""
+    if len(line) <= COLUMNS or line.lstrip().startswith(("|", "#", "<!--")):
+        return False
+    return " " in line.strip() and not re.match(r"^ *- \[[^\]]*\]\([^()\s]+\)$", line)
 
 
 def joined(page):
