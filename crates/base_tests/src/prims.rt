@@ -28,7 +28,12 @@ static SUMS: [(&[u8], u32); 4] = [
 #[test]
 fn checksum_rows(rt: HostRuntime) {
     for (bytes, sum) in &SUMS {
-        assert_eq!(rt; sums(bytes), (*sum, *sum, *sum, *sum), "{} bytes", bytes.len());
+        assert_eq!(rt;
+            sums(bytes),
+            (*sum, *sum, *sum, *sum),
+            "{} bytes",
+            bytes.len()
+        );
     }
 }
 
@@ -38,7 +43,11 @@ fn each_checksum_body_agrees_at_each_length(rt: HostRuntime) {
     for i in 0..70u8 {
         bytes[i as usize] = i.wrapping_mul(77).wrapping_add(5);
         let (braided, sliced, bytewise, bitwise) = sums(&bytes[..i as usize]);
-        assert_eq!(rt; (braided, sliced, bytewise), (bitwise, bitwise, bitwise), "{i} bytes");
+        assert_eq!(rt;
+            (braided, sliced, bytewise),
+            (bitwise, bitwise, bitwise),
+            "{i} bytes"
+        );
     }
 }
 
