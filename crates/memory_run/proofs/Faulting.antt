@@ -59,17 +59,14 @@ module _ {K : Type 0} (code : K → ℕ) where
 
   met_one : (made : K → ℕ) (plan : List (Planned K)) → 1 ≤ met code made plan → IsMade made plan
   met_one made [] some = absurd (let no : 1 ≤ 0 = some in omega (arith, no))
-  met_one made (p ∷ plan) some = by (was_made code made p) refl
+  met_one made (p ∷ plan) some = by (was_made code made p) refl (λ less. met_one made plan less)
     where
-      rest : Bool
-      rest = not (is_some (planned code p.call p.number plan))
-
-      by : (b : Bool) → was_made code made p ≡ b → IsMade made (p ∷ plan)
-      by true is = record { place = 0; item = p; at = refl; is_made = is }
-      by false is =
+      by : (b : Bool) → was_made code made p ≡ b → (1 ≤ met code made plan → IsMade made plan) → IsMade made (p ∷ plan)
+      by true is again = record { place = 0; item = p; at = refl; is_made = is }
+      by false is again =
           let less : met code made (p ∷ plan) ≡ met code made plan =
           ap (λ (b : Bool). if b && not (is_some (planned code p.call p.number plan)) then met code made plan + 1 else met code made plan) is in
-          let k = met_one made plan (subst (λ (n : ℕ). 1 ≤ n) less some) in
+          let k = again (subst (λ (n : ℕ). 1 ≤ n) less some) in
           record { place = suc k.place; item = k.item; at = k.at; is_made = k.is_made }
 
 module _ {K : Type 0} (named : FaultDevice → FaultCall → Option K) where
@@ -83,20 +80,23 @@ module _ {K : Type 0} (named : FaultDevice → FaultCall → Option K) where
 
   line_at : (faults : List Fault) (i : ℕ) (p : Planned K) → slice_get (planned_by named faults) i ≡ Some p → IsLine faults p
   line_at [] i p at = absurd (let none : slice_get [] i ≡ Some p = at in cc)
-  line_at (fault ∷ faults) i p at = by (named fault.device fault.call) refl i at
+  line_at (fault ∷ faults) i p at = by (named fault.device fault.call) refl i (λ j there. line_at faults j p there) at
     where
       later : IsLine faults p → IsLine (fault ∷ faults) p
       later k = record { place = suc k.place; line = k.line; at = k.at; names = k.names; number = k.number }
 
-      by : (o : Option K) → named fault.device fault.call ≡ o → (i : ℕ) → slice_get (planned_call fault (named fault.device fault.call) ++ planned_by named faults) i ≡ Some p → IsLine (fault ∷ faults) p
-      by None is i at = later (line_at faults i p (subst (λ (o : Option K). slice_get (planned_call fault o ++ planned_by named faults) i ≡ Some p) is at))
-      by (Some call) is i at = go i (subst (λ (o : Option K). slice_get (planned_call fault o ++ planned_by named faults) i ≡ Some p) is at)
-        where
-          go : (i : ℕ) → slice_get (planned_call fault (Some call) ++ planned_by named faults) i ≡ Some p → IsLine (fault ∷ faults) p
-          go zero at =
-              let same : record { call = call; number = fault.number; after = fault.after } ≡ p = cc (at) in
-              record { place = 0; line = fault; at = refl; names = is ∙ ap (λ (q : Planned K). Some q.call) same; number = sym (ap (λ (q : Planned K). q.number) same) }
-          go (suc i) at = later (line_at faults i p at)
+      go : (call : K) → named fault.device fault.call ≡ Some call → (i : ℕ) → ((j : ℕ) → slice_get (planned_by named faults) j ≡ Some p → IsLine faults p)
+          → slice_get (planned_call fault (Some call) ++ planned_by named faults) i ≡ Some p → IsLine (fault ∷ faults) p
+      go call is zero again at =
+          let item : Planned K = record { call = call; number = fault.number; after = fault.after } in
+          let same : item ≡ p = cc (at) in
+          record { place = 0; line = fault; at = refl; names = is ∙ ap (λ (q : Planned K). Some q.call) same; number = sym (ap (λ (q : Planned K). q.number) same) }
+      go call is (suc i) again at = later (again i at)
+
+      by : (o : Option K) → named fault.device fault.call ≡ o → (i : ℕ) → ((j : ℕ) → slice_get (planned_by named faults) j ≡ Some p → IsLine faults p)
+          → slice_get (planned_call fault (named fault.device fault.call) ++ planned_by named faults) i ≡ Some p → IsLine (fault ∷ faults) p
+      by None is i again at = later (again i (subst (λ (o : Option K). slice_get (planned_call fault o ++ planned_by named faults) i ≡ Some p) is at))
+      by (Some call) is i again at = go call is i again (subst (λ (o : Option K). slice_get (planned_call fault o ++ planned_by named faults) i ≡ Some p) is at)
 
 module _ {K : Type 0} {code : K → ℕ} (named : FaultDevice → FaultCall → Option K) (faults : List Fault) where
   -- a device whose count has risen
