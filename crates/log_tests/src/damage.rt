@@ -93,9 +93,9 @@ fn openings_tell_their_causes(rt: HostRuntime) {
     assert!(rt; openings(rt.alloc()) == wanted);
 }
 
-/// What the opening comes to of a log whose segment has a byte turned over.
-fn open_turned(alloc: Global, at: usize) -> Opened {
-    let other = [!SEGMENT[at]];
+/// What the opening comes to of a log whose segment has this byte at a place turned over.
+fn open_turned(alloc: Global, at: usize, byte: u8) -> Opened {
+    let other = [!byte];
     match with(alloc, SEGMENT.as_slice(), at, other.as_slice()) {
         Ok(segment) => open(alloc, FLUSHED.as_slice(), LOG, segment.as_slice()),
         Err(AllocError) => Err(OpenRefusal::NoMemory),
@@ -138,7 +138,7 @@ fn each_spoilt_byte_of_the_manifest_has_its_place(rt: HostRuntime) {
 /// The first byte of the segment that isn't told where its batch begins.
 fn first_unplaced(alloc: Global) -> Option<usize> {
     for at in 0..SEGMENT.len() {
-        if open_turned(alloc, at) != damaged(LOG, (at / SIZE * SIZE) as u64) {
+        if open_turned(alloc, at, SEGMENT[at]) != damaged(LOG, (at / SIZE * SIZE) as u64) {
             return Some(at);
         }
     }

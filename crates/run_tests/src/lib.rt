@@ -11,8 +11,6 @@ mod fault_tests;
 #[cfg(test)]
 mod law_tests;
 #[cfg(test)]
-mod ready_tests;
-#[cfg(test)]
 mod remote_tests;
 #[cfg(test)]
 mod round_tests;
