@@ -1,7 +1,6 @@
 //! A metadata log in two files of a disk.
 
 ghost use Rattle.std.specs.Prelude.{◌≡◌, ◌≢◌, ◌⊎◌, ◌++◌, ◌∷◌, [], ℕ, List, length, drop, IfOk, IfErr, OnOk, IsTrue};
-ghost use Rattle.tier_base.specs.Counts.{Rose};
 ghost use Rattle.tier_base.specs.Device.{Fault, RanQuietly, MayBeDone, IsFresh, Lasts, fate_of};
 ghost use Rattle.disk_model.specs.Content.{Files, Image, LeavesOnly};
 ghost use Rattle.segment_meta.specs.declared.note.Note.{Note};
@@ -16,6 +15,7 @@ ghost use Rattle.meta_file.specs.Crash.{Reopens, OpensLike, Appending};
 ghost use Rattle.meta_file.specs.Reading.{IsStrangeGate, AreStrangeNotes};
 ghost use Rattle.meta_file.specs.Damage.{IsDamage, HandsDamage};
 ghost use Rattle.meta_file.specs.Told.{told_of, IsLeft};
+ghost use Rattle.meta_file.specs.Runs.{OneFault, NoFault};
 
 use crate::marks::Marks;
 use crate::opening::open_log;
@@ -84,9 +84,9 @@ impl<D: Disk> DiskLog<D> {
         ensures whole { IsTrue (D.content disk).tells → Reopens (D.content disk)
             → IfErr result (λ e. (at : ℕ) → e.1 ≢ Damaged at) }
 
-        // A fault is answered, and no other answer hides one.
+        // The first call of the disk that fails is the last, and is answered.
         ensures cause { IfErr result (λ e. e.1 ≡ Failed
-            → Rose (D.control disk).faults (D.control e.0).faults) }
+            → OneFault (D.control disk) (D.control e.0)) }
         ensures quiet { IfOk result (λ log. (D.control log.disk).faults ≡ (D.control disk).faults) }
         ensures quiet_err { IfErr result (λ e. e.1 ≢ Failed
             → (D.control e.0).faults ≡ (D.control disk).faults) }
@@ -162,12 +162,13 @@ impl<D: Disk> MetaLog for DiskLog<D> {
 
         ensures lasts { Lasts (D.control self.old.disk) (D.control self.new.disk) }
         ensures cause { fate_of result ≡ Fault
-            → Rose (D.control self.old.disk).faults (D.control self.new.disk).faults
-            ⊎ IsStrangeGate self.old.ends self.old.tail (D.control self.new.disk).handed }
+            → OneFault (D.control self.old.disk) (D.control self.new.disk)
+            ⊎ (NoFault (D.control self.old.disk) (D.control self.new.disk)
+            × IsStrangeGate self.old.ends self.old.tail (D.control self.new.disk).handed) }
         ensures quiet { fate_of result ≢ Fault
             → (D.control self.new.disk).faults ≡ (D.control self.old.disk).faults }
         ensures told_cause { fate_of result ≡ Fault → IsTrue (D.content self.old.disk).tells
-            → Rose (D.control self.old.disk).faults (D.control self.new.disk).faults }
+            → OneFault (D.control self.old.disk) (D.control self.new.disk) }
     {
         let outcome = append(self.alloc, &mut self.disk, &mut self.marks, note);
         self.tally.note_any(MetaCall::Append, outcome)
@@ -192,13 +193,14 @@ impl<D: Disk> MetaLog for DiskLog<D> {
 
         ensures lasts { Lasts (D.control self.old.disk) (D.control self.new.disk) }
         ensures cause { fate_of result ≡ Fault
-            → Rose (D.control self.old.disk).faults (D.control self.new.disk).faults
-            ⊎ (IsStrangeGate self.old.ends self.old.tail (D.control self.new.disk).handed
-            ⊎ AreStrangeNotes self.new.ends at (D.control self.new.disk).handed) }
+            → OneFault (D.control self.old.disk) (D.control self.new.disk)
+            ⊎ (NoFault (D.control self.old.disk) (D.control self.new.disk)
+            × (IsStrangeGate self.old.ends self.old.tail (D.control self.new.disk).handed
+            ⊎ AreStrangeNotes self.new.ends at (D.control self.new.disk).handed)) }
         ensures quiet { fate_of result ≢ Fault
             → (D.control self.new.disk).faults ≡ (D.control self.old.disk).faults }
         ensures told_cause { fate_of result ≡ Fault → IsTrue (D.content self.old.disk).tells
-            → Rose (D.control self.old.disk).faults (D.control self.new.disk).faults }
+            → OneFault (D.control self.old.disk) (D.control self.new.disk) }
     {
         let outcome = read(self.alloc, &mut self.disk, &mut self.marks, at);
         self.tally.note_any(MetaCall::Read, outcome)

@@ -1,7 +1,6 @@
 //! Opening a log: the gate and the notes up to it are read; then the notes are made to stay, and the gate as it reads.
 
 ghost use Rattle.std.specs.Prelude.{◌≡◌, ◌≢◌, ◌+◌, ◌<◌, ◌≤◌, ℕ, List, take, IsTrue, IfOk, IfErr, OnOk, length};
-ghost use Rattle.tier_base.specs.Counts.{Rose};
 ghost use Rattle.tier_base.specs.Device.{Ran, Went, Lasts, fate_of};
 ghost use Rattle.tier_base.specs.Told.{bytes_in};
 ghost use Rattle.tier_base.specs.declared.plain.FileName.TheVariants as file;
@@ -17,7 +16,7 @@ ghost use Rattle.meta_file.specs.Damage.{IsDamage, HandsDamage};
 ghost use Rattle.meta_file.specs.Opening.{HasEnds, IsRead};
 ghost use Rattle.meta_file.specs.Stands.{HasNotes};
 ghost use Rattle.meta_file.specs.Writing.{Confirms};
-ghost use Rattle.meta_file.specs.Runs.{Runs};
+ghost use Rattle.meta_file.specs.Runs.{Runs, OneFault};
 
 use crate::gate::{gate_in, put_gate};
 use crate::marks::{Marks, Tail};
@@ -43,7 +42,7 @@ pub fn open_log<D: Disk>(alloc: Global, disk: &mut D) -> Result<Marks, NotesRefu
         → IsDamage (D.content disk.old).files at) }
     ensures handed { IfErr result (λ why. (at : ℕ) → why ≡ Damaged at → HandsDamage D.control disk.new at) }
     ensures control { Lasts (D.control disk.old) (D.control disk.new) }
-    ensures cause { IfErr result (λ why. why ≡ Failed → Rose (D.control disk.old).faults (D.control disk.new).faults) }
+    ensures cause { IfErr result (λ why. why ≡ Failed → OneFault (D.control disk.old) (D.control disk.new)) }
     ensures quiet { OnOk result ((D.control disk.new).faults ≡ (D.control disk.old).faults) }
     ensures quiet_err { IfErr result (λ why. why ≢ Failed → (D.control disk.new).faults ≡ (D.control disk.old).faults) }
 {
@@ -64,7 +63,7 @@ fn study<D: Disk>(alloc: Global, disk: &mut D) -> Result<(u64, Vec<u64>), NotesR
         → IsDamage (D.content disk.old).files at) }
     ensures handed { IfErr result (λ why. (at : ℕ) → why ≡ Damaged at → HandsDamage D.control disk.new at) }
     ensures control { Lasts (D.control disk.old) (D.control disk.new) }
-    ensures cause { IfErr result (λ why. why ≡ Failed → Rose (D.control disk.old).faults (D.control disk.new).faults) }
+    ensures cause { IfErr result (λ why. why ≡ Failed → OneFault (D.control disk.old) (D.control disk.new)) }
     ensures quiet { OnOk result ((D.control disk.new).faults ≡ (D.control disk.old).faults) }
     ensures quiet_err { IfErr result (λ why. why ≢ Failed → (D.control disk.new).faults ≡ (D.control disk.old).faults) }
 {
@@ -88,7 +87,7 @@ fn find_gate<D: Disk>(disk: &mut D) -> Result<u64, NotesRefusal>
     ensures sound { IfErr result (λ why. (at : ℕ) → why ≡ Damaged at → IsTrue (D.content disk.old).tells
         → (end : ℕ) → GateAt ((D.content disk.old).files file.Gate) end → ⊥) }
     ensures control { Lasts (D.control disk.old) (D.control disk.new) }
-    ensures cause { IfErr result (λ why. why ≡ Failed → Rose (D.control disk.old).faults (D.control disk.new).faults) }
+    ensures cause { IfErr result (λ why. why ≡ Failed → OneFault (D.control disk.old) (D.control disk.new)) }
     ensures quiet { OnOk result ((D.control disk.new).faults ≡ (D.control disk.old).faults) }
     ensures quiet_err { IfErr result (λ why. why ≢ Failed → (D.control disk.new).faults ≡ (D.control disk.old).faults) }
 {
@@ -111,7 +110,7 @@ fn find_ends<D: Disk>(alloc: Global, disk: &mut D, gate: u64) -> Result<Vec<u64>
     ensures sound { IfErr result (λ why. (at : ℕ) → why ≡ Damaged at → IsTrue (D.content disk.old).tells
         → BreakAt gate (take gate (bytes_in ((D.content disk.old).files file.Notes))) at) }
     ensures control { Lasts (D.control disk.old) (D.control disk.new) }
-    ensures cause { IfErr result (λ why. why ≡ Failed → Rose (D.control disk.old).faults (D.control disk.new).faults) }
+    ensures cause { IfErr result (λ why. why ≡ Failed → OneFault (D.control disk.old) (D.control disk.new)) }
     ensures quiet { OnOk result ((D.control disk.new).faults ≡ (D.control disk.old).faults) }
     ensures quiet_err { IfErr result (λ why. why ≢ Failed → (D.control disk.new).faults ≡ (D.control disk.old).faults) }
 {

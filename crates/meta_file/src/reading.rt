@@ -2,7 +2,6 @@
 
 ghost use Rattle.std.specs.Prelude.{◌≡◌, ◌≢◌, ◌⊎◌, ◌-◌, ◌≤◌, ℕ, length, drop, IsTrue, IfOk, OnOk, None, Some};
 ghost use Rattle.std.specs.declared.option.Option.{Option};
-ghost use Rattle.tier_base.specs.Counts.{Rose};
 ghost use Rattle.tier_base.specs.Device.{Fault, Lasts, fate_of};
 ghost use Rattle.tier_base.specs.Told.{bytes_in};
 ghost use Rattle.disk_model.specs.Content.{Keeps, LeavesOnly};
@@ -12,6 +11,7 @@ ghost use Rattle.meta_file.specs.Ends.{start_of};
 ghost use Rattle.meta_file.specs.Reading.{IsStrangeGate, AreStrangeNotes, ReadsSpan};
 ghost use Rattle.meta_file.specs.Stands.{HasNotes, IsSure};
 ghost use Rattle.meta_file.specs.Told.{notes_told};
+ghost use Rattle.meta_file.specs.Runs.{OneFault, NoFault};
 
 use crate::marks::{Marks, start_of};
 use crate::settling::settle;
@@ -39,12 +39,13 @@ pub fn read<D: Disk>(
     ensures rules { IfOk result AreNotes }
     ensures since { LeavesOnly (D.content disk.old) (D.content disk.new) (OpensLike (D.content disk.old)) }
     ensures control { Lasts (D.control disk.old) (D.control disk.new) }
-    ensures cause { fate_of result ≡ Fault → Rose (D.control disk.old).faults (D.control disk.new).faults
-        ⊎ (IsStrangeGate marks.old.ends.items marks.old.tail (D.control disk.new).handed
-        ⊎ AreStrangeNotes marks.new.ends.items from (D.control disk.new).handed) }
+    ensures cause { fate_of result ≡ Fault → OneFault (D.control disk.old) (D.control disk.new)
+        ⊎ (NoFault (D.control disk.old) (D.control disk.new)
+        × (IsStrangeGate marks.old.ends.items marks.old.tail (D.control disk.new).handed
+        ⊎ AreStrangeNotes marks.new.ends.items from (D.control disk.new).handed)) }
     ensures quiet { fate_of result ≢ Fault → (D.control disk.new).faults ≡ (D.control disk.old).faults }
     ensures told_cause { fate_of result ≡ Fault → IsTrue (D.content disk.old).tells
-        → Rose (D.control disk.old).faults (D.control disk.new).faults }
+        → OneFault (D.control disk.old) (D.control disk.new) }
 {
     settle(disk, marks)?;
     let many = marks.ends.len();
@@ -69,11 +70,12 @@ fn read_from<D: Disk>(
         → IfOk result (λ notes. notes ≡ drop from (notes_told (D.content disk.old))) }
     ensures rules { IfOk result AreNotes }
     ensures control { Lasts (D.control disk.old) (D.control disk.new) }
-    ensures cause { fate_of result ≡ Fault → Rose (D.control disk.old).faults (D.control disk.new).faults
-        ⊎ AreStrangeNotes marks.now.ends.items from (D.control disk.new).handed }
+    ensures cause { fate_of result ≡ Fault → OneFault (D.control disk.old) (D.control disk.new)
+        ⊎ (NoFault (D.control disk.old) (D.control disk.new)
+        × AreStrangeNotes marks.now.ends.items from (D.control disk.new).handed) }
     ensures quiet { fate_of result ≢ Fault → (D.control disk.new).faults ≡ (D.control disk.old).faults }
     ensures told_cause { fate_of result ≡ Fault → IsTrue (D.content disk.old).tells
-        → Rose (D.control disk.old).faults (D.control disk.new).faults }
+        → OneFault (D.control disk.old) (D.control disk.new) }
 {
     let at = start_of(&marks.ends, from);
     let end = marks.end();

@@ -1,7 +1,6 @@
 //! Making sure of the gate after an append that wasn't Ok: it is replaced by what it reads, so that a crash leaves it there.
 
 ghost use Rattle.std.specs.Prelude.{◌≡◌, ◌≢◌, ◌⊎◌, ◌↔◌, ◌<◌, ◌++◌, ◌∷◌, [], ℕ, Some, None, IsTrue, OnOk, IfOk, IfSome, vec_len, vec_capacity};
-ghost use Rattle.tier_base.specs.Counts.{Rose};
 ghost use Rattle.tier_base.specs.Device.{Fault, Lasts, fate_of};
 ghost use Rattle.tier_base.specs.Told.{bytes_in};
 ghost use Rattle.tier_base.specs.declared.plain.FileName.TheVariants as file;
@@ -12,6 +11,7 @@ ghost use Rattle.meta_file.specs.Crash.{OpensLike};
 ghost use Rattle.meta_file.specs.Reading.{IsStrangeGate, IsGateOf, IsNoGateOf};
 ghost use Rattle.meta_file.specs.Stands.{HasNotes, IsSure};
 ghost use Rattle.meta_file.specs.Told.{notes_told};
+ghost use Rattle.meta_file.specs.Runs.{OneFault, NoFault};
 
 use crate::gate::{gate_in, put_gate};
 use crate::marks::{Marks, Tail};
@@ -29,11 +29,12 @@ pub fn settle<D: Disk>(disk: &mut D, marks: &mut Marks) -> Result<(), Trouble>
     ensures notes { notes_told (D.content disk.new) ≡ notes_told (D.content disk.old) }
     ensures since { LeavesOnly (D.content disk.old) (D.content disk.new) (OpensLike (D.content disk.old)) }
     ensures control { Lasts (D.control disk.old) (D.control disk.new) }
-    ensures cause { fate_of result ≡ Fault → Rose (D.control disk.old).faults (D.control disk.new).faults
-        ⊎ IsStrangeGate marks.old.ends.items marks.old.tail (D.control disk.new).handed }
+    ensures cause { fate_of result ≡ Fault → OneFault (D.control disk.old) (D.control disk.new)
+        ⊎ (NoFault (D.control disk.old) (D.control disk.new)
+        × IsStrangeGate marks.old.ends.items marks.old.tail (D.control disk.new).handed) }
     ensures quiet { fate_of result ≢ Fault → (D.control disk.new).faults ≡ (D.control disk.old).faults }
     ensures told_cause { fate_of result ≡ Fault → IsTrue (D.content disk.old).tells
-        → Rose (D.control disk.old).faults (D.control disk.new).faults }
+        → OneFault (D.control disk.old) (D.control disk.new) }
 {
     let Tail::Unsure(next) = marks.tail else {
         return Ok(());
@@ -54,11 +55,11 @@ fn find_end<D: Disk>(disk: &mut D, here: u64, next: Option<u64>) -> Result<u64, 
     ensures room { D.spare disk.new ≡ D.spare disk.old }
     ensures content { Keeps (D.content disk.old) (D.content disk.new) }
     ensures control { Lasts (D.control disk.old) (D.control disk.new) }
-    ensures cause { fate_of result ≡ Fault → Rose (D.control disk.old).faults (D.control disk.new).faults
-        ⊎ IsNoGateOf here next (D.control disk.new).handed }
+    ensures cause { fate_of result ≡ Fault → OneFault (D.control disk.old) (D.control disk.new)
+        ⊎ (NoFault (D.control disk.old) (D.control disk.new) × IsNoGateOf here next (D.control disk.new).handed) }
     ensures quiet { fate_of result ≢ Fault → (D.control disk.new).faults ≡ (D.control disk.old).faults }
     ensures told_cause { fate_of result ≡ Fault → IsTrue (D.content disk.old).tells
-        → Rose (D.control disk.old).faults (D.control disk.new).faults
+        → OneFault (D.control disk.old) (D.control disk.new)
         ⊎ IsNoGateOf here next (bytes_in ((D.content disk.old).files file.Gate)) }
 {
     let file = disk.read(FileName::Gate, 0)?;

@@ -2,7 +2,6 @@
 //! bytes that aren't there.
 
 ghost use Rattle.std.specs.Prelude.{◌≡◌, ◌≢◌, ◌⊎◌, ◌+◌, ◌≤◌, ◌++◌, ◌∷◌, [], List, length, IsTrue, OnOk, IfOk};
-ghost use Rattle.tier_base.specs.Counts.{Rose};
 ghost use Rattle.tier_base.specs.Device.{Fault, Lasts, fate_of, failing};
 ghost use Rattle.tier_base.specs.declared.plain.FileName.TheVariants as file;
 ghost use Rattle.disk_model.specs.Content.{Content, Files, Image, LeavesOnly, Keeps, Begins};
@@ -14,7 +13,7 @@ ghost use Rattle.meta_file.specs.Crash.{Appending};
 ghost use Rattle.meta_file.specs.Reading.{IsStrangeGate};
 ghost use Rattle.meta_file.specs.Stands.{HasNotes, IsSure, AllHold, StandsBy, EndsWith, HoldsOr};
 ghost use Rattle.meta_file.specs.Writing.{Shortens, Extends, Commits};
-ghost use Rattle.meta_file.specs.Runs.{Runs};
+ghost use Rattle.meta_file.specs.Runs.{Runs, OneFault, NoFault};
 ghost use Rattle.meta_file.specs.Told.{notes_told, told_of};
 ghost use Rattle.meta_file.specs.Log.{IsDone};
 
@@ -46,11 +45,12 @@ pub fn append<D: Disk>(
     ensures durable { OnOk result ((c : Files) → Image (D.content disk.new) c
         → Opens c (notes_told (D.content disk.old) ++ note.now ∷ [])) }
     ensures control { Lasts (D.control disk.old) (D.control disk.new) }
-    ensures cause { fate_of result ≡ Fault → Rose (D.control disk.old).faults (D.control disk.new).faults
-        ⊎ IsStrangeGate marks.old.ends.items marks.old.tail (D.control disk.new).handed }
+    ensures cause { fate_of result ≡ Fault → OneFault (D.control disk.old) (D.control disk.new)
+        ⊎ (NoFault (D.control disk.old) (D.control disk.new)
+        × IsStrangeGate marks.old.ends.items marks.old.tail (D.control disk.new).handed) }
     ensures quiet { fate_of result ≢ Fault → (D.control disk.new).faults ≡ (D.control disk.old).faults }
     ensures told_cause { fate_of result ≡ Fault → IsTrue (D.content disk.old).tells
-        → Rose (D.control disk.old).faults (D.control disk.new).faults }
+        → OneFault (D.control disk.old) (D.control disk.new) }
 {
     settle(disk, marks)?;
     put(alloc, disk, marks, note)

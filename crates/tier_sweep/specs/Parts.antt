@@ -10,7 +10,7 @@
 use Rattle.std.specs.Prelude.{◌≡◌, ◌⊎◌, ℕ, ◌+◌, Bool, false, List, ◌++◌, None, IsOk, IsTrue, Ok, Err}
 use Rattle.std.specs.declared.result.Result.{Result}
 use Rattle.tier_base.specs.declared.object_key.ObjectKey.{ObjectKey}
-use Rattle.tier_base.specs.Counts.{Rose}
+use Rattle.tier_base.specs.Counts.{counted, Rose}
 use Rattle.tier_base.specs.Device.{Control, RanQuietly, Went, Fault, Lasts}
 use Rattle.tier_base.specs.Told.{In, removed}
 use Rattle.segment_meta.specs.declared.note.Entry.{Entry}
@@ -36,14 +36,14 @@ StoreCause (Err StoreFault) before now = Rose before now
 StoreCause (Err MetaFault) before now = ⊥
 StoreCause result before now = Unit {0}
 
--- and so leaves the count of faults, but where that fault is told
+-- and so leaves the count of faults; where that fault is told, one call failed
 abbrev pub MetaQuiet : {T : Type 0} → Result T SweepRefusal → ℕ → ℕ → Type 0
-MetaQuiet (Err MetaFault) before now = Unit {0}
+MetaQuiet (Err MetaFault) before now = now ≡ counted before 1
 MetaQuiet result before now = now ≡ before
 
 -- the same of the store
 abbrev pub StoreQuiet : {T : Type 0} → Result T SweepRefusal → ℕ → ℕ → Type 0
-StoreQuiet (Err StoreFault) before now = Unit {0}
+StoreQuiet (Err StoreFault) before now = now ≡ counted before 1
 StoreQuiet result before now = now ≡ before
 
 -- calls that all went well, one behind the other

@@ -16,7 +16,7 @@ use Rattle.std.specs.declared.result.Result.{Result}
 use Rattle.tier_base.specs.declared.plain.State.{State}
 use Rattle.tier_base.specs.declared.plain.State.TheVariants.{CopyStarted, DeleteStarted, DeleteFinished}
 use Rattle.tier_base.specs.declared.object_key.ObjectKey.{ObjectKey}
-use Rattle.tier_base.specs.Counts.{Rose}
+use Rattle.tier_base.specs.Counts.{counted, Rose}
 use Rattle.tier_base.specs.Told.{Names}
 use Rattle.segment_meta.specs.declared.note.Entry.{Entry}
 use Rattle.segment_meta.specs.declared.note.Note.{Note}
@@ -126,8 +126,9 @@ HasCause (Err StoreFault) store store_now log log_now = Rose store store_now
 HasCause (Err MetaFault) store store_now log log_now = Rose log log_now
 HasCause result store store_now log log_now = Unit {0}
 
--- and no other answer hides a fault: the counts of faults are as before, but that of the device whose fault is told
+-- and no other answer hides a fault: the counts of faults are as before, but that of the device whose fault is told, which has
+-- one more
 abbrev pub IsQuiet : {T : Type 0} → Result T SweepRefusal → ℕ → ℕ → ℕ → ℕ → Type 0
-IsQuiet (Err StoreFault) store store_now log log_now = log_now ≡ log
-IsQuiet (Err MetaFault) store store_now log log_now = store_now ≡ store
+IsQuiet (Err StoreFault) store store_now log log_now = (store_now ≡ counted store 1) × (log_now ≡ log)
+IsQuiet (Err MetaFault) store store_now log log_now = (store_now ≡ store) × (log_now ≡ counted log 1)
 IsQuiet result store store_now log log_now = (store_now ≡ store) × (log_now ≡ log)
