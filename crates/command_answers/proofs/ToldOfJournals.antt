@@ -1,6 +1,6 @@
 -- A journal tells of as many faults of each device as its count has risen by since the journal began.
 use Rattle.std.proofs.Common.{◌≡◌, inl, inr, ◌∙◌, sym, ap, subst, refl, ℕ, zero, suc, ◌+◌, Bool, true, false, List, [], ◌∷◌, ◌++◌, slice_get, Some, None, Option, arith, eq-eqb}
-use Rattle.std.specs.Prelude.{nat_eq, ◌≤◌}
+use Rattle.std.specs.Prelude.{nat_eq, ◌<◌, ◌≤◌, length}
 use Rattle.std.proofs.lemmas.Bool.{ne_eqb}
 use Rattle.tier_base.specs.Counts.{counted}
 use Rattle.tier_base.specs.Device.{Control}
@@ -56,18 +56,18 @@ of_snoc : (b : ℕ) (failed : List (Option ℕ)) (o : Option ℕ) → count_of b
 of_snoc b [] o = refl
 of_snoc b (first ∷ failed) o = let more = of_snoc b failed o in omega (arith, more)
 
-names_snoc : (lists : List ActorList) (journal : List JournalEntry) (failed : List (Option ℕ)) (entry : JournalEntry) (o : Option ℕ) → NameDisks lists journal failed → NamesDisk lists entry o
-    → NameDisks lists (journal ++ entry ∷ []) (failed ++ o ∷ [])
-names_snoc lists [] [] entry o all one = (one, tt)
-names_snoc lists (first ∷ journal) (p ∷ failed) entry o all one = (all.0, names_snoc lists journal failed entry o all.1 one)
-names_snoc lists [] (p ∷ failed) entry o all one = absurd all
-names_snoc lists (first ∷ journal) [] entry o all one = absurd all
+names_snoc : (n : ℕ) (lists : List ActorList) (journal : List JournalEntry) (failed : List (Option ℕ)) (entry : JournalEntry) (o : Option ℕ) → NameDisks n lists journal failed → NamesDisk n lists entry o
+    → NameDisks n lists (journal ++ entry ∷ []) (failed ++ o ∷ [])
+names_snoc n lists [] [] entry o all one = (one, tt)
+names_snoc n lists (first ∷ journal) (p ∷ failed) entry o all one = (all.0, names_snoc n lists journal failed entry o all.1 one)
+names_snoc n lists [] (p ∷ failed) entry o all one = absurd all
+names_snoc n lists (first ∷ journal) [] entry o all one = absurd all
 
-names_same : (lists : List ActorList) (journal : List JournalEntry) (failed : List (Option ℕ)) → NameDisks lists journal failed → NameDisks lists (journal ++ []) failed
-names_same lists [] [] all = tt
-names_same lists (first ∷ journal) (p ∷ failed) all = (all.0, names_same lists journal failed all.1)
-names_same lists [] (p ∷ failed) all = absurd all
-names_same lists (first ∷ journal) [] all = absurd all
+names_same : (n : ℕ) (lists : List ActorList) (journal : List JournalEntry) (failed : List (Option ℕ)) → NameDisks n lists journal failed → NameDisks n lists (journal ++ []) failed
+names_same n lists [] [] all = tt
+names_same n lists (first ∷ journal) (p ∷ failed) all = (all.0, names_same n lists journal failed all.1)
+names_same n lists [] (p ∷ failed) all = absurd all
+names_same n lists (first ∷ journal) [] all = absurd all
 
 -- a count that has risen by one, or not
 told_more : (fault : Bool) (total c n mid now : ℕ) → mid ≡ after_faults c n → now ≡ after_fault fault mid → total ≡ one_if fault + c → now ≡ after_faults total n
@@ -151,11 +151,28 @@ module _ {D : Type 0} (control : D → Control call_code) where
   blamed_told (Follow limit) b true failed xs ys zs told k = told_one k.0 0 k.0 failed (omega arith) xs ys zs told k.1
   blamed_told command b true failed xs ys zs told k = told_one b 0 b failed (omega arith) xs ys zs told k
 
-  blamed_names : (P : Option ℕ → Type 0) (command : Command) (b : ℕ) (fault : Bool) (ys zs : List (Node D)) → (fault ≡ false → P None) → ((d : ℕ) → fault ≡ true → WorksOn command b d → P (Some d))
+  -- it is one of the brokers
+  one_within : (place : ℕ) (ys zs : List (Node D)) → OneFails control place ys zs → place < length ys
+  one_within zero (y ∷ ys) (z ∷ zs) one = omega arith
+  one_within (suc place) (y ∷ ys) (z ∷ zs) one = let low = one_within place ys zs one.1 in omega (arith, low)
+  one_within zero [] zs one = absurd one
+  one_within (suc place) [] zs one = absurd one
+  one_within zero (y ∷ ys) [] one = absurd one
+  one_within (suc place) (y ∷ ys) [] one = absurd one
+
+  -- there are as many as before
+  told_length : (b : ℕ) (failed : List (Option ℕ)) (xs ys : List (Node D)) → DisksTold control b failed xs ys → length ys ≡ length xs
+  told_length b failed [] [] told = refl
+  told_length b failed (x ∷ xs) (y ∷ ys) told = let more = told_length (b + 1) failed xs ys told.1 in omega (arith, more)
+  told_length b failed [] (y ∷ ys) told = absurd told
+  told_length b failed (x ∷ xs) [] told = absurd told
+
+  blamed_names : (P : Option ℕ → Type 0) (n : ℕ) (command : Command) (b : ℕ) (fault : Bool) (ys zs : List (Node D)) → length ys ≡ n → (fault ≡ false → P None)
+      → ((d : ℕ) → fault ≡ true → WorksOn n command b d → P (Some d))
       → (k : DisksCount control command b fault ys zs) → P (blamed command b fault ys zs k)
-  blamed_names P command b false ys zs none some k = none refl
-  blamed_names P (Follow limit) b true ys zs none some k = some k.0 refl tt
-  blamed_names P command b true ys zs none some k = some b refl refl
+  blamed_names P n command b false ys zs long none some k = none refl
+  blamed_names P n (Follow limit) b true ys zs long none some k = some k.0 refl (let low = one_within k.0 ys zs k.1 in omega (arith, low, long))
+  blamed_names P n command b true ys zs long none some k = some b refl refl
 
 -- a command that begins isn't answered
 begins_told : (is : Answer → Bool) (g : Begun) (command : Command) → is_told is (event_of (turned.Begins g) command) ≡ false
@@ -187,6 +204,9 @@ module _ {D S M : Type 0} (disk : DiskGhosts D) (store : StoreGhosts S) (meta : 
       b : ℕ
       b = t.order.broker.0
 
+      brokers : ℕ
+      brokers = length w.held.nodes
+
       -- an entry more, where the turn has counted so
       more : (entry : JournalEntry) (fault stored noted : Bool) → is_told is_of_disk entry.event ≡ fault → is_told is_of_store entry.event ≡ stored → is_told is_of_meta entry.event ≡ noted
           → order_of v.lists entry ≡ Some t.order → DisksCount disk.control command b fault v.held.nodes u.held.nodes
@@ -195,11 +215,12 @@ module _ {D S M : Type 0} (disk : DiskGhosts D) (store : StoreGhosts S) (meta : 
           → u.journal.items ≡ v.journal.items ++ entry ∷ [] → FaultsAreTold disk store meta w u
       more entry fault stored noted is_disk is_store is_meta there disks stores metas entered = record {
         failed = k.failed ++ blamed disk.control command b fault v.held.nodes u.held.nodes disks ∷ [];
-        are = subst (λ (l : List ActorList). NameDisks l u.journal.items (k.failed ++ blamed disk.control command b fault v.held.nodes u.held.nodes disks ∷ [])) (sym t.lists)
-            (subst (λ (j : List JournalEntry). NameDisks v.lists j (k.failed ++ blamed disk.control command b fault v.held.nodes u.held.nodes disks ∷ [])) (sym entered)
-            (names_snoc v.lists v.journal.items k.failed entry (blamed disk.control command b fault v.held.nodes u.held.nodes disks) k.are
-            (blamed_names disk.control (λ o. NamesDisk v.lists entry o) command b fault v.held.nodes u.held.nodes (λ no. is_disk ∙ no)
-            (λ d yes works. (is_disk ∙ yes, some_at (λ (o : Order). WorksOn o.command o.broker.0 d) (order_of v.lists entry) t.order there works)) disks)));
+        are = subst (λ (l : List ActorList). NameDisks brokers l u.journal.items (k.failed ++ blamed disk.control command b fault v.held.nodes u.held.nodes disks ∷ [])) (sym t.lists)
+            (subst (λ (j : List JournalEntry). NameDisks brokers v.lists j (k.failed ++ blamed disk.control command b fault v.held.nodes u.held.nodes disks ∷ [])) (sym entered)
+            (names_snoc brokers v.lists v.journal.items k.failed entry (blamed disk.control command b fault v.held.nodes u.held.nodes disks) k.are
+            (blamed_names disk.control (λ o. NamesDisk brokers v.lists entry o) brokers command b fault v.held.nodes u.held.nodes
+            (told_length disk.control 0 k.failed w.held.nodes v.held.nodes k.disks) (λ no. is_disk ∙ no)
+            (λ d yes works. (is_disk ∙ yes, some_at (λ (o : Order). WorksOn brokers o.command o.broker.0 d) (order_of v.lists entry) t.order there works)) disks)));
         disks = blamed_told disk.control command b fault k.failed w.held.nodes v.held.nodes u.held.nodes k.disks disks;
         store_told = told_more stored (count_told is_of_store u.journal.items) (count_told is_of_store v.journal.items) (store.control w.tier.store).faults (store.control v.tier.store).faults (store.control u.tier.store).faults k.store_told stores
             (ap (count_told is_of_store) entered ∙ (count_snoc is_of_store v.journal.items entry ∙ ap (λ (f : Bool). one_if f + count_told is_of_store v.journal.items) is_store));
@@ -212,8 +233,8 @@ module _ {D S M : Type 0} (disk : DiskGhosts D) (store : StoreGhosts S) (meta : 
           → (meta.control u.tier.meta).faults ≡ (meta.control v.tier.meta).faults → u.journal.items ≡ v.journal.items ++ [] → FaultsAreTold disk store meta w u
       same disks stores metas entered = record {
         failed = k.failed;
-        are = subst (λ (l : List ActorList). NameDisks l u.journal.items k.failed) (sym t.lists)
-            (subst (λ (j : List JournalEntry). NameDisks v.lists j k.failed) (sym entered) (names_same v.lists v.journal.items k.failed k.are));
+        are = subst (λ (l : List ActorList). NameDisks brokers l u.journal.items k.failed) (sym t.lists)
+            (subst (λ (j : List JournalEntry). NameDisks brokers v.lists j k.failed) (sym entered) (names_same brokers v.lists v.journal.items k.failed k.are));
         disks = told_none disk.control 0 k.failed k.failed (λ n low. refl) w.held.nodes v.held.nodes u.held.nodes k.disks disks;
         store_told = stores ∙ (k.store_told ∙ ap (λ (n : ℕ). after_faults n (store.control w.tier.store).faults) (sym (ap (count_told is_of_store) entered ∙ none_snoc is_of_store v.journal.items)));
         meta_told = metas ∙ (k.meta_told ∙ ap (λ (n : ℕ). after_faults n (meta.control w.tier.meta).faults) (sym (ap (count_told is_of_meta) entered ∙ none_snoc is_of_meta v.journal.items)));
@@ -267,7 +288,7 @@ module _ {D S M : Type 0} (disk : DiskGhosts D) (store : StoreGhosts S) (meta : 
     have = f.disks;
     told = record {
       failed = [];
-      are = subst (λ (j : List JournalEntry). NameDisks w.lists j []) (sym f.journal) tt;
+      are = subst (λ (j : List JournalEntry). NameDisks (length w.held.nodes) w.lists j []) (sym f.journal) tt;
       disks = told_nothing disk.control 0 w.held.nodes f.disks;
       store_told = ap (λ (j : List JournalEntry). after_faults (count_told is_of_store j) (store.control w.tier.store).faults) (sym f.journal);
       meta_told = ap (λ (j : List JournalEntry). after_faults (count_told is_of_meta j) (meta.control w.tier.meta).faults) (sym f.journal);

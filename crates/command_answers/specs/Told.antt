@@ -2,7 +2,7 @@
 --
 -- A fault of a disk is one of the broker's that the command is for. A follow also reads the log of its leader, so of it the
 -- journal doesn't tell whose disk it was.
-use Rattle.std.specs.Prelude.{◌≡◌, ℕ, zero, suc, ◌+◌, ◌==◌, Bool, true, false, List, [], ◌∷◌, Option, Some, None, IsSomeAnd}
+use Rattle.std.specs.Prelude.{◌≡◌, ℕ, zero, suc, ◌+◌, ◌<◌, ◌==◌, Bool, true, false, List, [], ◌∷◌, length, Option, Some, None, IsSomeAnd}
 use Rattle.tier_base.specs.Counts.{counted}
 use Rattle.tier_base.specs.Device.{Control}
 use Rattle.disk_model.specs.Call.{call_code}
@@ -52,23 +52,23 @@ abbrev pub count_of : ℕ → List (Option ℕ) → ℕ
 count_of b [] = 0
 count_of b (o ∷ failed) = one_if (is_broker b o) + count_of b failed
 
--- a command of the one broker works on the other's disk
-abbrev pub WorksOn : Command → ℕ → ℕ → Type 0
-WorksOn (Follow limit) b d = Unit {0}
-WorksOn command b d = d ≡ b
+-- of so many brokers, a command of the one works on the other's disk
+abbrev pub WorksOn : ℕ → Command → ℕ → ℕ → Type 0
+WorksOn brokers (Follow limit) b d = d < brokers
+WorksOn brokers command b d = d ≡ b
 
 -- where the entry tells of a fault of a disk, it is of that broker's
-abbrev pub NamesDisk : List ActorList → JournalEntry → Option ℕ → Type 0
-NamesDisk lists entry None = is_told is_of_disk entry.event ≡ false
-NamesDisk lists entry (Some d) =
-    (is_told is_of_disk entry.event ≡ true) × IsSomeAnd (order_of lists entry) (λ order. WorksOn order.command order.broker.0 d)
+abbrev pub NamesDisk : ℕ → List ActorList → JournalEntry → Option ℕ → Type 0
+NamesDisk brokers lists entry None = is_told is_of_disk entry.event ≡ false
+NamesDisk brokers lists entry (Some d) =
+    (is_told is_of_disk entry.event ≡ true) × IsSomeAnd (order_of lists entry) (λ order. WorksOn brokers order.command order.broker.0 d)
 
 -- so for each entry
-abbrev pub NameDisks : List ActorList → List JournalEntry → List (Option ℕ) → Type 0
-NameDisks lists [] [] = Unit {0}
-NameDisks lists (entry ∷ journal) (o ∷ failed) = NamesDisk lists entry o × NameDisks lists journal failed
-NameDisks lists [] (o ∷ failed) = ⊥
-NameDisks lists (entry ∷ journal) [] = ⊥
+abbrev pub NameDisks : ℕ → List ActorList → List JournalEntry → List (Option ℕ) → Type 0
+NameDisks brokers lists [] [] = Unit {0}
+NameDisks brokers lists (entry ∷ journal) (o ∷ failed) = NamesDisk brokers lists entry o × NameDisks brokers lists journal failed
+NameDisks brokers lists [] (o ∷ failed) = ⊥
+NameDisks brokers lists (entry ∷ journal) [] = ⊥
 
 module _ {D : Type 0} (control : D → Control call_code) where
   -- the counts of the disks of the brokers from this one on have risen by as many faults as are theirs
@@ -85,7 +85,7 @@ module _ {D S M : Type 0} (disk : DiskGhosts D) (store : StoreGhosts S) (meta : 
   pub record FaultsAreTold (w w' : Whole D S M) : Type 0 where
     -- of each entry the broker whose disk failed
     pub failed : List (Option ℕ)
-    pub are : NameDisks w'.lists w'.journal.items failed
+    pub are : NameDisks (length w.held.nodes) w'.lists w'.journal.items failed
     pub disks : DisksTold disk.control 0 failed w.held.nodes w'.held.nodes
     pub store_told : (store.control w'.tier.store).faults
         ≡ after_faults (count_told is_of_store w'.journal.items) (store.control w.tier.store).faults

@@ -65,7 +65,7 @@ use Rattle.partition_world.specs.TurnsOfCopy.{tiers_of, teller_of}
 use Rattle.partition_world.specs.Central.{IsCentral, KeepsCentral, ShowsTier, sides_seen, work_of, desk_of, notes_left}
 use Rattle.partition_world.specs.Laws.{IsCompleteRun}
 use Rattle.partition_world.specs.Turn.{IsTurn, IsAtEnd, StaysWhole, Steps}
-use Rattle.partition_world.specs.Turns.{Row, HaltsTier, StaysTier}
+use Rattle.partition_world.specs.Turns.{Row}
 use Rattle.partition_world.specs.Whole.{Whole, seen_as}
 use Rattle.partition_world.proofs.Begins.{row_of}
 use Rattle.partition_world.proofs.CopyCentral.{copy_central}
@@ -107,6 +107,7 @@ use Rattle.partition_world.proofs.OffsetCentral.{offset_first, offset_on}
 use Rattle.partition_world.proofs.LineTells.{line_tells, right_view}
 use Rattle.partition_world.proofs.Scenes.{site_is, same_sides, stayed}
 use Rattle.partition_world.proofs.TrimCentral.{trim_first, trim_shown, trim_owes_on}
+use Rattle.partition_world.proofs.Halting.{HaltsSome, StaysSome, stays_some}
 
 -- the leader is a node
 leader_in : (p : seen.Held) (q : State) (b : ℕ) (y : seen.Node) (s : Replica) → Standing p q b y s → p.registry.leader.0 < length p.nodes
@@ -483,7 +484,7 @@ module _ {D S M : Type 0} (disk : DiskGhosts D) (store : StoreGhosts S) (meta : 
             (d.store_stays.tells, ap (λ (m : M). (meta.content m).tells) k.1) (c.shows_tier.objects ∙ sym d.store_stays.objects) (c.shows_tier.notes ∙ sym (ap (λ (m : M). (meta.content m).notes) k.1)))
 
     -- a view has taken in some notes
-    halted : (z : Place disk store meta opening w c s.place s.list s.seat s.order) → w'.held ≡ w.held → HaltsTier disk store meta w.held w.tier s.order.broker.0 z.x z.side w'.tier
+    halted : (z : Place disk store meta opening w c s.place s.list s.seat s.order) → w'.held ≡ w.held → HaltsSome disk store meta w.held w.tier s.order.broker.0 z.x z.side w'.tier
         → IsCentral disk store meta opening w'
     halted z same (inl k) =
         let changed = halts store.content store.control meta.content meta.control w.tier.meta k.view c.scene c.central.plain s.place s.order.broker.0
@@ -527,15 +528,16 @@ module _ {D S M : Type 0} (disk : DiskGhosts D) (store : StoreGhosts S) (meta : 
         let d = date_dry store meta asked line cursor next k.error (fetch_tiers z.side.view z.side.cache w.tier) (fetch_tiers k.view k.cache w'.tier) k.row in
         dried z same (ap (λ (u : Tier S M). u.sides) k.after) d
 
-    by_tier : StaysTier disk store meta w.held w.tier s.order.broker.0 w'.held w'.tier → IsCentral disk store meta opening w'
+    by_tier : StaysSome disk store meta w.held w.tier s.order.broker.0 w'.held w'.tier → IsCentral disk store meta opening w'
     by_tier (inl k) = rests (held_stays disk.content disk.control w.held c.partition w'.held c.shows k.0) k.1
     by_tier (inr k) =
-        let x = some_of (λ (x : Node D). AtSide w.tier s.order.broker.0 (λ side. HaltsTier disk store meta w.held w.tier s.order.broker.0 x side w'.tier)) (slice_get w.held.nodes s.order.broker.0) k.1 in
-        let side = some_of (λ (side : Side). HaltsTier disk store meta w.held w.tier s.order.broker.0 x.0 side w'.tier) (slice_get w.tier.sides s.order.broker.0) x.2 in
+        let x = some_of (λ (x : Node D). AtSide w.tier s.order.broker.0 (λ side. HaltsSome disk store meta w.held w.tier s.order.broker.0 x side w'.tier)) (slice_get w.held.nodes s.order.broker.0) k.1 in
+        let side = some_of (λ (side : Side). HaltsSome disk store meta w.held w.tier s.order.broker.0 x.0 side w'.tier) (slice_get w.tier.sides s.order.broker.0) x.2 in
         halted (place_of disk store meta opening w c s.place s.list s.seat s.order s.next.at.list s.next.at.seat_is s.next.next x.0 x.1 side.0 side.1) k.0 side.2
 
   whole_central : (opening : State) (w : Whole D S M) (a : ℕ) (w' : Whole D S M) → StaysWhole disk store meta w a w' → IsCentral disk store meta opening w → IsCentral disk store meta opening w'
-  whole_central opening w a w' s c = by_tier opening w a w' s c s.tier
+  whole_central opening w a w' s c =
+      by_tier opening w a w' s c (stays_some disk store meta w.partition w.held w.tier s.order.broker.0 s.seat.work s.order.command w'.held w'.tier s.tier)
 
   pub step_central : (w : Whole D S M) (a : ℕ) (stepped : Stepped) (w' : Whole D S M) → Steps disk store meta w a stepped w' → KeepsCentral disk store meta w w'
   step_central w a Ran w' s = λ opening c. turn_central opening w a s.0 w' s.2 c

@@ -1,5 +1,5 @@
 -- What a search by timestamp goes on with, and its row in the local log and among the remote segments.
-use Rattle.std.proofs.Common.{◌≡◌, inl, inr, sym, refl, subst, ℕ, ◌<◌, ◌≤◌, max, List, [], length, Option, Some, Bool, true, false, slice_get}
+use Rattle.std.proofs.Common.{◌≡◌, inr, sym, refl, subst, ℕ, ◌<◌, ◌≤◌, max, List, [], length, Option, Some, Bool, true, false, slice_get}
 use Rattle.std.specs.Prelude.{nat_lt, if◌then◌else◌, unwrap_or, IsSomeAnd}
 use Rattle.std.proofs.lemmas.Bool.{ltb-false}
 use Rattle.std.proofs.Math.Nat.{max-eq_right}
@@ -14,11 +14,11 @@ use Rattle.time_find.specs.declared.turn.TimeTurn.{TimeTurn}
 use Rattle.time_find.specs.Turns.{IsSet}
 use Rattle.partition_turns.specs.declared.held.Node.{Node}
 use Rattle.partition_turns.specs.declared.held.Held.{Held}
-use Rattle.partition_turns.specs.Held.{AtNode, Rests, StaysHeld, put_node}
+use Rattle.partition_turns.specs.Held.{AtNode, Rests, StaysHeld, line_of, put_node}
 use Rattle.partition_world.specs.declared.tier.Tier.{Tier}
 use Rattle.partition_world.specs.Tier.{AtSide}
 use Rattle.partition_world.specs.TurnsOfDate.{resumed_at, resumed_with, SearchesOwn, SearchesRemote, WantsForDate, SearchRow}
-use Rattle.partition_world.specs.Turns.{HaltsTier, StaysTier}
+use Rattle.partition_world.specs.Turns.{StaysOr}
 use Rattle.partition_world.proofs.Dispatch.{some_more, there}
 
 -- where a search is resumed, its piece still ends past the cursor
@@ -71,13 +71,15 @@ module _ {D S M : Type 0} (disk : DiskGhosts D) (store : StoreGhosts S) (meta : 
       (some_more (λ side. SearchesRemote store meta t b side (unwrap_or (line_in x.log) []) asked cursor next turn t')
       (λ side. SearchRow disk store meta h t b x side asked cursor next false turn h t') (slice_get t.sides b) (λ side w. (w, refl)) told))
 
-  -- memory was wanting among the remote segments
-  pub remote_stays : (x : Node D) (line : List (ℕ × ℕ)) (t' : Tier S M) → slice_get h.nodes b ≡ Some x
-      → AtSide t b (λ side. WantsForDate store meta t b side line asked cursor next t') → StaysTier disk store meta h t b h t'
-  remote_stays x line t' at wants =
+  -- there was no memory among the remote segments
+  pub remote_stays : (x : Node D) (line : List (ℕ × ℕ)) (t' : Tier S M) → slice_get h.nodes b ≡ Some x → Some line ≡ line_in x.log
+      → AtSide t b (λ side. WantsForDate store meta t b side line asked cursor next t')
+      → StaysOr disk h t b (λ y side. WantsForDate store meta t b side (line_of y) asked cursor next t') h t'
+  remote_stays x line t' at same wants =
       inr (
         refl,
-        subst (λ (o : Option (Node D)). IsSomeAnd o (λ y. AtSide t b (λ side. HaltsTier disk store meta h t b y side t'))) (sym at)
-            (some_more (λ side. WantsForDate store meta t b side line asked cursor next t') (λ side. HaltsTier disk store meta h t b x side t')
-            (slice_get t.sides b) (λ side w. inr (inr (inr (inr (inl (line, asked, cursor, next, w)))))) wants),
+        subst (λ (o : Option (Node D)). IsSomeAnd o (λ y. AtSide t b (λ side.
+            WantsForDate store meta t b side (line_of y) asked cursor next t'))) (sym at)
+            (subst (λ (o : Option (List (ℕ × ℕ))). AtSide t b (λ side.
+            WantsForDate store meta t b side (unwrap_or o []) asked cursor next t')) same wants),
       )

@@ -23,7 +23,8 @@ use Rattle.partition_world.specs.declared.seat.Outcome.TheVariants.{Answers}
 use Rattle.partition_world.specs.Tier.{AtSide}
 use Rattle.partition_world.specs.Seats.{date_outcome}
 use Rattle.partition_world.specs.TurnsOfCopy.{KeepsLead}
-use Rattle.partition_world.specs.TurnsOfDate.{resumed_at, resumed_with, is_own, asked_of, SearchRow, Searches, DateOnRow}
+use Rattle.partition_world.specs.TurnsOfDate.{resumed_at, resumed_with, is_own, asked_of, WantsForDate, SearchRow, Searches, DateOnRow}
+use Rattle.partition_world.specs.Turns.{DateHalts, StaysOr}
 use Rattle.partition_world.proofs.DateEnds.{MayEnd, MayEndOwn, date_ends, own_ends}
 use Rattle.partition_world.proofs.Dispatch.{some_more}
 
@@ -102,3 +103,30 @@ module _ {D S M : Type 0} (disk : DiskGhosts D) (store : StoreGhosts S) (meta : 
       (subst (λ (n : Next). RowAt (asked_of p h x ts) (resumed_at h.registry.start cursor) n turn) with_is
       (subst (λ (n : ℕ). RowAt (asked_of p h x ts) n with_next turn) at_is
       (subst (λ (a : Asked). RowAt a at with_next turn) asked_is row)))))
+
+module _ {D S M : Type 0} (disk : DiskGhosts D) (store : StoreGhosts S) (meta : MetaGhosts M) (p : PartitionId) (h : Held D)
+    (t : Tier S M) (b : ℕ) (x : Node D) (ts : ℤ) (cursor : ℕ) (next : Next) (h' : Held D) (t' : Tier S M) where
+  -- what is left of one that found no memory
+  abbrev pub LeftAt : Asked → ℕ → Next → Type 0
+  LeftAt asked at with_next = StaysOr disk h t b (λ y side. WantsForDate store meta t b side (line_of y) asked at with_next t') h' t'
+
+  left_of : LeftAt (asked_of p h x ts) (resumed_at h.registry.start cursor) (resumed_with h.registry.start cursor next)
+      → slice_get h.nodes b ≡ Some x → StaysOr disk h t b (λ y side. DateHalts store meta p h t b y side ts cursor next t') h' t'
+  left_of (inl w) is = inl w
+  left_of (inr (same, wants)) is =
+      let at : AtSide t b (λ side. DateHalts store meta p h t b x side ts cursor next t') =
+      subst (λ (o : Option (Node D)). IsSomeAnd o (λ y. AtSide t b (λ side. WantsForDate store meta t b side (line_of y)
+      (asked_of p h x ts) (resumed_at h.registry.start cursor) (resumed_with h.registry.start cursor next) t'))) is wants in
+      inr (
+        same,
+        subst (λ (o : Option (Node D)). IsSomeAnd o (λ y. AtSide t b (λ side.
+            DateHalts store meta p h t b y side ts cursor next t'))) (sym is) at,
+      )
+
+  pub date_left : (asked : Asked) (at : ℕ) (with_next : Next) → slice_get h.nodes b ≡ Some x
+      → at ≡ resumed_at h.registry.start cursor → with_next ≡ resumed_with h.registry.start cursor next → asked ≡ asked_of p h x ts
+      → LeftAt asked at with_next → StaysOr disk h t b (λ y side. DateHalts store meta p h t b y side ts cursor next t') h' t'
+  date_left asked at with_next is at_is with_is asked_is left =
+      left_of (subst (λ (n : Next). LeftAt (asked_of p h x ts) (resumed_at h.registry.start cursor) n) with_is
+      (subst (λ (n : ℕ). LeftAt (asked_of p h x ts) n with_next) at_is
+      (subst (λ (a : Asked). LeftAt a at with_next) asked_is left))) is

@@ -1,6 +1,6 @@
 -- A turn's row is that of its command, and a log that was read is as it was.
-use Rattle.std.proofs.Common.{◌≡◌, inl, inr, ap, refl, ◌∙◌, ℕ, ℤ, zero, suc, ◌<◌, List, [], ◌∷◌, length, Some, None, Option, slice_get, true, false, arith}
-use Rattle.std.specs.Prelude.{IfOk, IsSomeAnd, OnErr}
+use Rattle.std.proofs.Common.{◌≡◌, subst, inr, ap, refl, ◌∙◌, ℕ, ℤ, zero, suc, ◌<◌, List, [], ◌∷◌, length, Some, None, Option, slice_get, true, false, arith}
+use Rattle.std.specs.Prelude.{◌≢◌, IfOk, IsSomeAnd, OnErr}
 use Rattle.std.specs.declared.alloc.AllocError.{AllocError}
 use Rattle.std.specs.declared.result.Result.{Result}
 use Rattle.std.specs.declared.result.Result.TheVariants.{Ok, Err}
@@ -15,10 +15,14 @@ use Rattle.plain_log.specs.declared.command.Config.{Config}
 use Rattle.plain_log.specs.declared.answer.Answer.{Answer}
 use Rattle.tier_base.specs.declared.names.PartitionId.{PartitionId}
 use Rattle.tier_base.specs.declared.plain.Settings.{Settings}
-use Rattle.broker_log.specs.Seen.{Kept, Up, Down, Away, is_up, settings_in, WhileUp}
+use Rattle.segment_file.specs.Closed.{Whole}
+use Rattle.segment_file.specs.Growing.{Grown}
+use Rattle.local_log.specs.Reading.{first_past, ReadOnce}
+use Rattle.local_log.specs.declared.refusal.ReadRefusal.{ReadRefusal}
+use Rattle.broker_log.specs.Seen.{Kept, Up, Down, Away, is_up, closed_in, settings_in, OnDisk, WhileUp}
 use Rattle.partition_turns.specs.declared.held.Node.{Node}
 use Rattle.partition_turns.specs.declared.held.Held.{Held}
-use Rattle.partition_turns.specs.Held.{AtNode, Rests, put_node}
+use Rattle.partition_turns.specs.Held.{AtNode, Rests, StaysHeld, put_node}
 use Rattle.partition_turns.specs.Turns.{IsOfTier}
 use Rattle.partition_turns.specs.TurnsOfFollowers.{FollowOnRow}
 use Rattle.partition_seen.specs.declared.begun.Begun.{Begun}
@@ -30,7 +34,7 @@ use Rattle.partition_world.specs.declared.seat.Outcome.TheVariants.{Answers}
 use Rattle.partition_world.specs.Tier.{AtSide}
 use Rattle.partition_world.specs.TurnsOfCopy.{ReadsLog}
 use Rattle.partition_world.specs.TurnsOfDate.{DateOnRow}
-use Rattle.partition_world.specs.Turns.{OwnRow, BeginRow, NotedRow, StaysTier}
+use Rattle.partition_world.specs.Turns.{OwnRow, BeginRow, NotedRow}
 
 -- a fact of what is there implies another
 pub some_more : {A : Type 0} (P Q : A → Type 0) (o : Option A) → ((x : A) → P x → Q x) → IsSomeAnd o P → IsSomeAnd o Q
@@ -53,6 +57,17 @@ pub interval_up : {D : Type 0} (kept : Kept D) (n : ℕ) (s : Settings) → is_u
 interval_up (Up log) n s up is e = let same : s ≡ log.settings = cc in e ∙ ap (λ (k : Settings). k.index_interval) same
 interval_up (Down settings d) n s up is e = absurd (let no : false ≡ true = up in cc)
 interval_up Away n s up is e = absurd (let no : false ≡ true = up in cc)
+
+-- the disk was read for the first closed segment past an offset
+pub has_read : {D : Type 0} (disk : DiskGhosts D) (old new : Kept D) (offset : ℕ) (r e : Result (Option Whole) ReadRefusal)
+    → IsSomeAnd (first_past offset (closed_in old)) (λ segment. Unit {0}) → is_up old ≡ true → r ≡ e
+    → WhileUp old (λ log. first_past offset log.closed ≢ None → OnDisk old (λ d. OnDisk new (λ d'. ReadOnce r (disk.control d) (disk.control d'))))
+    → OnDisk old (λ d. OnDisk new (λ d'. ReadOnce e (disk.control d) (disk.control d')))
+has_read disk (Up log) new offset r e some up is ran =
+    subst (λ (k : Result (Option Whole) ReadRefusal). OnDisk (Up log) (λ d. OnDisk new (λ d'. ReadOnce k (disk.control d) (disk.control d')))) is
+    (ran (λ none. subst (λ (o : Option Grown). IsSomeAnd o (λ segment. Unit {0})) none some))
+has_read disk (Down settings d) new offset r e some up is ran = absurd (let no : false ≡ true = up in cc)
+has_read disk Away new offset r e some up is ran = absurd (let no : false ≡ true = up in cc)
 
 module _ {D S M : Type 0} (disk : DiskGhosts D) (store : StoreGhosts S) (meta : MetaGhosts M) where
   begin_row : (h : Held D) (t : Tier S M) (b : ℕ) (x : Node D) (side : Side) (command : Command) (outcome : Outcome) (h' : Held D) (t' : Tier S M)
@@ -92,6 +107,6 @@ module _ {D S M : Type 0} (disk : DiskGhosts D) (store : StoreGhosts S) (meta : 
 
   -- where a broker's log alone was read, nothing that is seen has changed
   pub read_stays : (h : Held D) (t : Tier S M) (b : ℕ) (h' : Held D) (t' : Tier S M) → AtNode h b (λ x. (y : Node D) × ReadsLog disk x y × (h' ≡ put_node h b y)) → t' ≡ t
-      → StaysTier disk store meta h t b h' t'
+      → StaysHeld disk.content disk.control h h' × (t' ≡ t)
   read_stays h t b h' t' r same =
-      inl (inr (b, some_more (λ x. (y : Node D) × ReadsLog disk x y × (h' ≡ put_node h b y)) (λ x. Rests disk.content disk.control h b x h') (slice_get h.nodes b) (λ x k. read_rests h b x k.0 h' k.1 k.2) r), same)
+      (inr (b, some_more (λ x. (y : Node D) × ReadsLog disk x y × (h' ≡ put_node h b y)) (λ x. Rests disk.content disk.control h b x h') (slice_get h.nodes b) (λ x k. read_rests h b x k.0 h' k.1 k.2) r), same)

@@ -1,6 +1,7 @@
 pub mod Sides
 pub mod Reaching
 pub mod Dispatch
+pub mod Halting
 pub mod Begins
 pub mod Works
 pub mod FetchAdvances

@@ -47,10 +47,11 @@ use Rattle.partition_world.specs.TurnsOfDate.{SearchRow, Searches, DateOnRow, as
 use Rattle.partition_world.specs.TurnsOfTrim.{TrimFirstRow}
 use Rattle.partition_world.specs.TurnsOfExpiry.{expiry_tiers}
 use Rattle.partition_world.specs.TurnsOfRebuild.{RefreshedRow}
-use Rattle.partition_world.specs.Turns.{BeginRow, NotedRow, CopyingRow, SeekingRow, DatingRow, DeletingRow, JoinSecondRow, RebuildingRow, Row, HaltsTier, StaysTier}
+use Rattle.partition_world.specs.Turns.{BeginRow, NotedRow, CopyingRow, SeekingRow, DatingRow, DeletingRow, JoinSecondRow, RebuildingRow, Row}
 use Rattle.partition_world.specs.Whole.{Whole}
 use Rattle.partition_world.proofs.Begins.{row_of}
 use Rattle.partition_world.proofs.NotesTold.{told_after, few_told, count, keeps_count, same_count, copy_told, copy_wants, fetch_count, fetch_wants, time_count, time_wants, expiry_told, expiry_wants, turn_told, deletes_told}
+use Rattle.partition_world.proofs.Halting.{HaltsSome, StaysSome, stays_some}
 
 module _ {D S M : Type 0} (disk : DiskGhosts D) (store : StoreGhosts S) (meta : MetaGhosts M) where
   leaders_count : (h : Held D) (t : Tier S M) (b : ℕ) (x : Node D) (side : Side) (outcome : Outcome) (t' : Tier S M) → LeadersFirstRow meta h t b x side outcome t' → count meta t'.meta ≤ count meta t.meta
@@ -217,7 +218,7 @@ module _ {D S M : Type 0} (disk : DiskGhosts D) (store : StoreGhosts S) (meta : 
   row_told p config h t b x side (Rebuilds g next) command outcome h' t' w tells = let most = rebuilding_count p h t b x side g next command outcome h' t' w in omega (arith, most)
 
   -- memory was wanting
-  halts_count : (h : Held D) (t : Tier S M) (b : ℕ) (x : Node D) (side : Side) (t' : Tier S M) → HaltsTier disk store meta h t b x side t' → IsTrue (meta.content t.meta).tells → count meta t'.meta ≤ count meta t.meta
+  halts_count : (h : Held D) (t : Tier S M) (b : ℕ) (x : Node D) (side : Side) (t' : Tier S M) → HaltsSome disk store meta h t b x side t' → IsTrue (meta.content t.meta).tells → count meta t'.meta ≤ count meta t.meta
   halts_count h t b x side t' (inl halts) tells = keeps_count meta t.meta t'.meta halts.reads.content
   halts_count h t b x side t' (inr (inl (copy, next, wants))) tells =
       copy_wants store meta copy (teller_of h b) next wants.error (tiers_of side.view t) (tiers_of wants.view t') wants.row tells
@@ -231,11 +232,11 @@ module _ {D S M : Type 0} (disk : DiskGhosts D) (store : StoreGhosts S) (meta : 
   halts_count h t b x side t' (inr (inr (inr (inr (inr (p, g, wants)))))) tells =
       same_count meta t.meta t'.meta (ap (λ (k : Tier S M). k.meta) wants.after)
 
-  stays_count : (h : Held D) (t : Tier S M) (b : ℕ) (h' : Held D) (t' : Tier S M) → StaysTier disk store meta h t b h' t' → IsTrue (meta.content t.meta).tells → count meta t'.meta ≤ count meta t.meta
+  stays_count : (h : Held D) (t : Tier S M) (b : ℕ) (h' : Held D) (t' : Tier S M) → StaysSome disk store meta h t b h' t' → IsTrue (meta.content t.meta).tells → count meta t'.meta ≤ count meta t.meta
   stays_count h t b h' t' (inl same) tells = same_count meta t.meta t'.meta (ap (λ (k : Tier S M). k.meta) same.1)
   stays_count h t b h' t' (inr (same, at)) tells =
-      let x = some_of (λ x. AtSide t b (λ side. HaltsTier disk store meta h t b x side t')) (slice_get h.nodes b) at in
-      let side = some_of (λ side. HaltsTier disk store meta h t b x.0 side t') (slice_get t.sides b) x.2 in
+      let x = some_of (λ x. AtSide t b (λ side. HaltsSome disk store meta h t b x side t')) (slice_get h.nodes b) at in
+      let side = some_of (λ side. HaltsSome disk store meta h t b x.0 side t') (slice_get t.sides b) x.2 in
       halts_count h t b x.0 side.0 t' side.2 tells
 
 -- how many notes the commands of a list may append yet
@@ -289,7 +290,8 @@ module _ {D S M : Type 0} (disk : DiskGhosts D) (store : StoreGhosts S) (meta : 
   pub notes_stay : (w : Whole D S M) (a : ℕ) (w' : Whole D S M) → StaysWhole disk store meta w a w' → IsTrue (meta.content w.tier.meta).tells
       → length (meta.content w'.tier.meta).notes + notes_left w'.lists w'.desk ≤ length (meta.content w.tier.meta).notes + notes_left w.lists w.desk
   notes_stay w a w' t tells =
-      let most = stays_count disk store meta w.held w.tier t.order.broker.0 w'.held w'.tier t.tier tells in
+      let stays = stays_some disk store meta w.partition w.held w.tier t.order.broker.0 t.seat.work t.order.command w'.held w'.tier t.tier in
+      let most = stays_count disk store meta w.held w.tier t.order.broker.0 w'.held w'.tier stays tells in
       let lists : w'.lists ≡ w.lists = ap (λ (v : Whole D S M). v.lists) t.fields in
       let desk : w'.desk ≡ w.desk = ap (λ (v : Whole D S M). v.desk) t.fields in
       let one = ap (λ (ls : List ActorList). notes_left ls w'.desk) lists in

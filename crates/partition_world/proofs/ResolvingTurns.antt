@@ -38,13 +38,13 @@ use Rattle.partition_world.specs.declared.seat.Seat.{Seat}
 use Rattle.partition_world.specs.declared.seat.Work.{Work}
 use Rattle.partition_world.specs.declared.seat.Work.TheVariants.{Idle, Noted, Copies, Seeks, Dates, Expires, Rebuilds}
 use Rattle.partition_world.specs.Tier.{AtSide}
-use Rattle.partition_world.specs.TurnsOfCopy.{LeadersFirstRow, CopyFirstRow, ChooseRow, tiers_of, teller_of}
-use Rattle.partition_world.specs.TurnsOfFetch.{FetchOnRow, GoesOnFetch, fetch_tiers, wanted_of}
+use Rattle.partition_world.specs.TurnsOfCopy.{LeadersFirstRow, CopyFirstRow, ChooseRow, WantsForCopy, tiers_of, teller_of}
+use Rattle.partition_world.specs.TurnsOfFetch.{FetchOnRow, GoesOnFetch, WantsForFetch, fetch_tiers, wanted_of}
 use Rattle.partition_world.specs.TurnsOfDate.{SearchRow, Searches, DateOnRow, asked_of, is_own, resumed_at, resumed_with}
 use Rattle.partition_world.specs.TurnsOfTrim.{TrimFirstRow}
-use Rattle.partition_world.specs.TurnsOfExpiry.{expiry_tiers}
+use Rattle.partition_world.specs.TurnsOfExpiry.{WantsForDeletion, expiry_tiers}
 use Rattle.partition_world.specs.TurnsOfRebuild.{RefreshedRow}
-use Rattle.partition_world.specs.Turns.{BeginRow, NotedRow, CopyingRow, SeekingRow, DatingRow, DeletingRow, JoinSecondRow, RebuildingRow, Row, HaltsTier, StaysTier}
+use Rattle.partition_world.specs.Turns.{BeginRow, NotedRow, CopyingRow, SeekingRow, DatingRow, DeletingRow, JoinSecondRow, RebuildingRow, Row, BeginHalts, NotedHalts, DateHalts, HaltsTier, StaysTier}
 use Rattle.partition_world.specs.Whole.{Whole}
 use Rattle.segment_meta.specs.declared.note.Note.{Note}
 use Rattle.meta_log.specs.Content.{Left}
@@ -298,37 +298,77 @@ module _ {D S M : Type 0} (disk : DiskGhosts D) (store : StoreGhosts S) (meta : 
       (λ side l. Row disk store (resolved meta) p config h (tier_with t l) b x side work command outcome h' (tier_with t' l')) there
       (λ side row. rows p config h t b x side work command outcome h' t' row tells l' left))
 
-  -- memory was wanting
-  halts_tier : (h : Held D) (t : Tier S M) (b : ℕ) (x : Node D) (side : Side) (t' : Tier S M) → HaltsTier disk store meta h t b x side t' → Tells meta t.meta → (l' : List Note)
-      → Left (meta.content t'.meta) l' → Before meta t.meta (λ l. HaltsTier disk store (resolved meta) h (tier_with t l) b x side (tier_with t' l'))
-  halts_tier h t b x side t' (inl k) tells l' left = let a = halts t b side t' k tells l' left in (a.0, a.1, inl a.2)
-  halts_tier h t b x side t' (inr (inl (copy, next, k))) tells l' left =
+  -- there was no memory
+  begin_halts : (t : Tier S M) (b : ℕ) (side : Side) (command : Command) (t' : Tier S M) → BeginHalts meta t b side command t' → Tells meta t.meta → (l' : List Note)
+      → Left (meta.content t'.meta) l' → Before meta t.meta (λ l. BeginHalts (resolved meta) (tier_with t l) b side command (tier_with t' l'))
+  begin_halts t b side Copy t' k tells l' left = halts t b side t' k tells l' left
+  begin_halts t b side Trim t' k tells l' left = halts t b side t' k tells l' left
+  begin_halts t b side Expire t' k tells l' left = halts t b side t' k tells l' left
+  begin_halts t b side (Offset LatestTiered) t' k tells l' left = halts t b side t' k tells l' left
+  begin_halts t b side (Offset (At ts)) t' k tells l' left = halts t b side t' k tells l' left
+  begin_halts t b side other t' k tells l' left = elim k [ ]
+
+  copy_halts : (h : Held D) (t : Tier S M) (b : ℕ) (side : Side) (copy : Copied) (next : Next) (t' : Tier S M) → WantsForCopy store meta h t b side copy next t' → Tells meta t.meta
+      → (l' : List Note) → Left (meta.content t'.meta) l' → Before meta t.meta (λ l. WantsForCopy store (resolved meta) h (tier_with t l) b side copy next (tier_with t' l'))
+  copy_halts h t b side copy next t' k tells l' left =
       let a = copy_row store meta copy (teller_of h b) next _ (tiers_of side.view t) (tiers_of k.view t') k.row tells l' left in
-      (a.0, a.1, inr (inl (copy, next, record { view = k.view; error = k.error; row = a.2; after = ap (λ (u : Tier S M). tier_with u l') k.after })))
-  halts_tier h t b x side t' (inr (inr (inl (p, offset, limit, next, k)))) tells l' left =
+      (a.0, a.1, record { view = k.view; error = k.error; row = a.2; after = ap (λ (u : Tier S M). tier_with u l') k.after })
+
+  fetch_halts : (p : PartitionId) (t : Tier S M) (b : ℕ) (x : Node D) (side : Side) (offset limit : ℕ) (next : Search) (t' : Tier S M)
+      → WantsForFetch store meta p t b x side offset limit next t' → Tells meta t.meta → (l' : List Note) → Left (meta.content t'.meta) l'
+      → Before meta t.meta (λ l. WantsForFetch store (resolved meta) p (tier_with t l) b x side offset limit next (tier_with t' l'))
+  fetch_halts p t b x side offset limit next t' k tells l' left =
       let a = fetch_row store meta (wanted_of p x offset limit) (line_of x) next _ (fetch_tiers side.view side.cache t) (fetch_tiers k.view k.cache t') k.row tells l' left in
-      (a.0, a.1, inr (inr (inl (p, offset, limit, next, record { view = k.view; cache = k.cache; error = k.error; row = a.2; after = ap (λ (u : Tier S M). tier_with u l') k.after }))))
-  halts_tier h t b x side t' (inr (inr (inr (inl (d, next, k))))) tells l' left =
+      (a.0, a.1, record { view = k.view; cache = k.cache; error = k.error; row = a.2; after = ap (λ (u : Tier S M). tier_with u l') k.after })
+
+  expiry_halts : (h : Held D) (t : Tier S M) (b : ℕ) (d : Doomed) (next : Deletion) (t' : Tier S M) → WantsForDeletion store meta h t b d next t' → Tells meta t.meta
+      → (l' : List Note) → Left (meta.content t'.meta) l' → Before meta t.meta (λ l. WantsForDeletion store (resolved meta) h (tier_with t l) b d next (tier_with t' l'))
+  expiry_halts h t b d next t' k tells l' left =
       let a = expiry_row store meta d (teller_of h b) next _ (expiry_tiers t) (expiry_tiers t') k.row tells l' left in
-      (a.0, a.1, inr (inr (inr (inl (d, next, record { error = k.error; row = a.2; after = ap (λ (u : Tier S M). tier_with u l') k.after })))))
-  halts_tier h t b x side t' (inr (inr (inr (inr (inl (line, asked, cursor, next, k)))))) tells l' left =
-      let a = time_row store meta asked line cursor next _ (fetch_tiers side.view side.cache t) (fetch_tiers k.view k.cache t') k.row tells l' left in
-      (a.0, a.1, inr (inr (inr (inr (inl (line, asked, cursor, next, record { view = k.view; cache = k.cache; error = k.error; row = a.2; after = ap (λ (u : Tier S M). tier_with u l') k.after }))))))
-  halts_tier h t b x side t' (inr (inr (inr (inr (inr (p, g, k)))))) tells l' left = (
+      (a.0, a.1, record { error = k.error; row = a.2; after = ap (λ (u : Tier S M). tier_with u l') k.after })
+
+  date_halts : (p : PartitionId) (h : Held D) (t : Tier S M) (b : ℕ) (x : Node D) (side : Side) (ts : ℤ) (cursor : ℕ) (next : Dating) (t' : Tier S M)
+      → DateHalts store meta p h t b x side ts cursor next t' → Tells meta t.meta → (l' : List Note) → Left (meta.content t'.meta) l'
+      → Before meta t.meta (λ l. DateHalts store (resolved meta) p h (tier_with t l) b x side ts cursor next (tier_with t' l'))
+  date_halts p h t b x side ts cursor next t' k tells l' left =
+      let a = time_row store meta (asked_of p h x ts) (line_of x) (resumed_at h.registry.start cursor) (resumed_with h.registry.start cursor next) _ (fetch_tiers side.view side.cache t)
+      (fetch_tiers k.view k.cache t') k.row tells l' left in
+      (a.0, a.1, record { view = k.view; cache = k.cache; error = k.error; row = a.2; after = ap (λ (u : Tier S M). tier_with u l') k.after })
+
+  noted_halts : (p : PartitionId) (h : Held D) (t : Tier S M) (b : ℕ) (x : Node D) (side : Side) (g : Begun) (command : Command) (t' : Tier S M)
+      → NotedHalts store meta p h t b x side g command t' → Tells meta t.meta → (l' : List Note) → Left (meta.content t'.meta) l'
+      → Before meta t.meta (λ l. NotedHalts store (resolved meta) p h (tier_with t l) b x side g command (tier_with t' l'))
+  noted_halts p h t b x side g (Fetch offset limit) t' k tells l' left = fetch_halts p t b x side offset limit Refresh t' k tells l' left
+  noted_halts p h t b x side g Join t' (high, k) tells l' left = let a = halts t b side t' k tells l' left in (a.0, a.1, (high, a.2))
+  noted_halts p h t b x side g (Offset (At ts)) t' k tells l' left = date_halts p h t b x side ts 0 Seek t' k tells l' left
+  noted_halts p h t b x side g other t' k tells l' left = elim k [ ]
+
+  halts_tier : (p : PartitionId) (h : Held D) (t : Tier S M) (b : ℕ) (x : Node D) (side : Side) (work : Work) (command : Command) (t' : Tier S M)
+      → HaltsTier store meta p h t b x side work command t' → Tells meta t.meta → (l' : List Note) → Left (meta.content t'.meta) l'
+      → Before meta t.meta (λ l. HaltsTier store (resolved meta) p h (tier_with t l) b x side work command (tier_with t' l'))
+  halts_tier p h t b x side Idle command t' k tells l' left = begin_halts t b side command t' k tells l' left
+  halts_tier p h t b x side (Noted g) command t' k tells l' left = noted_halts p h t b x side g command t' k tells l' left
+  halts_tier p h t b x side (Copies g copy next) Copy t' k tells l' left = copy_halts h t b side copy next t' k tells l' left
+  halts_tier p h t b x side (Seeks g next) (Fetch offset limit) t' k tells l' left = fetch_halts p t b x side offset limit next t' k tells l' left
+  halts_tier p h t b x side (Dates g cursor next) (Offset (At ts)) t' k tells l' left = date_halts p h t b x side ts cursor next t' k tells l' left
+  halts_tier p h t b x side (Expires g d next) Expire t' k tells l' left = expiry_halts h t b d next t' k tells l' left
+  halts_tier p h t b x side (Rebuilds g Epochs) Join t' k tells l' left = (
     l',
     kept t t' l' (ap (λ (u : Tier S M). u.meta) k.after) left,
-    inr (inr (inr (inr (inr (p, g, record { error = k.error; row = k.row; after = ap (λ (u : Tier S M). tier_with u l') k.after }))))),
+    record { error = k.error; row = k.row; after = ap (λ (u : Tier S M). tier_with u l') k.after },
   )
+  halts_tier p h t b x side work command t' k tells l' left = elim k [ ]
 
-  stays_tier : (h : Held D) (t : Tier S M) (b : ℕ) (h' : Held D) (t' : Tier S M) → StaysTier disk store meta h t b h' t' → Tells meta t.meta → (l' : List Note) → Left (meta.content t'.meta) l'
-      → Before meta t.meta (λ l. StaysTier disk store (resolved meta) h (tier_with t l) b h' (tier_with t' l'))
-  stays_tier h t b h' t' (inl (held, tier)) tells l' left = let a = tier_same t t' tier l' left in (a.0, a.1, inl (held, a.2))
-  stays_tier h t b h' t' (inr (same, at)) tells l' left =
-      let a = with_some (slice_get h.nodes b) (λ x. AtSide t b (λ side. HaltsTier disk store meta h t b x side t')) (Left (meta.content t.meta))
-      (λ x l. AtSide (tier_with t l) b (λ side. HaltsTier disk store (resolved meta) h (tier_with t l) b x side (tier_with t' l'))) at
-      (λ x there. with_some (slice_get t.sides b) (λ side. HaltsTier disk store meta h t b x side t') (Left (meta.content t.meta))
-      (λ side l. HaltsTier disk store (resolved meta) h (tier_with t l) b x side (tier_with t' l')) there
-      (λ side row. halts_tier h t b x side t' row tells l' left)) in
+  stays_tier : (p : PartitionId) (h : Held D) (t : Tier S M) (b : ℕ) (work : Work) (command : Command) (h' : Held D) (t' : Tier S M)
+      → StaysTier disk store meta p h t b work command h' t' → Tells meta t.meta → (l' : List Note) → Left (meta.content t'.meta) l'
+      → Before meta t.meta (λ l. StaysTier disk store (resolved meta) p h (tier_with t l) b work command h' (tier_with t' l'))
+  stays_tier p h t b work command h' t' (inl (held, tier)) tells l' left = let a = tier_same t t' tier l' left in (a.0, a.1, inl (held, a.2))
+  stays_tier p h t b work command h' t' (inr (same, at)) tells l' left =
+      let a = with_some (slice_get h.nodes b) (λ x. AtSide t b (λ side. HaltsTier store meta p h t b x side work command t')) (Left (meta.content t.meta))
+      (λ x l. AtSide (tier_with t l) b (λ side. HaltsTier store (resolved meta) p h (tier_with t l) b x side work command (tier_with t' l'))) at
+      (λ x there. with_some (slice_get t.sides b) (λ side. HaltsTier store meta p h t b x side work command t') (Left (meta.content t.meta))
+      (λ side l. HaltsTier store (resolved meta) p h (tier_with t l) b x side work command (tier_with t' l')) there
+      (λ side row. halts_tier p h t b x side work command t' row tells l' left)) in
       (a.0, a.1, inr (same, a.2))
 
   seat_with : (w : Whole D S M) (l : List Note) (a place : ℕ) (list : ActorList) (seat : Seat) → IsSeat w a place list seat → IsSeat (whole_with w l) a place list seat
@@ -359,7 +399,7 @@ module _ {D S M : Type 0} (disk : DiskGhosts D) (store : StoreGhosts S) (meta : 
   pub stays : (w : Whole D S M) (a : ℕ) (w' : Whole D S M) → StaysWhole disk store meta w a w' → Tells meta w.tier.meta → (l' : List Note) → Left (meta.content w'.tier.meta) l'
       → Before meta w.tier.meta (λ l. StaysWhole disk store (resolved meta) (whole_with w l) a (whole_with w' l'))
   stays w a w' k tells l' left =
-      let r = stays_tier w.held w.tier k.order.broker.0 w'.held w'.tier k.tier tells l' left in (
+      let r = stays_tier w.partition w.held w.tier k.order.broker.0 k.seat.work k.order.command w'.held w'.tier k.tier tells l' left in (
         r.0,
         r.1,
         record {

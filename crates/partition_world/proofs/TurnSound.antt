@@ -52,8 +52,9 @@ use Rattle.partition_world.specs.TurnsOfDate.{SearchRow, Searches, DateOnRow, as
 use Rattle.partition_world.specs.TurnsOfExpiry.{RaiseRow, ExpireOnRow, ExpiresBy}
 use Rattle.partition_world.specs.TurnsOfRebuild.{with_line, RefreshedRow}
 use Rattle.partition_world.specs.TurnsOfTrim.{TrimFirstRow, TrimOnRow}
-use Rattle.partition_world.specs.Turns.{NotedRow, CopyingRow, SeekingRow, DatingRow, DeletingRow, JoinSecondRow, RebuildingRow, BeginRow, Row, TurnRow, HaltsTier, StaysTier}
+use Rattle.partition_world.specs.Turns.{NotedRow, CopyingRow, SeekingRow, DatingRow, DeletingRow, JoinSecondRow, RebuildingRow, BeginRow, Row, TurnRow}
 use Rattle.partition_world.proofs.Begins.{row_of}
+use Rattle.partition_world.proofs.Halting.{HaltsSome, StaysSome}
 
 module _ {D : Type 0} where
   -- two nodes are alike in all that their turns need
@@ -231,7 +232,7 @@ module _ {D S M : Type 0} (disk : DiskGhosts D) (store : StoreGhosts S) (meta : 
       let r = row_of disk store meta p config h t b work command outcome h' t' w in row_sound n p config h t b r.x r.side work command outcome h' t' r.at s r.row
 
   -- and want of memory
-  pub stays_sound : (n : ℕ) (h : Held D) (t : Tier S M) (b : ℕ) (h' : Held D) (t' : Tier S M) → HeldSound n h → StaysTier disk store meta h t b h' t' → HeldSound n h'
+  pub stays_sound : (n : ℕ) (h : Held D) (t : Tier S M) (b : ℕ) (h' : Held D) (t' : Tier S M) → HeldSound n h → StaysSome disk store meta h t b h' t' → HeldSound n h'
   stays_sound n h t b h' t' s (inl k) = stays_held_sound disk.content disk.control n h h' s k.0
   stays_sound n h t b h' t' s (inr k) = same n h h' k.0 s
 
@@ -384,7 +385,7 @@ module _ {D S M : Type 0} (disk : DiskGhosts D) (store : StoreGhosts S) (meta : 
   turn_sides p config h t b work command outcome h' t' w =
       let r = row_of disk store meta p config h t b work command outcome h' t' w in row_sides p config h t b r.x r.side work command outcome h' t' r.row
 
-  halts_sides : (h : Held D) (t : Tier S M) (b : ℕ) (x : Node D) (side : Side) (t' : Tier S M) → HaltsTier disk store meta h t b x side t' → length t'.sides ≡ length t.sides
+  halts_sides : (h : Held D) (t : Tier S M) (b : ℕ) (x : Node D) (side : Side) (t' : Tier S M) → HaltsSome disk store meta h t b x side t' → length t'.sides ≡ length t.sides
   halts_sides h t b x side t' (inl halts) = sides_put t b (record side { view = halts.view }) t' (ap (λ (k : Tier S M). k.sides) halts.after)
   halts_sides h t b x side t' (inr (inl (copy, next, wants))) = sides_put t b (record side { view = wants.view }) t' (ap (λ (k : Tier S M). k.sides) wants.after)
   halts_sides h t b x side t' (inr (inr (inl (p, offset, limit, next, wants)))) =
@@ -394,9 +395,9 @@ module _ {D S M : Type 0} (disk : DiskGhosts D) (store : StoreGhosts S) (meta : 
       sides_put t b (record side { view = wants.view; cache = wants.cache }) t' (ap (λ (k : Tier S M). k.sides) wants.after)
   halts_sides h t b x side t' (inr (inr (inr (inr (inr (p, g, wants)))))) = ap (λ (k : Tier S M). length k.sides) wants.after
 
-  pub stays_sides : (h : Held D) (t : Tier S M) (b : ℕ) (h' : Held D) (t' : Tier S M) → StaysTier disk store meta h t b h' t' → length t'.sides ≡ length t.sides
+  pub stays_sides : (h : Held D) (t : Tier S M) (b : ℕ) (h' : Held D) (t' : Tier S M) → StaysSome disk store meta h t b h' t' → length t'.sides ≡ length t.sides
   stays_sides h t b h' t' (inl k) = ap (λ (k : Tier S M). length k.sides) k.1
   stays_sides h t b h' t' (inr k) =
-      let x = some_of (λ x. AtSide t b (λ side. HaltsTier disk store meta h t b x side t')) (slice_get h.nodes b) k.1 in
-      let side = some_of (λ side. HaltsTier disk store meta h t b x.0 side t') (slice_get t.sides b) x.2 in
+      let x = some_of (λ x. AtSide t b (λ side. HaltsSome disk store meta h t b x side t')) (slice_get h.nodes b) k.1 in
+      let side = some_of (λ side. HaltsSome disk store meta h t b x.0 side t') (slice_get t.sides b) x.2 in
       halts_sides h t b x.0 side.0 t' side.2

@@ -37,12 +37,13 @@ use Rattle.partition_world.specs.declared.seat.Work.{Work}
 use Rattle.partition_world.specs.declared.seat.Work.TheVariants.{Idle, Noted, Copies, Seeks, Dates, Expires, Rebuilds}
 use Rattle.partition_world.specs.Seats.{seat_seen, desk_seen, noted_in, chosen, moved, sought, dated, doomed, deleting, rebuilding, seat_after, told_count, stepped_of}
 use Rattle.partition_world.specs.Turn.{IsSeat, IsAtEnd, IsTurn, Steps}
-use Rattle.partition_world.specs.Turns.{TurnRow, StaysTier}
+use Rattle.partition_world.specs.Turns.{TurnRow}
 use Rattle.partition_world.proofs.Begins.{begins_idle}
 use Rattle.partition_world.proofs.TurnSound.{turn_sound, stays_sound, turn_sides, stays_sides}
 use Rattle.partition_world.proofs.Sides.{set_same}
 use Rattle.partition_world.proofs.Works.{work_after}
 use Rattle.partition_world.specs.Reaches.{HasAnswered}
+use Rattle.partition_world.proofs.Halting.{StaysSome}
 
 -- what was noted stays
 pub chosen_seen : (work : Work) (copy : Copied) → noted_in (chosen work copy) ≡ noted_in work
@@ -201,7 +202,7 @@ module _ {D S M : Type 0} (disk : DiskGhosts D) (store : StoreGhosts S) (meta : 
 
   -- the world where there was no memory for one
   pub sound_after_none : (config : Config) (lists : List ActorList) (h : Held D) (t : Tier S M) (b : ℕ) (h' : Held D) (t' : Tier S M) (desk : List Seat) (free : ℕ) → IsSound config lists h t.sides desk free
-      → StaysTier disk store meta h t b h' t' → IsSound config lists h' t'.sides desk free
+      → StaysSome disk store meta h t b h' t' → IsSound config lists h' t'.sides desk free
   sound_after_none config lists h t b h' t' desk free s k = record {
     config_fits = s.config_fits;
     fit = s.fit;

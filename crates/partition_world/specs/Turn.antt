@@ -50,9 +50,8 @@ module _ {D S M : Type 0} (disk : DiskGhosts D) (store : StoreGhosts S) (meta : 
     pub config : w'.config ≡ w.config
     pub lists : w'.lists ≡ w.lists
 
-  -- memory was wanting for the actor's next order: nothing that is seen has changed, but that its broker's view may have
-  -- taken in some notes. The command is one that takes memory, unless its broker has stopped 2^64 - 1 times, for which no
-  -- run is long enough
+  -- there was no memory for the actor's next order: nothing that is seen has changed, but for what the turn's own calls of the tier
+  -- may leave. The command is one that takes memory, unless its broker has stopped 2^64 - 1 times, for which no run is long enough
   pub record StaysWhole (w : Whole D S M) (a : ℕ) (w' : Whole D S M) : Type 0 where
     pub place : ℕ
     pub list : ActorList
@@ -60,7 +59,7 @@ module _ {D S M : Type 0} (disk : DiskGhosts D) (store : StoreGhosts S) (meta : 
     pub order : Order
     pub next : IsNext w a place list seat order
     pub node : order.broker.0 < length w.held.nodes
-    pub tier : StaysTier disk store meta w.held w.tier order.broker.0 w'.held w'.tier
+    pub tier : StaysTier disk store meta w.partition w.held w.tier order.broker.0 seat.work order.command w'.held w'.tier
     pub wants : CanStop w.held order.broker.0 → IsTrue (takes_memory order.command)
     pub fields : w' ≡ record w { held = w'.held; tier = w'.tier }
 

@@ -1,7 +1,7 @@
 -- A turn of a command of any kind, over all devices.
 --
 -- Commands on brokers' logs and the registry leave the remote tier as it is (the crate `partition_turns` has their rows).
-use Rattle.std.specs.Prelude.{◌≡◌, ◌⊎◌, ◌<◌, ◌≤◌, ℕ, List}
+use Rattle.std.specs.Prelude.{◌≡◌, ◌⊎◌, ◌<◌, ◌≤◌, ℕ, ℤ}
 use Rattle.disk_model.specs.declared.disk.Disk.{Ghosts as DiskGhosts}
 use Rattle.object_store.specs.declared.store.Store.{Ghosts as StoreGhosts}
 use Rattle.meta_log.specs.declared.log.MetaLog.{Ghosts as MetaGhosts}
@@ -12,7 +12,6 @@ use Rattle.expiry_task.specs.declared.turn.Doomed.{Doomed}
 use Rattle.expiry_task.specs.declared.turn.Next.{Next as Deletion}
 use Rattle.tier_fetch.specs.declared.turn.Next.{Next as Search}
 use Rattle.tier_fetch.specs.declared.turn.Next.TheVariants.{Refresh}
-use Rattle.time_find.specs.declared.turn.Asked.{Asked}
 use Rattle.time_find.specs.declared.turn.Next.{Next as Dating}
 use Rattle.time_find.specs.declared.turn.Next.TheVariants.{Seek}
 use Rattle.rebuild_task.specs.declared.turn.Next.{Next as Rebuild}
@@ -27,7 +26,7 @@ use Rattle.partition_seen.specs.declared.begun.Turned.{Turned}
 use Rattle.partition_seen.specs.declared.begun.Turned.TheVariants as turned
 use Rattle.partition_turns.specs.declared.held.Node.{Node}
 use Rattle.partition_turns.specs.declared.held.Held.{Held}
-use Rattle.partition_turns.specs.Held.{AtNode, StaysHeld}
+use Rattle.partition_turns.specs.Held.{AtNode, StaysHeld, line_of}
 use Rattle.partition_turns.specs.Turns.{FirstRow, LaterRow}
 use Rattle.partition_world.specs.declared.tier.Side.{Side}
 use Rattle.partition_world.specs.declared.tier.Tier.{Tier}
@@ -40,7 +39,7 @@ use Rattle.partition_world.specs.Seats.{outcome_of}
 use Rattle.partition_world.specs.TurnsOfCopy.{CopyFirstRow, ChooseRow, CopyOnRow, WantsForCopy}
 use Rattle.partition_world.specs.TurnsOfExpiry.{ExpireFirstRow, ExpireOnRow, DeleteOnRow, WantsForDeletion}
 use Rattle.partition_world.specs.TurnsOfFetch.{FetchOnRow, WantsForFetch}
-use Rattle.partition_world.specs.TurnsOfDate.{DateOnRow, WantsForDate}
+use Rattle.partition_world.specs.TurnsOfDate.{resumed_at, resumed_with, asked_of, DateOnRow, WantsForDate}
 use Rattle.partition_world.specs.TurnsOfRebuild.{with_line, RefreshOnRow, EpochsOnRow, WantsForRebuild}
 use Rattle.partition_world.specs.TurnsOfOffset.{OffsetFirstRow, OffsetOnRow}
 use Rattle.partition_world.specs.TurnsOfTrim.{TrimFirstRow, TrimOnRow}
@@ -142,16 +141,77 @@ module _ {D S M : Type 0} (disk : DiskGhosts D) (store : StoreGhosts S) (meta : 
   TurnRow p config h t b work command outcome h' t' =
       AtNode h b (λ x. AtSide t b (λ side. Row p config h t b x side work command outcome h' t'))
 
-  -- memory was wanting for the tier: nothing that is seen has changed, but that a view may have taken in some notes
-  abbrev pub HaltsTier : Held D → Tier S M → ℕ → Node D → Side → Tier S M → Type 0
-  HaltsTier h t b x side t' =
-      Halts meta t b side t' ⊎ (((copy : Copied) × (next : Next) × WantsForCopy store meta h t b side copy next t')
-      ⊎ (((p : PartitionId) × (offset : ℕ) × (limit : ℕ) × (next : Search) × WantsForFetch store meta p t b x side offset limit next t')
-      ⊎ (((doomed : Doomed) × (next : Deletion) × WantsForDeletion store meta h t b doomed next t')
-      ⊎ (((line : List (ℕ × ℕ)) × (asked : Asked) × (cursor : ℕ) × (next : Dating) × WantsForDate store meta t b side line asked cursor next t')
-      ⊎ ((p : PartitionId) × (g : Begun) × WantsForRebuild store p t side g t')))))
+-- What a turn leaves that finds no memory: what its own calls of the tier may leave, by its command and by what its seat keeps.
+-- A turn that makes none leaves the tier as it was.
+module _ {S M : Type 0} (meta : MetaGhosts M) where
+  -- a command's first turn has refreshed its broker's view in part
+  abbrev pub BeginHalts : Tier S M → ℕ → Side → Command → Tier S M → Type 0
+  BeginHalts t b side Copy t' = Halts meta t b side t'
+  BeginHalts t b side Trim t' = Halts meta t b side t'
+  BeginHalts t b side Expire t' = Halts meta t b side t'
+  BeginHalts t b side (Offset LatestTiered) t' = Halts meta t b side t'
+  BeginHalts t b side (Offset (At ts)) t' = Halts meta t b side t'
+  BeginHalts t b side command t' = ⊥
 
-  -- memory was wanting
-  abbrev pub StaysTier : Held D → Tier S M → ℕ → Held D → Tier S M → Type 0
-  StaysTier h t b h' t' = (StaysHeld disk.content disk.control h h' × (t' ≡ t))
-      ⊎ ((h' ≡ h) × AtNode h b (λ x. AtSide t b (λ side. HaltsTier h t b x side t')))
+module _ {D S M : Type 0} (store : StoreGhosts S) (meta : MetaGhosts M) where
+  -- a search by timestamp that has come to this cursor with this
+  abbrev pub DateHalts : PartitionId → Held D → Tier S M → ℕ → Node D → Side → ℤ → ℕ → Dating → Tier S M → Type 0
+  DateHalts p h t b x side ts cursor next t' =
+      WantsForDate store meta t b side (line_of x) (asked_of p h x ts) (resumed_at h.registry.start cursor)
+      (resumed_with h.registry.start cursor next) t'
+
+  -- the second turn, of a command of which its seat keeps what was noted
+  abbrev pub NotedHalts : PartitionId → Held D → Tier S M → ℕ → Node D → Side → Begun → Command → Tier S M → Type 0
+  NotedHalts p h t b x side g (Fetch offset limit) t' = WantsForFetch store meta p t b x side offset limit Refresh t'
+  NotedHalts p h t b x side g Join t' = (g.start < g.wanted) × Halts meta t b side t'
+  NotedHalts p h t b x side g (Offset (At ts)) t' = DateHalts p h t b x side ts 0 Seek t'
+  NotedHalts p h t b x side g command t' = ⊥
+
+  -- a later turn of a copy
+  abbrev pub CopyingHalts : Held D → Tier S M → ℕ → Side → Copied → Next → Command → Tier S M → Type 0
+  CopyingHalts h t b side copy next Copy t' = WantsForCopy store meta h t b side copy next t'
+  CopyingHalts h t b side copy next command t' = ⊥
+
+  -- of a fetch that goes on in the remote tier
+  abbrev pub SeekingHalts : PartitionId → Tier S M → ℕ → Node D → Side → Search → Command → Tier S M → Type 0
+  SeekingHalts p t b x side next (Fetch offset limit) t' = WantsForFetch store meta p t b x side offset limit next t'
+  SeekingHalts p t b x side next command t' = ⊥
+
+  -- of a search by timestamp
+  abbrev pub DatingHalts : PartitionId → Held D → Tier S M → ℕ → Node D → Side → ℕ → Dating → Command → Tier S M → Type 0
+  DatingHalts p h t b x side cursor next (Offset (At ts)) t' = DateHalts p h t b x side ts cursor next t'
+  DatingHalts p h t b x side cursor next command t' = ⊥
+
+  -- of an expiry that has taken up a remote segment
+  abbrev pub DeletingHalts : Held D → Tier S M → ℕ → Doomed → Deletion → Command → Tier S M → Type 0
+  DeletingHalts h t b doomed next Expire t' = WantsForDeletion store meta h t b doomed next t'
+  DeletingHalts h t b doomed next command t' = ⊥
+
+module _ {S M : Type 0} (store : StoreGhosts S) where
+  -- of a join that reads the line
+  abbrev pub RebuildingHalts : PartitionId → Tier S M → Side → Begun → Rebuild → Command → Tier S M → Type 0
+  RebuildingHalts p t side g Epochs Join t' = WantsForRebuild store p t side g t'
+  RebuildingHalts p t side g next command t' = ⊥
+
+module _ {D S M : Type 0} (store : StoreGhosts S) (meta : MetaGhosts M) where
+  -- what a turn's calls of the tier leave where there was no memory, by what its seat keeps
+  abbrev pub HaltsTier : PartitionId → Held D → Tier S M → ℕ → Node D → Side → Work → Command → Tier S M → Type 0
+  HaltsTier p h t b x side Idle command t' = BeginHalts meta t b side command t'
+  HaltsTier p h t b x side (Noted g) command t' = NotedHalts store meta p h t b x side g command t'
+  HaltsTier p h t b x side (Copies g copy next) command t' = CopyingHalts store meta h t b side copy next command t'
+  HaltsTier p h t b x side (Seeks g next) command t' = SeekingHalts store meta p t b x side next command t'
+  HaltsTier p h t b x side (Dates g cursor next) command t' = DatingHalts store meta p h t b x side cursor next command t'
+  HaltsTier p h t b x side (Expires g doomed next) command t' = DeletingHalts store meta h t b doomed next command t'
+  HaltsTier p h t b x side (Rebuilds g next) command t' = RebuildingHalts store p t side g next command t'
+
+module _ {D S M : Type 0} (disk : DiskGhosts D) where
+  -- there was no memory: nothing that is seen has changed, or of the tier alone, where this holds of broker and side
+  abbrev pub StaysOr : Held D → Tier S M → ℕ → (Node D → Side → Type 0) → Held D → Tier S M → Type 0
+  StaysOr h t b W h' t' = (StaysHeld disk.content disk.control h h' × (t' ≡ t))
+      ⊎ ((h' ≡ h) × AtNode h b (λ x. AtSide t b (λ side. W x side)))
+
+module _ {D S M : Type 0} (disk : DiskGhosts D) (store : StoreGhosts S) (meta : MetaGhosts M) where
+  -- there was no memory for a turn of a command of broker b, of which so much is kept
+  abbrev pub StaysTier : PartitionId → Held D → Tier S M → ℕ → Work → Command → Held D → Tier S M → Type 0
+  StaysTier p h t b work command h' t' =
+      StaysOr disk h t b (λ x side. HaltsTier store meta p h t b x side work command t') h' t'

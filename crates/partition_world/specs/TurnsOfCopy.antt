@@ -11,6 +11,8 @@ use Rattle.std.specs.Prelude.{◌≡◌, ◌⊎◌, ℕ, ◌-◌, ◌^◌, ◌<�
 use Rattle.std.specs.declared.alloc.AllocError.{AllocError}
 use Rattle.tier_base.specs.declared.names.PartitionId.{PartitionId}
 use Rattle.tier_base.specs.declared.plain.FileName.{FileName}
+use Rattle.tier_base.specs.Device.{Went, Ran}
+use Rattle.disk_model.specs.declared.call.DiskCall.TheVariants.{Read}
 use Rattle.disk_model.specs.declared.disk.Disk.{Ghosts as DiskGhosts}
 use Rattle.object_store.specs.declared.store.Store.{Ghosts as StoreGhosts}
 use Rattle.meta_log.specs.declared.log.MetaLog.{Ghosts as MetaGhosts}
@@ -105,9 +107,14 @@ module _ {D : Type 0} (disk : DiskGhosts D) where
     pub lasts : Lasting disk.control x.log kept
     pub after : x' ≡ record x { log = kept }
 
+  -- its disk was read once in this turn, and handed something
+  abbrev pub HasRead : Node D → Kept D → Type 0
+  HasRead x kept = OnDisk x.log (λ d. OnDisk kept (λ e. Ran Read Went (disk.control d) (disk.control e)))
+
   -- the segment was read, and is a segment of the log
   pub record ReadsSegment (x : Node D) (offset : ℕ) (segment : Whole) (x' : Node D) : Type 0 where
     pub reads : ReadsLog x x'
+    pub ran : HasRead x reads.kept
     pub handed : WhileUp x.log (λ log. OnDisk reads.kept (λ d. IsClosedFrom log offset (disk.control d).handed (Some segment)))
     pub part : (s : Seen) → Shows disk.content x.log s → IsSegmentOf s segment
     pub quiet : NoFault disk.control x.log reads.kept
@@ -120,6 +127,7 @@ module _ {D : Type 0} (disk : DiskGhosts D) where
   -- what the disk handed is no segment from this place of this file on
   pub record ReadsNoSegment (x : Node D) (offset : ℕ) (name : FileName) (at : ℕ) (x' : Node D) : Type 0 where
     pub reads : ReadsLog x x'
+    pub ran : HasRead x reads.kept
     pub bad : WhileUp x.log (λ log. OnDisk reads.kept (λ d. ClosedFails log offset (disk.control d).handed (refusal.Damaged name at)))
     pub unseen : (s : Seen) → Shows disk.content x.log s → ⊥
     pub quiet : NoFault disk.control x.log reads.kept

@@ -12,11 +12,10 @@ ghost use Rattle.copy_task.specs.Candidate.{candidate};
 ghost use Rattle.copy_task.specs.Copying.{IsCopied};
 ghost use Rattle.copy_task.specs.Turns.{CopyRow};
 ghost use Rattle.partition_turns.specs.declared.held.Node.{Node as Broker};
-ghost use Rattle.partition_turns.specs.Held.{AtNode, is_up, line_of, put_node};
+ghost use Rattle.partition_turns.specs.Held.{AtNode, StaysHeld, is_up, line_of, put_node};
 ghost use Rattle.partition_world.specs.declared.tier.Side.{Side as Knowledge};
 ghost use Rattle.partition_world.specs.Tier.{AtSide, next_of, put_side, Halts};
 ghost use Rattle.partition_world.specs.TurnsOfCopy.{KeepsLead, copied_to, IsPackedBy, LeadersFirstRow, CopyFirstRow, ChooseRow, ReadRow, ReadsLog, CopyOnRow, tiers_of, teller_of, WantsForCopy};
-ghost use Rattle.partition_world.specs.Turns.{StaysTier};
 
 use crate::seat::{Outcome, copy_outcome};
 use crate::tier::{Side, Tier};
@@ -207,7 +206,7 @@ impl<S: Store, M: MetaLog> Tier<S, M> {
         requires side { broker.0 < length self.old.sides }
         ensures row { IfOk result (λ outcome. AtNode held.old broker.0 (λ x. AtSide self.old broker.0 (λ side.
             ChooseRow D.Disk partition held.old self.old broker.0 x side noted.now outcome held.new self.new))) }
-        ensures err { OnErr result (StaysTier D.Disk S.Store M.MetaLog held.old self.old broker.0 held.new self.new) }
+        ensures err { OnErr result (StaysHeld D.content D.control held.old held.new × (self.new ≡ self.old)) }
     {
         let b = broker.0 as usize;
         let node = held.nodes.get(b);

@@ -8,7 +8,7 @@ ghost use Rattle.broker_log.specs.Seen.{line_in};
 ghost use Rattle.time_find.specs.Turns.{IsSet, IsBelow, GoesOn};
 ghost use Rattle.partition_turns.specs.Held.{AtNode, StaysHeld, is_up, line_of, local_of};
 ghost use Rattle.partition_world.specs.Tier.{AtSide};
-ghost use Rattle.partition_world.specs.Turns.{StaysTier};
+ghost use Rattle.partition_world.specs.Turns.{DateHalts, StaysOr};
 ghost use Rattle.partition_world.specs.TurnsOfCopy.{KeepsLead};
 ghost use Rattle.partition_world.specs.TurnsOfDate.{resumed_at, resumed_with, is_own, asked_of, AnswersAtOnce, SearchesOwn, SearchesRemote, WantsForDate, SearchRow, DateOnRow};
 
@@ -164,7 +164,8 @@ impl<S: Store, M: MetaLog> Tier<S, M> {
             SearchRow D.Disk S.Store M.MetaLog held.old self.old b x side asked.now cursor next.now
             (is_own asked.now.local cursor next.now) turn held.new self.new))) }
         ensures goes { IfOk result (GoesOn cursor) }
-        ensures err { OnErr result (StaysTier D.Disk S.Store M.MetaLog held.old self.old b held.new self.new) }
+        ensures err { OnErr result (StaysOr D.Disk held.old self.old b (λ x side.
+            WantsForDate S.Store M.MetaLog self.old b side (line_of x) asked.now cursor next.now self.new) held.new self.new) }
     {
         if is_own(asked, cursor, next) {
             return search_own(held, b, asked, cursor);
@@ -192,7 +193,8 @@ impl<S: Store, M: MetaLog> Tier<S, M> {
         requires holds { IsSet cursor next }
         ensures row { IfOk result (λ outcome. AtNode held.old broker.0 (λ x. AtSide self.old broker.0 (λ side.
             DateOnRow D.Disk S.Store M.MetaLog partition held.old self.old broker.0 x side noted.now ts cursor next outcome held.new self.new))) }
-        ensures err { OnErr result (StaysTier D.Disk S.Store M.MetaLog held.old self.old broker.0 held.new self.new) }
+        ensures err { OnErr result (StaysOr D.Disk held.old self.old broker.0 (λ x side.
+            DateHalts S.Store M.MetaLog partition held.old self.old broker.0 x side ts cursor next self.new) held.new self.new) }
     {
         let b = broker.0 as usize;
         let node = held.nodes.get(b);

@@ -145,7 +145,8 @@ impl<S: Store, M: MetaLog> Tier<S, M> {
         requires work { IsSomeAnd (slice_get desk.old place) (λ seat. IsWorkFor order.now.command seat.work) }
         ensures row { IfOk result (λ outcome. IsSomeAnd (slice_get desk.old place) (λ seat. TurnRow D.Disk S.Store M.MetaLog partition
             config held.old self.old order.now.broker.0 seat.work order.now.command outcome held.new self.new)) }
-        ensures err { OnErr result (StaysTier D.Disk S.Store M.MetaLog held.old self.old order.now.broker.0 held.new self.new) }
+        ensures err { OnErr result (IsSomeAnd (slice_get desk.old place) (λ seat. StaysTier D.Disk S.Store M.MetaLog partition
+            held.old self.old order.now.broker.0 seat.work order.now.command held.new self.new)) }
         ensures wants { OnErr result (CanStop held.old order.now.broker.0 → IsTrue (takes_memory order.now.command)) }
         ensures desk { desk.new ≡ desk.old }
     {

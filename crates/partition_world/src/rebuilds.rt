@@ -7,11 +7,11 @@
 
 ghost use Rattle.std.specs.Prelude.{◌≡◌, ◌<◌, length, None, IfOk, IfSome, OnErr};
 ghost use Rattle.plain_log.specs.declared.command.Command.TheVariants.{Join};
-ghost use Rattle.partition_turns.specs.Held.{AtNode, CanStop};
+ghost use Rattle.partition_turns.specs.Held.{AtNode, CanStop, StaysHeld};
 ghost use Rattle.partition_turns.specs.TurnsOfFollowers.{MayRebuild};
 ghost use Rattle.partition_world.specs.Tier.{AtSide, Halts};
 ghost use Rattle.partition_world.specs.TurnsOfRebuild.{with_line, AnswersAtOnce, RefreshOnRow, EpochsOnRow, WantsForRebuild};
-ghost use Rattle.partition_world.specs.Turns.{OwnOnRow, JoinSecondRow, StaysTier};
+ghost use Rattle.partition_world.specs.Turns.{OwnOnRow, JoinSecondRow, StaysOr};
 
 use crate::seat::{Outcome, rebuild_outcome};
 use crate::tier::Tier;
@@ -83,7 +83,8 @@ impl<S: Store, M: MetaLog> Tier<S, M> {
         requires side { broker.0 < length self.old.sides }
         ensures row { IfOk result (λ outcome. AtNode held.old broker.0 (λ x. AtSide self.old broker.0 (λ side.
             JoinSecondRow D.Disk M.MetaLog held.old self.old broker.0 x side noted.now outcome held.new self.new))) }
-        ensures err { OnErr result (StaysTier D.Disk S.Store M.MetaLog held.old self.old broker.0 held.new self.new) }
+        ensures err { OnErr result (StaysOr D.Disk held.old self.old broker.0 (λ x side.
+            (noted.now.start < noted.now.wanted) × Halts M.MetaLog self.old broker.0 side self.new) held.new self.new) }
     {
         if noted.wanted.offset() <= noted.start {
             return self.begin_anew(alloc, broker, noted, held);
@@ -156,7 +157,7 @@ impl<S: Store, M: MetaLog> Tier<S, M> {
         requires { CanStop held.old broker.0 }
         ensures row { IfOk result (λ outcome. AtNode held.old broker.0 (λ x.
             OwnOnRow D.Disk held.old self.old broker.0 x (with_line noted.now line.now) Join outcome held.new self.new)) }
-        ensures err { OnErr result (StaysTier D.Disk S.Store M.MetaLog held.old self.old broker.0 held.new self.new) }
+        ensures err { OnErr result (StaysHeld D.content D.control held.old held.new × (self.new ≡ self.old)) }
     {
         let noted = with_line(alloc, noted, line)?;
         self.begin_anew(alloc, broker, &noted, held)
@@ -173,7 +174,7 @@ impl<S: Store, M: MetaLog> Tier<S, M> {
         requires { CanStop held.old broker.0 }
         ensures row { IfOk result (λ outcome. AtNode held.old broker.0 (λ x.
             OwnOnRow D.Disk held.old self.old broker.0 x noted.now Join outcome held.new self.new)) }
-        ensures err { OnErr result (StaysTier D.Disk S.Store M.MetaLog held.old self.old broker.0 held.new self.new) }
+        ensures err { OnErr result (StaysHeld D.content D.control held.old held.new × (self.new ≡ self.old)) }
     {
         let answer = held.join_on(alloc, broker.0 as usize, noted)?;
         Ok(Outcome::Answers(answer))

@@ -2,13 +2,13 @@
 
 ghost use Rattle.std.specs.Prelude.{◌≡◌, ◌<◌, length, IfOk, OnErr, IsTrue};
 ghost use Rattle.plain_log.specs.Orders.{IsInRange};
-ghost use Rattle.partition_turns.specs.Held.{AtNode, CanStop};
+ghost use Rattle.partition_turns.specs.Held.{AtNode, CanStop, StaysHeld};
 ghost use Rattle.partition_turns.specs.Sound.{HeldSound};
 ghost use Rattle.partition_world.specs.Tier.{AtSide};
 ghost use Rattle.partition_turns.specs.Turns.{IsOfTier, takes_memory};
 ghost use Rattle.partition_world.specs.declared.seat.Work.TheVariants.{Noted, Copies, Seeks, Dates, Expires, Rebuilds};
 ghost use Rattle.partition_world.specs.Sound.{IsWorkFor};
-ghost use Rattle.partition_world.specs.Turns.{OwnRow, BeginRow, NotedRow, CopyingRow, SeekingRow, DatingRow, DeletingRow, RebuildingRow, TurnRow, StaysTier};
+ghost use Rattle.partition_world.specs.Turns.{OwnRow, BeginRow, NotedRow, CopyingRow, SeekingRow, DatingRow, DeletingRow, RebuildingRow, TurnRow, BeginHalts, NotedHalts, CopyingHalts, SeekingHalts, DatingHalts, DeletingHalts, RebuildingHalts, StaysOr, StaysTier};
 
 use crate::seat::{Outcome, Work, outcome_of};
 use crate::tier::Tier;
@@ -48,7 +48,8 @@ impl<S: Store, M: MetaLog> Tier<S, M> {
         ensures row { IfOk result (λ outcome. TurnRow D.Disk S.Store M.MetaLog partition config held.old self.old
             order.now.broker.0 work.old order.now.command outcome held.new self.new) }
         ensures same { work.new ≡ work.old }
-        ensures err { OnErr result (StaysTier D.Disk S.Store M.MetaLog held.old self.old order.now.broker.0 held.new self.new) }
+        ensures err { OnErr result (StaysTier D.Disk S.Store M.MetaLog partition held.old self.old order.now.broker.0
+            work.old order.now.command held.new self.new) }
         ensures wants { OnErr result (CanStop held.old order.now.broker.0 → IsTrue (takes_memory order.now.command)) }
     {
         if !held.can_stop(order.broker.0 as usize) {
@@ -89,7 +90,8 @@ impl<S: Store, M: MetaLog> Tier<S, M> {
         requires fit { IsInRange order.now.command }
         ensures row { IfOk result (λ outcome. AtNode held.old order.now.broker.0 (λ x. AtSide self.old order.now.broker.0 (λ side.
             BeginRow D.Disk S.Store M.MetaLog held.old self.old order.now.broker.0 x side order.now.command outcome held.new self.new))) }
-        ensures err { OnErr result (StaysTier D.Disk S.Store M.MetaLog held.old self.old order.now.broker.0 held.new self.new) }
+        ensures err { OnErr result (StaysOr D.Disk held.old self.old order.now.broker.0 (λ x side.
+            BeginHalts M.MetaLog self.old order.now.broker.0 side order.now.command self.new) held.new self.new) }
         ensures wants { OnErr result (IsTrue (takes_memory order.now.command)) }
     {
         match &order.command {
@@ -117,7 +119,7 @@ impl<S: Store, M: MetaLog> Tier<S, M> {
         requires own { IsOfTier order.now.command → ⊥ }
         ensures row { IfOk result (λ outcome. AtNode held.old order.now.broker.0 (λ x.
             OwnRow D.Disk held.old self.old order.now.broker.0 x order.now.command outcome held.new self.new)) }
-        ensures err { OnErr result (StaysTier D.Disk S.Store M.MetaLog held.old self.old order.now.broker.0 held.new self.new) }
+        ensures err { OnErr result (StaysHeld D.content D.control held.old held.new × (self.new ≡ self.old)) }
         ensures wants { OnErr result (IsTrue (takes_memory order.now.command)) }
     {
         match held.first_turn(alloc, order, known)? {
@@ -141,7 +143,8 @@ impl<S: Store, M: MetaLog> Tier<S, M> {
         requires work { IsWorkFor order.now.command (Noted noted.now) }
         ensures row { IfOk result (λ outcome. AtNode held.old order.now.broker.0 (λ x. AtSide self.old order.now.broker.0 (λ side.
             NotedRow D.Disk S.Store M.MetaLog partition config held.old self.old order.now.broker.0 x side noted.now order.now.command outcome held.new self.new))) }
-        ensures err { OnErr result (StaysTier D.Disk S.Store M.MetaLog held.old self.old order.now.broker.0 held.new self.new) }
+        ensures err { OnErr result (StaysOr D.Disk held.old self.old order.now.broker.0 (λ x side.
+            NotedHalts S.Store M.MetaLog partition held.old self.old order.now.broker.0 x side noted.now order.now.command self.new) held.new self.new) }
     {
         let b = order.broker.0 as usize;
         match &order.command {
@@ -194,7 +197,8 @@ impl<S: Store, M: MetaLog> Tier<S, M> {
         ensures row { IfOk result (λ outcome. AtNode held.old order.now.broker.0 (λ x. AtSide self.old order.now.broker.0 (λ side.
             CopyingRow S.Store M.MetaLog held.old self.old order.now.broker.0 x side noted.now copying.old next order.now.command outcome held.new self.new))) }
         ensures same { copying.new ≡ copying.old }
-        ensures err { OnErr result (StaysTier D.Disk S.Store M.MetaLog held.old self.old order.now.broker.0 held.new self.new) }
+        ensures err { OnErr result (StaysOr D.Disk held.old self.old order.now.broker.0 (λ x side.
+            CopyingHalts S.Store M.MetaLog held.old self.old order.now.broker.0 side copying.old next order.now.command self.new) held.new self.new) }
     {
         self.copy_on(alloc, order.broker, noted, copying, next, held)
     }
@@ -215,7 +219,8 @@ impl<S: Store, M: MetaLog> Tier<S, M> {
         ensures row { IfOk result (λ outcome. AtNode held.now order.now.broker.0 (λ x. AtSide self.old order.now.broker.0 (λ side.
             SeekingRow S.Store M.MetaLog partition held.now self.old order.now.broker.0 x side noted.now next order.now.command
             outcome held.now self.new))) }
-        ensures err { OnErr result (StaysTier D.Disk S.Store M.MetaLog held.now self.old order.now.broker.0 held.now self.new) }
+        ensures err { OnErr result (StaysOr D.Disk held.now self.old order.now.broker.0 (λ x side.
+            SeekingHalts S.Store M.MetaLog partition self.old order.now.broker.0 x side next order.now.command self.new) held.now self.new) }
     {
         match &order.command {
             Command::Fetch { offset, limit } => self.fetch_on(
@@ -249,7 +254,8 @@ impl<S: Store, M: MetaLog> Tier<S, M> {
         ensures row { IfOk result (λ outcome. AtNode held.old order.now.broker.0 (λ x. AtSide self.old order.now.broker.0 (λ side.
             DatingRow D.Disk S.Store M.MetaLog partition held.old self.old order.now.broker.0 x side noted.now cursor next
             order.now.command outcome held.new self.new))) }
-        ensures err { OnErr result (StaysTier D.Disk S.Store M.MetaLog held.old self.old order.now.broker.0 held.new self.new) }
+        ensures err { OnErr result (StaysOr D.Disk held.old self.old order.now.broker.0 (λ x side.
+            DatingHalts S.Store M.MetaLog partition held.old self.old order.now.broker.0 x side cursor next order.now.command self.new) held.new self.new) }
     {
         match &order.command {
             Command::Offset(Which::At(ts)) => self.date_on(
@@ -282,7 +288,8 @@ impl<S: Store, M: MetaLog> Tier<S, M> {
         ensures row { IfOk result (λ outcome. AtNode held.now order.now.broker.0 (λ x.
             DeletingRow S.Store M.MetaLog held.now self.old order.now.broker.0 x noted.now doomed next order.now.command
             outcome held.now self.new)) }
-        ensures err { OnErr result (StaysTier D.Disk S.Store M.MetaLog held.now self.old order.now.broker.0 held.now self.new) }
+        ensures err { OnErr result (StaysOr D.Disk held.now self.old order.now.broker.0 (λ x side.
+            DeletingHalts S.Store M.MetaLog held.now self.old order.now.broker.0 doomed next order.now.command self.new) held.now self.new) }
     {
         self.delete_on(alloc, order.broker, noted, doomed, next, held)
     }
@@ -303,7 +310,8 @@ impl<S: Store, M: MetaLog> Tier<S, M> {
         ensures row { IfOk result (λ outcome. AtNode held.old order.now.broker.0 (λ x. AtSide self.old order.now.broker.0 (λ side.
             RebuildingRow D.Disk S.Store partition held.old self.old order.now.broker.0 x side noted.now next.now order.now.command
             outcome held.new self.new))) }
-        ensures err { OnErr result (StaysTier D.Disk S.Store M.MetaLog held.old self.old order.now.broker.0 held.new self.new) }
+        ensures err { OnErr result (StaysOr D.Disk held.old self.old order.now.broker.0 (λ x side.
+            RebuildingHalts S.Store partition self.old side noted.now next.now order.now.command self.new) held.new self.new) }
     {
         match next {
             Rebuild::Epochs => self.read_epochs(alloc, partition, order.broker, noted, held),

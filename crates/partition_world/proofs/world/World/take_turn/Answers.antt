@@ -2,7 +2,8 @@ use Rattle.std.proofs.Common.{◌≡◌, ◌++◌, refl, arith, slice_set}
 use Rattle.log_terms.proofs.Lists.{within}
 use Rattle.partition_seen.proofs.Lists.{some_at}
 use Rattle.partition_world.specs.Seats.{seat_after, told_of}
-use Rattle.partition_world.specs.Turns.{TurnRow}
+use Rattle.partition_world.specs.Turns.{TurnRow, StaysTier}
+use Rattle.partition_world.proofs.Halting.{stays_some}
 use Rattle.partition_world.proofs.WorldSound.{at_end, list_at, order_at, room_at, sound_after, sound_after_none, steps_of}
 use Rattle.partition_world.proofs.world.World.take_turn.Goals as goal
 
@@ -59,12 +60,16 @@ invariant_of-self g c =
     )
 
 pub invariant_of-self-in-Err : goal.invariant_of-self-in-Err
-invariant_of-self-in-Err g c = rw c.turn_at.ensures.desk (
-  sound_after_none g.D.Disk g.S.Store g.M.MetaLog c.self.inside.config c.self.inside.lists c.self.inside.held c.self.inside.tier c.get-order.result.now.broker.0 c.turn_at.new.held c.turn_at.new.self c.self.inside.desk c.self.inside.journal.room c.self.invariant.0
-      c.in-Err.ensures.err,
-  c.self.invariant.1,
-  c.self.invariant.2,
-)
+invariant_of-self-in-Err g c =
+    let stays = some_at (λ seat. StaysTier g.D.Disk g.S.Store g.M.MetaLog c.self.inside.partition c.self.inside.held c.self.inside.tier c.get-order.result.now.broker.0 seat.work c.get-order.result.now.command c.turn_at.new.held c.turn_at.new.self)
+    c.self.inside.desk c.in-Some.place c.get-seat.result.now c.in-Err.ensures.err c.get-seat.ensures in
+    let some = stays_some g.D.Disk g.S.Store g.M.MetaLog c.self.inside.partition c.self.inside.held c.self.inside.tier c.get-order.result.now.broker.0 c.get-seat.result.now.work c.get-order.result.now.command c.turn_at.new.held c.turn_at.new.self stays in
+    rw c.turn_at.ensures.desk (
+      sound_after_none g.D.Disk g.S.Store g.M.MetaLog c.self.inside.config c.self.inside.lists c.self.inside.held c.self.inside.tier c.get-order.result.now.broker.0 c.turn_at.new.held c.turn_at.new.self c.self.inside.desk c.self.inside.journal.room c.self.invariant.0
+          some,
+      c.self.invariant.1,
+      c.self.invariant.2,
+    )
 
 pub returns-in-Ok : goal.returns-in-Ok
 returns-in-Ok g c =
@@ -93,6 +98,8 @@ returns-in-Err g c =
     let actor = some_at (λ l. l.actor.0 ≡ c.args.actor.0) c.self.inside.lists c.in-Some.place c.get-list.result.now (rw c.as_slice.ensures at c.in-Some.ensures.found) c.get-list.ensures in
     let order = order_at g.D.Disk g.S.Store g.M.MetaLog c.self.inside.config c.self.inside.lists c.self.inside.held c.self.inside.tier.sides c.self.inside.desk c.self.inside.journal.room c.in-Some.place c.get-seat.result.now.number
     c.get-list.result.now c.get-order.result.now c.self.invariant.0 c.get-list.ensures c.get-order.ensures in
+    let stays = some_at (λ seat. StaysTier g.D.Disk g.S.Store g.M.MetaLog c.self.inside.partition c.self.inside.held c.self.inside.tier c.get-order.result.now.broker.0 seat.work c.get-order.result.now.command c.turn_at.new.held c.turn_at.new.self)
+    c.self.inside.desk c.in-Some.place c.get-seat.result.now c.in-Err.ensures.err c.get-seat.ensures in
     rw (← c.self.view_is, c.turn_at.ensures.desk) (record {
       place = c.in-Some.place;
       list = c.get-list.result.now;
@@ -100,7 +107,7 @@ returns-in-Err g c =
       order = c.get-order.result.now;
       next = record { at = record { list = c.get-list.ensures; actor = actor; seat_is = c.get-seat.ensures }; next = c.get-order.ensures };
       node = omega (arith, order.broker, c.self.invariant.0.held.count);
-      tier = c.in-Err.ensures.err;
+      tier = stays;
       wants = c.in-Err.ensures.wants;
       fields = refl;
     })
