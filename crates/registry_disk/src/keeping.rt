@@ -1,10 +1,11 @@
 //! Reading the registry's file, and putting a new one in its place.
 
-ghost use Rattle.std.specs.Prelude.{◌≡◌, ◌≤◌, length, OnOk, IsErrOf};
-ghost use Rattle.tier_base.specs.Counts.{Rose};
+ghost use Rattle.std.specs.Prelude.{◌≡◌, ◌≢◌, ◌≤◌, length, Err, OnOk, IsErrOf};
+ghost use Rattle.tier_base.specs.Counts.{Rose, counted};
 ghost use Rattle.tier_base.specs.Device.{Lasts};
 ghost use Rattle.tier_base.specs.declared.fault.Trouble.TheVariants.{Failed, NoMemory};
 ghost use Rattle.disk_model.specs.Content.{Keeps};
+ghost use Rattle.registry_disk.specs.declared.refusal.FindRefusal.TheVariants.{Fault};
 ghost use Rattle.registry_disk.specs.Keeping.{KeepsFile, Finds, Replaces, Refrains};
 
 use crate::refusal::FindRefusal;
@@ -19,6 +20,10 @@ pub fn find_registry<D: Disk>(disk: &mut D) -> Result<Option<RegView>, FindRefus
     ensures finds { Finds (D.content disk.old) (D.control disk.old) (D.control disk.new) result }
     ensures content { Keeps (D.content disk.old) (D.content disk.new) }
     ensures control { Lasts (D.control disk.old) (D.control disk.new) }
+
+    // A call of the disk that failed was the only one.
+    ensures once { IsErrOf result Fault → (D.control disk.new).faults ≡ counted (D.control disk.old).faults 1 }
+    ensures quiet { result ≢ Err Fault → (D.control disk.new).faults ≡ (D.control disk.old).faults }
 {
     let Some(bytes) = disk.read(FileName::Registry, 0)? else {
         return Ok(None);
@@ -43,6 +48,10 @@ pub fn keep_registry<D: Disk>(
     ensures control { Lasts (D.control disk.old) (D.control disk.new) }
     ensures handed { (D.control disk.new).handed ≡ (D.control disk.old).handed }
     ensures fault { IsErrOf result Failed → Rose (D.control disk.old).faults (D.control disk.new).faults }
+
+    // A call of the disk that failed was the only one.
+    ensures once { IsErrOf result Failed → (D.control disk.new).faults ≡ counted (D.control disk.old).faults 1 }
+    ensures quiet { result ≢ Err Failed → (D.control disk.new).faults ≡ (D.control disk.old).faults }
 {
     let bytes = reg_encode(alloc, &registry.get())?;
     disk.replace(FileName::Registry, bytes.as_slice())
