@@ -138,7 +138,7 @@ static FINISHED: [u8; 29] = [
 ];
 
 /// What the calls of a yard come to.
-fn yard_calls<Y: Yard>(alloc: Global, yard: &mut Y) -> [bool; 10] {
+fn yard_calls<Y: Yard>(alloc: Global, yard: &mut Y) -> [bool; 11] {
     let empty = is_named(yard, None);
     let disk = disk_grows(yard, PARTITION, BrokerId(1), 0);
     let store = store_fills(yard, PARTITION, &key(Part::Epochs), b"0\n0\n");
@@ -149,8 +149,9 @@ fn yard_calls<Y: Yard>(alloc: Global, yard: &mut Y) -> [bool; 10] {
     let named = is_named(yard, Some("p3"));
     let registry = registry_goes(yard, PARTITION, None, b"kept");
     let kept = registry_goes(yard, PARTITION, Some(b"kept"), b"again");
+    let passed = is_named(yard, None);
     [
-        empty, disk, store, none, first, one, second, named, registry, kept,
+        empty, disk, store, none, first, one, second, named, registry, kept, passed,
     ]
 }
 
@@ -177,7 +178,7 @@ fn fails<Y: Yard>(yard: &mut Y) -> bool {
 /// Whether a yard is as it is asked.
 fn answers<Y: Yard>(alloc: Global, yard: &mut Y, ask: Ask) -> bool {
     match ask {
-        Ask::Calls => yard_calls(alloc, yard) == [true; 10],
+        Ask::Calls => yard_calls(alloc, yard) == [true; 11],
         Ask::Name(wanted) => is_named(yard, wanted),
         Ask::Used(wanted) => are_used(yard, wanted),
         Ask::Fails => fails(yard),
@@ -218,7 +219,7 @@ fn devices_stand_under_the_yards_folder(rt: HostRuntime) {
 }
 
 /// Folders and files that stand in a yard's folder, and the first name there.
-static STANDING: [(&[&str], &[&str], Option<&str>); 8] = [
+static STANDING: [(&[&str], &[&str], Option<&str>); 11] = [
     (&[], &[], None),
     // Of partitions that hold nothing.
     (
@@ -227,15 +228,32 @@ static STANDING: [(&[&str], &[&str], Option<&str>); 8] = [
         None,
     ),
     (&["/p7", "/p7/b0"], &["/p7/b0/manifest.new"], None),
-    (&["/p7", "/p7/b0"], &["/p7/b0/manifest"], Some("p7")),
+    // Of one whose first run was cut off.
+    (&["/p7", "/p7/b0"], &["/p7/b0/manifest"], None),
     (
-        &["/p1", "/p10", "/p10/store", "/p2", "/p2/b3"],
-        &["/p10/store/letter", "/p2/b3/gate"],
+        &["/p7", "/p7/b0", "/p7/store", "/p7/meta", "/p7/reg"],
+        &["/p7/b0/manifest", "/p7/meta/gate", "/p7/reg/registry.new"],
+        None,
+    ),
+    // Of partitions that have objects or notes, with a registry and without.
+    (
+        &["/p1", "/p10", "/p10/store", "/p2", "/p2/meta"],
+        &["/p10/store/letter", "/p2/meta/notes"],
         Some("p10"),
+    ),
+    (
+        &["/p7", "/p7/store", "/p7/meta", "/p7/reg"],
+        &["/p7/store/letter", "/p7/meta/notes", "/p7/reg/registry"],
+        None,
+    ),
+    (
+        &["/p7", "/p7/meta", "/p7/reg"],
+        &["/p7/meta/notes", "/p7/reg/registry.new"],
+        Some("p7"),
     ),
     // Of strangers.
     (&["/p0", "/p00"], &[], Some("p00")),
-    (&["/p3", "/p3/b65536", "/p65536"], &[], Some("p3")),
+    (&["/p3", "/p3/b65536", "/p65536"], &[], Some("p65536")),
     (&["/p0"], &["/p1"], Some("p1")),
 ];
 
@@ -271,7 +289,7 @@ fn make(rt: HostRuntime, dir: &str, folders: &[&str], files: &[&str]) -> bool {
 }
 
 #[test]
-fn a_partition_without_files_is_no_name(rt: HostRuntime) {
+fn a_partition_with_a_registry_is_no_name(rt: HostRuntime) {
     for (folders, files, wanted) in &STANDING {
         let _ = fs::remove_dir_all(&rt, "yard_names");
         let made = make(rt, "yard_names", folders, files);
@@ -283,22 +301,25 @@ fn a_partition_without_files_is_no_name(rt: HostRuntime) {
 }
 
 /// Folders and files of partitions and of strangers. Something stands of partitions 0, 2 and 10.
-static HELD: [&str; 9] = [
+static HELD: [&str; 11] = [
     "/p10",
     "/p10/store",
     "/p2",
     "/p2/b3",
     "/p0",
     "/p0/meta",
+    "/p4",
+    "/p4/meta",
     "/p1",
     "/p1/store",
     "/p07",
 ];
 
-static HELD_FILES: [&str; 5] = [
+static HELD_FILES: [&str; 6] = [
     "/p10/store/letter",
     "/p2/b3/gate",
     "/p0/meta/notes",
+    "/p4/meta/gate",
     "/p07/notes",
     "/p3",
 ];

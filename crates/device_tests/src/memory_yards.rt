@@ -162,25 +162,33 @@ fn came_of(
     }
 }
 
-static BACK: [Step<'static>; 11] = [
+static BACK: [Step<'static>; 13] = [
     Step::Name(None),
     Step::Empty(2, 0),
     Step::Name(None),
     Step::Disk(10, 3, 0),
     Step::Disk(10, 4, 0),
     Step::Disk(10, 3, 1),
-    Step::Name(Some("p10")),
+    // Brokers' files alone are no name.
+    Step::Name(None),
     Step::Store(7),
     Step::Log(1, 0),
-    Step::Name(Some("p10")),
+    Step::Name(Some("p7")),
     Step::Log(1, 0),
+    // Nor is what has a registry.
+    Step::Registry(7, None, b"kept"),
+    Step::Name(None),
 ];
 
-static STRAYS: [Step<'static>; 4] = [
+static STRAYS: [Step<'static>; 8] = [
     Step::Name(Some("p05")),
     Step::Store(4),
     Step::Disk(0, 0, 0),
+    Step::Name(Some("p05")),
+    Step::Store(0),
     Step::Name(Some("p0")),
+    Step::Registry(0, None, b"kept"),
+    Step::Name(Some("p05")),
 ];
 
 static USED: [Step<'static>; 6] = [
@@ -196,13 +204,13 @@ static PLANNED: [Step<'static>; 3] = [Step::Empty(0, 0), Step::Fails, Step::Log(
 
 #[test]
 fn devices_come_back_and_go_out_again(rt: HostRuntime) {
-    assert_eq!(rt; came_of(rt.alloc(), &[], &[], &BACK), Ok((11, 0, 7)));
+    assert_eq!(rt; came_of(rt.alloc(), &[], &[], &BACK), Ok((13, 0, 8)));
 }
 
 #[test]
 fn strays_are_names_too(rt: HostRuntime) {
     let came = came_of(rt.alloc(), &["x", "p05", "p1"], &[], &STRAYS);
-    assert_eq!(rt; came, Ok((4, 0, 2)));
+    assert_eq!(rt; came, Ok((8, 0, 4)));
 }
 
 #[test]

@@ -1,2 +1,2 @@
 pub mod Sets
-pub mod Unused
+pub mod Nameless

@@ -13,7 +13,7 @@ use Rattle.std.specs.Prelude.{◌≡◌, ℕ, ◌+◌, nat_lt, Bool, not, ◌&&�
 use Rattle.std.specs.declared.result.Result.{Result}
 use Rattle.tier_base.specs.declared.fault.Trouble.{Trouble}
 use Rattle.tier_base.specs.Counts.{counted}
-use Rattle.tier_base.specs.Device.{Fate, Went, Fault, Dry, fate_of}
+use Rattle.tier_base.specs.Device.{Fate, Went, Fault, Dry, fate_of, fate_of_trouble}
 use Rattle.device_yard.specs.declared.came.Came.{Came}
 use Rattle.device_yard.specs.declared.read_registry.ReadRegistry.{ReadRegistry}
 
@@ -74,6 +74,14 @@ pub record Hands (fate : Fate) (old new : Control) : Type 0 where
   pub returned : new.returned ≡ old.returned
   pub registries : new.registries ≡ old.registries
   pub out : new.out ≡ out_after fate old.out
+
+-- a device that was counted couldn't be opened, and isn't handed out
+pub record Withdraws (why : Trouble) (old new : Control) : Type 0 where
+  pub faults : Faults (fate_of_trouble why) old.faults new.faults
+  pub named : new.named ≡ old.named
+  pub returned : new.returned ≡ old.returned
+  pub registries : new.registries ≡ old.registries
+  pub out : new.out + 1 ≡ old.out
 
 -- a device that came back so is a fault of the yard
 abbrev pub is_fault : Came → Bool

@@ -2,6 +2,8 @@
 --
 --   form                     says
 --   IsUsed held p            a file, an object or a note of the partition stands
+--   HasTier held p           an object or a note does
+--   IsBare held p            so it is, and it has no registry
 --   AreUsed held list        the list has those partitions and no others
 --   Rise list                its numbers rise strictly
 --   IsFirst Named name       the first of the names, or none
@@ -10,12 +12,13 @@
 --   RegistryIs p P old new   so does all but the disk of that registry, of which P holds
 --   Same old new             what a call leaves that hands nothing out
 --
--- Its names are `p` with the number of each partition that has a file, an object or a note, and the strangers' ones. The
--- first of them is the least in the order of their bytes.
+-- Its names are the strangers' ones, and `p` with the number of each partition that has an object or a note and no registry:
+-- of such a partition nobody can say what its brokers' logs had. The first of them is the least in the order of their bytes.
 use Rattle.std.specs.Prelude.{◌≡◌, ◌≢◌, ◌⊎◌, ◌↔◌, ℕ, ◌<◌, ◌≤◌, Bool, List, [], ◌∷◌, ◌++◌, codes, decimal, Option, Some, None, IsTrue, IsSome}
 use Rattle.tier_base.specs.declared.names.PartitionId.{PartitionId}
 use Rattle.tier_base.specs.declared.names.BrokerId.{BrokerId}
 use Rattle.tier_base.specs.declared.plain.FileName.{FileName}
+use Rattle.tier_base.specs.declared.plain.FileName.TheVariants.{Registry}
 use Rattle.tier_base.specs.declared.object_key.ObjectKey.{ObjectKey}
 use Rattle.tier_base.specs.Told.{In}
 use Rattle.disk_model.specs.Content as disk
@@ -110,6 +113,20 @@ module _ {D S M : Type 0} (files : D → disk.Content) (objects : S → store.Co
       ⊎ (Has (λ s. (k : ObjectKey) × IsSome ((objects s).objects k)) (held.stores p)
       ⊎ Has (λ m. (notes m).notes ≢ []) (held.logs p))
 
+  -- an object or a note of the partition stands
+  abbrev pub HasTier : Held D S M → PartitionId → Type 0
+  HasTier held p =
+      Has (λ s. (k : ObjectKey) × IsSome ((objects s).objects k)) (held.stores p)
+      ⊎ Has (λ m. (notes m).notes ≢ []) (held.logs p)
+
+  -- its registry's file does
+  abbrev pub HasRegistry : Held D S M → PartitionId → Type 0
+  HasRegistry held p = Has (λ d. IsSome ((files d).files Registry)) (held.registries p)
+
+  -- it has an object or a note, and no registry
+  abbrev pub IsBare : Held D S M → PartitionId → Type 0
+  IsBare held p = HasTier held p × (HasRegistry held p → ⊥)
+
   -- the list has the partitions of which something stands
   abbrev pub AreUsed : Held D S M → List PartitionId → Type 0
   AreUsed held list = (p : PartitionId) → IsUsed held p ↔ In p list
@@ -133,7 +150,7 @@ module _ {D S M : Type 0} (files : D → disk.Content) (objects : S → store.Co
 
   -- a name that stands in the yard
   abbrev pub IsName : Held D S M → List ℕ → Type 0
-  IsName held text = In text held.strays ⊎ ((p : PartitionId) × IsUsed held p × (text ≡ codes "p" ++ decimal p.0))
+  IsName held text = In text held.strays ⊎ ((p : PartitionId) × IsBare held p × (text ≡ codes "p" ++ decimal p.0))
 
 -- none is there
 abbrev pub IsOut : {X : Type 0} → Option X → Type 0

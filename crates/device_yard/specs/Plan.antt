@@ -2,7 +2,7 @@
 --
 -- `first_name`, `partitions`, `disk`, `store`, `meta` and `registry` are counted together, from 1. The four `keep` calls can't
 -- fail and aren't counted.
-use Rattle.std.specs.Prelude.{◌≡◌, ◌↔◌, ℕ, ◌+◌, ◌-◌, ◌^◌, min, List, Contains, Option, Some, None}
+use Rattle.std.specs.Prelude.{◌≡◌, ◌↔◌, ℕ, ◌+◌, ◌-◌, ◌^◌, min, Bool, IsTrue, List, Contains, Option, Some, None}
 use Rattle.tier_base.specs.Device.{Fate, Fault}
 
 pub record Plan : Type 0 where
@@ -10,6 +10,8 @@ pub record Plan : Type 0 where
   pub calls : ℕ
   -- the numbers of those that fail
   pub failing : List ℕ
+  -- no device fails as it is opened, so that these numbers alone decide
+  pub alone : Bool
 
 -- the number of the next call, which stands still at its type's end
 abbrev pub next_of : Plan → ℕ
@@ -19,3 +21,11 @@ next_of plan = min (plan.calls + 1) (2 ^ 32 - 1)
 abbrev pub Counts : Fate → Option Plan → Option Plan → Type 0
 Counts fate None new = new ≡ None
 Counts fate (Some plan) new = ((fate ≡ Fault) ↔ Contains plan.failing (next_of plan)) × (new ≡ Some (record plan { calls = next_of plan }))
+
+-- a call that opens what it hands out: it fails where the plan has its number, and else only where opening fails
+abbrev pub CountsOpening : Fate → Option Plan → Option Plan → Type 0
+CountsOpening fate None new = new ≡ None
+CountsOpening fate (Some plan) new =
+    (Contains plan.failing (next_of plan) → fate ≡ Fault)
+    × (IsTrue plan.alone → fate ≡ Fault → Contains plan.failing (next_of plan))
+    × (new ≡ Some (record plan { calls = next_of plan }))

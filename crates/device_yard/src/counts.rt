@@ -3,7 +3,7 @@
 ghost use Rattle.std.specs.Prelude.{◌≡◌, ◌↔◌, ◌+◌, ◌<◌, ◌≤◌, ◌^◌, if◌then◌else◌, Ok, None, IfOk, OnOk};
 ghost use Rattle.tier_base.specs.Counts.{counted};
 ghost use Rattle.tier_base.specs.Device.{Fault, fate_of};
-ghost use Rattle.device_yard.specs.Control.{IsFresh, Names, Asks, Hands, TakesBack, TakesRegistry};
+ghost use Rattle.device_yard.specs.Control.{IsFresh, Names, Asks, Hands, Withdraws, TakesBack, TakesRegistry};
 
 use crate::came::Came;
 use crate::read_registry::ReadRegistry;
@@ -133,6 +133,15 @@ impl YardCounts {
                 Err(trouble)
             }
         }
+    }
+
+    /// Counts a device no longer that couldn't be opened.
+    pub fn withdraw(&mut self, why: Trouble)
+        requires { 1 ≤ self.old.out }
+        ensures { Withdraws why self.old self.new }
+    {
+        raise_if(&mut self.faults, why == Trouble::Failed);
+        self.out -= 1;
     }
 
     /// Counts a device that comes back.

@@ -1,33 +1,25 @@
 //! Laws of yards. Each is the contract of a function that does nothing: calling it cites the law.
 //!
-//! They serve whoever goes over the partitions of a yard without names by rising numbers: those that are still to come stay
-//! unused, whatever the devices of the earlier ones came back with, and so what is handed out of them is empty.
+//! They serve whoever begins a partition anew over a yard without names: where it has no registry, nothing was ever answered
+//! for it, and what is handed out has no object and no note.
 
-ghost use Rattle.device_yard.specs.Laws.{NamelessIsUnused, UnusedIsEmpty, SameStaysUnused, DisksLeaveUnused, StoresLeaveUnused, LogsLeaveUnused, LaterIsUnused};
+ghost use Rattle.device_yard.specs.Laws.{NamelessHasNoTier, TierlessIsEmpty, RegistryIsAbsent};
 
 use disk_model::Disk;
 use meta_log::MetaLog;
 use object_store::Store;
 
-/// Where nothing is named, no partition is used.
-pub fn nameless_is_unused<D: Disk, S: Store, M: MetaLog>()
-    ensures { NamelessIsUnused D.content S.content M.content }
+/// Where nothing is named, a partition without a registry has no object and no note.
+pub fn nameless_has_no_tier<D: Disk, S: Store, M: MetaLog>()
+    ensures { NamelessHasNoTier D.content S.content M.content }
 {}
 
-/// Of an unused partition empty devices are handed out.
-pub fn unused_is_empty<D: Disk, S: Store, M: MetaLog>()
-    ensures { UnusedIsEmpty D.content S.content M.content }
+/// Of a partition without objects and notes an empty store and an empty metadata log are handed out.
+pub fn tierless_is_empty<D: Disk, S: Store, M: MetaLog>()
+    ensures { TierlessIsEmpty D.content S.content M.content }
 {}
 
-/// Where nothing has changed, what was unused still is.
-pub fn same_stays_unused<D: Disk, S: Store, M: MetaLog>()
-    ensures { SameStaysUnused D.content S.content M.content }
-{}
-
-/// A device that went out, or came back to an earlier partition, leaves the later ones unused.
-pub fn later_stay_unused<D: Disk, S: Store, M: MetaLog>()
-    ensures disks { DisksLeaveUnused D.content S.content M.content }
-    ensures stores { StoresLeaveUnused D.content S.content M.content }
-    ensures logs { LogsLeaveUnused D.content S.content M.content }
-    ensures later { LaterIsUnused D.content S.content M.content }
+/// Of a partition without a registry a disk is handed out that has no registry's file.
+pub fn registry_is_absent<D: Disk, S: Store, M: MetaLog>()
+    ensures { RegistryIsAbsent D.content S.content M.content }
 {}

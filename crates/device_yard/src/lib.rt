@@ -14,7 +14,7 @@ mod yard;
 
 pub use came::Came;
 pub use counts::YardCounts;
-pub use laws::{later_stay_unused, nameless_is_unused, same_stays_unused, unused_is_empty};
+pub use laws::{nameless_has_no_tier, registry_is_absent, tierless_is_empty};
 pub use partition_set::PartitionSet;
 pub use read_registry::ReadRegistry;
 pub use yard::Yard;

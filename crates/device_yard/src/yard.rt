@@ -7,7 +7,7 @@ ghost use Rattle.std.specs.Prelude.{◌≡◌, ◌≤◌, Option, Some, None, If
 ghost use Rattle.tier_base.specs.Device.{fate_of, IsFresh};
 ghost use Rattle.device_yard.specs.declared.came.Came.{Came};
 ghost use Rattle.device_yard.specs.Control.{Control, Names, Asks, Hands, TakesBack, TakesRegistry};
-ghost use Rattle.device_yard.specs.Plan.{Plan, Counts};
+ghost use Rattle.device_yard.specs.Plan.{Plan, Counts, CountsOpening};
 ghost use Rattle.device_yard.specs.Held.{Held, Same, DiskIs, StoreIs, LogIs, RegistryIs, IsOut, HoldsDisk, IsName, IsFirst, AreUsed, Rise, HandsDisk, HandsStore, HandsLog};
 
 use disk_model::Disk;
@@ -83,7 +83,7 @@ pub trait Yard {
     /// Hands out a partition's metadata log.
     fn meta(&mut self, partition: PartitionId) -> Result<Self::M, Trouble>
         ensures control { Hands (fate_of result) (control self.old) (control self.new) }
-        ensures plan { Counts (fate_of result) (plan self.old) (plan self.new) }
+        ensures plan { CountsOpening (fate_of result) (plan self.old) (plan self.new) }
         ensures tells { (held self.new).tells ≡ (held self.old).tells }
         ensures fresh { IfOk result (λ log. IsFresh (Self.M.control log)) }
         ensures told { IfOk result (λ log. (Self.M.content log).tells ≡ (held self.old).tells) }

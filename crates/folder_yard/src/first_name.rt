@@ -1,9 +1,9 @@
 //! The first of the names in a yard's folder.
 //!
-//! A partition's folder is a name only where something stands in it. Whatever else stands in the yard's folder is a name, a
-//! stranger's empty folder too.
+//! A partition's folder is a name only where it has an object or a note and no registry. Whatever else stands in the yard's
+//! folder is a name, a stranger's empty folder too.
 
-use crate::partition_folder::{is_used, partition_of};
+use crate::partition_folder::{is_bare, partition_of};
 use std::alloc::Global;
 use std::fs::{self, DirEntry};
 use std::io::{self, ErrorKind};
@@ -46,7 +46,7 @@ fn is_name<R: Files + AllocGlobal + Clone + Drop>(
     entry: &DirEntry<R, Global>,
 ) -> io::Result<bool> {
     match partition_of(rt, entry)? {
-        Some(_) => is_used(rt, entry),
+        Some(_) => is_bare(rt, entry),
         None => Ok(true),
     }
 }

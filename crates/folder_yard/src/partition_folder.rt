@@ -1,4 +1,5 @@
-//! A partition's folder in a yard's: which partition it is, and whether something stands in it.
+//! A partition's folder in a yard's: which partition it is, whether something stands in it, and whether it has an object or a
+//! note without a registry.
 //!
 //! A yard that handed devices out leaves empty folders of them behind, so in those, and in files that were never put in their
 //! place, nothing stands.
@@ -43,6 +44,48 @@ pub fn is_used<R: Files + AllocGlobal + Clone + Drop>(
     Ok(false)
 }
 
+/// Whether a partition's folder has an object or a note, and no registry.
+pub fn is_bare<R: Files + AllocGlobal + Clone + Drop>(
+    rt: &R,
+    partition: &DirEntry<R, Global>,
+) -> io::Result<bool> {
+    let mut has_tier = false;
+    for entry in fs::read_dir(rt, partition.path())? {
+        let Some(entry) = readable(entry)? else {
+            continue;
+        };
+        if is_registry(&entry)? {
+            if has_file(rt, &entry, "registry")? {
+                return Ok(false);
+            }
+        } else if is_tier(entry.file_name()) && holds(rt, &entry)? {
+            has_tier = true;
+        }
+    }
+    Ok(has_tier)
+}
+
+/// Whether this is the name of a folder that a partition's tier stands in.
+fn is_tier(name: &str) -> bool {
+    name == "store" || name == "meta"
+}
+
+/// Whether something of this name stands in a folder.
+fn has_file<R: Files + AllocGlobal + Clone + Drop>(
+    rt: &R,
+    folder: &DirEntry<R, Global>,
+    name: &str,
+) -> io::Result<bool> {
+    for entry in fs::read_dir(rt, folder.path())? {
+        if let Some(entry) = readable(entry)? {
+            if entry.file_name() == name {
+                return Ok(true);
+            }
+        }
+    }
+    Ok(false)
+}
+
 /// Whether this is the folder of a partition's registry, which stands beside what the partition has.
 fn is_registry<R: Files + AllocGlobal + Clone + Drop>(
     entry: &DirEntry<R, Global>,
@@ -52,13 +95,14 @@ fn is_registry<R: Files + AllocGlobal + Clone + Drop>(
 
 /// Whether this is the name of a device's folder.
 fn is_device(alloc: Global, name: &str) -> Result<bool, AllocError> {
-    if name == "store" || name == "meta" {
+    if is_tier(name) {
         return Ok(true);
     }
     Ok(number_of(alloc, "b", name)?.is_some())
 }
 
-/// Whether a device's folder holds more than files that were never put in their place, or is no folder.
+/// Whether a device's folder holds more than files that were never put in their place, or is no folder. A metadata log that
+/// was opened and has no notes yet has a gate alone, which is nothing.
 fn holds<R: Files + AllocGlobal + Clone + Drop>(
     rt: &R,
     device: &DirEntry<R, Global>,
@@ -66,11 +110,13 @@ fn holds<R: Files + AllocGlobal + Clone + Drop>(
     if !device.file_type()?.is_dir() {
         return Ok(true);
     }
+    let is_log = device.file_name() == "meta";
     for entry in fs::read_dir(rt, device.path())? {
         let Some(entry) = readable(entry)? else {
             return Ok(true);
         };
-        if !is_unfinished(entry.file_name().as_bytes()) {
+        let is_gate = is_log && entry.file_name() == "gate";
+        if !is_gate && !is_unfinished(entry.file_name().as_bytes()) {
             return Ok(true);
         }
     }

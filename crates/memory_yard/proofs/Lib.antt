@@ -4,3 +4,5 @@ pub mod Firsts
 pub mod Loops
 pub mod Named
 pub mod Slots
+pub mod Without
+pub mod Logs

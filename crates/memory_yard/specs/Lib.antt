@@ -2,6 +2,7 @@ pub mod Crash
 pub mod First
 pub mod Found
 pub mod Keeping
+pub mod Log
 pub mod Names
 pub mod Place
 pub mod Places

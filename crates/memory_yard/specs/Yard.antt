@@ -4,7 +4,7 @@ use Rattle.tier_base.specs.declared.names.PartitionId.{PartitionId}
 use Rattle.tier_base.specs.declared.names.BrokerId.{BrokerId}
 use Rattle.disk_model.specs.declared.memory_disk.MemoryDisk.{MemoryDisk}
 use Rattle.object_store.specs.declared.memory_store.MemoryStore.{MemoryStore}
-use Rattle.meta_log.specs.declared.memory_log.MemoryLog.{MemoryLog}
+use Rattle.meta_file.specs.Log.{NoteLog}
 use Rattle.device_yard.specs.Held.{Held, Both}
 use Rattle.memory_yard.specs.declared.place.DiskPlace.{DiskPlace}
 use Rattle.memory_yard.specs.declared.slot.Slot.{Slot}
@@ -13,7 +13,7 @@ use Rattle.memory_yard.specs.Place.{same_partition, same_disk}
 use Rattle.memory_yard.specs.Crash.{DropsUnsynced}
 
 -- the strays, and what stands on the shelves
-abbrev pub held_by : List (List ℕ) → List (Slot DiskPlace MemoryDisk) → List (Slot PartitionId MemoryStore) → List (Slot PartitionId MemoryLog) → List (Slot PartitionId MemoryDisk) → Held MemoryDisk MemoryStore MemoryLog
+abbrev pub held_by : List (List ℕ) → List (Slot DiskPlace MemoryDisk) → List (Slot PartitionId MemoryStore) → List (Slot PartitionId (NoteLog MemoryDisk)) → List (Slot PartitionId MemoryDisk) → Held MemoryDisk MemoryStore (NoteLog MemoryDisk)
 held_by strays disks stores logs registries = record {
   tells = true;
   strays = strays;
@@ -32,14 +32,14 @@ pub record IsEmptyYard {D S M : Type 0} (names : List (List ℕ)) (held : Held D
   pub logs : (p : PartitionId) → held.logs p ≡ None
   pub registries : (p : PartitionId) → held.registries p ≡ None
 
--- a crash of each disk that came back, of those of brokers and of those that keep registries; the rest is as it was
-pub record CrashesHeld (old new : Held MemoryDisk MemoryStore MemoryLog) : Type 0 where
+-- a crash of each disk that came back: of brokers, of registries, and of metadata logs; the rest is as it was
+pub record CrashesHeld (old new : Held MemoryDisk MemoryStore (NoteLog MemoryDisk)) : Type 0 where
   pub tells : new.tells ≡ old.tells
   pub strays : new.strays ≡ old.strays
   pub disks : (p : PartitionId) (b : BrokerId) → Both DropsUnsynced (old.disks p b) (new.disks p b)
   pub registries : (p : PartitionId) → Both DropsUnsynced (old.registries p) (new.registries p)
   pub stores : (p : PartitionId) → Both (λ s t. t ≡ s) (old.stores p) (new.stores p)
-  pub logs : (p : PartitionId) → Both (λ m n. n ≡ m) (old.logs p) (new.logs p)
+  pub logs : (p : PartitionId) → Both (λ m n. DropsUnsynced m.disk n.disk) (old.logs p) (new.logs p)
 
 -- one more device may come back to each shelf than are out
 pub record HasRoom (out d s l r : ℕ) : Type 0 where

@@ -1,32 +1,53 @@
-//! The calls of a yard that are to fail.
+//! The calls of a yard that are to fail, and the fuse of the disks that it hands out.
 
-ghost use Rattle.std.specs.Prelude.{◌≡◌, ◌↔◌, IsErr, Contains};
+ghost use Rattle.std.specs.Prelude.{◌≡◌, ◌↔◌, IsErr, Contains, true, not, is_some};
 ghost use Rattle.device_yard.specs.Plan.{next_of};
 
 use std::marker::Model;
 use tier_base::Failed;
 
-/// The numbers of calls that are to fail, counted from 1, and how many calls were made.
+/// The numbers of calls that are to fail, counted from 1, and how many calls were made. With a fuse a device may fail as it is
+/// opened.
 #[derive(Drop)]
 pub struct CallPlan {
     failing: Vec<u32>,
     calls: u32,
+    fuse: Option<u64>,
 }
 
 impl Model for CallPlan {
+    ghost use Rattle.std.specs.Prelude.{not, is_some};
     ghost use Rattle.device_yard.specs.Plan.{Plan};
 
     ghost Value = { Plan };
 
-    ghost view = { λ p. record { calls = p.calls; failing = p.failing.items } };
+    ghost view = { λ p. record { calls = p.calls; failing = p.failing.items; alone = not (is_some p.fuse) } };
 }
 
 impl CallPlan {
     /// Counts no call yet.
     pub fn new(failing: Vec<u32>) -> CallPlan
-        ensures { result ≡ record { calls = 0; failing = failing.items } }
+        ensures { result ≡ record { calls = 0; failing = failing.items; alone = true } }
     {
-        CallPlan { failing, calls: 0 }
+        CallPlan {
+            failing,
+            calls: 0,
+            fuse: None,
+        }
+    }
+
+    /// The fuse of the disks that are handed out.
+    pub fn fuse(&self) -> Option<u64>
+        ensures { not (is_some result) ≡ self.now.alone }
+    {
+        self.fuse
+    }
+
+    /// Sets the fuse, or ends it.
+    pub fn set_fuse(&mut self, fuse: Option<u64>)
+        ensures { self.new ≡ record self.old { alone = not (is_some fuse) } }
+    {
+        self.fuse = fuse;
     }
 
     /// Counts a call, and answers whether it goes on.

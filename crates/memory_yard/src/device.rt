@@ -1,19 +1,19 @@
 //! A device that came back: whether anything stands on it.
 
-ghost use Rattle.std.specs.Prelude.{◌≡◌, ◌≢◌, ◌↔◌, [], IfOk, IsTrue, IsSome};
+ghost use Rattle.std.specs.Prelude.{◌≡◌, ◌↔◌, IfOk, IsTrue, IsSome};
 ghost use Rattle.tier_base.specs.declared.plain.FileName.{FileName};
+ghost use Rattle.tier_base.specs.declared.plain.FileName.TheVariants.{Registry};
 ghost use Rattle.tier_base.specs.declared.object_key.ObjectKey.{ObjectKey};
 ghost use Rattle.disk_model.specs.Content as disk;
 ghost use Rattle.object_store.specs.Content as store;
-ghost use Rattle.meta_log.specs.Content as log;
 ghost use Rattle.memory_yard.specs.Crash.{DropsUnsynced};
-ghost use Rattle.memory_yard.specs.Keeping.{disk_keeps_itself, store_keeps_itself, log_keeps_itself};
+ghost use Rattle.memory_yard.specs.Keeping.{disk_keeps_itself, store_keeps_itself};
 
 use disk_model::{Disk, MemoryDisk};
-use meta_log::{MemoryLog, MetaLog};
 use object_store::{MemoryStore, Store};
 use std::alloc::{AllocError, Global};
-use tier_base::Trouble;
+use std::marker::Model;
+use tier_base::{FileName, Trouble};
 
 /// A device that came back.
 pub trait Device: Drop {
@@ -32,7 +32,7 @@ pub trait Device: Drop {
     ghost crashes: { Self → Self → Type 0 };
 
     /// Crashes: what isn't synced is dropped.
-    fn crash(&mut self)
+    fn crash(&mut self, alloc: Global)
         ensures { crashes self.old self.new };
 
     /// A device keeps its own content.
@@ -55,8 +55,47 @@ impl Device for MemoryDisk {
 
     ghost crashes = { DropsUnsynced };
 
-    fn crash(&mut self) {
+    fn crash(&mut self, alloc: Global) {
+        let _ = alloc;
         MemoryDisk::crash(self);
+    }
+
+    ghost keeps_itself = { λ d. disk_keeps_itself (⟦<MemoryDisk as Disk>⟧.content d) };
+}
+
+/// The disk of a registry. Something stands on it where the registry's file does.
+#[derive(Drop)]
+pub struct RegistryDisk {
+    pub disk: MemoryDisk,
+}
+
+impl Model for RegistryDisk {
+    ghost use Rattle.disk_model.specs.declared.memory_disk.MemoryDisk.{MemoryDisk};
+
+    ghost Value = { MemoryDisk };
+
+    ghost view = { λ r. r.disk };
+}
+
+impl Device for RegistryDisk {
+    ghost keeps = { λ d e. disk.Keeps (⟦<MemoryDisk as Disk>⟧.content d) (⟦<MemoryDisk as Disk>⟧.content e) };
+
+    ghost used = { λ d. IsSome ((⟦<MemoryDisk as Disk>⟧.content d).files Registry) };
+
+    fn is_used(&mut self, alloc: Global) -> Result<bool, AllocError> {
+        self.disk.renew(Vec::new(alloc));
+        match self.disk.read_part(FileName::Registry, 0, 0) {
+            Ok(found) => Ok(found.is_some()),
+            Err(Trouble::NoMemory) => Err(AllocError),
+            Err(Trouble::Failed) => unreachable!(),
+        }
+    }
+
+    ghost crashes = { DropsUnsynced };
+
+    fn crash(&mut self, alloc: Global) {
+        let _ = alloc;
+        self.disk.crash();
     }
 
     ghost keeps_itself = { λ d. disk_keeps_itself (⟦<MemoryDisk as Disk>⟧.content d) };
@@ -79,29 +118,9 @@ impl Device for MemoryStore {
     ghost crashes = { λ s t. t ≡ s };
 
     // An object stays once it is put.
-    fn crash(&mut self) {}
-
-    ghost keeps_itself = { λ s. store_keeps_itself (⟦<MemoryStore as Store>⟧.content s) };
-}
-
-impl Device for MemoryLog {
-    ghost keeps = { λ m n. log.Keeps (⟦<MemoryLog as MetaLog>⟧.content m) (⟦<MemoryLog as MetaLog>⟧.content n) };
-
-    ghost used = { λ m. (⟦<MemoryLog as MetaLog>⟧.content m).notes ≢ [] };
-
-    fn is_used(&mut self, alloc: Global) -> Result<bool, AllocError> {
-        self.renew(Vec::new(alloc));
-        match self.read(0) {
-            Ok(notes) => Ok(!notes.is_empty()),
-            Err(Trouble::NoMemory) => Err(AllocError),
-            Err(Trouble::Failed) => unreachable!(),
-        }
+    fn crash(&mut self, alloc: Global) {
+        let _ = alloc;
     }
 
-    ghost crashes = { λ m n. n ≡ m };
-
-    // A note stays once it is appended.
-    fn crash(&mut self) {}
-
-    ghost keeps_itself = { λ m. log_keeps_itself (⟦<MemoryLog as MetaLog>⟧.content m) };
+    ghost keeps_itself = { λ s. store_keeps_itself (⟦<MemoryStore as Store>⟧.content s) };
 }

@@ -3,10 +3,10 @@
 ghost use Rattle.std.specs.Prelude.{◌≡◌, ◌↔◌, IfOk, OnOk, IsTrue, IsSomeAnd, string_bytes};
 ghost use Rattle.tier_base.specs.Told.{In};
 ghost use Rattle.device_yard.specs.Held.{IsUpTo, IsFirst};
-ghost use Rattle.memory_yard.specs.First.{name_of, IsNameIn, IsFirstWith};
+ghost use Rattle.memory_yard.specs.First.{name_of, IsNameIn, IsFirstWith, AreWithout, PushesUnless};
 
 use std::alloc::{AllocError, Global};
-use tier_base::{Blob, PartitionId};
+use tier_base::{Blob, PartitionId, Row};
 
 /// The name of a partition.
 fn name_of(alloc: Global, partition: PartitionId) -> Result<String, AllocError>
@@ -42,6 +42,43 @@ pub fn offer_partitions(
         offer(alloc, first, name.as_bytes())?;
     }
     Ok(())
+}
+
+/// The partitions of a list that aren't in another one.
+pub fn without(
+    alloc: Global,
+    partitions: &[PartitionId],
+    others: &[PartitionId],
+) -> Result<Row<PartitionId>, AllocError>
+    ensures { IfOk result (AreWithout partitions.now others.now) }
+{
+    let mut row = Row::new(alloc);
+    for partition in partitions {
+        push_unless(&mut row, others, *partition)?;
+    }
+    Ok(row)
+}
+
+/// Adds a partition to a row, unless it is in a list.
+fn push_unless(
+    row: &mut Row<PartitionId>,
+    others: &[PartitionId],
+    partition: PartitionId,
+) -> Result<(), AllocError>
+    ensures { OnOk result (PushesUnless others.now partition row.old row.new) }
+{
+    if is_in(others, partition) {
+        return Ok(());
+    }
+    row.push(partition)?;
+    Ok(())
+}
+
+/// Whether a partition is in a list.
+fn is_in(partitions: &[PartitionId], wanted: PartitionId) -> bool
+    ensures { IsTrue result ↔ In wanted partitions.now }
+{
+    partitions.contains(&wanted)
 }
 
 /// Makes a name the first, where no earlier one is.

@@ -1,19 +1,24 @@
 //! Devices that are handed out of a shelf: one that came back with what it held, or an empty one.
 
-ghost use Rattle.std.specs.Prelude.{◌≡◌, ◌≢◌, None, IsTrue, not, is_some};
+ghost use Rattle.std.specs.Prelude.{◌≡◌, ◌≢◌, ◌≤◌, ◌+◌, None, IfOk, OnOk, OnErr, IsErrOf, IsSome, IsTrue, not, is_some};
 ghost use Rattle.tier_base.specs.Device.{IsFresh};
+ghost use Rattle.tier_base.specs.declared.fault.Trouble.TheVariants.{Failed};
 ghost use Rattle.disk_model.specs.Content.{Keeps};
-ghost use Rattle.device_yard.specs.Held.{HandsDisk, HandsStore, HandsLog};
+ghost use Rattle.meta_log.specs.Content as log;
+ghost use Rattle.device_yard.specs.Held.{Both, HandsDisk, HandsStore, HandsLog};
+ghost use Rattle.memory_yard.specs.Log.{told};
 ghost use Rattle.memory_yard.specs.Place.{same_partition};
 ghost use Rattle.memory_yard.specs.Shelf.{at, Leaves};
 
-use crate::place::Place;
+use crate::device::RegistryDisk;
+use crate::log_place::{LogPlace, open};
 use crate::shelf::Shelf;
 use disk_model::{Disk, MemoryDisk};
-use meta_log::{MemoryLog, MetaLog};
+use meta_file::{DiskLog, an_empty_disk_has_no_notes};
+use meta_log::MetaLog;
 use object_store::{MemoryStore, Store};
 use std::alloc::Global;
-use tier_base::PartitionId;
+use tier_base::{PartitionId, Trouble};
 
 /// Sets a fuse to a disk that was just handed out, where there is one.
 fn fused(disk: MemoryDisk, fuse: Option<u64>) -> MemoryDisk
@@ -30,26 +35,28 @@ fn fused(disk: MemoryDisk, fuse: Option<u64>) -> MemoryDisk
     disk
 }
 
-/// Hands out a disk. Its calls can't fail but by the fuse, if there is one.
-pub fn hand_disk<K: Place>(
-    alloc: Global,
-    disks: &mut Shelf<K, MemoryDisk>,
-    place: K,
-    fuse: Option<u64>,
-) -> MemoryDisk
+/// Hands out a disk that came back, or an empty one. Its calls can't fail but by the fuse, if there is one.
+pub fn hand_disk(alloc: Global, held: Option<MemoryDisk>, fuse: Option<u64>) -> MemoryDisk
     ensures fresh { IsFresh (⟦<MemoryDisk as Disk>⟧.control result) }
-    ensures content { HandsDisk ⟦<MemoryDisk as Disk>⟧.content (at K.same place disks.old.slots)
-        (⟦<MemoryDisk as Disk>⟧.content result) }
+    ensures content { HandsDisk ⟦<MemoryDisk as Disk>⟧.content held (⟦<MemoryDisk as Disk>⟧.content result) }
     ensures calm { (⟦<MemoryDisk as Disk>⟧.control result).calm ≡ not (is_some fuse) }
-    ensures leaves { Leaves K.same place None disks.old.slots disks.new.slots }
-    ensures room { disks.new.room ≡ disks.old.room }
 {
-    match disks.take(place) {
+    match held {
         Some(mut disk) => {
             disk.renew(Vec::new(alloc));
             fused(disk, fuse)
         }
         None => fused(MemoryDisk::new(alloc, Vec::new(alloc)), fuse),
+    }
+}
+
+/// The disk of a registry that came back.
+pub fn disk_of(held: Option<RegistryDisk>) -> Option<MemoryDisk>
+    ensures { result ≡ held }
+{
+    match held {
+        Some(registry) => Some(registry.disk),
+        None => None,
     }
 }
 
@@ -74,23 +81,42 @@ pub fn hand_store(
     }
 }
 
-/// Hands out a metadata log, whose calls can't fail.
+/// Hands out a metadata log: one that is opened over the disk of the log that came back, or over an empty one. Where it can't be
+/// opened the disk is kept. Its disk's calls can't fail but by the fuse, if there is one.
 pub fn hand_log(
     alloc: Global,
-    logs: &mut Shelf<PartitionId, MemoryLog>,
+    logs: &mut Shelf<PartitionId, LogPlace>,
     place: PartitionId,
-) -> MemoryLog
-    ensures fresh { IsFresh (⟦<MemoryLog as MetaLog>⟧.control result) }
-    ensures content { HandsLog ⟦<MemoryLog as MetaLog>⟧.content (at same_partition place logs.old.slots)
-        (⟦<MemoryLog as MetaLog>⟧.content result) }
-    ensures leaves { Leaves same_partition place None logs.old.slots logs.new.slots }
-    ensures room { logs.new.room ≡ logs.old.room }
+    fuse: Option<u64>,
+) -> Result<DiskLog<MemoryDisk>, Trouble>
+    requires { 1 ≤ logs.old.room }
+    ensures fresh { IfOk result (λ l. IsFresh (⟦<DiskLog<MemoryDisk> as MetaLog>⟧.control l)) }
+    ensures content { IfOk result (λ l. HandsLog told (at same_partition place logs.old.slots) (told l)) }
+    ensures leaves { OnOk result (Leaves same_partition place None logs.old.slots logs.new.slots) }
+    ensures err { OnErr result ((q : _) → Both (λ m n. log.Keeps (told m) (told n))
+        (at same_partition q logs.old.slots) (at same_partition q logs.new.slots)) }
+    ensures cause { IsErrOf result Failed → IsSome fuse }
+    ensures room { OnOk result (logs.new.room ≡ logs.old.room) }
+    ensures room_err { OnErr result (logs.old.room ≤ logs.new.room + 1) }
 {
     match logs.take(place) {
-        Some(mut log) => {
-            log.renew(Vec::new(alloc));
-            log
+        Some(kept) => {
+            let mut bare = kept.into_disk();
+            bare.renew(Vec::new(alloc));
+            match open(alloc, fused(bare, fuse)) {
+                Ok(log) => Ok(log),
+                Err((disk, why)) => {
+                    logs.put(place, LogPlace::of_disk(disk));
+                    Err(why)
+                }
+            }
         }
-        None => MemoryLog::new(alloc, Vec::new(alloc)),
+        None => {
+            an_empty_disk_has_no_notes::<MemoryDisk>();
+            match open(alloc, fused(MemoryDisk::new(alloc, Vec::new(alloc)), fuse)) {
+                Ok(log) => Ok(log),
+                Err((_, why)) => Err(why),
+            }
+        }
     }
 }

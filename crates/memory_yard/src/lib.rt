@@ -8,9 +8,12 @@ mod call_plan;
 mod device;
 mod first;
 mod handing;
+mod log_place;
+mod memory_notes;
 mod memory_yard;
 mod place;
 mod shelf;
 mod slot;
 
+pub use memory_notes::MemoryNotes;
 pub use memory_yard::MemoryYard;

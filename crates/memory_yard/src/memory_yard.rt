@@ -1,6 +1,6 @@
 //! A yard in memory, some of whose calls are to fail.
 
-ghost use Rattle.std.specs.Prelude.{◌≡◌, ◌≤◌, ◌↔◌, Some, None, IfOk, OnOk, Contains};
+ghost use Rattle.std.specs.Prelude.{◌≡◌, ◌≤◌, ◌↔◌, Some, None, IfSome, true, false, IfOk, OnOk, Contains};
 ghost use Rattle.std.specs.Option.{option_copied};
 ghost use Rattle.tier_base.specs.Device.{Fault, fate_of, IsFresh};
 ghost use Rattle.tier_base.specs.Told.{In};
@@ -9,16 +9,19 @@ ghost use Rattle.device_yard.specs.Plan.{Plan, Counts, next_of};
 ghost use Rattle.device_yard.specs.Held.{IsFirst, IsName, AreUsed, Rise, Same, HandsDisk, HandsStore, HandsLog};
 ghost use Rattle.memory_yard.specs.First.{IsFirstWith};
 ghost use Rattle.memory_yard.specs.Yard.{held_by, IsEmptyYard, CrashesHeld, HasRoom};
-ghost use Rattle.memory_yard.specs.Names.{SameHeld, IsFirstOf, AreUsedOf};
+ghost use Rattle.memory_yard.specs.Names.{SameHeld, IsFirstOf, AreUsedOf, HaveTiers, HaveRegistries, AreBare};
 
 use crate::call_plan::CallPlan;
-use crate::first::{least_of, offer_partitions};
-use crate::handing::{hand_disk, hand_log, hand_store};
+use crate::device::RegistryDisk;
+use crate::first::{least_of, offer_partitions, without};
+use crate::handing::{disk_of, hand_disk, hand_log, hand_store};
+use crate::log_place::LogPlace;
+use crate::memory_notes::MemoryNotes;
 use crate::place::DiskPlace;
 use crate::shelf::Shelf;
 use device_yard::{Came, PartitionSet, ReadRegistry, Yard, YardCounts};
 use disk_model::{Disk, MemoryDisk};
-use meta_log::MemoryLog;
+use meta_file::DiskLog;
 use object_store::MemoryStore;
 use std::alloc::{AllocError, Global};
 use tier_base::{Blob, BrokerId, PartitionId, Row, Trouble};
@@ -33,9 +36,8 @@ pub struct MemoryYard {
     counts: YardCounts,
     disks: Shelf<DiskPlace, MemoryDisk>,
     stores: Shelf<PartitionId, MemoryStore>,
-    logs: Shelf<PartitionId, MemoryLog>,
-    registries: Shelf<PartitionId, MemoryDisk>,
-    fuse: Option<u64>,
+    logs: Shelf<PartitionId, LogPlace>,
+    registries: Shelf<PartitionId, RegistryDisk>,
     ghost disks_fit: { counts.out ≤ disks.room },
     ghost stores_fit: { counts.out ≤ stores.room },
     ghost logs_fit: { counts.out ≤ logs.room },
@@ -48,7 +50,7 @@ impl MemoryYard {
     pub fn new(alloc: Global, strays: Vec<Blob>, plan: Vec<u32>) -> MemoryYard
         ensures fresh { control.IsFresh (⟦<MemoryYard as Yard>⟧.control result) }
         ensures named { (⟦<MemoryYard as Yard>⟧.control result).named ≡ None }
-        ensures plan { ⟦<MemoryYard as Yard>⟧.plan result ≡ Some (record { calls = 0; failing = plan.items }) }
+        ensures plan { ⟦<MemoryYard as Yard>⟧.plan result ≡ Some (record { calls = 0; failing = plan.items; alone = true }) }
         ensures held { IsEmptyYard strays.items (⟦<MemoryYard as Yard>⟧.held result) }
     {
         MemoryYard {
@@ -60,7 +62,6 @@ impl MemoryYard {
             stores: Shelf::new(alloc),
             logs: Shelf::new(alloc),
             registries: Shelf::new(alloc),
-            fuse: None,
         }
     }
 
@@ -89,24 +90,22 @@ impl MemoryYard {
     pub fn fuse(&mut self, calls: u64)
         ensures held { ⟦<MemoryYard as Yard>⟧.held self.new ≡ ⟦<MemoryYard as Yard>⟧.held self.old }
         ensures control { ⟦<MemoryYard as Yard>⟧.control self.new ≡ ⟦<MemoryYard as Yard>⟧.control self.old }
-        ensures plan { ⟦<MemoryYard as Yard>⟧.plan self.new ≡ ⟦<MemoryYard as Yard>⟧.plan self.old }
-        ensures fuse { self.new.fuse ≡ Some calls }
+        ensures plan { ⟦<MemoryYard as Yard>⟧.plan self.new ≡ Some (record self.old.plan { alone = false }) }
     {
-        self.fuse = Some(calls);
+        self.plan.set_fuse(Some(calls));
     }
 
-    /// Crashes each disk that came back, and ends the fuses. Stores and metadata logs lose nothing.
+    /// Crashes each disk that came back, those of metadata logs too, and ends the fuses. Stores lose nothing.
     pub fn crash(&mut self)
         ensures held { CrashesHeld (⟦<MemoryYard as Yard>⟧.held self.old) (⟦<MemoryYard as Yard>⟧.held self.new) }
         ensures control { ⟦<MemoryYard as Yard>⟧.control self.new ≡ ⟦<MemoryYard as Yard>⟧.control self.old }
-        ensures plan { ⟦<MemoryYard as Yard>⟧.plan self.new ≡ ⟦<MemoryYard as Yard>⟧.plan self.old }
-        ensures fuse { self.new.fuse ≡ None }
+        ensures plan { ⟦<MemoryYard as Yard>⟧.plan self.new ≡ Some (record self.old.plan { alone = true }) }
     {
-        self.fuse = None;
-        self.disks.crash();
-        self.stores.crash();
-        self.logs.crash();
-        self.registries.crash();
+        self.plan.set_fuse(None);
+        self.disks.crash(self.alloc);
+        self.stores.crash(self.alloc);
+        self.logs.crash(self.alloc);
+        self.registries.crash(self.alloc);
     }
 
     /// Lends a disk that came back.
@@ -125,12 +124,15 @@ impl MemoryYard {
         self.stores.get(partition)
     }
 
-    /// Lends a metadata log that came back.
-    pub fn held_log(&self, partition: PartitionId) -> Option<&MemoryLog>
-        ensures { option_copied result
-            ≡ (⟦<MemoryYard as Yard>⟧.held self.now).logs partition }
+    /// Lends a metadata log that came back, unless its disk alone is here.
+    pub fn held_log(&self, partition: PartitionId) -> Option<&DiskLog<MemoryDisk>>
+        ensures { IfSome (option_copied result) (λ log.
+            (⟦<MemoryYard as Yard>⟧.held self.now).logs partition ≡ Some log) }
     {
-        self.logs.get(partition)
+        match self.logs.get(partition) {
+            Some(kept) => kept.log(),
+            None => None,
+        }
     }
 
     /// Lends the disk of a registry that came back.
@@ -138,7 +140,10 @@ impl MemoryYard {
         ensures { option_copied result
             ≡ (⟦<MemoryYard as Yard>⟧.held self.now).registries partition }
     {
-        self.registries.get(partition)
+        match self.registries.get(partition) {
+            Some(registry) => Some(&registry.disk),
+            None => None,
+        }
     }
 
     /// Makes room for one more device to come back.
@@ -225,9 +230,51 @@ impl MemoryYard {
         ensures first { IfOk result (IsFirstOf (⟦<MemoryYard as Yard>⟧.held self.old)) }
     {
         let mut first = least_of(self.alloc, self.strays.as_slice())?;
-        let used = self.used()?;
-        offer_partitions(self.alloc, &mut first, used.as_slice())?;
+        let bare = self.bare()?;
+        offer_partitions(self.alloc, &mut first, bare.as_slice())?;
         Ok(first)
+    }
+
+    /// The partitions that have an object or a note, and no registry.
+    fn bare(&mut self) -> Result<Row<PartitionId>, AllocError>
+        ensures plan { self.new.plan ≡ self.old.plan }
+        ensures counts { self.new.counts ≡ self.old.counts }
+        ensures held { SameHeld (⟦<MemoryYard as Yard>⟧.held self.old) (⟦<MemoryYard as Yard>⟧.held self.new) }
+        ensures bare { IfOk result (AreBare (⟦<MemoryYard as Yard>⟧.held self.old)) }
+    {
+        let tiers = self.tiers()?;
+        let kept = self.kept()?;
+        without(self.alloc, tiers.as_slice(), kept.as_slice())
+    }
+
+    /// The partitions that have an object or a note.
+    fn tiers(&mut self) -> Result<Row<PartitionId>, AllocError>
+        ensures plan { self.new.plan ≡ self.old.plan }
+        ensures counts { self.new.counts ≡ self.old.counts }
+        ensures held { SameHeld (⟦<MemoryYard as Yard>⟧.held self.old) (⟦<MemoryYard as Yard>⟧.held self.new) }
+        ensures registries { self.new.registries.slots ≡ self.old.registries.slots }
+        ensures tiers { IfOk result (HaveTiers (⟦<MemoryYard as Yard>⟧.held self.old)) }
+    {
+        let mut found = PartitionSet::new(self.alloc);
+        self.stores.find(self.alloc, &mut found)?;
+        self.logs.find(self.alloc, &mut found)?;
+        found.to_row()
+    }
+
+    /// The partitions that have a registry's file.
+    fn kept(&mut self) -> Result<Row<PartitionId>, AllocError>
+        ensures plan { self.new.plan ≡ self.old.plan }
+        ensures counts { self.new.counts ≡ self.old.counts }
+        ensures held { SameHeld (⟦<MemoryYard as Yard>⟧.held self.old) (⟦<MemoryYard as Yard>⟧.held self.new) }
+        ensures disks { self.new.disks.slots ≡ self.old.disks.slots }
+        ensures stores { self.new.stores.slots ≡ self.old.stores.slots }
+        ensures logs { self.new.logs.slots ≡ self.old.logs.slots }
+        ensures strays { self.new.strays ≡ self.old.strays }
+        ensures kept { IfOk result (HaveRegistries (⟦<MemoryYard as Yard>⟧.held self.old)) }
+    {
+        let mut found = PartitionSet::new(self.alloc);
+        self.registries.find(self.alloc, &mut found)?;
+        found.to_row()
     }
 
     /// The partitions of which something stands.
@@ -251,7 +298,7 @@ impl Yard for MemoryYard {
 
     type S = MemoryStore;
 
-    type M = MemoryLog;
+    type M = MemoryNotes;
 
     ghost held = { λ y. held_by y.strays.items y.disks.slots y.stores.slots y.logs.slots y.registries.slots };
 
@@ -272,7 +319,8 @@ impl Yard for MemoryYard {
     fn disk(&mut self, partition: PartitionId, broker: BrokerId) -> Result<MemoryDisk, Trouble> {
         self.hand_out()?;
         let place = DiskPlace { partition, broker };
-        Ok(hand_disk(self.alloc, &mut self.disks, place, self.fuse))
+        let held = self.disks.take(place);
+        Ok(hand_disk(self.alloc, held, self.plan.fuse()))
     }
 
     fn store(&mut self, partition: PartitionId) -> Result<MemoryStore, Trouble> {
@@ -280,14 +328,22 @@ impl Yard for MemoryYard {
         Ok(hand_store(self.alloc, &mut self.stores, partition))
     }
 
-    fn meta(&mut self, partition: PartitionId) -> Result<MemoryLog, Trouble> {
+    fn meta(&mut self, partition: PartitionId) -> Result<MemoryNotes, Trouble> {
         self.hand_out()?;
-        Ok(hand_log(self.alloc, &mut self.logs, partition))
+        let fuse = self.plan.fuse();
+        match hand_log(self.alloc, &mut self.logs, partition, fuse) {
+            Ok(log) => Ok(MemoryNotes { log }),
+            Err(why) => {
+                self.counts.withdraw(why);
+                Err(why)
+            }
+        }
     }
 
     fn registry(&mut self, partition: PartitionId) -> Result<MemoryDisk, Trouble> {
         self.hand_out()?;
-        Ok(hand_disk(self.alloc, &mut self.registries, partition, self.fuse))
+        let held = disk_of(self.registries.take(partition));
+        Ok(hand_disk(self.alloc, held, self.plan.fuse()))
     }
 
     fn keep_disk(&mut self, partition: PartitionId, broker: BrokerId, disk: MemoryDisk) {
@@ -308,12 +364,13 @@ impl Yard for MemoryYard {
         self.counts.take_back(came);
     }
 
-    fn keep_meta(&mut self, partition: PartitionId, meta: MemoryLog) {
+    fn keep_meta(&mut self, partition: PartitionId, meta: MemoryNotes) {
+        let log = meta.log;
         let came = Came {
-            faults: meta.faults(),
-            armed: meta.is_armed(),
+            faults: log.faults(),
+            armed: log.is_armed(),
         };
-        self.logs.put(partition, meta);
+        self.logs.put(partition, LogPlace::of_log(log));
         self.counts.take_back(came);
     }
 
@@ -324,7 +381,7 @@ impl Yard for MemoryYard {
         };
         let mut disk = disk;
         let handed = disk.take_handed();
-        self.registries.put(partition, disk);
+        self.registries.put(partition, RegistryDisk { disk });
         self.counts
             .take_registry(came, ReadRegistry { partition, handed });
     }

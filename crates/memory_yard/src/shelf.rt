@@ -101,20 +101,20 @@ impl<K: Place, T: Device> Shelf<K, T> {
     }
 
     /// Crashes each device.
-    pub fn crash(&mut self)
+    pub fn crash(&mut self, alloc: Global)
         ensures crashes { (q : _) → Both T.crashes (at K.same q self.old.slots) (at K.same q self.new.slots) }
         ensures room { self.new.room ≡ self.old.room }
     {
-        crash_all(self.slots.as_mut_slice());
+        crash_all(self.slots.as_mut_slice(), alloc);
     }
 }
 
 /// Crashes each device of slots.
-fn crash_all<K: Place, T: Device>(slots: &mut [Slot<K, T>])
+fn crash_all<K: Place, T: Device>(slots: &mut [Slot<K, T>], alloc: Global)
     ensures { AreStill T.crashes slots.old slots.new }
 {
     for slot in slots.iter_mut() {
-        slot.crash();
+        slot.crash(alloc);
     }
 }
 

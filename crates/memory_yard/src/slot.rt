@@ -30,11 +30,11 @@ impl<K: Place, T: Device> Slot<K, T> {
     }
 
     /// Crashes its device, if that is here.
-    pub fn crash(&mut self)
+    pub fn crash(&mut self, alloc: Global)
         ensures { SlotKeeps T.crashes self.old self.new }
     {
         if let Some(device) = &mut self.device {
-            device.crash();
+            device.crash(alloc);
         }
     }
 
