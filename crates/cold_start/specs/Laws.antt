@@ -1,6 +1,12 @@
 -- The laws of what a power cut leaves.
-use Rattle.std.specs.Prelude.{◌≡◌, ℕ, ℤ, List, [], Some, slice_get, map}
+use Rattle.std.specs.Prelude.{◌≡◌, ◌≤◌, ℕ, ℤ, List, [], Some, length, slice_get, map}
 use Rattle.tier_base.specs.Roll.{Rolled}
+use Rattle.disk_model.specs.declared.disk.Disk.{Ghosts as DiskGhosts}
+use Rattle.object_store.specs.declared.store.Store.{Ghosts as StoreGhosts}
+use Rattle.meta_log.specs.declared.log.MetaLog.{Ghosts as MetaGhosts}
+use Rattle.registry.specs.View.{IsRegistry}
+use Rattle.partition_world.specs.Central.{IsCentral as IsCentralWorld}
+use Rattle.partition_world.specs.Whole.{Whole as World}
 use Rattle.plain_log.specs.declared.command.ActorList.{ActorList}
 use Rattle.plain_log.specs.declared.journal.JournalEntry.{JournalEntry}
 use Rattle.plain_log.specs.Orders.{AreRising}
@@ -34,3 +40,9 @@ ColdIsCentral = (opening : State) (w : Whole) (clock : ℤ) (lists : List ActorL
 -- the sides of the brokers that are left are those of the tier that is left
 abbrev pub ColdSidesAreSeen : Type 0
 ColdSidesAreSeen = (nodes : List Node) (sides : List Side) → sites_of (map cold_node nodes) (cold_sides sides) ≡ map cold_site (sites_of nodes sides)
+
+module _ {D S M : Type 0} (disk : DiskGhosts D) (store : StoreGhosts S) (meta : MetaGhosts M) where
+  -- the registry of a world of at most 8 brokers that has the central fact keeps the rules of its file
+  abbrev pub RegistriesKeepRules : Type 0
+  RegistriesKeepRules = (opening : State) (w : World D S M) → IsCentralWorld disk store meta opening w
+      → 1 ≤ length w.held.registry.replicas → length w.held.registry.replicas ≤ 8 → IsRegistry w.held.registry

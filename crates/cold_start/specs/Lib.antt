@@ -1,4 +1,10 @@
 pub mod Cold
 pub mod Laws
 pub mod ColdWorld
+pub mod Cuts
 pub mod SweptWorld
+pub mod Running
+pub mod Stands
+pub mod Opening
+pub mod Stepping
+pub mod FileLaws

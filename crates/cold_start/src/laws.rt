@@ -1,40 +1,50 @@
-//! Laws of what a power cut leaves, each the contract of a function that does nothing.
+//! Laws of what a power cut leaves. Each is the contract of a function that does nothing: calling it
+//! cites the law.
 
 ghost use Rattle.cold_start.specs.ColdWorld.{PowerCutKeepsCentral, PowerCutLeavesCold, PowerCutKeepsCold, RunsGoOn, ClosedAreLeft};
+ghost use Rattle.cold_start.specs.Cuts.{CrashedDiskIsCut, KeptDiskIsCut, KeptLogIsCut, ReopenedLogIsCut};
+ghost use Rattle.cold_start.specs.FileLaws.{FileLaws};
+ghost use Rattle.cold_start.specs.Laws.{ColdStateIsSafe, ColdTierIsSafe, ColdIsCentral, ColdSidesAreSeen, RegistriesKeepRules};
+ghost use Rattle.cold_start.specs.Stepping.{StepsChangeOne};
 ghost use Rattle.cold_start.specs.SweptWorld.{SweepKeepsCentral, KeptStoreIsCut};
-ghost use Rattle.cold_start.specs.Laws.{ColdStateIsSafe, ColdTierIsSafe, ColdIsCentral, ColdSidesAreSeen};
 
 use disk_model::Disk;
 use meta_log::MetaLog;
 use object_store::Store;
+use registry::{
+    a_registry_comes_back_from_its_view, a_view_keeps_the_rules_where_its_registry_does,
+};
+use registry_file::a_written_view_is_read_again;
 
-/// A power cut of everything leaves a state in which the safety rules hold.
+/// The safety rules hold in what a power cut of everything leaves of a plain state.
 pub fn a_cold_state_is_safe()
     ensures { ColdStateIsSafe }
 {}
 
-/// It leaves a tier that keeps its rules beside that state.
+/// The tier that a power cut leaves beside it keeps its rules.
 pub fn a_cold_tier_is_safe()
     ensures { ColdTierIsSafe }
 {}
 
-/// A partition that is seen so, with new lists and an empty journal, has the central fact for that state.
+/// A partition with new lists and an empty journal, over what a power cut left, has the central fact
+/// for what is left of the plain state.
 pub fn a_cold_partition_is_central()
     ensures { ColdIsCentral }
 {}
 
-/// Its sides are those of the cold tier.
+/// What its brokers know of the tier is what those of the cold tier know: nothing.
 pub fn cold_sides_are_seen()
     ensures { ColdSidesAreSeen }
 {}
 
-/// A power cut of everything between two turns leaves devices over which a world that begins anew has the central fact for what is left
-/// of the plain state, with whatever notes it leaves.
+/// After a power cut of everything between two turns, a world that begins anew over what it left has
+/// the central fact for what is left of the plain state, whatever notes are left.
 pub fn a_power_cut_keeps_central<D: Disk, S: Store, M: MetaLog>()
     ensures { PowerCutKeepsCentral D.Disk S.Store M.MetaLog }
 {}
 
-/// A sweep between two runs, done or refused, leaves devices over which such a world has the central fact for the same opening state.
+/// After a sweep between two runs, whole or refused, such a world has the central fact for the same
+/// opening state.
 pub fn a_sweep_keeps_central<D: Disk, S: Store, M: MetaLog>()
     ensures { SweepKeepsCentral D.Disk S.Store M.MetaLog }
 {}
@@ -44,22 +54,64 @@ pub fn a_kept_store_is_cut()
     ensures { KeptStoreIsCut }
 {}
 
-/// It leaves devices that stand for what is left of the plain state, with whatever notes a further power cut leaves.
+/// A disk that crashed is as a power cut leaves it.
+pub fn a_crashed_disk_is_cut<D: Disk>()
+    ensures { CrashedDiskIsCut D.Disk }
+{}
+
+/// A disk that is handed out anew with each file that it had is as a power cut leaves it.
+pub fn a_kept_disk_is_cut<D: Disk>()
+    ensures { KeptDiskIsCut D.Disk }
+{}
+
+/// A metadata log that is handed out anew with each note that it had is as a power cut leaves it.
+pub fn a_kept_log_is_cut<M: MetaLog>()
+    ensures { KeptLogIsCut M.MetaLog }
+{}
+
+/// A metadata log that is opened from what a power cut left of another one's disk is as a power cut
+/// leaves that one.
+pub fn a_reopened_log_is_cut<D: Disk>()
+    ensures { ReopenedLogIsCut D.Disk }
+{}
+
+/// A power cut of everything between two turns leaves devices that stand for what is left of the plain
+/// state, whatever notes a further power cut leaves.
 pub fn a_power_cut_leaves_cold<D: Disk, S: Store, M: MetaLog>()
     ensures { PowerCutLeavesCold D.Disk S.Store M.MetaLog }
 {}
 
-/// A power cut of devices that stand for a plain state leaves devices that do.
+/// A power cut of devices that stand for a plain state leaves devices that stand for it.
 pub fn a_power_cut_keeps_cold<D: Disk, S: Store, M: MetaLog>()
     ensures { PowerCutKeepsCold D.Disk S.Store M.MetaLog }
 {}
 
-/// The disks that a partition gives back are such as a power cut may leave.
+/// The disks that a closed partition gives back are such as a power cut may leave.
 pub fn closed_disks_are_left<D: Disk>()
     ensures { ClosedAreLeft D.Disk }
 {}
 
-/// A run goes on after a power cut of everything between two turns: from what is left of the plain state.
+/// A step changes the registry or a device, and not both.
+pub fn a_step_changes_the_registry_or_a_device<D: Disk, S: Store, M: MetaLog>()
+    ensures { StepsChangeOne D.Disk S.Store M.MetaLog }
+{}
+
+/// The registry of a world of at most 8 brokers that has the central fact keeps the rules of its file.
+pub fn registries_keep_the_rules<D: Disk, S: Store, M: MetaLog>()
+    ensures { RegistriesKeepRules D.Disk S.Store M.MetaLog }
+{}
+
+/// After a power cut of everything between two turns a run continues from what is left of the plain
+/// state.
 pub fn a_run_goes_on<D: Disk, S: Store, M: MetaLog>()
     ensures { RunsGoOn D.Disk S.Store M.MetaLog }
 {}
+
+/// The laws of the registry's file that an opening goes by.
+pub(crate) fn file_laws()
+    ensures { FileLaws }
+{
+    a_registry_comes_back_from_its_view();
+    a_view_keeps_the_rules_where_its_registry_does();
+    a_written_view_is_read_again();
+}

@@ -1,0 +1,23 @@
+-- Devices that are as a power cut leaves them.
+use Rattle.std.proofs.Common.{inr, sym, subst}
+use Rattle.std.specs.Prelude.{IsTrue}
+use Rattle.disk_model.specs.declared.disk.Disk.{Ghosts as DiskGhosts}
+use Rattle.meta_log.specs.declared.log.MetaLog.{Ghosts as MetaGhosts}
+use Rattle.cold_start.specs.Cuts.{CrashedDiskIsCut, KeptDiskIsCut, KeptLogIsCut, ReopenedLogIsCut}
+
+module _ {D : Type 0} (disk : DiskGhosts D) where
+  pub crashed_cut : CrashedDiskIsCut disk
+  crashed_cut old new h = record { tells = λ told. subst IsTrue (sym h.tells) told; images = h.fewer }
+
+  pub kept_disk_cut : KeptDiskIsCut disk
+  kept_disk_cut old new h = record { tells = λ told. subst IsTrue (sym h.tells) told; images = h.images }
+
+  pub reopened_cut : ReopenedLogIsCut disk
+  reopened_cut old cut new h same left = record {
+    tells = λ told. subst IsTrue (sym same) (h.tells told);
+    left = λ l at. let k = left l at in inr (k.0, h.images k.0 k.1, k.2);
+  }
+
+module _ {M : Type 0} (meta : MetaGhosts M) where
+  pub kept_log_cut : KeptLogIsCut meta
+  kept_log_cut old new h = record { tells = λ told. subst IsTrue (sym h.tells) told; left = h.left }
