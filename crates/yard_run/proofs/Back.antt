@@ -6,10 +6,12 @@ use Rattle.tier_base.specs.Counts.{counted}
 use Rattle.tier_base.specs.declared.names.BrokerId.{BrokerId}
 use Rattle.tier_base.specs.declared.names.PartitionId.{PartitionId}
 use Rattle.device_yard.specs.declared.came.Came.{Came}
-use Rattle.device_yard.specs.Control.{Control, TakesBack, is_fault}
-use Rattle.device_yard.specs.Held.{Held, DiskIs, StoreIs, LogIs}
+use Rattle.disk_model.specs.Content as disk
+use Rattle.device_yard.specs.declared.read_registry.ReadRegistry.{ReadRegistry}
+use Rattle.device_yard.specs.Control.{Control, TakesBack, TakesRegistry, is_fault}
+use Rattle.device_yard.specs.Held.{Held, DiskIs, StoreIs, LogIs, RegistryIs, HoldsDisk}
 use Rattle.partition_world.specs.declared.tier.Devices.{Devices}
-use Rattle.yard_run.specs.Yard.{CameBack, faults_with, SameOf, OnlyOf, KeepsDisks, KeepsDevices}
+use Rattle.yard_run.specs.Yard.{CameBack, faults_with, SameOf, OnlyOf, KeepsDisks, KeepsDevices, KeepsAll}
 
 -- faults after one device more
 faults_snoc : (came : List Came) (one : Came) (n : ℕ) → faults_with (came ++ one ∷ []) n ≡ (if is_fault one then counted (faults_with came n) 1 else faults_with came n)
@@ -36,7 +38,7 @@ came_more came one a b c so t = record {
 }
 
 -- what stands at a place of a list with one item more
-get_snoc : {A : Type 0} (xs : List A) (x : A) (i : ℕ) (y : A) → slice_get (xs ++ x ∷ []) i ≡ Some y → (slice_get xs i ≡ Some y) ⊎ ((i ≡ length xs) × (y ≡ x))
+pub get_snoc : {A : Type 0} (xs : List A) (x : A) (i : ℕ) (y : A) → slice_get (xs ++ x ∷ []) i ≡ Some y → (slice_get xs i ≡ Some y) ⊎ ((i ≡ length xs) × (y ≡ x))
 get_snoc [] x zero y is = inr (refl, cc)
 get_snoc [] x (suc i) y is = absurd (let no : ◌≡◌ {A = Option _} None (Some y) = is in cc)
 get_snoc (z ∷ xs) x zero y is = inl is
@@ -47,7 +49,7 @@ get_within : {A : Type 0} (xs : List A) (i : ℕ) (y : A) → slice_get xs i ≡
 get_within xs i y is at = let within = slice_get_within xs i y is in omega (arith, within, at)
 
 -- brokers with one number are one
-one_broker : (a b : BrokerId) → a.0 ≡ b.0 → a ≡ b
+pub one_broker : (a b : BrokerId) → a.0 ≡ b.0 → a ≡ b
 one_broker a b same = ap (λ (n : ℕ). record { 0 = n }) same
 
 pub map_snoc : {A B : Type 0} (f : A → B) (xs : List A) (x : A) → map f (xs ++ x ∷ []) ≡ map f xs ++ f x ∷ []
@@ -91,10 +93,10 @@ control_more f done d a b c so t = subst (λ (l : List Came). CameBack l a c) (s
 
 module _ {D S M : Type 0} where
   pub same_of : (p : PartitionId) (h : Held D S M) → SameOf p h h
-  same_of p h = record { disks = λ b. refl; store = refl; log = refl }
+  same_of p h = record { disks = λ b. refl; store = refl; log = refl; registry = refl }
 
   pub same_then : (p : PartitionId) (a b c : Held D S M) → SameOf p a b → SameOf p b c → SameOf p a c
-  same_then p a b c f g = record { disks = λ k. g.disks k ∙ f.disks k; store = g.store ∙ f.store; log = g.log ∙ f.log }
+  same_then p a b c f g = record { disks = λ k. g.disks k ∙ f.disks k; store = g.store ∙ f.store; log = g.log ∙ f.log; registry = g.registry ∙ f.registry }
 
   pub only_none : (p : PartitionId) (h : Held D S M) → OnlyOf p h h
   only_none p h = record { tells = refl; others = λ t q other. same_of q h }
@@ -109,19 +111,19 @@ module _ {D S M : Type 0} where
   pub disk_only : (p : PartitionId) (k : BrokerId) (now : Option D) (a b : Held D S M) → b.tells ≡ a.tells → (IsTrue a.tells → DiskIs p k now a b) → OnlyOf p a b
   disk_only p k now a b tells is = record {
     tells = tells;
-    others = λ t q other. record { disks = λ j. (is t).others q j (inl other); store = (is t).stores q; log = (is t).logs q };
+    others = λ t q other. record { disks = λ j. (is t).others q j (inl other); store = (is t).stores q; log = (is t).logs q; registry = (is t).registries q };
   }
 
   pub store_only : (p : PartitionId) (now : Option S) (a b : Held D S M) → b.tells ≡ a.tells → (IsTrue a.tells → StoreIs p now a b) → OnlyOf p a b
   store_only p now a b tells is = record {
     tells = tells;
-    others = λ t q other. record { disks = λ j. (is t).disks q j; store = (is t).others q other; log = (is t).logs q };
+    others = λ t q other. record { disks = λ j. (is t).disks q j; store = (is t).others q other; log = (is t).logs q; registry = (is t).registries q };
   }
 
   pub log_only : (p : PartitionId) (now : Option M) (a b : Held D S M) → b.tells ≡ a.tells → (IsTrue a.tells → LogIs p now a b) → OnlyOf p a b
   log_only p now a b tells is = record {
     tells = tells;
-    others = λ t q other. record { disks = λ j. (is t).disks q j; store = (is t).stores q; log = (is t).others q other };
+    others = λ t q other. record { disks = λ j. (is t).disks q j; store = (is t).stores q; log = (is t).others q other; registry = (is t).registries q };
   }
 
   -- the disks of no broker
@@ -172,5 +174,34 @@ module _ {D S M : Type 0} where
           disks = λ k disk at. (logs t'').disks p k ∙ ((store t').disks p k ∙ keeps.here t k disk (subst (λ (l : List D). slice_get l k.0 ≡ Some disk) items at));
           store = (logs t'').stores p ∙ ((store t').there ∙ ap Some (sym its));
           log = (logs t'').there ∙ ap Some (sym log);
+        };
+  }
+
+-- a registry's disk is a device that comes back
+pub came_registry : (one : Came) (r : ReadRegistry) (a b : Control) → TakesRegistry one r a b → CameBack (one ∷ []) a b
+came_registry one r a b t = record { faults = t.faults; named = t.named; returned = t.returned; out = t.out }
+
+module _ {D S M : Type 0} where
+  -- its change is one of its partition alone
+  pub registry_only : (p : PartitionId) (P : Option D → Type 0) (a b : Held D S M) → b.tells ≡ a.tells → (IsTrue a.tells → RegistryIs p P a b) → OnlyOf p a b
+  registry_only p P a b tells is = record {
+    tells = tells;
+    others = λ t q other. record { disks = λ j. (is t).disks q j; store = (is t).stores q; log = (is t).logs q; registry = (is t).others q other };
+  }
+
+  -- a partition's devices, the disk of its registry last
+  pub keeps_with_registry : (files : D → disk.Content) (p : PartitionId) (devices : Devices D S M) (reg : D) (a b c : Held D S M) → KeepsDevices p devices a b → c.tells ≡ b.tells
+      → (IsTrue b.tells → RegistryIs p (HoldsDisk files reg) b c) → KeepsAll files p devices reg a c
+  keeps_with_registry files p devices reg a b c keeps tells is = record {
+    only = only_then p a b c keeps.only (registry_only p (HoldsDisk files reg) b c tells is);
+    here = λ t.
+        let t' : IsTrue b.tells = subst IsTrue (sym keeps.only.tells) t in
+        record {
+          others = record {
+            disks = λ k d at. (is t').disks p k ∙ (keeps.here t).disks k d at;
+            store = (is t').stores p ∙ (keeps.here t).store;
+            log = (is t').logs p ∙ (keeps.here t).log;
+          };
+          file = (is t').there;
         };
   }

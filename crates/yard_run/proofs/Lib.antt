@@ -1,5 +1,7 @@
-mod Ended
 mod Back
+mod Ended
 mod Faults
 mod Out
 mod Ran
+pub mod Looks
+pub mod UsesOf

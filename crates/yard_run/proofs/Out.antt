@@ -1,5 +1,5 @@
 -- A partition's devices, as they are handed out one after another.
-use Rattle.std.proofs.Common.{◌≡◌, ◌≢◌, inl, inr, ◌∙◌, sym, ap, subst, refl, ℕ, zero, suc, ◌≤◌, List, [], ◌∷◌, ◌++◌, map, length, Option, Some, None, All, IsTrue, IsSome, arith}
+use Rattle.std.proofs.Common.{◌≡◌, inl, inr, ◌∙◌, sym, ap, subst, refl, ℕ, zero, suc, ◌+◌, ◌≤◌, List, [], ◌∷◌, ◌++◌, map, length, Option, Some, None, All, IsTrue, arith}
 use Rattle.std.specs.Prelude.{IsErrOf, Err}
 use Rattle.std.proofs.lemmas.List.Elements.{All-append}
 use Rattle.tier_base.specs.Counts.{counted, Rose}
@@ -8,29 +8,22 @@ use Rattle.tier_base.specs.declared.fault.Trouble.{Trouble}
 use Rattle.tier_base.specs.declared.fault.Trouble.TheVariants.{Failed, NoMemory}
 use Rattle.tier_base.specs.declared.names.BrokerId.{BrokerId}
 use Rattle.tier_base.specs.declared.names.PartitionId.{PartitionId}
-use Rattle.tier_base.specs.declared.object_key.ObjectKey.{ObjectKey}
-use Rattle.tier_base.specs.declared.plain.FileName.{FileName}
 use Rattle.disk_model.specs.declared.disk.Disk.{Ghosts as DiskGhosts}
 use Rattle.object_store.specs.declared.store.Store.{Ghosts as StoreGhosts}
 use Rattle.meta_log.specs.declared.log.MetaLog.{Ghosts as MetaGhosts}
 use Rattle.device_yard.specs.declared.came.Came.{Came}
 use Rattle.device_yard.specs.Control.{Control, Hands}
-use Rattle.device_yard.specs.Held.{Held, IsUnused, DiskIs, StoreIs, HandsDisk, HandsStore, HandsLog, Has}
-use Rattle.yard_run.specs.Yard.{HandedOut, CameBack, Uses, OnlyOf, KeepsRest}
+use Rattle.device_yard.specs.Held.{Held, DiskIs, StoreIs, HandsDisk, HandsStore, HandsLog}
+use Rattle.yard_run.specs.Yard.{came_of, HandedOut, CameBack, Uses, OnlyOf, KeepsRest}
 use Rattle.partition_world.specs.declared.tier.Devices.{Devices}
-use Rattle.yard_run.specs.Handed.{IsHandedDisk, AreHandedDisks, AreHanded}
-use Rattle.yard_run.proofs.Back.{disk_only, only_none, only_then, length_snoc, length_map}
+use Rattle.yard_run.specs.Handed.{IsHandedDisk, HandsDisks, AreHandedDisks, AreHanded, AreAllHanded}
+use Rattle.yard_run.proofs.Back.{disk_only, only_none, only_then, get_snoc, one_broker, length_snoc, length_map, length_append}
 use Rattle.yard_run.proofs.Faults.{goes_on, rose_before, counts_one, still}
 
 -- what holds of an item holds of the list of it alone
 pub all_one : {A : Type 0} (P : A → Type 0) (x : A) → P x → All P (x ∷ [])
 all_one P x h zero y within = h
 all_one P x h (suc i) y within = absurd (omega (arith, within))
-
--- a list that has no item is empty
-none_left : {A : Type 0} (xs : List A) → (xs ≢ [] → ⊥) → xs ≡ []
-none_left [] never = refl
-none_left (x ∷ xs) never = absurd (never (λ is. cc))
 
 -- a call that went wrong took no fault away, and handed nothing out
 pub went_wrong : (fate : Fate) (c c' : Control) → (fate ≡ Went → ⊥) → Hands fate c c' → (counted c.faults 0 ≤ c'.faults) × (c'.out ≡ c.out)
@@ -45,76 +38,64 @@ raised c c' h = let one = h.faults.fault refl in omega (arith, one)
 module _ {D S M : Type 0} (disk : DiskGhosts D) (store : StoreGhosts S) (meta : MetaGhosts M) where
   -- so many disks are out: those of the brokers from their number on are where they were
   pub record SoFar (p : PartitionId) (h0 h : Held D S M) (c0 c : Control) (disks : List D) : Type 0 where
-    pub each : All (IsHandedDisk disk store meta p h0) disks
+    pub each : All (IsHandedDisk disk store meta h0) disks
+    pub hands : IsTrue h0.tells → HandsDisks disk store meta p disks h0
     pub control : HandedOut (length disks) c0 c
+    pub unread : c.registries ≡ c0.registries
     pub only : OnlyOf p h0 h
     pub rest : IsTrue h0.tells → (b : BrokerId) → length disks ≤ b.0 → h.disks p b ≡ h0.disks p b
     pub stores : IsTrue h0.tells → h.stores p ≡ h0.stores p
     pub logs : IsTrue h0.tells → h.logs p ≡ h0.logs p
+    pub registries : IsTrue h0.tells → h.registries p ≡ h0.registries p
 
   pub so_far_none : (p : PartitionId) (h : Held D S M) (c : Control) → SoFar p h h c c []
   so_far_none p h c = record {
     each = λ i d within. absurd (omega (arith, within));
+    hands = λ t b d is. absurd (let no : ◌≡◌ {A = Option D} None (Some d) = is in cc);
     control = record { faults = refl; named = refl; returned = refl; out = omega arith };
+    unread = refl;
     only = only_none p h;
     rest = λ t b past. refl;
     stores = λ t. refl;
     logs = λ t. refl;
+    registries = λ t. refl;
   }
-
-  -- a disk that was held unused has no file
-  empty_disk : (p : PartitionId) (b : BrokerId) (h : Held D S M) (held : Option D) (d : D) → held ≡ h.disks p b → IsUnused disk.content store.content meta.content h p
-      → HandsDisk disk.content held (disk.content d) → (n : FileName) → (disk.content d).files n ≡ None
-  empty_disk p b h None d is unused gives n = gives.files n
-  empty_disk p b h (Some e) d is unused gives n = gives.files n ∙ nothing ((disk.content e).files n) (λ some. unused (inl (b, subst (Has (λ k. (m : FileName) × IsSome ((disk.content k).files m))) is (n, some))))
-    where
-      nothing : (file : Option (List ℕ)) → (IsSome file → ⊥) → file ≡ None
-      nothing None never = refl
-      nothing (Some bytes) never = absurd (never refl)
-
-  -- a store that was held unused has no object
-  pub empty_store : (p : PartitionId) (h : Held D S M) (held : Option S) (s : S) → held ≡ h.stores p → IsUnused disk.content store.content meta.content h p
-      → HandsStore store.content held (store.content s) → (k : ObjectKey) → (store.content s).objects k ≡ None
-  empty_store p h None s is unused gives k = gives.objects k
-  empty_store p h (Some e) s is unused gives k = gives.objects k ∙ nothing ((store.content e).objects k) (λ some. unused (inr (inl (subst (Has (λ j. (m : ObjectKey) × IsSome ((store.content j).objects m))) is (k, some)))))
-    where
-      nothing : (object : Option (List ℕ)) → (IsSome object → ⊥) → object ≡ None
-      nothing None never = refl
-      nothing (Some bytes) never = absurd (never refl)
-
-  -- a metadata log that was held unused has no note
-  pub empty_log : (p : PartitionId) (h : Held D S M) (held : Option M) (m : M) → held ≡ h.logs p → IsUnused disk.content store.content meta.content h p
-      → HandsLog meta.content held (meta.content m) → (meta.content m).notes ≡ []
-  empty_log p h None m is unused gives = gives.notes
-  empty_log p h (Some e) m is unused gives = gives.notes ∙ none_left (meta.content e).notes (λ some. unused (inr (inr (subst (Has (λ j. (meta.content j).notes ≢ [])) is some))))
 
   pub so_far_more : (p : PartitionId) (b : BrokerId) (h0 h h' : Held D S M) (c0 c c' : Control) (disks : List D) (d : D) → b.0 ≡ length disks → SoFar p h0 h c0 c disks
       → Hands Went c c' → h'.tells ≡ h.tells → IsFresh (disk.control d) → (disk.content d).tells ≡ h.tells
       → (IsTrue h.tells → HandsDisk disk.content (h.disks p b) (disk.content d)) → (IsTrue h.tells → DiskIs p b None h h') → SoFar p h0 h' c0 c' (disks ++ d ∷ [])
   so_far_more p b h0 h h' c0 c c' disks d at so hands tells fresh kind content is = record {
-    each = All-append (IsHandedDisk disk store meta p h0) disks (d ∷ []) so.each (all_one (IsHandedDisk disk store meta p h0) d this);
+    each = All-append (IsHandedDisk disk store meta h0) disks (d ∷ []) so.each (all_one (IsHandedDisk disk store meta h0) d this);
+    hands = λ t k e there. elim (get_snoc disks d k.0 e there) [
+      | inl old ↦ so.hands t k e old
+      | inr new ↦
+          let one : k ≡ b = one_broker k b (new.0 ∙ sym at) in
+          subst (λ (j : BrokerId). HandsDisk disk.content (h0.disks p j) (disk.content e)) (sym one)
+          (subst (λ (x : D). HandsDisk disk.content (h0.disks p b) (disk.content x)) (sym new.1) (held t))
+    ];
     control = record {
       faults = hands.faults.went refl ∙ so.control.faults;
       named = hands.named ∙ so.control.named;
       returned = hands.returned ∙ so.control.returned;
       out = (let was = so.control.out in let now = hands.out in let long = length_snoc disks d in omega (arith, was, now, long));
     };
+    unread = hands.registries ∙ so.unread;
     only = only_then p h0 h h' so.only (disk_only p b None h h' tells is);
     rest = λ t k past. let far = length_snoc disks d in
         (is (was t)).others p k (inr (λ same. absurd (let no = ap (λ (j : BrokerId). j.0) same in omega (arith, past, far, at, no)))) ∙ so.rest t k (omega (arith, past, far));
     stores = λ t. (is (was t)).stores p ∙ so.stores t;
     logs = λ t. (is (was t)).logs p ∙ so.logs t;
+    registries = λ t. (is (was t)).registries p ∙ so.registries t;
   }
     where
       was : IsTrue h0.tells → IsTrue h.tells
       was t = subst IsTrue (sym so.only.tells) t
 
-      this : IsHandedDisk disk store meta p h0 d
-      this = record {
-        fresh = fresh;
-        tells = kind ∙ so.only.tells;
-        empty = λ t unused. empty_disk p b h0 (h.disks p b) d (so.rest t b (omega (arith, at))) unused (content (was t));
-      }
+      held : IsTrue h0.tells → HandsDisk disk.content (h0.disks p b) (disk.content d)
+      held t = subst (λ (o : Option D). HandsDisk disk.content o (disk.content d)) (so.rest t b (omega (arith, at))) (content (was t))
+
+      this : IsHandedDisk disk store meta h0 d
+      this = record { fresh = fresh; tells = kind ∙ so.only.tells }
 
 -- a call for a further device went wrong, and those that were out are back
 pub back_again : (came : List Came) (c0 c c' c'' : Control) (fate : Fate) → HandedOut (length came) c0 c → (fate ≡ Went → ⊥) → Hands fate c c' → CameBack came c' c'' → Uses came c0 c''
@@ -170,14 +151,39 @@ module _ {D S M : Type 0} (disk : DiskGhosts D) (store : StoreGhosts S) (meta : 
   pub all_out : (p : PartitionId) (count : ℕ) (devices : Devices D S M) (h0 h1 h2 : Held D S M) → AreHandedDisks disk store meta p count devices.disks.items h0
       → h1.tells ≡ h0.tells → h2.tells ≡ h1.tells → (IsTrue h0.tells → KeepsRest p h0 h1) → (IsTrue h1.tells → StoreIs p None h1 h2)
       → (store.content devices.store).tells ≡ h1.tells → (IsTrue h1.tells → HandsStore store.content (h1.stores p) (store.content devices.store))
+      → IsFresh (meta.control devices.meta)
       → (meta.content devices.meta).tells ≡ h2.tells → (IsTrue h2.tells → HandsLog meta.content (h2.logs p) (meta.content devices.meta))
       → AreHanded disk store meta p count devices h0
-  all_out p count devices h0 h1 h2 disks same again rest out tells gives says notes = record {
+  all_out p count devices h0 h1 h2 disks same again rest out tells gives fresh says notes = record {
     disks = disks;
     store_tells = tells ∙ same;
+    meta_fresh = fresh;
     meta_tells = says ∙ (again ∙ same);
-    objects = λ t unused. empty_store disk store meta p h0 (h1.stores p) devices.store (rest t).store unused (gives (subst IsTrue (sym same) t));
-    notes = λ t unused.
-        let t' : IsTrue h1.tells = subst IsTrue (sym same) t in
-        empty_log disk store meta p h0 (h2.logs p) devices.meta ((out t').logs p ∙ (rest t).log) unused (notes (subst IsTrue (sym again) t'));
+    objects = λ t. subst (λ (o : Option S). HandsStore store.content o (store.content devices.store)) (rest t).store (gives (subst IsTrue (sym same) t));
+    notes = λ t. let t' : IsTrue h1.tells = subst IsTrue (sym same) t in
+        subst (λ (o : Option M). HandsLog meta.content o (meta.content devices.meta)) ((out t').logs p ∙ (rest t).log) (notes (subst IsTrue (sym again) t'));
   }
+
+  -- and the disk of the registry last
+  pub all_handed : (p : PartitionId) (count : ℕ) (devices : Devices D S M) (reg : D) (h0 h3 : Held D S M) → AreHanded disk store meta p count devices h0 → h3.tells ≡ h0.tells
+      → (IsTrue h0.tells → h3.registries p ≡ h0.registries p) → IsFresh (disk.control reg) → (disk.content reg).tells ≡ h3.tells
+      → (IsTrue h3.tells → HandsDisk disk.content (h3.registries p) (disk.content reg)) → AreAllHanded disk store meta p count devices reg h0
+  all_handed p count devices reg h0 h3 is same kept fresh tells gives = record {
+    others = is;
+    file = record { fresh = fresh; tells = tells ∙ same };
+    hands = λ t. record {
+      logs = is.disks.hands t;
+      objects = is.objects t;
+      notes = is.notes t;
+      file = subst (λ (o : Option D). HandsDisk disk.content o (disk.content reg)) (kept t) (gives (subst IsTrue (sym same) t));
+    };
+  }
+
+  -- so many devices but the disk of the registry by their counts
+  pub so_many_devices : (devices : Devices D S M) (count : ℕ) (c0 c : Control) → length devices.disks.items ≡ count → HandedOut (count + 2) c0 c
+      → HandedOut (length (map (came_of disk.control) devices.disks.items ++ came_of store.control devices.store ∷ came_of meta.control devices.meta ∷ [])) c0 c
+  so_many_devices devices count c0 c many out =
+      let whole = length_append (map (came_of disk.control) devices.disks.items) (came_of store.control devices.store ∷ came_of meta.control devices.meta ∷ []) in
+      let disks = length_map (came_of disk.control) devices.disks.items in
+      let long : length (map (came_of disk.control) devices.disks.items ++ came_of store.control devices.store ∷ came_of meta.control devices.meta ∷ []) ≡ count + 2 = omega (arith, whole, disks, many) in
+      subst (λ (n : ℕ). HandedOut n c0 c) (sym long) out

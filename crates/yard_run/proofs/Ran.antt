@@ -1,7 +1,8 @@
 -- The run of a partition over its devices in a yard, and of one partition behind others.
-use Rattle.std.proofs.Common.{◌≡◌, ◌≢◌, inl, inr, ◌∙◌, sym, ap, subst, refl, ℕ, suc, ◌+◌, ◌≤◌, Bool, true, false, List, [], ◌∷◌, ◌++◌, map, length, All, IsTrue, nat_lt, if◌then◌else◌, arith, append_assoc, append-nil}
-use Rattle.std.specs.Prelude.{Result, Ok, Err, IfOk, IsErrOf}
-use Rattle.std.proofs.lemmas.Bool.{lt-ltb}
+use Rattle.std.proofs.Common.{◌≡◌, ◌≢◌, ◌⊎◌, inl, inr, ◌∙◌, sym, ap, subst, refl, ℕ, zero, suc, Option, Some, None, ◌+◌, ◌≤◌, ◌<◌, ◌==◌, Bool, true, false, List, [], ◌∷◌, ◌++◌, map, length, All, IsTrue, nat_lt, if◌then◌else◌, get_or, arith, append_assoc, append-nil}
+use Rattle.std.specs.Prelude.{Result, Ok, Err, IfOk, IfErr, IsSome}
+use Rattle.tier_base.specs.declared.plain.FileName.TheVariants.{Registry}
+use Rattle.std.proofs.lemmas.Bool.{lt-ltb, false≢true}
 use Rattle.tier_base.specs.Counts.{counted, Rose}
 use Rattle.tier_base.specs.declared.names.PartitionId.{PartitionId}
 use Rattle.disk_model.specs.declared.disk.Disk.{Ghosts as DiskGhosts}
@@ -9,198 +10,308 @@ use Rattle.object_store.specs.declared.store.Store.{Ghosts as StoreGhosts}
 use Rattle.meta_log.specs.declared.log.MetaLog.{Ghosts as MetaGhosts}
 use Rattle.device_yard.specs.declared.came.Came.{Came}
 use Rattle.device_yard.specs.Control.{Control, is_fault as is_yard_fault}
-use Rattle.device_yard.specs.Held.{Held, IsUnused, IsUnusedFrom, Has, IsUsed as IsUsedOf}
+use Rattle.device_yard.specs.Held.{Held, Has, HandsDisk, HandsStore, HandsLog, HoldsDisk, HasTier, HasRegistry, IsBare}
+use Rattle.device_yard.proofs.Nameless.{tierless_is_empty}
 use Rattle.plain_log.specs.declared.command.Config.{Config}
 use Rattle.plain_log.specs.declared.journal.JournalEntry.{JournalEntry}
-use Rattle.partition_turns.specs.Fresh.{IsFreshDisk, AreFreshDisks, DisksTell, ComeBack, OneFailed, Refuses}
-use Rattle.partition_turns.specs.declared.refusal.WorldRefusal.TheVariants.{DiskFault}
+use Rattle.plain_log.specs.Fresh.{fresh}
+use Rattle.partition_turns.specs.Fresh.{DisksTell, OneFailed}
 use Rattle.partition_world.specs.declared.tier.Devices.{Devices}
 use Rattle.plain_log.specs.Orders.{AreListsFor}
 use Rattle.script_lang.specs.Fit.{AreNumbered, StepsToEnds}
 use Rattle.script_lang.specs.declared.script.PartScript.{PartScript}
 use Rattle.trace_text.specs.Trace.{journal_text, trace_of}
-use Rattle.yard_run.specs.declared.refusal.RunRefusal.{RunRefusal}
-use Rattle.yard_run.specs.declared.refusal.RunRefusal.TheVariants as run
+use Rattle.registry.specs.declared.view.RegView.{RegView}
+use Rattle.registry_file.specs.Reading.{view_in}
+use Rattle.registry_file.specs.declared.refusal.RegFileRefusal.{RegFileRefusal}
+use Rattle.registry_file.specs.declared.refusal.RegFileRefusal.TheVariants as file
+use Rattle.cold_start.specs.Opening.{AreUnarmed, AllLast, says}
+use Rattle.cold_start.specs.declared.refusal.ColdRefusal.{ColdRefusal}
+use Rattle.cold_start.specs.declared.refusal.ColdRefusal.TheVariants as cold
 use Rattle.yard_run.specs.declared.refusal.YardRefusal.{YardRefusal}
-use Rattle.yard_run.specs.declared.refusal.YardRefusal.TheVariants.{Fault, NoMemory}
-use Rattle.yard_run.specs.Refusals.{of_run}
-use Rattle.yard_run.specs.Blank.{AreBlank}
+use Rattle.yard_run.specs.declared.refusal.YardRefusal.TheVariants as yard
+use Rattle.yard_run.specs.Refusals.{of_cold, IsOfFile, IsRefused, DeviceFailed, IsOfDevices}
+use Rattle.yard_run.specs.Opens.{OpensFresh}
+use Rattle.yard_run.specs.Reading.{file_in, said, ReadsLast, ReadsMore, IsReady, IsSaidOf, IsRefusedSo}
 use Rattle.yard_run.specs.Run.{IsRunText as IsTextOf}
-use Rattle.yard_run.specs.Handed.{IsHandedDisk, AreHandedDisks, AreHanded}
-use Rattle.yard_run.specs.Runs.{cames_of, IsRunIn, RunsIn, AreRunsIn, IsRunText}
-use Rattle.yard_run.specs.Yard.{came_of, faults_with, HandedOut, CameBack, Uses, IsUsed, SameOf, OnlyOf, Holds, KeepsDevices}
-use Rattle.yard_run.proofs.Back.{length_map, length_append, faults_append}
-use Rattle.yard_run.proofs.Faults.{goes_on, rose_before, rose_after, counts_one, still}
+use Rattle.yard_run.specs.Handed.{IsHandedDisk, AreHanded, AreAllHanded}
+use Rattle.yard_run.specs.Runs.{IsRunIn, RunsIn, AreRunsIn, IsRunText}
+use Rattle.yard_run.specs.Yard.{came_of, cames_of, faults_with, HandedOut, CameBack, SameOf, OnlyOf, HoldsAll, KeepsAll}
+use Rattle.yard_run.proofs.Back.{same_of, same_then, length_map, length_append, faults_append}
+use Rattle.yard_run.proofs.Faults.{rose_after, counts_one, still}
+use Rattle.yard_run.proofs.Looks.{file_handed, last_one, last_then, more_none, more_then}
+use Rattle.yard_run.proofs.UsesOf.{uses_all, uses_then, uses_none}
 
 -- what is said of an answer that went well
 pub ok_is : {T E : Type 0} (r : Result T E) (x : T) (P : T → Type 0) → r ≡ Ok x → IfOk r P → P x
 ok_is r x P is h = subst (λ (k : Result _ _). IfOk k P) is h
 
--- a refusal that is told is the one that was made
-pub is_fault : {T : Type 0} (made is : YardRefusal) → made ≡ is → IsErrOf {T = T} (Err made) Fault → is ≡ Fault
-is_fault made is same told = sym same ∙ (let one : made ≡ Fault = cc in one)
+pub err_is : {T E : Type 0} (r : Result T E) (e : E) (P : E → Type 0) → r ≡ Err e → IfErr r P → P e
+err_is r e P is h = subst (λ (k : Result _ _). IfErr k P) is h
 
--- devices that went out are back
-pub uses_all : (n : ℕ) (came : List Came) (a b c : Control) → length came ≡ n → HandedOut n a b → CameBack came b c → Uses came a c
-uses_all n came a b c many out back = record {
-  never_falls = (let begun = out.faults in let end = back.faults in let kept = still came b.faults in omega (arith, begun, end, kept));
-  named = back.named ∙ out.named;
-  returned = back.returned ∙ ap (λ (l : List Came). l ++ came) out.returned;
-  out = (let o = out.out in let k = back.out in omega (arith, many, o, k));
-}
+-- a device of which a call failed before its plan was in force is a fault of the yard, as it comes back
+counted_came : (came : Came) → came.armed ≡ false → 1 ≤ came.faults → is_yard_fault came ≡ true
+counted_came came unarmed some = let some_fault : nat_lt 0 came.faults ≡ true = lt-ltb 0 came.faults (omega (arith, some)) in rw unarmed some_fault
 
--- one use behind another
-pub uses_then : (x y : List Came) (a b c : Control) → Uses x a b → Uses y b c → Uses (x ++ y) a c
-uses_then x y a b c f g = record {
-  never_falls = goes_on a.faults b.faults c.faults f.never_falls g.never_falls;
-  named = g.named ∙ f.named;
-  returned = g.returned ∙ (ap (λ (l : List Came). l ++ y) f.returned ∙ append_assoc a.returned x y);
-  out = g.out ∙ f.out;
-}
+-- so the count rises with it, wherever it comes among others
+fault_rises : (front back : List Came) (came : Came) (n : ℕ) → is_yard_fault came ≡ true → Rose n (faults_with (front ++ came ∷ back) n)
+fault_rises front back came n is =
+    let m = faults_with front n in
+    let whole = faults_append front (came ∷ back) n in
+    let step : faults_with (came ∷ back) m ≡ faults_with back (counted m 1) = ap (λ (b : Bool). faults_with back (if b then counted m 1 else m)) is in
+    let before = still front n in
+    let after = still back (counted m 1) in
+    omega (arith, whole, step, before, after)
 
-pub uses_none : (a : Control) → Uses [] a a
-uses_none a = record { never_falls = omega arith; named = refl; returned = sym (append-nil a.returned); out = refl }
+-- a count that a registry's file refuses is the one that was asked for
+asked_same : (asked : ℕ) (r : Result RegView RegFileRefusal) (k a : ℕ) → says asked r ≡ Some (cold.Brokers k a) → a ≡ asked
+asked_same asked (Err (file.Bad at)) k a is = absurd (let no : ◌≡◌ {A = Option ColdRefusal} (Some (cold.BadRegistry at)) (Some (cold.Brokers k a)) = is in cc)
+asked_same asked (Ok view) k a is = by (view.brokers == asked) is
+  where
+    by : (b : Bool) → (if b then None else Some (cold.Brokers view.brokers asked)) ≡ Some (cold.Brokers k a) → a ≡ asked
+    by true e = absurd (let no : ◌≡◌ {A = Option ColdRefusal} None (Some (cold.Brokers k a)) = e in cc)
+    by false e = let same : ◌≡◌ {A = Option ColdRefusal} (Some (cold.Brokers view.brokers asked)) (Some (cold.Brokers k a)) = e in cc
 
 module _ {D S M : Type 0} (disk : DiskGhosts D) (store : StoreGhosts S) (meta : MetaGhosts M) where
   -- so many devices come back
-  pub cames_many : (devices : Devices D S M) (n : ℕ) → length devices.disks.items ≡ n → length (cames_of disk store meta devices) ≡ n + 2
-  cames_many devices n many =
-      let whole = length_append (map (came_of disk.control) devices.disks.items) (came_of store.control devices.store ∷ came_of meta.control devices.meta ∷ []) in
+  pub cames_many : (devices : Devices D S M) (reg : D) (n : ℕ) → length devices.disks.items ≡ n → length (cames_of disk store meta devices reg) ≡ n + 3
+  cames_many devices reg n many =
+      let front = map (came_of disk.control) devices.disks.items in
+      let rest = came_of store.control devices.store ∷ came_of meta.control devices.meta ∷ [] in
+      let whole = length_append (front ++ rest) (came_of disk.control reg ∷ []) in
+      let half = length_append front rest in
       let disks = length_map (came_of disk.control) devices.disks.items in
-      omega (arith, whole, disks, many)
+      omega (arith, whole, half, disks, many)
 
-  -- a disk that was handed out is fresh
-  fresh_disk : (p : PartitionId) (h : Held D S M) (d : D) → (IsTrue h.tells → IsUnused disk.content store.content meta.content h p) → IsHandedDisk disk store meta p h d → IsFreshDisk disk.content disk.control d
-  fresh_disk p h d unused is = record {
-    empty = λ t. let told : IsTrue h.tells = subst IsTrue is.tells t in is.empty told (unused told);
-    unarmed = is.fresh.armed;
-    unmade = is.fresh.made;
-  }
-
-  pub fresh_disks : (p : PartitionId) (h : Held D S M) (disks : List D) → (IsTrue h.tells → IsUnused disk.content store.content meta.content h p) → All (IsHandedDisk disk store meta p h) disks → AreFreshDisks disk.content disk.control disks
-  fresh_disks p h [] unused all = tt
-  fresh_disks p h (d ∷ disks) unused all = (fresh_disk p h d unused (all 0 d (omega arith)), fresh_disks p h disks unused (λ i e within. all (suc i) e (omega (arith, within))))
+  -- disks that were handed out are unarmed
+  pub unarmed_disks : (h : Held D S M) (disks : List D) → All (IsHandedDisk disk store meta h) disks → AreUnarmed disk.control disks
+  unarmed_disks h [] all = tt
+  unarmed_disks h (d ∷ disks) all =
+      let one = (all 0 d (omega arith)).fresh in
+      (record { unarmed = one.armed; unmade = one.made }, unarmed_disks h disks (λ i e within. all (suc i) e (omega (arith, within))))
 
   -- of a yard that tells they tell
-  disks_tell : (p : PartitionId) (h : Held D S M) (disks : List D) → IsTrue h.tells → All (IsHandedDisk disk store meta p h) disks → DisksTell disk.content disks
-  disks_tell p h [] t all = tt
-  disks_tell p h (d ∷ disks) t all = (subst IsTrue (sym (all 0 d (omega arith)).tells) t, disks_tell p h disks t (λ i e within. all (suc i) e (omega (arith, within))))
+  disks_tell : (h : Held D S M) (disks : List D) → IsTrue h.tells → All (IsHandedDisk disk store meta h) disks → DisksTell disk.content disks
+  disks_tell h [] t all = tt
+  disks_tell h (d ∷ disks) t all = (subst IsTrue (sym (all 0 d (omega arith)).tells) t, disks_tell h disks t (λ i e within. all (suc i) e (omega (arith, within))))
 
-  -- and of a partition that isn't used they hold nothing
-  pub blank_devices : (p : PartitionId) (count : ℕ) (h : Held D S M) (devices : Devices D S M) → IsTrue h.tells → IsUnused disk.content store.content meta.content h p → AreHanded disk store meta p count devices h
-      → AreBlank disk store meta devices.disks.items devices.store devices.meta
-  blank_devices p count h devices t unused is = record {
-    disks_tell = disks_tell p h devices.disks.items t is.disks.each;
-    objects = record { tells = subst IsTrue (sym is.store_tells) t; objects = is.objects t unused };
-    meta_tells = subst IsTrue (sym is.meta_tells) t;
-    notes = is.notes t unused;
-  }
+  -- without a registry's file there is no registry
+  no_registry : (h : Held D S M) (p : PartitionId) → file_in disk.content (h.registries p) ≡ None → HasRegistry disk.content store.content meta.content h p → ⊥
+  no_registry h p none has = by (h.registries p) none has
+    where
+      lost : (o : Option (List ℕ)) → o ≡ None → IsSome o → ⊥
+      lost None is some = false≢true some
+      lost (Some x) is some = absurd (let no : ◌≡◌ {A = Option (List ℕ)} (Some x) None = is in cc)
 
-  -- a disk of which a call failed before its plan was in force is a fault of the yard, as it comes back
-  is_counted : (now : D) → (disk.control now).armed ≡ false → 1 ≤ (disk.control now).faults → is_yard_fault (came_of disk.control now) ≡ true
-  is_counted now unarmed some =
-      let some_fault : nat_lt 0 (disk.control now).faults ≡ true = lt-ltb 0 (disk.control now).faults (omega (arith, some)) in
-      rw unarmed some_fault
+      by : (o : Option D) → file_in disk.content o ≡ None → Has (λ d. IsSome ((disk.content d).files Registry)) o → ⊥
+      by None is here = here
+      by (Some d) is here = lost ((disk.content d).files Registry) is here
 
-  failed_risen : (p : PartitionId) (h : Held D S M) (disks nows : List D) (n : ℕ) → All (IsHandedDisk disk store meta p h) disks → ComeBack disk.control disks nows → OneFailed disk.control disks nows
+  -- a partition without a registry begins in the fresh state
+  pub opens_fresh : (config : Config) (p : PartitionId) (count : ℕ) (h : Held D S M) (devices : Devices D S M) (reg : D) → IsTrue h.tells → (IsBare disk.content store.content meta.content h p → ⊥)
+      → file_in disk.content (h.registries p) ≡ None → AreAllHanded disk store meta p count devices reg h → OpensFresh disk store meta config devices reg (fresh config)
+  opens_fresh config p count h devices reg t bare none is =
+      let empty = tierless_is_empty disk.content store.content meta.content h p (λ tier. bare (tier, no_registry h p none)) in
+      record {
+        state = refl;
+        disks_tell = disks_tell h devices.disks.items t is.others.disks.each;
+        blank = record {
+          file_tells = subst IsTrue (sym is.file.tells) t;
+          file = file_handed disk.content (h.registries p) reg ((is.hands t).file) ∙ none;
+          store_tells = subst IsTrue (sym is.others.store_tells) t;
+          objects = λ told key. empty.store devices.store ((is.hands t).objects) key;
+          meta_tells = subst IsTrue (sym is.others.meta_tells) t;
+          notes = λ told. empty.log devices.meta ((is.hands t).notes);
+        };
+      }
+
+  -- a disk that failed before its plan was in force
+  failed_risen : (h : Held D S M) (disks nows : List D) (n : ℕ) → All (IsHandedDisk disk store meta h) disks → AllLast disk.control disks nows → OneFailed disk.control disks nows
       → Rose n (faults_with (map (came_of disk.control) nows) n)
-  failed_risen p h [] nows n all back failed = absurd failed
-  failed_risen p h (d ∷ disks) [] n all back failed = absurd failed
-  failed_risen p h (d ∷ disks) (now ∷ nows) n all back (inl rose) =
-      let none = (all 0 d (omega arith)).fresh.faults in
+  failed_risen h [] nows n all last failed = absurd failed
+  failed_risen h (d ∷ disks) [] n all last failed = absurd failed
+  failed_risen h (d ∷ disks) (now ∷ nows) n all last (inl rose) =
+      let fresh = (all 0 d (omega arith)).fresh in
+      let none = fresh.faults in
       let some : 1 ≤ (disk.control now).faults = omega (arith, none, rose) in
-      let rest = map (came_of disk.control) nows in
-      let kept = still rest (counted n 1) in
-      subst (λ (b : Bool). Rose n (faults_with rest (if b then counted n 1 else n))) (sym (is_counted now back.1 some)) (omega (arith, kept))
-  failed_risen p h (d ∷ disks) (now ∷ nows) n all back (inr more) =
+      fault_rises [] (map (came_of disk.control) nows) (came_of disk.control now) n (counted_came (came_of disk.control now) (last.0.armed ∙ fresh.armed) some)
+  failed_risen h (d ∷ disks) (now ∷ nows) n all last (inr more) =
       let one = is_yard_fault (came_of disk.control now) in
       let after = if one then counted n 1 else n in
       rose_after n after (faults_with (map (came_of disk.control) nows) after) (either one)
-      (failed_risen p h disks nows after (λ i e within. all (suc i) e (omega (arith, within))) back.2 more)
+      (failed_risen h disks nows after (λ i e within. all (suc i) e (omega (arith, within))) last.1 more)
     where
       either : (b : Bool) → counted n 0 ≤ (if b then counted n 1 else n)
       either true = counts_one n
       either false = omega arith
 
   -- so the yard's count rose
-  pub run_risen : (p : PartitionId) (h : Held D S M) (given back : Devices D S M) (a b c : Control) (count n : ℕ) → AreHandedDisks disk store meta p count given.disks.items h
-      → Refuses disk.control given.disks.items back.disks.items DiskFault → HandedOut n a b → CameBack (cames_of disk store meta back) b c → Rose a.faults c.faults
-  run_risen p h given back a b c count n handed refuses out came =
-      let front = map (came_of disk.control) back.disks.items in
-      let rest = came_of store.control back.store ∷ came_of meta.control back.meta ∷ [] in
-      let rise = failed_risen p h given.disks.items back.disks.items b.faults handed.each refuses.back (refuses.cause refl) in
-      let whole = faults_append front rest b.faults in
-      let kept = still rest (faults_with front b.faults) in
-      let end = came.faults in
-      let begun = out.faults in
-      subst (λ (k : ℕ). Rose k c.faults) begun (rose_before b.faults (faults_with front b.faults) c.faults rise (omega (arith, whole, kept, end)))
-
-  -- what isn't used stays so, where another partition's devices alone change
-  pub unused_stays : (p q : PartitionId) (a b : Held D S M) → IsTrue a.tells → (q ≢ p) → OnlyOf p a b → IsUnused disk.content store.content meta.content a q → IsUnused disk.content store.content meta.content b q
-  unused_stays p q a b t other only unused used = unused (was used)
+  device_risen : (p : PartitionId) (h : Held D S M) (given back : Devices D S M) (kept : D) (count n : ℕ) → AreHanded disk store meta p count given h
+      → DeviceFailed disk meta given back → Rose n (faults_with (cames_of disk store meta back kept) n)
+  device_risen p h given back kept count n handed failed = by failed.one
     where
-      same : SameOf q a b
-      same = only.others t q other
+      front : List Came
+      front = map (came_of disk.control) back.disks.items
 
-      was : IsUsedOf disk.content store.content meta.content b q → IsUsedOf disk.content store.content meta.content a q
-      was (inl files) = inl (files.0, subst (Has _) (same.disks files.0) files.1)
-      was (inr (inl objects)) = inr (inl (subst (Has _) same.store objects))
-      was (inr (inr notes)) = inr (inr (subst (Has _) same.log notes))
+      by : OneFailed disk.control given.disks.items back.disks.items ⊎ Rose (meta.control given.meta).faults (meta.control back.meta).faults → Rose n (faults_with (cames_of disk store meta back kept) n)
+      by (inl one) =
+          let rest = came_of store.control back.store ∷ came_of meta.control back.meta ∷ [] in
+          let last = came_of disk.control kept ∷ [] in
+          let rise = failed_risen h given.disks.items back.disks.items n handed.disks.each failed.disks one in
+          let outer = faults_append (front ++ rest) last n in
+          let whole = faults_append front rest n in
+          let k = still rest (faults_with front n) in
+          let j = still last (faults_with (front ++ rest) n) in
+          omega (arith, rise, outer, whole, k, j)
+      by (inr rose) =
+          let one = came_of meta.control back.meta in
+          let none = handed.meta_fresh.faults in
+          let some : 1 ≤ (meta.control back.meta).faults = omega (arith, none, rose) in
+          let is : is_yard_fault one ≡ true = counted_came one (failed.notes.armed ∙ handed.meta_fresh.armed) some in
+          let same : (front ++ came_of store.control back.store ∷ one ∷ []) ++ came_of disk.control kept ∷ [] ≡ (front ++ came_of store.control back.store ∷ []) ++ one ∷ came_of disk.control kept ∷ [] =
+          append_assoc front (came_of store.control back.store ∷ one ∷ []) (came_of disk.control kept ∷ []) ∙ sym (append_assoc front (came_of store.control back.store ∷ []) (one ∷ came_of disk.control kept ∷ [])) in
+          subst (λ (l : List Came). Rose n (faults_with l n)) (sym same) (fault_rises (front ++ came_of store.control back.store ∷ []) (came_of disk.control kept ∷ []) one n is)
+
+  -- what a refused run of the partition comes of, over the yard
+  pub refused_of : (asked : ℕ) (p : PartitionId) (count n : ℕ) (h h2 : Held D S M) (c c1 c2 : Control) (given back : Devices D S M) (reg kept : D) (why : ColdRefusal)
+      → (IsTrue h.tells → IsReady disk.content store.content meta.content asked h p) → AreAllHanded disk store meta p count given reg h → HandedOut n c c1 → CameBack (cames_of disk store meta back kept) c1 c2
+      → c1.registries ≡ c.registries → c2.registries ≡ c1.registries ++ record { partition = p; handed = (disk.control kept).handed } ∷ [] → (disk.control kept).armed ≡ false
+      → IsRefused disk meta asked given reg back kept why → IsRefusedSo disk.content store.content meta.content asked h h2 c c2 (of_cold p why) × (IsTrue h.tells → IsOfDevices (of_cold p why))
+  refused_of asked p count n h h2 c c1 c2 given back reg kept why ready handed out came unread read unarmed is = by why is
+    where
+      clash : (w : ColdRefusal) → IsTrue h.tells → IsOfFile disk asked reg kept w → ⊥
+      clash w t k =
+          let file : file_in disk.content (h.registries p) ≡ Some (disk.control kept).handed =
+          sym (file_handed disk.content (h.registries p) reg ((handed.hands t).file)) ∙ k.file (subst IsTrue (sym handed.file.tells) t) in
+          let no : ◌≡◌ {A = Option ColdRefusal} None (Some w) = sym (ready t).suits ∙ (ap (said asked) file ∙ k.says) in
+          cc
+
+      last : ReadsLast p (disk.control kept).handed c c2
+      last = last_one p (disk.control kept).handed c c2 (read ∙ ap (λ (l : List _). l ++ record { partition = p; handed = (disk.control kept).handed } ∷ []) unread)
+
+      so : (w : ColdRefusal) → IsOfFile disk asked reg kept w → IsSaidOf disk.content store.content meta.content p asked w h h2 c c2
+      so w k = record {
+        bytes = (disk.control kept).handed;
+        read = last;
+        says = k.says;
+        file = λ t. absurd (clash w t k);
+        first = λ t q below. absurd (clash w t k);
+        unchanged = λ t. absurd (clash w t k);
+      }
+
+      begun : c1.faults ≡ c.faults
+      begun = out.faults
+
+      ended : c2.faults ≡ faults_with (cames_of disk store meta back kept) c1.faults
+      ended = came.faults
+
+      asks : (k a : ℕ) → IsOfFile disk asked reg kept (cold.Brokers k a) → a ≡ asked
+      asks k a f = asked_same asked (view_in (disk.control kept).handed) k a f.says
+
+      by : (w : ColdRefusal) → IsRefused disk meta asked given reg back kept w → IsRefusedSo disk.content store.content meta.content asked h h2 c c2 (of_cold p w) × (IsTrue h.tells → IsOfDevices (of_cold p w))
+      by cold.RegistryFault rose =
+          let some : 1 ≤ (disk.control kept).faults = omega (arith, rose) in
+          let rise = fault_rises (map (came_of disk.control) back.disks.items ++ came_of store.control back.store ∷ came_of meta.control back.meta ∷ []) [] (came_of disk.control kept) c1.faults (counted_came (came_of disk.control kept) unarmed some) in
+          (omega (arith, rise, begun, ended), λ t. tt)
+      by cold.DeviceFault failed = let rise = device_risen p h given back kept count c1.faults handed.others failed in (omega (arith, rise, begun, ended), λ t. tt)
+      by (cold.BadRegistry at) k = (so (cold.BadRegistry at) k, λ t. absurd (clash (cold.BadRegistry at) t k))
+      by (cold.Brokers k a) f = ((asks k a f, so (cold.Brokers k a) f), λ t. absurd (clash (cold.Brokers k a) t f))
+      by cold.NoMemory none = (tt, λ t. tt)
+
+  -- what is ready stays so, where another partition's devices alone change
+  pub ready_stays : (asked : ℕ) (q : PartitionId) (a b : Held D S M) → SameOf q a b → IsReady disk.content store.content meta.content asked a q → IsReady disk.content store.content meta.content asked b q
+  ready_stays asked q a b same r = record {
+    suits = ap (λ (o : Option D). said asked (file_in disk.content o)) same.registry ∙ r.suits;
+    bare = λ k. r.bare (was k.0, λ has. k.1 (subst (Has (λ d. IsSome ((disk.content d).files Registry))) (sym same.registry) has));
+  }
+    where
+      was : HasTier disk.content store.content meta.content b q → HasTier disk.content store.content meta.content a q
+      was (inl objects) = inl (subst (Has _) same.store objects)
+      was (inr notes) = inr (subst (Has _) same.log notes)
 
   -- what is held of a partition stays so too
-  holds_on : (p q : PartitionId) (devices : Devices D S M) (a b : Held D S M) → IsTrue a.tells → (q ≢ p) → OnlyOf p a b → Holds q devices a → Holds q devices b
-  holds_on p q devices a b t other only holds = record {
-    disks = λ k d at. (only.others t q other).disks k ∙ holds.disks k d at;
-    store = (only.others t q other).store ∙ holds.store;
-    log = (only.others t q other).log ∙ holds.log;
+  holds_on : (p q : PartitionId) (devices : Devices D S M) (reg : D) (a b : Held D S M) → IsTrue a.tells → (q ≢ p) → OnlyOf p a b → HoldsAll disk.content q devices reg a → HoldsAll disk.content q devices reg b
+  holds_on p q devices reg a b t other only holds = record {
+    others = record {
+      disks = λ k d at. (only.others t q other).disks k ∙ holds.others.disks k d at;
+      store = (only.others t q other).store ∙ holds.others.store;
+      log = (only.others t q other).log ∙ holds.others.log;
+    };
+    file = subst (HoldsDisk disk.content reg) (sym (only.others t q other).registry) holds.file;
   }
 
-  run_on : (config : Config) (p : PartitionId) (part : PartScript) (a b : Held D S M) (run : ℕ × List JournalEntry) (came : List Came) → (part.partition ≢ p) → OnlyOf p a b
-      → IsRunIn disk store meta config part a run came → IsRunIn disk store meta config part b run came
-  run_on config p part a b run came other only is = record {
+  run_on : (config : Config) (p : PartitionId) (part : PartScript) (h0 a b : Held D S M) (run : ℕ × List JournalEntry) (came : List Came) → (part.partition ≢ p) → OnlyOf p a b
+      → IsRunIn disk store meta config part h0 a run came → IsRunIn disk store meta config part h0 b run came
+  run_on config p part h0 a b run came other only is = record {
     partition = is.partition;
     devices = is.devices;
+    registry = is.registry;
     back = is.back;
+    kept = is.kept;
     is = is.is;
     came_so = is.came_so;
-    blank = λ t. is.blank (subst IsTrue only.tells t);
-    kept = λ t. let told : IsTrue a.tells = subst IsTrue only.tells t in holds_on p part.partition is.back a b told other only (is.kept told);
+    handed = is.handed;
+    begun = is.begun;
+    holds = λ t. let told : IsTrue a.tells = subst IsTrue only.tells t in holds_on p part.partition is.back is.kept a b told other only (is.holds told);
   }
 
   -- the runs of partitions with lower numbers go on
-  runs_on : (config : Config) (p : PartitionId) (n : ℕ) (a b : Held D S M) (parts : List PartScript) (runs : List (ℕ × List JournalEntry)) (came : List Came) → AreNumbered n parts → n + length parts ≤ p.0 → OnlyOf p a b
-      → AreRunsIn disk store meta config a parts runs came → AreRunsIn disk store meta config b parts runs came
-  runs_on config p n a b [] [] came numbered below only are = are
-  runs_on config p n a b (part ∷ parts) (run ∷ runs) came numbered below only are =
+  runs_on : (config : Config) (p : PartitionId) (n : ℕ) (h0 a b : Held D S M) (parts : List PartScript) (runs : List (ℕ × List JournalEntry)) (came : List Came) → AreNumbered n parts → n + length parts ≤ p.0 → OnlyOf p a b
+      → AreRunsIn disk store meta config h0 a parts runs came → AreRunsIn disk store meta config h0 b parts runs came
+  runs_on config p n h0 a b [] [] came numbered below only are = are
+  runs_on config p n h0 a b (part ∷ parts) (run ∷ runs) came numbered below only are =
       let number = numbered.0 in (
         are.0,
         are.1,
         are.2,
-        run_on config p part a b run are.0 (λ same. absurd (let no = ap (λ (q : PartitionId). q.0) same in omega (arith, no, number, below))) only are.3,
-        runs_on config p (n + 1) a b parts runs are.1 numbered.1 (omega (arith, below)) only are.4,
+        run_on config p part h0 a b run are.0 (λ same. absurd (let no = ap (λ (q : PartitionId). q.0) same in omega (arith, no, number, below))) only are.3,
+        runs_on config p (n + 1) h0 a b parts runs are.1 numbered.1 (omega (arith, below)) only are.4,
       )
-  runs_on config p n a b [] (run ∷ runs) came numbered below only are = absurd are
-  runs_on config p n a b (part ∷ parts) [] came numbered below only are = absurd are
+  runs_on config p n h0 a b [] (run ∷ runs) came numbered below only are = absurd are
+  runs_on config p n h0 a b (part ∷ parts) [] came numbered below only are = absurd are
 
   -- one run more
-  runs_snoc : (config : Config) (h : Held D S M) (parts : List PartScript) (runs : List (ℕ × List JournalEntry)) (part : PartScript) (run : ℕ × List JournalEntry) (came one : List Came)
-      → AreRunsIn disk store meta config h parts runs came → IsRunIn disk store meta config part h run one → AreRunsIn disk store meta config h (parts ++ part ∷ []) (runs ++ run ∷ []) (came ++ one)
-  runs_snoc config h [] [] part run came one are is = (one, [], ap (λ (l : List Came). l ++ one) are ∙ sym (append-nil one), is, refl)
-  runs_snoc config h (first ∷ parts) (r ∷ runs) part run came one are is =
-      (are.0, are.1 ++ one, ap (λ (l : List Came). l ++ one) are.2 ∙ append_assoc are.0 are.1 one, are.3, runs_snoc config h parts runs part run are.1 one are.4 is)
-  runs_snoc config h [] (r ∷ runs) part run came one are is = absurd are
-  runs_snoc config h (first ∷ parts) [] part run came one are is = absurd are
+  runs_snoc : (config : Config) (h0 h : Held D S M) (parts : List PartScript) (runs : List (ℕ × List JournalEntry)) (part : PartScript) (run : ℕ × List JournalEntry) (came one : List Came)
+      → AreRunsIn disk store meta config h0 h parts runs came → IsRunIn disk store meta config part h0 h run one → AreRunsIn disk store meta config h0 h (parts ++ part ∷ []) (runs ++ run ∷ []) (came ++ one)
+  runs_snoc config h0 h [] [] part run came one are is = (one, [], ap (λ (l : List Came). l ++ one) are ∙ sym (append-nil one), is, refl)
+  runs_snoc config h0 h (first ∷ parts) (r ∷ runs) part run came one are is =
+      (are.0, are.1 ++ one, ap (λ (l : List Came). l ++ one) are.2 ∙ append_assoc are.0 are.1 one, are.3, runs_snoc config h0 h parts runs part run are.1 one are.4 is)
+  runs_snoc config h0 h [] (r ∷ runs) part run came one are is = absurd are
+  runs_snoc config h0 h (first ∷ parts) [] part run came one are is = absurd are
 
   trace_snoc : (runs : List (ℕ × List JournalEntry)) (run : ℕ × List JournalEntry) → trace_of (runs ++ run ∷ []) ≡ trace_of runs ++ journal_text run.0 run.1
   trace_snoc [] run = append-nil (journal_text run.0 run.1)
   trace_snoc (one ∷ runs) run = ap (λ (t : List ℕ). journal_text one.0 one.1 ++ t) (trace_snoc runs run) ∙ sym (append_assoc (journal_text one.0 one.1) (trace_of runs) (journal_text run.0 run.1))
 
-  pub text_more : (config : Config) (p : PartitionId) (a b : Held D S M) (parts : List PartScript) (part : PartScript) (text printed new : List ℕ) (c0 c c' : Control) → AreNumbered 0 parts → length parts ≤ p.0 → OnlyOf p a b
-      → IsRunText disk store meta config parts a text c0 c → RunsIn disk store meta config part b printed c c' → new ≡ text ++ printed → IsRunText disk store meta config (parts ++ part ∷ []) b new c0 c'
-  text_more config p a b parts part text printed new c0 c c' numbered below only t adds is = record {
+  -- devices have what was held earlier, where the partition's were the same
+  hands_before : (part : PartScript) (h0 a b : Held D S M) (run : ℕ × List JournalEntry) (came : List Came) → a.tells ≡ h0.tells → (IsTrue h0.tells → SameOf part.partition h0 a) → (config : Config)
+      → IsRunIn disk store meta config part a b run came → IsRunIn disk store meta config part h0 b run came
+  hands_before part h0 a b run came tells same config is = record {
+    partition = is.partition;
+    devices = is.devices;
+    registry = is.registry;
+    back = is.back;
+    kept = is.kept;
+    is = is.is;
+    came_so = is.came_so;
+    handed = λ t. let now = is.handed (subst IsTrue (sym tells) t) in let kept = same t in record {
+      logs = λ k d at. subst (λ (o : Option D). HandsDisk disk.content o (disk.content d)) (kept.disks k) (now.logs k d at);
+      objects = subst (λ (o : Option S). HandsStore store.content o (store.content is.devices.store)) kept.store now.objects;
+      notes = subst (λ (o : Option M). HandsLog meta.content o (meta.content is.devices.meta)) kept.log now.notes;
+      file = subst (λ (o : Option D). HandsDisk disk.content o (disk.content is.registry)) kept.registry now.file;
+    };
+    begun = λ t none. is.begun (subst IsTrue (sym tells) t) (ap (file_in disk.content) (same t).registry ∙ none);
+    holds = is.holds;
+  }
+
+  pub text_more : (config : Config) (p : PartitionId) (h0 a b : Held D S M) (parts : List PartScript) (part : PartScript) (text printed new : List ℕ) (c0 c c' : Control) → AreNumbered 0 parts → length parts ≤ p.0 → OnlyOf p a b
+      → a.tells ≡ h0.tells → (IsTrue h0.tells → SameOf part.partition h0 a)
+      → IsRunText disk store meta config parts h0 a text c0 c → RunsIn disk store meta config part a b printed c c' → new ≡ text ++ printed → IsRunText disk store meta config (parts ++ part ∷ []) h0 b new c0 c'
+  text_more config p h0 a b parts part text printed new c0 c c' numbered below only tells same t adds is = record {
     runs = t.runs ++ adds.run ∷ [];
     came = t.came ++ adds.came;
-    are = runs_snoc config b parts t.runs part adds.run t.came adds.came (runs_on config p 0 a b parts t.runs t.came numbered (omega (arith, below)) only t.are) adds.is;
+    are = runs_snoc config h0 b parts t.runs part adds.run t.came adds.came (runs_on config p 0 h0 a b parts t.runs t.came numbered (omega (arith, below)) only t.are)
+        (hands_before part h0 a b adds.run adds.came tells same config adds.is);
     spelled = is ∙ (ap (λ (k : List ℕ). text ++ k) adds.spelled ∙ (ap (λ (k : List ℕ). k ++ journal_text adds.run.0 adds.run.1) t.spelled ∙ sym (trace_snoc t.runs adds.run)));
     uses = uses_then t.came adds.came c0 c c' t.uses adds.uses;
   }
@@ -216,38 +327,73 @@ module _ {D S M : Type 0} (disk : DiskGhosts D) (store : StoreGhosts S) (meta : 
     pub all : run ++ rest ≡ parts
     pub numbered : AreNumbered 0 run
     pub next : AreNumbered (length run) rest
-    pub text_is : IsRunText disk store meta config run h text c0 c
+    pub text_is : IsRunText disk store meta config run h0 h text c0 c
+    -- those of the partitions that are left are as they were
+    pub same : IsTrue h0.tells → (p : PartitionId) → length run ≤ p.0 → SameOf p h0 h
     pub tells : h.tells ≡ h0.tells
-    pub unused : IsTrue h.tells → IsUnusedFrom disk.content store.content meta.content (length run) h
+    pub ready : IsTrue h.tells → All (λ (part : PartScript). IsReady disk.content store.content meta.content config.brokers h part.partition) rest
+    pub more : ReadsMore c0 c
     pub fit : All (λ (part : PartScript). AreListsFor config part.lists) rest
     pub ends : All StepsToEnds rest
 
   pub begins : (config : Config) (parts rest : List PartScript) (text : List ℕ) (h : Held D S M) (c : Control) → rest ≡ parts → text ≡ [] → AreNumbered 0 parts
-      → (IsTrue h.tells → IsUnusedFrom disk.content store.content meta.content 0 h)
+      → (IsTrue h.tells → All (λ (part : PartScript). IsReady disk.content store.content meta.content config.brokers h part.partition) parts)
       → All (λ (part : PartScript). AreListsFor config part.lists) parts → All StepsToEnds parts → SoFar config parts rest h h c c text
-  begins config parts rest text h c all none numbered unused fit ends = record {
+  begins config parts rest text h c all none numbered ready fit ends = record {
     run = [];
     all = all;
     numbered = tt;
     next = subst (AreNumbered 0) (sym all) numbered;
     text_is = record { runs = []; came = []; are = refl; spelled = none; uses = uses_none c };
+    same = λ t p above. same_of p h;
     tells = refl;
-    unused = unused;
+    ready = λ t. subst (All (λ (part : PartScript). IsReady disk.content store.content meta.content config.brokers h part.partition)) (sym all) (ready t);
+    more = more_none c;
     fit = subst (All (λ (part : PartScript). AreListsFor config part.lists)) (sym all) fit;
     ends = subst (All StepsToEnds) (sym all) ends;
   }
 
-  -- the next part is the next partition, of which nothing is used
-  pub next_unused : (config : Config) (parts rest after : List PartScript) (part : PartScript) (h0 h : Held D S M) (c0 c : Control) (text : List ℕ) → rest ≡ part ∷ after → SoFar config parts rest h0 h c0 c text
-      → IsTrue h.tells → IsUnused disk.content store.content meta.content h part.partition
-  next_unused config parts rest after part h0 h c0 c text steps so t =
-      let next : AreNumbered (length so.run) (part ∷ after) = subst (AreNumbered (length so.run)) steps so.next in
-      let number = next.0 in
-      so.unused t part.partition (omega (arith, number))
+  -- the next part is the next partition, which is ready
+  pub next_ready : (config : Config) (parts rest after : List PartScript) (part : PartScript) (h0 h : Held D S M) (c0 c : Control) (text : List ℕ) → rest ≡ part ∷ after → SoFar config parts rest h0 h c0 c text
+      → IsTrue h.tells → IsReady disk.content store.content meta.content config.brokers h part.partition
+  next_ready config parts rest after part h0 h c0 c text steps so t =
+      let whole : All (λ (q : PartScript). IsReady disk.content store.content meta.content config.brokers h q.partition) (part ∷ after) = subst (All (λ (q : PartScript). IsReady disk.content store.content meta.content config.brokers h q.partition)) steps (so.ready t) in
+      whole 0 part (omega arith)
+
+  -- a refusal by the devices of a further partition
+  pub refused_late : (asked : ℕ) (h0 h h' : Held D S M) (c0 c c' : Control) (why : YardRefusal) → h.tells ≡ h0.tells → ReadsMore c0 c → counted c0.faults 0 ≤ c.faults
+      → (IsTrue h.tells → IsOfDevices why) → IsRefusedSo disk.content store.content meta.content asked h h' c c' why → IsRefusedSo disk.content store.content meta.content asked h0 h' c0 c' why
+  refused_late asked h0 h h' c0 c c' yard.Fault same more falls of is = omega (arith, falls, is)
+  refused_late asked h0 h h' c0 c c' (yard.Mismatch p kept wanted) same more falls of is = (
+    is.0,
+    record {
+      bytes = is.1.bytes;
+      read = last_then p is.1.bytes c0 c c' more is.1.read;
+      says = is.1.says;
+      file = λ t. absurd (of (subst IsTrue (sym same) t));
+      first = λ t. absurd (of (subst IsTrue (sym same) t));
+      unchanged = λ t. absurd (of (subst IsTrue (sym same) t));
+    },
+  )
+  refused_late asked h0 h h' c0 c c' (yard.BadRegistry p at) same more falls of is = record {
+    bytes = is.bytes;
+    read = last_then p is.bytes c0 c c' more is.read;
+    says = is.says;
+    file = λ t. absurd (of (subst IsTrue (sym same) t));
+    first = λ t. absurd (of (subst IsTrue (sym same) t));
+    unchanged = λ t. absurd (of (subst IsTrue (sym same) t));
+  }
+  refused_late asked h0 h h' c0 c c' yard.NoMemory same more falls of is = tt
+
+  -- the numbers of those behind
+  numbered_get : (n : ℕ) (parts : List PartScript) (i : ℕ) (q : PartScript) → AreNumbered n parts → i < length parts → n ≤ (get_or parts i q).partition.0
+  numbered_get n [] i q numbered within = absurd (omega (arith, within))
+  numbered_get n (part ∷ parts) zero q numbered within = let is = numbered.0 in omega (arith, is)
+  numbered_get n (part ∷ parts) (suc i) q numbered within = let more = numbered_get (n + 1) parts i q numbered.1 (omega (arith, within)) in omega (arith, more)
 
   pub goes_behind : (config : Config) (parts rest after : List PartScript) (part : PartScript) (h0 h h' : Held D S M) (c0 c c' : Control) (text printed new : List ℕ) → rest ≡ part ∷ after
-      → SoFar config parts rest h0 h c0 c text → OnlyOf part.partition h h' → RunsIn disk store meta config part h' printed c c' → new ≡ text ++ printed → SoFar config parts after h0 h' c0 c' new
-  goes_behind config parts rest after part h0 h h' c0 c c' text printed new steps so only adds is =
+      → SoFar config parts rest h0 h c0 c text → OnlyOf part.partition h h' → ReadsMore c c' → RunsIn disk store meta config part h h' printed c c' → new ≡ text ++ printed → SoFar config parts after h0 h' c0 c' new
+  goes_behind config parts rest after part h0 h h' c0 c c' text printed new steps so only reads adds is =
       let next : AreNumbered (length so.run) (part ∷ after) = subst (AreNumbered (length so.run)) steps so.next in
       let long = length_append so.run (part ∷ []) in
       let number = next.0 in
@@ -256,11 +402,19 @@ module _ {D S M : Type 0} (disk : DiskGhosts D) (store : StoreGhosts S) (meta : 
         all = append_assoc so.run (part ∷ []) after ∙ (ap (λ (l : List PartScript). so.run ++ l) (sym steps) ∙ so.all);
         numbered = numbered_snoc 0 so.run part so.numbered (omega (arith, number));
         next = subst (λ (n : ℕ). AreNumbered n after) (sym long) next.1;
-        text_is = text_more config part.partition h h' so.run part text printed new c0 c c' so.numbered (omega (arith, number)) only so.text_is adds is;
+        text_is = text_more config part.partition h0 h h' so.run part text printed new c0 c c' so.numbered (omega (arith, number)) only so.tells
+            (λ t. so.same t part.partition (omega (arith, number))) so.text_is adds is;
+        same = λ t p above.
+            let told : IsTrue h.tells = subst IsTrue (sym so.tells) t in
+            same_then p h0 h h' (so.same t p (omega (arith, above, long)))
+            (only.others told p (λ same. absurd (let one = ap (λ (q : PartitionId). q.0) same in omega (arith, one, number, above, long))));
         tells = only.tells ∙ so.tells;
-        unused = λ t p above.
+        ready = λ t i q within.
             let told : IsTrue h.tells = subst IsTrue only.tells t in
-            unused_stays part.partition p h h' told (λ same. absurd (let one = ap (λ (q : PartitionId). q.0) same in omega (arith, one, number, above, long))) only (so.unused told p (omega (arith, above, long)));
+            let whole : All (λ (r : PartScript). IsReady disk.content store.content meta.content config.brokers h r.partition) (part ∷ after) = subst (All (λ (r : PartScript). IsReady disk.content store.content meta.content config.brokers h r.partition)) steps (so.ready told) in
+            let later = numbered_get (length so.run + 1) after i q next.1 within in
+            ready_stays config.brokers (get_or after i q).partition h h' (only.others told (get_or after i q).partition (λ same. absurd (let one = ap (λ (r : PartitionId). r.0) same in omega (arith, one, number, later)))) (whole (suc i) q (omega (arith, within)));
+        more = more_then c0 c c' so.more reads;
         fit = tail (λ (q : PartScript). AreListsFor config q.lists) part rest after steps so.fit;
         ends = tail StepsToEnds part rest after steps so.ends;
       }
@@ -268,37 +422,27 @@ module _ {D S M : Type 0} (disk : DiskGhosts D) (store : StoreGhosts S) (meta : 
       tail : (P : PartScript → Type 0) (x : PartScript) (xs more : List PartScript) → xs ≡ x ∷ more → All P xs → All P more
       tail P x xs more is all = let whole : All P (x ∷ more) = subst (All P) is all in λ i d within. whole (suc i) d (omega (arith, within))
 
-  -- where a further part wasn't run to its end, the devices that went out before are back too
-  pub used_then : (x : List Came) (a b c : Control) → Uses x a b → IsUsed b c → IsUsed a c
-  used_then x a b c f h = record { came = x ++ h.came; uses = uses_then x h.came a b c f h.uses }
-
   -- a partition's devices went out, it was run on them, and they are back
-  pub ran : (config : Config) (part : PartScript) (given back : Devices D S M) (text : List ℕ) (h0 h1 h2 : Held D S M) (c0 c1 c2 : Control) → (IsTrue h0.tells → IsUnused disk.content store.content meta.content h0 part.partition)
-      → AreHanded disk store meta part.partition config.brokers given h0 → HandedOut (config.brokers + 2) c0 c1 → OnlyOf part.partition h0 h1 → length back.disks.items ≡ config.brokers
-      → IsTextOf disk store meta config part given text back → CameBack (cames_of disk store meta back) c1 c2 → KeepsDevices part.partition back h1 h2
-      → RunsIn disk store meta config part h2 text c0 c2
-  ran config part given back text h0 h1 h2 c0 c1 c2 unused handed out only many is came keeps = record {
+  pub ran : (config : Config) (part : PartScript) (given back : Devices D S M) (reg kept : D) (text : List ℕ) (h0 h1 h2 : Held D S M) (c0 c1 c2 : Control)
+      → (IsTrue h0.tells → IsReady disk.content store.content meta.content config.brokers h0 part.partition)
+      → AreAllHanded disk store meta part.partition config.brokers given reg h0 → HandedOut (config.brokers + 3) c0 c1 → OnlyOf part.partition h0 h1 → length back.disks.items ≡ config.brokers
+      → IsTextOf disk store meta config part given reg text back kept → CameBack (cames_of disk store meta back kept) c1 c2 → KeepsAll disk.content part.partition back kept h1 h2
+      → RunsIn disk store meta config part h0 h2 text c0 c2
+  ran config part given back reg kept text h0 h1 h2 c0 c1 c2 ready handed out only many is came keeps = record {
     run = (part.partition.0, is.journal);
-    came = cames_of disk store meta back;
+    came = cames_of disk store meta back kept;
     is = record {
       partition = refl;
       devices = given;
+      registry = reg;
       back = back;
+      kept = kept;
       is = is.run;
       came_so = refl;
-      blank = λ t. let told : IsTrue h0.tells = subst IsTrue (keeps.only.tells ∙ only.tells) t in
-          blank_devices part.partition config.brokers h0 given told (unused told) handed;
-      kept = λ t. keeps.here (subst IsTrue keeps.only.tells t);
+      handed = handed.hands;
+      begun = λ t none. opens_fresh config part.partition config.brokers h0 given reg t (ready t).bare none handed;
+      holds = λ t. keeps.here (subst IsTrue keeps.only.tells t);
     };
     spelled = is.spelled;
-    uses = uses_all (config.brokers + 2) (cames_of disk store meta back) c0 c1 c2 (cames_many back config.brokers many) out came;
+    uses = uses_all (config.brokers + 3) (cames_of disk store meta back kept) c0 c1 c2 (cames_many back kept config.brokers many) out came;
   }
-
-  -- it wasn't, since a disk failed before the first command
-  pub run_failed : {T : Type 0} (p : PartitionId) (h : Held D S M) (given back : Devices D S M) (result : Result T RunRefusal) (why : RunRefusal) (a b c : Control) (count n : ℕ) → result ≡ Err why
-      → AreHandedDisks disk store meta p count given.disks.items h
-      → (IsErrOf result run.DiskFault → Refuses disk.control given.disks.items back.disks.items DiskFault × (back.store ≡ given.store) × (back.meta ≡ given.meta))
-      → of_run why ≡ Fault → HandedOut n a b → CameBack (cames_of disk store meta back) b c → Rose a.faults c.faults
-  run_failed p h given back result run.DiskFault a b c count n is handed refuses told out came =
-      run_risen p h given back a b c count n handed (refuses (subst (λ (k : Result _ _). IsErrOf k run.DiskFault) (sym is) refl)).0 out came
-  run_failed p h given back result run.NoMemory a b c count n is handed refuses told out came = absurd (let no : ◌≡◌ {A = YardRefusal} NoMemory Fault = told in cc)

@@ -1,9 +1,10 @@
 -- What came of the run of a script over a yard.
-use Rattle.std.specs.Prelude.{◌≡◌, ℕ, List, [], ◌∷◌, ◌++◌, map, IsTrue}
+use Rattle.std.specs.Prelude.{◌≡◌, ℕ, List, [], ◌∷◌, ◌++◌, None, All, IsTrue}
 use Rattle.disk_model.specs.declared.disk.Disk.{Ghosts as DiskGhosts}
 use Rattle.object_store.specs.declared.store.Store.{Ghosts as StoreGhosts}
 use Rattle.meta_log.specs.declared.log.MetaLog.{Ghosts as MetaGhosts}
 use Rattle.plain_log.specs.declared.command.Config.{Config}
+use Rattle.plain_log.specs.Fresh.{fresh}
 use Rattle.plain_log.specs.declared.journal.JournalEntry.{JournalEntry}
 use Rattle.device_yard.specs.declared.came.Came.{Came}
 use Rattle.device_yard.specs.Control.{Control}
@@ -11,46 +12,57 @@ use Rattle.device_yard.specs.Held.{Held}
 use Rattle.partition_world.specs.declared.tier.Devices.{Devices}
 use Rattle.script_lang.specs.declared.script.PartScript.{PartScript}
 use Rattle.trace_text.specs.Trace.{journal_text, trace_of}
-use Rattle.yard_run.specs.Blank.{AreBlank}
+use Rattle.yard_run.specs.Handed.{HandsDevices}
 use Rattle.yard_run.specs.Run.{IsRun}
-use Rattle.yard_run.specs.Yard.{came_of, Holds, Uses}
+use Rattle.yard_run.specs.Opens.{OpensFresh}
+use Rattle.yard_run.specs.Reading.{AreRead, Suits, file_in}
+use Rattle.yard_run.specs.Yard.{cames_of, HoldsAll, Uses, IsUsed}
 
 module _ {D S M : Type 0} (disk : DiskGhosts D) (store : StoreGhosts S) (meta : MetaGhosts M) where
-  -- the counts with which a partition's devices come back
-  abbrev pub cames_of : Devices D S M → List Came
-  cames_of devices = map (came_of disk.control) devices.disks.items ++ came_of store.control devices.store ∷ came_of meta.control devices.meta ∷ []
-
-  -- a partition's number and journal: it was run on devices that came back with these counts; where the yard tells, they held
-  -- nothing at the beginning, and it holds them now
-  pub record IsRunIn (config : Config) (part : PartScript) (held : Held D S M) (run : ℕ × List JournalEntry) (came : List Came) : Type 0 where
+  -- A partition's number and journal: it was run on devices that came back with these counts. Where the yard tells, they had what it
+  -- held before, and it holds now what came back; and where no registry was there, the run began in the fresh state.
+  pub record IsRunIn (config : Config) (part : PartScript) (was held : Held D S M) (run : ℕ × List JournalEntry) (came : List Came) : Type 0 where
     pub partition : run.0 ≡ part.partition.0
     pub devices : Devices D S M
+    pub registry : D
     pub back : Devices D S M
-    pub is : IsRun disk store meta config part devices run.1 back
-    pub came_so : came ≡ cames_of back
-    pub blank : IsTrue held.tells → AreBlank disk store meta devices.disks.items devices.store devices.meta
-    pub kept : IsTrue held.tells → Holds part.partition back held
+    pub kept : D
+    pub is : IsRun disk store meta config part devices registry run.1 back kept
+    pub came_so : came ≡ cames_of disk store meta back kept
+    pub handed : IsTrue was.tells → HandsDevices disk store meta part.partition devices registry was
+    pub begun : IsTrue was.tells → file_in disk.content (was.registries part.partition) ≡ None
+        → OpensFresh disk store meta config devices registry (fresh config)
+    pub holds : IsTrue held.tells → HoldsAll disk.content part.partition back kept held
 
   -- the text is the trace of such a run, and each device that was handed out is back
-  pub record RunsIn (config : Config) (part : PartScript) (held : Held D S M) (text : List ℕ) (old new : Control) : Type 0 where
+  pub record RunsIn (config : Config) (part : PartScript) (was held : Held D S M) (text : List ℕ) (old new : Control) : Type 0 where
     pub run : ℕ × List JournalEntry
     pub came : List Came
-    pub is : IsRunIn config part held run came
+    pub is : IsRunIn config part was held run came
     pub spelled : text ≡ journal_text run.0 run.1
     pub uses : Uses came old new
 
   -- each partition has its run
-  abbrev pub AreRunsIn : Config → Held D S M → List PartScript → List (ℕ × List JournalEntry) → List Came → Type 0
-  AreRunsIn config held [] [] came = came ≡ []
-  AreRunsIn config held (part ∷ parts) (run ∷ runs) came =
-      (front : List Came) × (rest : List Came) × (came ≡ front ++ rest) × IsRunIn config part held run front × AreRunsIn config held parts runs rest
-  AreRunsIn config held [] (run ∷ runs) came = ⊥
-  AreRunsIn config held (part ∷ parts) [] came = ⊥
+  abbrev pub AreRunsIn : Config → Held D S M → Held D S M → List PartScript → List (ℕ × List JournalEntry) → List Came → Type 0
+  AreRunsIn config was held [] [] came = came ≡ []
+  AreRunsIn config was held (part ∷ parts) (run ∷ runs) came =
+      (front : List Came) × (rest : List Came) × (came ≡ front ++ rest) × IsRunIn config part was held run front × AreRunsIn config was held parts runs rest
+  AreRunsIn config was held [] (run ∷ runs) came = ⊥
+  AreRunsIn config was held (part ∷ parts) [] came = ⊥
 
   -- the text is the trace of a run of each partition, and each device that was handed out is back, in their order
-  pub record IsRunText (config : Config) (parts : List PartScript) (held : Held D S M) (text : List ℕ) (old new : Control) : Type 0 where
+  pub record IsRunText (config : Config) (parts : List PartScript) (was held : Held D S M) (text : List ℕ) (old new : Control) : Type 0 where
     pub runs : List (ℕ × List JournalEntry)
     pub came : List Came
-    pub are : AreRunsIn config held parts runs came
+    pub are : AreRunsIn config was held parts runs came
     pub spelled : text ≡ trace_of runs
     pub uses : Uses came old new
+
+  -- The registries were read first, which changed nothing; none refused the run, and then the partitions were run.
+  pub record IsReadAndRun (config : Config) (parts : List PartScript) (was held : Held D S M) (text : List ℕ) (old new : Control) : Type 0 where
+    pub found : Held D S M
+    pub asked : Control
+    pub same : IsTrue was.tells → AreRead disk.content store.content meta.content was found
+    pub suit : IsTrue was.tells → All (λ part. Suits disk.content store.content meta.content config.brokers found part.partition) parts
+    pub read : IsUsed old asked
+    pub text_is : IsRunText config parts found held text asked new

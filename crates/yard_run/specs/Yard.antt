@@ -6,19 +6,29 @@
 --   HandedOut n old new         so many devices went out
 --   CameBack came old new       devices came back with these counts
 --   Uses came old new           devices went out, and all are back with these counts
-use Rattle.std.specs.Prelude.{◌≡◌, ◌≢◌, ℕ, ◌+◌, ◌≤◌, if◌then◌else◌, List, [], ◌∷◌, ◌++◌, length, Some, slice_get, IsTrue}
+use Rattle.std.specs.Prelude.{◌≡◌, ◌≢◌, ℕ, ◌+◌, ◌≤◌, if◌then◌else◌, List, [], ◌∷◌, ◌++◌, map, length, Some, slice_get, IsTrue}
 use Rattle.tier_base.specs.Counts.{counted}
 use Rattle.tier_base.specs.Device.{Control as DeviceControl}
 use Rattle.tier_base.specs.declared.names.BrokerId.{BrokerId}
 use Rattle.tier_base.specs.declared.names.PartitionId.{PartitionId}
 use Rattle.device_yard.specs.declared.came.Came.{Came}
 use Rattle.device_yard.specs.Control.{Control, is_fault}
-use Rattle.device_yard.specs.Held.{Held}
+use Rattle.disk_model.specs.Content as disk
+use Rattle.disk_model.specs.declared.disk.Disk.{Ghosts as DiskGhosts}
+use Rattle.object_store.specs.declared.store.Store.{Ghosts as StoreGhosts}
+use Rattle.meta_log.specs.declared.log.MetaLog.{Ghosts as MetaGhosts}
+use Rattle.device_yard.specs.Held.{Held, HoldsDisk}
 use Rattle.partition_world.specs.declared.tier.Devices.{Devices}
 
 -- the counts with which a device comes back
 abbrev pub came_of : {T K : Type 0} {code : K → ℕ} → (T → DeviceControl code) → T → Came
 came_of control device = record { faults = (control device).faults; armed = (control device).armed }
+
+module _ {D S M : Type 0} (disk : DiskGhosts D) (store : StoreGhosts S) (meta : MetaGhosts M) where
+  -- the counts with which a partition's devices come back, the disk of its registry last
+  abbrev pub cames_of : Devices D S M → D → List Came
+  cames_of devices registry = (map (came_of disk.control) devices.disks.items ++ came_of store.control devices.store ∷ came_of meta.control devices.meta ∷ [])
+      ++ came_of disk.control registry ∷ []
 
 -- the faults of a yard after devices came back so
 abbrev pub faults_with : List Came → ℕ → ℕ
@@ -56,23 +66,25 @@ module _ {D S M : Type 0} where
     pub disks : (b : BrokerId) → new.disks p b ≡ old.disks p b
     pub store : new.stores p ≡ old.stores p
     pub log : new.logs p ≡ old.logs p
+    pub registry : new.registries p ≡ old.registries p
 
   -- it goes on telling or not, and where it tells
   pub record OnlyOf (partition : PartitionId) (old new : Held D S M) : Type 0 where
     pub tells : new.tells ≡ old.tells
     pub others : IsTrue old.tells → (p : PartitionId) → p ≢ partition → SameOf p old new
 
-  -- the partition's store and metadata log are where they were
+  -- the partition's other devices are where they were
   pub record KeepsRest (partition : PartitionId) (old new : Held D S M) : Type 0 where
     pub store : new.stores partition ≡ old.stores partition
     pub log : new.logs partition ≡ old.logs partition
+    pub registry : new.registries partition ≡ old.registries partition
 
   -- the disks of the partition's first so many brokers are back
   pub record KeepsDisks (partition : PartitionId) (disks : List D) (old new : Held D S M) : Type 0 where
     pub only : OnlyOf partition old new
     pub here : IsTrue old.tells → (b : BrokerId) (disk : D) → slice_get disks b.0 ≡ Some disk → new.disks partition b ≡ Some disk
 
-  -- the yard holds these devices of the partition
+  -- the yard holds these devices of the partition, but for the disk of its registry
   pub record Holds (partition : PartitionId) (devices : Devices D S M) (held : Held D S M) : Type 0 where
     pub disks : (b : BrokerId) (disk : D) → slice_get devices.disks.items b.0 ≡ Some disk → held.disks partition b ≡ Some disk
     pub store : held.stores partition ≡ Some devices.store
@@ -81,3 +93,13 @@ module _ {D S M : Type 0} where
   pub record KeepsDevices (partition : PartitionId) (devices : Devices D S M) (old new : Held D S M) : Type 0 where
     pub only : OnlyOf partition old new
     pub here : IsTrue old.tells → Holds partition devices new
+
+module _ {D S M : Type 0} (files : D → disk.Content) where
+  -- it holds all of them
+  pub record HoldsAll (partition : PartitionId) (devices : Devices D S M) (registry : D) (held : Held D S M) : Type 0 where
+    pub others : Holds partition devices held
+    pub file : HoldsDisk files registry (held.registries partition)
+
+  pub record KeepsAll (partition : PartitionId) (devices : Devices D S M) (registry : D) (old new : Held D S M) : Type 0 where
+    pub only : OnlyOf partition old new
+    pub here : IsTrue old.tells → HoldsAll partition devices registry new

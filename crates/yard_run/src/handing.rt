@@ -7,9 +7,9 @@ ghost use Rattle.tier_base.specs.Counts.{Rose};
 ghost use Rattle.tier_base.specs.declared.fault.Trouble.TheVariants.{Failed};
 ghost use Rattle.device_yard.specs.declared.came.Came.{Came};
 ghost use Rattle.yard_run.specs.Yard.{OnlyOf, HandedOut, KeepsRest, Uses};
-ghost use Rattle.yard_run.specs.Handed.{AreHandedDisks, AreHanded};
+ghost use Rattle.yard_run.specs.Handed.{AreHandedDisks, AreHanded, AreAllHanded};
 
-use crate::keeping::keep_disks;
+use crate::keeping::{keep, keep_disks};
 use device_yard::Yard;
 use partition_world::Devices;
 use std::alloc::Global;
@@ -28,6 +28,7 @@ fn hand_disks<Y: Yard>(
     ensures rest { OnOk result (IsTrue (Y.held yard.old).tells → KeepsRest partition (Y.held yard.old) (Y.held yard.new)) }
     ensures only { OnOk result (OnlyOf partition (Y.held yard.old) (Y.held yard.new)) }
     ensures tells { (Y.held yard.new).tells ≡ (Y.held yard.old).tells }
+    ensures unread { (Y.control yard.new).registries ≡ (Y.control yard.old).registries }
     ensures err { OnErr result ((came : List Came) × Uses came (Y.control yard.old) (Y.control yard.new)) }
     ensures cause { IsErrOf result Failed → Rose (Y.control yard.old).faults (Y.control yard.new).faults }
 {
@@ -44,8 +45,8 @@ fn hand_disks<Y: Yard>(
     Ok(disks)
 }
 
-/// Hands out a partition's devices, so many disks among them.
-pub(crate) fn hand_out<Y: Yard>(
+/// Hands out a partition's devices but the disk of its registry, so many disks among them.
+fn hand_devices<Y: Yard>(
     alloc: Global,
     yard: &mut Y,
     partition: PartitionId,
@@ -54,8 +55,11 @@ pub(crate) fn hand_out<Y: Yard>(
     requires few { count ≤ 8 }
     ensures devices { IfOk result (λ devices. AreHanded Y.D.Disk Y.S.Store Y.M.MetaLog partition count devices (Y.held yard.old)) }
     ensures control { OnOk result (HandedOut (count + 2) (Y.control yard.old) (Y.control yard.new)) }
+    ensures registry { OnOk result (IsTrue (Y.held yard.old).tells
+        → (Y.held yard.new).registries partition ≡ (Y.held yard.old).registries partition) }
     ensures only { OnOk result (OnlyOf partition (Y.held yard.old) (Y.held yard.new)) }
     ensures tells { (Y.held yard.new).tells ≡ (Y.held yard.old).tells }
+    ensures unread { (Y.control yard.new).registries ≡ (Y.control yard.old).registries }
     ensures err { OnErr result ((came : List Came) × Uses came (Y.control yard.old) (Y.control yard.new)) }
     ensures cause { IsErrOf result Failed → Rose (Y.control yard.old).faults (Y.control yard.new).faults }
 {
@@ -72,6 +76,32 @@ pub(crate) fn hand_out<Y: Yard>(
         Err(trouble) => {
             keep_disks(yard, partition, disks);
             yard.keep_store(partition, store);
+            Err(trouble)
+        }
+    }
+}
+
+/// Hands out a partition's devices, so many disks among them, and the disk of its registry.
+pub(crate) fn hand_out<Y: Yard>(
+    alloc: Global,
+    yard: &mut Y,
+    partition: PartitionId,
+    count: u16,
+) -> Result<(Devices<Y::D, Y::S, Y::M>, Y::D), Trouble>
+    requires few { count ≤ 8 }
+    ensures devices { IfOk result (λ all. AreAllHanded Y.D.Disk Y.S.Store Y.M.MetaLog partition count all.0 all.1 (Y.held yard.old)) }
+    ensures control { OnOk result (HandedOut (count + 3) (Y.control yard.old) (Y.control yard.new)) }
+    ensures only { OnOk result (OnlyOf partition (Y.held yard.old) (Y.held yard.new)) }
+    ensures tells { (Y.held yard.new).tells ≡ (Y.held yard.old).tells }
+    ensures unread { (Y.control yard.new).registries ≡ (Y.control yard.old).registries }
+    ensures err { OnErr result ((came : List Came) × Uses came (Y.control yard.old) (Y.control yard.new)) }
+    ensures cause { IsErrOf result Failed → Rose (Y.control yard.old).faults (Y.control yard.new).faults }
+{
+    let devices = hand_devices(alloc, yard, partition, count)?;
+    match yard.registry(partition) {
+        Ok(registry) => Ok((devices, registry)),
+        Err(trouble) => {
+            keep(yard, partition, devices);
             Err(trouble)
         }
     }

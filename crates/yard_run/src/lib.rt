@@ -10,12 +10,13 @@
 //! (`specs/Runs.antt`).
 #![tactic(auto)]
 
+mod checking;
 mod handing;
 mod keeping;
 mod refusal;
 mod running;
 mod runs;
 
-pub use refusal::{RunRefusal, YardRefusal};
+pub use refusal::YardRefusal;
 pub use running::run_on;
 pub use runs::{joined, run_in_yard};

@@ -1,25 +1,29 @@
-//! Why a partition could not be run to its end, and why a script could not be run over a yard.
+//! Why a script could not be run over a yard.
 
 ghost use Rattle.std.specs.Prelude.{◌≡◌};
-ghost use Rattle.yard_run.specs.Refusals.{of_trouble, of_run};
+ghost use Rattle.yard_run.specs.Refusals.{of_trouble, of_cold};
 
-use tier_base::Trouble;
-
-/// Why a partition could not be run to its end. Its devices come back.
-#[derive(Clone, Copy, Debug, PartialEq, Eq)]
-pub enum RunRefusal {
-    /// A disk failed before the first command. No device's plan of faults was in force yet.
-    DiskFault,
-    /// There was no memory.
-    NoMemory,
-}
+use cold_start::ColdRefusal;
+use tier_base::{PartitionId, Trouble};
 
 /// Why a script could not be run over a yard. Each device that was handed out is back.
 #[derive(Clone, Copy, Debug, PartialEq, Eq)]
 pub enum YardRefusal {
-    /// A call of the yard failed, or one of a disk that was handed out, before the partition's first command.
+    /// A call of the yard failed, or one of the disk of a partition's registry; or one of another device of a partition, before
+    /// its first command.
     Fault,
-    /// There was no memory.
+    /// The registry of this partition, the first such, was kept for another count of brokers than the script has.
+    Mismatch {
+        partition: PartitionId,
+        kept: u16,
+        asked: u16,
+    },
+    /// The file of this partition's registry, the first such, is invalid: its first fault is at this byte.
+    BadRegistry {
+        partition: PartitionId,
+        at: u32,
+    },
+    /// Out of memory.
     NoMemory,
 }
 
@@ -34,13 +38,18 @@ impl From<Trouble> for YardRefusal {
     }
 }
 
-impl From<RunRefusal> for YardRefusal {
-    fn from(refusal: RunRefusal) -> YardRefusal
-        ensures { result ≡ of_run refusal }
-    {
-        match refusal {
-            RunRefusal::DiskFault => YardRefusal::Fault,
-            RunRefusal::NoMemory => YardRefusal::NoMemory,
-        }
+/// The refusal of a script one of whose partitions was refused so.
+pub(crate) fn refused(partition: PartitionId, why: ColdRefusal) -> YardRefusal
+    ensures { result ≡ of_cold partition why }
+{
+    match why {
+        ColdRefusal::RegistryFault | ColdRefusal::DeviceFault => YardRefusal::Fault,
+        ColdRefusal::BadRegistry { at } => YardRefusal::BadRegistry { partition, at },
+        ColdRefusal::Brokers { kept, asked } => YardRefusal::Mismatch {
+            partition,
+            kept,
+            asked,
+        },
+        ColdRefusal::NoMemory => YardRefusal::NoMemory,
     }
 }

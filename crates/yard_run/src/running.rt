@@ -1,79 +1,83 @@
 //! The run of a partition, from its devices to its trace.
 
-ghost use Rattle.std.specs.Prelude.{◌≡◌, length, IfOk, IfErr, OnOk, IsErrOf};
+ghost use Rattle.std.specs.Prelude.{◌≡◌, ◌⊎◌, false, length, All, IfOk, IfErr, OnOk};
+ghost use Rattle.tier_base.specs.Device.{IsFresh, Lasts};
 ghost use Rattle.plain_log.specs.Orders.{AreListsFor, IsConfig};
 ghost use Rattle.script_lang.specs.Fit.{StepsToEnds};
-ghost use Rattle.partition_turns.specs.Fresh.{AreFreshDisks, Refuses};
-ghost use Rattle.partition_turns.specs.declared.refusal.WorldRefusal.TheVariants as world;
 ghost use Rattle.partition_world.specs.Later.{IsLater};
 ghost use Rattle.partition_world.specs.Reaches.{Reaches};
 ghost use Rattle.trace_text.specs.Trace.{journal_text};
+ghost use Rattle.cold_start.specs.Opening.{AreUnarmed};
+ghost use Rattle.cold_start.specs.Stepping.{Halts};
+ghost use Rattle.cold_start.specs.declared.refusal.ColdRefusal.TheVariants as refusal;
 ghost use Rattle.yard_run.specs.Run.{IsRunText};
-ghost use Rattle.yard_run.specs.declared.refusal.RunRefusal.TheVariants as refusal;
+ghost use Rattle.yard_run.specs.Refusals.{IsRefused};
 
-use crate::refusal::RunRefusal;
+use cold_start::{Cold, ColdRefusal, run_cold};
 use command_answers::{reaches_counted, runs_meet_no_damage};
 use disk_model::Disk;
 use meta_log::MetaLog;
 use object_store::Store;
-use partition_world::{
-    Devices, World, WorldRefusal, ends_are_answered, ends_are_complete, fresh_is_central,
-    reaches_in_turn, reaches_later, run_in_order,
-};
+use partition_world::{Devices, ends_are_answered, reaches_in_turn, reaches_later};
 use plain_log::{Config, Pace, fresh_is_safe, replays_keep_safe};
 use script_lang::PartScript;
 use std::alloc::Global;
 use tier_base::PartitionId;
 use trace_text::print;
 
-/// Steps a world's actors as a schedule says, and prints what they were answered.
+/// Steps a partition's actors as a schedule says, and prints what they were answered.
 fn trace<D: Disk, S: Store, M: MetaLog>(
     alloc: Global,
-    world: &mut World<D, S, M>,
+    cold: &mut Cold<D, S, M>,
     partition: PartitionId,
     schedule: &[Pace],
-) -> Result<Vec<u8>, RunRefusal>
-    ensures later { IsLater D.Disk S.Store M.MetaLog world.old world.new }
-    ensures reaches { OnOk result (Reaches D.Disk S.Store M.MetaLog world.old schedule.now world.new) }
-    ensures text { IfOk result (λ text. text.items ≡ journal_text partition.0 world.new.journal.items) }
-    ensures memory { IfErr result (λ why. why ≡ refusal.NoMemory) }
+) -> Result<Vec<u8>, ColdRefusal>
+    requires { cold.old.ended ≡ false }
+    ensures later { IsLater D.Disk S.Store M.MetaLog cold.old.world cold.new.world }
+    ensures reaches { OnOk result (Reaches D.Disk S.Store M.MetaLog cold.old.world schedule.now cold.new.world) }
+    ensures going { OnOk result (cold.new.ended ≡ false) }
+    ensures text { IfOk result (λ text. text.items ≡ journal_text partition.0 cold.new.world.journal.items) }
+    ensures err { IfErr result (λ why. Halts D.Disk S.Store M.MetaLog cold.old cold.new why) }
+    ensures control { Lasts (D.control cold.old.reg) (D.control cold.new.reg) }
+    ensures told { (D.content cold.new.reg).tells ≡ (D.content cold.old.reg).tells }
 {
-    if run_in_order(alloc, world, schedule).is_err() {
-        return Err(RunRefusal::NoMemory);
+    match run_cold(alloc, cold, schedule) {
+        Ok(()) => {}
+        Err(why) => return Err(why),
     }
-    match print(alloc, partition, world.journal()) {
+    match print(alloc, partition, cold.world().journal()) {
         Ok(text) => Ok(text),
-        Err(_) => Err(RunRefusal::NoMemory),
+        Err(_) => Err(ColdRefusal::NoMemory),
     }
 }
 
-/// Runs a partition's lists on a fresh world over these devices, by its schedule, and gives them back with the trace. What
-/// faults the script plans isn't looked at: the devices have their own.
+/// Runs a partition's lists over its devices and the disk of its registry, by its schedule, and gives them back with the trace.
+/// It goes on where an earlier run ended, and begins at the beginning where nothing was ever kept. What faults the script plans
+/// isn't looked at: the devices have their own.
 pub fn run_on<D: Disk, S: Store, M: MetaLog>(
     alloc: Global,
     config: Config,
     part: PartScript,
     devices: Devices<D, S, M>,
-) -> (Devices<D, S, M>, Result<Vec<u8>, RunRefusal>)
+    registry: D,
+) -> (Devices<D, S, M>, D, Result<Vec<u8>, ColdRefusal>)
     requires config { IsConfig config }
     requires fit { AreListsFor config part.lists }
     requires ends { StepsToEnds part }
     requires count { length devices.disks.items ≡ config.brokers }
-    requires disks { AreFreshDisks D.content D.control devices.disks.items }
-    ensures text { IfOk result.1 (λ text. IsRunText D.Disk S.Store M.MetaLog config part devices text.items result.0) }
-
-    // A fault comes before the plans are in force, and only where a disk counted it.
-    ensures fault { IsErrOf result.1 refusal.DiskFault → Refuses D.control devices.disks.items result.0.disks.items world.DiskFault
-        × (result.0.store ≡ devices.store) × (result.0.meta ≡ devices.meta) }
+    requires disks { AreUnarmed D.control devices.disks.items }
+    requires unarmed { (D.control registry).armed ≡ false }
+    ensures text { IfOk result.2 (λ text. IsRunText D.Disk S.Store M.MetaLog config part devices registry text.items
+        result.0 result.1) }
+    ensures refused { IfErr result.2 (λ why. IsRefused D.Disk M.MetaLog config.brokers devices registry result.0 result.1 why) }
     ensures count { length result.0.disks.items ≡ config.brokers }
+    ensures unarmed { (D.control result.1).armed ≡ false }
 {
-    ends_are_complete::<D, S, M>();
     ends_are_answered::<D, S, M>();
     reaches_later::<D, S, M>();
     reaches_in_turn::<D, S, M>();
     reaches_counted::<D, S, M>();
     runs_meet_no_damage::<D, S, M>();
-    fresh_is_central::<D, S, M>();
     fresh_is_safe();
     replays_keep_safe();
     let PartScript {
@@ -82,13 +86,13 @@ pub fn run_on<D: Disk, S: Store, M: MetaLog>(
         schedule,
         ..
     } = part;
-    match World::fresh(alloc, partition, config, lists, devices) {
-        Ok(made) => {
-            let mut world = made;
-            let text = trace(alloc, &mut world, partition, schedule.as_slice());
-            (world.close(), text)
+    match Cold::open(alloc, partition, config, lists, devices, registry) {
+        Ok(opened) => {
+            let mut cold = opened;
+            let text = trace(alloc, &mut cold, partition, schedule.as_slice());
+            let (devices, registry) = cold.close();
+            (devices, registry, text)
         }
-        Err((devices, WorldRefusal::DiskFault)) => (devices, Err(RunRefusal::DiskFault)),
-        Err((devices, WorldRefusal::NoMemory)) => (devices, Err(RunRefusal::NoMemory)),
+        Err((devices, registry, why)) => (devices, registry, Err(why)),
     }
 }

@@ -14,6 +14,7 @@ loop-disk-init g c =
       many = (let long = gives.1 in omega (arith, same, long));
       at = refl;
       control = came_none _;
+      unread = refl;
       held = keeps_none c.args.partition _;
     }
 
@@ -43,6 +44,7 @@ loop-disk-preserved g c =
       at = (let one = length_snoc at.done c.in-Some.disk in let was = at.at in omega (arith, one, was));
       control = control_more (came_of g.Y.D.Disk.control) at.done c.in-Some.disk (g.Y.Yard.control c.args.yard.now) (g.Y.Yard.control c.loop-disk.yard) (g.Y.Yard.control c.keep_disk.new.self)
           at.control c.keep_disk.ensures.control;
+      unread = c.keep_disk.ensures.control.registries ∙ at.unread;
       held = keeps_more c.args.partition at.done c.in-Some.disk (record { 0 = c.loop-disk.broker }) (g.Y.Yard.held c.args.yard.now) (g.Y.Yard.held c.loop-disk.yard) (g.Y.Yard.held c.keep_disk.new.self) at.at at.held c.keep_disk.ensures.tells c.keep_disk.ensures.held;
     }
 
@@ -52,5 +54,6 @@ returns g c =
     let all : at.done ≡ c.args.disks.items = nothing_left at.done (into_iter_items c.loop-disk.disk-iterator) c.args.disks.items at.over (omega (arith, at.many, c.in-None.ensures.steps.0)) in
     record {
       control = control_all (came_of g.Y.D.Disk.control) at.done c.args.disks.items _ _ all at.control;
+      unread = at.unread;
       held = keeps_all c.args.partition at.done c.args.disks.items _ _ all at.held;
     }

@@ -10,5 +10,6 @@ invariant-loop-disk g l = record {
   many : into_iter_len l.disk-iterator ≡ length (into_iter_items l.disk-iterator);
   at : l.broker ≡ length done;
   control : CameBack (map (came_of g.Y.D.Disk.control) done) (g.Y.Yard.control l.fn.yard) (g.Y.Yard.control l.yard);
+  unread : (g.Y.Yard.control l.yard).registries ≡ (g.Y.Yard.control l.fn.yard).registries;
   held : KeepsDisks l.fn.partition done (g.Y.Yard.held l.fn.yard) (g.Y.Yard.held l.yard);
 }

@@ -1,5 +1,5 @@
 use Rattle.yard_run.proofs.Ran.{SoFar}
-use Rattle.yard_run.proofs.runs.run_in_yard.Given as goal
+use Rattle.yard_run.proofs.runs.run_parts.Given as goal
 
 abbrev pub invariant-loop-part : goal.invariant-loop-part
 invariant-loop-part g l = SoFar g.Y.D.Disk g.Y.S.Store g.Y.M.MetaLog l.fn.config l.fn.parts l.part-iterator.rest.items (g.Y.Yard.held l.fn.yard) (g.Y.Yard.held l.yard)

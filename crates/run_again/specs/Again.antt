@@ -1,0 +1,46 @@
+-- Runs over a yard one after another.
+--
+--   form                 says
+--   StandsIn n held p q  whatever the yard hands out of the partition, with so many disks, stands for the plain state q
+--   GoesOn .. q journal  the journal is a run of the plain log from q, and the yard holds what is left of the state it leads to
+--   RunsContinue         each run over a yard is so from each state that what the yard held stands for
+use Rattle.std.specs.Prelude.{◌≡◌, ℕ, List, None, length, IsTrue}
+use Rattle.tier_base.specs.declared.names.PartitionId.{PartitionId}
+use Rattle.disk_model.specs.declared.disk.Disk.{Ghosts as DiskGhosts}
+use Rattle.object_store.specs.declared.store.Store.{Ghosts as StoreGhosts}
+use Rattle.meta_log.specs.declared.log.MetaLog.{Ghosts as MetaGhosts}
+use Rattle.plain_log.specs.declared.command.Config.{Config}
+use Rattle.plain_log.specs.declared.journal.JournalEntry.{JournalEntry}
+use Rattle.plain_log.specs.declared.state.State.{State}
+use Rattle.plain_log.specs.Fresh.{fresh}
+use Rattle.device_yard.specs.declared.came.Came.{Came}
+use Rattle.device_yard.specs.Held.{Held}
+use Rattle.partition_world.specs.declared.tier.Devices.{Devices}
+use Rattle.script_lang.specs.declared.script.PartScript.{PartScript}
+use Rattle.cold_start.specs.Cold.{cold_of}
+use Rattle.cold_start.specs.Stands.{StandsFor}
+use Rattle.yard_run.specs.Handed.{HandsDevices}
+use Rattle.yard_run.specs.Reading.{file_in}
+use Rattle.yard_run.specs.Run.{IsLogRun}
+use Rattle.yard_run.specs.Runs.{IsRunIn}
+
+module _ {D S M : Type 0} (disk : DiskGhosts D) (store : StoreGhosts S) (meta : MetaGhosts M) where
+  -- whatever devices, so many disks among them, have what the yard holds of the partition, they stand for this plain state
+  abbrev pub StandsIn : ℕ → Held D S M → PartitionId → State → Type 0
+  StandsIn count held partition q = (devices : Devices D S M) (registry : D) → length devices.disks.items ≡ count
+      → HandsDevices disk store meta partition devices registry held
+      → StandsFor disk store meta partition devices.disks.items devices.store devices.meta registry q
+
+  -- the journal is a run of the plain log from this state, and the yard holds what is left of the state that it leads to
+  pub record GoesOn (config : Config) (part : PartScript) (held : Held D S M) (journal : List JournalEntry) (q : State) : Type 0 where
+    pub log_run : IsLogRun q part.lists journal
+    pub stand : StandsIn config.brokers held part.partition (cold_of log_run.last)
+
+  -- each run over a yard that tells goes on from each state that what was held stands for, and else from the fresh one
+  pub record Continues (config : Config) (part : PartScript) (was held : Held D S M) (journal : List JournalEntry) : Type 0 where
+    pub from : (q : State) → StandsIn config.brokers was part.partition q → GoesOn config part held journal q
+    pub begun : file_in disk.content (was.registries part.partition) ≡ None → GoesOn config part held journal (fresh config)
+
+  abbrev pub RunsContinue : Type 0
+  RunsContinue = (config : Config) (part : PartScript) (was held : Held D S M) (run : ℕ × List JournalEntry) (came : List Came)
+      → IsRunIn disk store meta config part was held run came → IsTrue was.tells → IsTrue held.tells → Continues config part was held run.1

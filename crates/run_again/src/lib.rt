@@ -1,0 +1,10 @@
+//! Runs over a yard one after another.
+//!
+//! A run over a yard begins in each plain state that the yard's devices of its partition stand for, and leaves devices that
+//! stand for what a stop of everything leaves of the state that it came to. So the runs over a folder are one run of the plain
+//! log, with a cold start between each two of them.
+#![tactic(auto)]
+
+mod laws;
+
+pub use laws::runs_continue;
