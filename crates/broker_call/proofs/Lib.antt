@@ -1,5 +1,6 @@
 mod Audited
 mod Numerals
+mod Refused
 mod Refusing
 mod Running
 mod Telling

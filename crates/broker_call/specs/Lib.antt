@@ -1,4 +1,5 @@
 pub mod Words
+pub mod Statuses
 pub mod Headline
 pub mod Running
 pub mod Threads

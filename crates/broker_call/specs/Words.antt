@@ -42,6 +42,15 @@ form_in (word ∷ second ∷ []) =
     else if bytes_eq word (codes "gen") then option_map Gen (number_of second) else None
 form_in other = None
 
+-- the folder of a few words: the second one, or else the one in which the program runs
+abbrev pub folder_in : List (List ℕ) → List ℕ
+folder_in (word ∷ second ∷ more) = second
+folder_in other = codes "."
+
+-- the folder of the words
+abbrev pub folder_of : List (String Global) → List ℕ
+folder_of words = folder_in (map string_bytes words)
+
 -- the form of the words
 abbrev pub form_of : List (String Global) → Option Form
 form_of words = form_in (map string_bytes words)

@@ -8,6 +8,7 @@ use Rattle.tier_base.specs.Counts.{counted, Rose}
 use Rattle.tier_base.specs.Stream.{Gave, ReadsWhole, AppendsFront}
 use Rattle.tier_base.specs.declared.stream.Source.{Ghosts as SourceGhosts}
 use Rattle.tier_base.specs.declared.stream.Sink.{Ghosts as SinkGhosts}
+use Rattle.tier_base.specs.declared.names.PartitionId.{PartitionId}
 use Rattle.disk_model.specs.declared.disk.Disk.{Ghosts as DiskGhosts}
 use Rattle.object_store.specs.declared.store.Store.{Ghosts as StoreGhosts}
 use Rattle.meta_log.specs.declared.log.MetaLog.{Ghosts as MetaGhosts}
@@ -16,30 +17,46 @@ use Rattle.device_yard.specs.Held.{Held, IsFirst, IsName, Same}
 use Rattle.script_lang.specs.declared.refusal.Why.{Why}
 use Rattle.script_lang.specs.declared.script.Script.{Script}
 use Rattle.script_lang.specs.Script.{script_in}
-use Rattle.yard_run.specs.Runs.{IsRunText}
+use Rattle.yard_run.specs.Reading.{IsRefusedSo}
+use Rattle.yard_run.specs.Runs.{IsReadAndRun}
+use Rattle.yard_run.specs.declared.refusal.YardRefusal.{YardRefusal}
+use Rattle.yard_run.specs.declared.refusal.YardRefusal.TheVariants as refusal
 use Rattle.broker_call.specs.declared.status.Status.{Status}
 use Rattle.broker_call.specs.declared.status.Status.TheVariants as ending
 use Rattle.broker_call.specs.Headline.{ReadsGood, ReadsBad}
 use Rattle.broker_call.specs.Endings.{script_limit, IsOfSim, IsRefusedOrNoMemory, IsTooLongOrNoMemory}
 
--- a status that tells of the yard
+-- a status whose cause is the yard, or a registry in it
 abbrev pub IsOfYard : Status → Type 0
 IsOfYard ending.YardFault = Unit {0}
 IsOfYard (ending.NotEmpty name) = Unit {0}
+IsOfYard (ending.Mismatch partition kept asked) = Unit {0}
+IsOfYard (ending.BadRegistry partition at) = Unit {0}
 IsOfYard other = ⊥
 
 -- a status of `run`: the yard's, or one of `sim`
 abbrev pub IsOfRun : Status → Type 0
 IsOfRun ending.YardFault = Unit {0}
 IsOfRun (ending.NotEmpty name) = Unit {0}
+IsOfRun (ending.Mismatch partition kept asked) = Unit {0}
+IsOfRun (ending.BadRegistry partition at) = Unit {0}
 IsOfRun other = IsOfSim other
 
--- all was done, or the yard has this name, or there was no memory
+-- all was done, or the yard has this name, or a registry refuses the run, or there was no memory
 abbrev pub IsDoneOrNamed : Option (List ℕ) → Status → Type 0
 IsDoneOrNamed named ending.Ok = Unit {0}
 IsDoneOrNamed named ending.NoMemory = Unit {0}
 IsDoneOrNamed named (ending.NotEmpty name) = named ≡ Some name
+IsDoneOrNamed named (ending.Mismatch partition kept asked) = Unit {0}
+IsDoneOrNamed named (ending.BadRegistry partition at) = Unit {0}
 IsDoneOrNamed named other = ⊥
+
+-- the status of a run over a yard that was refused so
+abbrev pub ended : YardRefusal → Status
+ended refusal.Fault = ending.YardFault
+ended (refusal.Mismatch partition kept asked) = ending.Mismatch partition kept asked
+ended (refusal.BadRegistry partition at) = ending.BadRegistry partition at
+ended refusal.NoMemory = ending.NoMemory
 
 -- the script wasn't read to its end, or has no reading
 abbrev pub IsOfScript : Status → Type 0
@@ -55,26 +72,48 @@ module _ {D S M : Type 0} (disk : DiskGhosts D) (store : StoreGhosts S) (meta : 
     pub same : Same disk.content store.content meta.content held held'
     pub first : IsTrue held.tells → IsFirst (IsName disk.content store.content meta.content held) (Some name)
 
-  -- why a script that was read isn't run to its end: the yard has a name, or it failed, or there was no memory
-  abbrev pub StopsOver : Held D S M → Held D S M → Control → Control → Status → Type 0
-  StopsOver held held' control control' (ending.NotEmpty name) = AnswersName name held held' control control'
-  StopsOver held held' control control' ending.YardFault = Rose control.faults control'.faults
-  StopsOver held held' control control' ending.NoMemory = Unit {0}
-  StopsOver held held' control control' other = ⊥
+  -- the yard answered no name and holds what it held, and then a partition's registry refused a run with so many brokers
+  pub record RegistryRefuses (brokers : ℕ) (why : YardRefusal) (held held' : Held D S M) (control control' : Control) : Type 0 where
+    pub asked : Control
+    pub names : Names (Ok None) control asked
+    pub found : Held D S M
+    pub same : Same disk.content store.content meta.content held found
+    pub refused : IsRefusedSo disk.content store.content meta.content brokers found held' asked control' why
+
+  -- why a script for so many brokers isn't run to its end: the yard has a name, or it failed, or a registry refuses it, or there was
+  -- no memory
+  abbrev pub StopsOver : ℕ → Held D S M → Held D S M → Control → Control → Status → Type 0
+  StopsOver brokers held held' control control' (ending.NotEmpty name) = AnswersName name held held' control control'
+  StopsOver brokers held held' control control' ending.YardFault = Rose control.faults control'.faults
+  StopsOver brokers held held' control control' ending.NoMemory = Unit {0}
+  StopsOver brokers held held' control control' (ending.Mismatch partition kept asked) =
+      RegistryRefuses brokers (refusal.Mismatch partition kept asked) held held' control control'
+  StopsOver brokers held held' control control' (ending.BadRegistry partition at) =
+      RegistryRefuses brokers (refusal.BadRegistry partition at) held held' control control'
+  StopsOver brokers held held' control control' other = ⊥
+
+  -- the script has this reading, and isn't run to its end
+  pub record ReadsAndStops (reading : Result Script (ℕ × Why)) (held held' : Held D S M) (control control' : Control) (status : Status)
+      : Type 0 where
+    pub script : Script
+    pub read : reading ≡ Ok script
+    pub stops : StopsOver script.config.brokers held held' control control' status
 
   -- why there is no trace of a script with this reading: it has none, or it isn't run to its end
   abbrev pub HasNoTrace : Result Script (ℕ × Why) → Held D S M → Held D S M → Control → Control → Status → Type 0
   HasNoTrace reading held held' control control' (ending.BadScript line why) = reading ≡ Err (line, why)
   HasNoTrace reading held held' control control' ending.NoMemory = Unit {0}
-  HasNoTrace reading held held' control control' other = IsOk reading × StopsOver held held' control control' other
+  HasNoTrace reading held held' control control' other = ReadsAndStops reading held held' control control' other
 
-  -- the yard names nothing, and then the text is the trace of a run of each partition of the script over the yard's devices,
-  -- which are all back
+  -- the yard names nothing and holds what it held, and then the text is the trace of a run of each partition of the script over
+  -- the yard's devices, which are all back
   pub record RunsOver (script : Script) (text : List ℕ) (held held' : Held D S M) (control control' : Control) : Type 0 where
     pub asked : Control
     pub names : Names (Ok None) control asked
     pub nameless : IsTrue held.tells → IsFirst (IsName disk.content store.content meta.content held) None
-    pub text_is : IsRunText disk store meta script.config script.parts held' text asked control'
+    pub found : Held D S M
+    pub same : Same disk.content store.content meta.content held found
+    pub text_is : IsReadAndRun disk store meta script.config script.parts found held' text asked control'
 
   -- so it is with the script that these bytes are
   pub record IsTraceOver (bytes text : List ℕ) (held held' : Held D S M) (control control' : Control) : Type 0 where
@@ -100,6 +139,15 @@ module _ {D S M : Type 0} (disk : DiskGhosts D) (store : StoreGhosts S) (meta : 
     pub trace : IsTraceOver script text held held' control control'
     pub written : AppendsFront sunk sunk' text
 
+  -- the source was read to its end, and a partition's registry refused the run of what it gave
+  pub record RefusedByRegistry (left left' : Option (List ℕ)) (why : YardRefusal) (held held' : Held D S M) (control control' : Control)
+      : Type 0 where
+    pub bytes : List ℕ
+    pub read : ReadsWhole left left' bytes
+    pub script : Script
+    pub reading : script_in bytes ≡ Ok script
+    pub refuses : RegistryRefuses script.config.brokers why held held' control control'
+
 module _ {D S M R W : Type 0} (disk : DiskGhosts D) (store : StoreGhosts S) (meta : MetaGhosts M) (source : SourceGhosts R)
     (sink : SinkGhosts W) where
   -- `run`, from a source to a sink
@@ -124,11 +172,17 @@ module _ {D S M R W : Type 0} (disk : DiskGhosts D) (store : StoreGhosts S) (met
     pub not_empty : (name : List ℕ) → status ≡ ending.NotEmpty name
         → AnswersName disk store meta name held held' control control'
     pub yard_fault : status ≡ ending.YardFault → Rose control.faults control'.faults
+    pub mismatch : (partition : PartitionId) (kept asked : ℕ) → status ≡ ending.Mismatch partition kept asked
+        → RefusedByRegistry disk store meta (source.left script) (source.left script') (refusal.Mismatch partition kept asked)
+        held held' control control'
+    pub bad_registry : (partition : PartitionId) (at : ℕ) → status ≡ ending.BadRegistry partition at
+        → RefusedByRegistry disk store meta (source.left script) (source.left script') (refusal.BadRegistry partition at)
+        held held' control control'
     pub write_fault : status ≡ ending.WriteFault → Rose (sink.faults out) (sink.faults out')
     pub front : status ≡ ending.WriteFault
         → WritesFrontOver disk store meta (source.left script) (source.left script') held held' control control'
         (sink.written out) (sink.written out')
-    -- where nothing fails, a script with a reading is run, unless the yard has a name or memory runs out
+    -- where nothing fails, a script with a reading is run, unless the yard has a name, a registry refuses it or memory runs out
     pub complete : ¬ Rose (source.faults script) (source.faults script') → ¬ Rose control.faults control'.faults
         → ¬ Rose (sink.faults out) (sink.faults out') → (bytes : List ℕ) → source.left script ≡ Some bytes
         → length bytes ≤ script_limit → IsOk (script_in bytes) → IsDoneOrNamed control'.named status

@@ -7,7 +7,7 @@ tiered: runs scripts on a Kafka log in a local and a remote tier
 usage:
   tiered sim < SCRIPT            run a script in memory and write its trace
   tiered sim --threads < SCRIPT  the same with a thread for each actor; the system's schedule replaces the script's
-  tiered run DIR < SCRIPT        run a script over the directory DIR, which must be empty
+  tiered run DIR < SCRIPT        run a script over the directory DIR: empty, or what earlier runs left
   tiered gen N                   run the load of number N (0 to 4294967295) and write a summary
   tiered audit DIR               check the remote tiers in DIR and report on each partition
   tiered sweep DIR               remove what unfinished copies and deletions left in the remote tiers in DIR
@@ -23,8 +23,10 @@ exit status:
   6  out of memory
   7  the script has more than 16777216 bytes
   8  a call in the directory failed
-  9  the directory isn't empty
+  9  the directory has something that isn't a run's, or a partition without its registry
   10 a remote tier isn't sound
+  11 a partition was kept for another count of brokers
+  12 a partition's registry is damaged
 
 documents:
   README.md       what the program does, and what is proved of it
@@ -33,7 +35,7 @@ documents:
 ";
 
 /// What `--version` prints.
-const VERSION: &str = "tiered 0.2.0\n";
+const VERSION: &str = "tiered 0.3.0\n";
 
 /// What the words of the program itself print, if they are such.
 pub fn printed(words: &[String]) -> Option<&'static str> {

@@ -4,35 +4,33 @@
 //! is as it was where the script has no reading, and holds what it held where it answers a name. The trace is made whole before
 //! its first byte is written.
 
-ghost use Rattle.std.specs.Prelude.{◌≡◌, ◌<◌, ◌-◌, ◌^◌, Ok, None, length, IfOk, IfErr, OnOk, IsTrue};
+ghost use Rattle.std.specs.Prelude.{◌≡◌, ◌<◌, ◌-◌, ◌^◌, ℕ, Ok, None, length, IfOk, IfErr, OnOk, IsTrue};
 ghost use Rattle.script_lang.specs.Fit.{IsFit};
 ghost use Rattle.script_lang.specs.Script.{script_in};
 ghost use Rattle.device_yard.specs.Control.{Names};
-ghost use Rattle.device_yard.specs.Held.{IsFirst, IsName, IsUnusedFrom};
-ghost use Rattle.broker_call.specs.Yards.{IsOfScript, StopsOver, HasNoTrace, RunsOver, IsTraceOver, RunsInYard};
+ghost use Rattle.device_yard.specs.Held.{IsFirst, IsName, Same};
+ghost use Rattle.yard_run.specs.Reading.{IsRefusedSo};
+ghost use Rattle.broker_call.specs.Yards.{ended, IsOfScript, AnswersName, StopsOver, HasNoTrace, RunsOver, IsTraceOver, RunsInYard};
 
 use crate::sim::SCRIPT_LIMIT;
 use crate::status::Status;
-use device_yard::{Yard, nameless_is_unused, same_stays_unused};
+use device_yard::Yard;
 use script_lang::{Script, ScriptRefusal, parse};
 use std::alloc::Global;
 use tier_base::{ReadRefusal, Sink, Source, Trouble, read_all, write_all};
 use yard_run::{YardRefusal, run_in_yard};
 
-/// Asks a yard for a name. Where it has none, no partition of it is used.
+/// Asks a yard for a name.
 fn ask<Y: Yard>(yard: &mut Y) -> Result<(), Status>
     ensures names { OnOk result (Names (Ok None) (Y.control yard.old) (Y.control yard.new)) }
     ensures nameless { OnOk result (IsTrue (Y.held yard.old).tells
         → IsFirst (IsName Y.D.content Y.S.content Y.M.content (Y.held yard.old)) None) }
-    ensures unused { OnOk result (IsTrue (Y.held yard.new).tells
-        → IsUnusedFrom Y.D.content Y.S.content Y.M.content 0 (Y.held yard.new)) }
-    ensures stops { IfErr result (StopsOver Y.D.Disk Y.S.Store Y.M.MetaLog (Y.held yard.old) (Y.held yard.new)
-        (Y.control yard.old) (Y.control yard.new)) }
+    ensures same { OnOk result (Same Y.D.content Y.S.content Y.M.content (Y.held yard.old) (Y.held yard.new)) }
+    ensures stops { IfErr result (λ status. (brokers : ℕ) → StopsOver Y.D.Disk Y.S.Store Y.M.MetaLog brokers (Y.held yard.old)
+        (Y.held yard.new) (Y.control yard.old) (Y.control yard.new) status) }
     ensures out { (Y.control yard.new).out ≡ (Y.control yard.old).out }
     ensures tells { (Y.held yard.new).tells ≡ (Y.held yard.old).tells }
 {
-    nameless_is_unused::<Y::D, Y::S, Y::M>();
-    same_stays_unused::<Y::D, Y::S, Y::M>();
     match yard.first_name() {
         Ok(None) => Ok(()),
         Ok(Some(name)) => Err(Status::NotEmpty { name }),
@@ -41,25 +39,49 @@ fn ask<Y: Yard>(yard: &mut Y) -> Result<(), Status>
     }
 }
 
+/// The status of a run that was refused.
+fn ended(why: YardRefusal) -> Status
+    ensures { result ≡ ended why }
+{
+    match why {
+        YardRefusal::Fault => Status::YardFault,
+        YardRefusal::Mismatch {
+            partition,
+            kept,
+            asked,
+        } => Status::Mismatch {
+            partition,
+            kept,
+            asked,
+        },
+        YardRefusal::BadRegistry { partition, at } => Status::BadRegistry { partition, at },
+        YardRefusal::NoMemory => Status::NoMemory,
+    }
+}
+
 /// Runs a script over a yard that has no names, and answers the trace.
+#[tactic(auto, using(crate::proofs::Refused::stops_so))]
 fn run_over<Y: Yard>(alloc: Global, script: Script, yard: &mut Y) -> Result<Vec<u8>, Status>
     requires { IsFit script }
     ensures runs { IfOk result (λ text. RunsOver Y.D.Disk Y.S.Store Y.M.MetaLog script text.items
         (Y.held yard.old) (Y.held yard.new) (Y.control yard.old) (Y.control yard.new)) }
-    ensures stops { IfErr result (StopsOver Y.D.Disk Y.S.Store Y.M.MetaLog (Y.held yard.old) (Y.held yard.new)
+    ensures stops { IfErr result (StopsOver Y.D.Disk Y.S.Store Y.M.MetaLog script.config.brokers (Y.held yard.old) (Y.held yard.new)
         (Y.control yard.old) (Y.control yard.new)) }
     ensures out { (Y.control yard.new).out ≡ (Y.control yard.old).out }
     ensures tells { (Y.held yard.new).tells ≡ (Y.held yard.old).tells }
 {
-    ask(yard)?;
+    match ask(yard) {
+        Ok(()) => {}
+        Err(status) => return Err(status),
+    }
     match run_in_yard(alloc, yard, script.config, script.parts) {
         Ok(text) => Ok(text),
-        Err(YardRefusal::Fault) => Err(Status::YardFault),
-        Err(YardRefusal::NoMemory) => Err(Status::NoMemory),
+        Err(why) => Err(ended(why)),
     }
 }
 
 /// Reads a script, runs it over a yard that has no names, and answers the trace.
+#[tactic(auto, using(crate::proofs::Refused::stopped_has_none))]
 fn trace_over<Y: Yard>(alloc: Global, script: &[u8], yard: &mut Y) -> Result<Vec<u8>, Status>
     requires { length script.now < 2 ^ 32 - 1 }
     ensures trace { IfOk result (λ text. IsTraceOver Y.D.Disk Y.S.Store Y.M.MetaLog script.now text.items

@@ -1,5 +1,7 @@
 //! How a call of the program ends.
 
+ghost use Rattle.std.specs.Prelude.{◌≡◌};
+
 use script_lang::Why;
 use std::alloc::{AllocError, Global};
 use tier_base::{Blob, PartitionId};
@@ -12,7 +14,10 @@ pub enum Status {
     /// The words have none of the forms.
     Usage,
     /// The line of this number, from 1 on, is the first that has no reading.
-    BadScript { line: u32, why: Why },
+    BadScript {
+        line: u32,
+        why: Why,
+    },
     /// A read of the script failed.
     ReadFault,
     /// A write of the trace failed, and a front of it was written.
@@ -21,18 +26,37 @@ pub enum Status {
     NoMemory,
     /// The script has more bytes than a script may have.
     TooLong,
-    /// A call of the yard failed; or one of a disk that it handed out, before its partition's first command; or, in an audit or a
-    /// sweep, one of a store or a metadata log.
+    /// A call of the yard failed; or one of a device that it handed out, before its partition's first command; or one of the disk of
+    /// a partition's registry; or, in an audit or a sweep, one of a store or a metadata log.
     YardFault,
     /// Something stands in the yard, and this is the first name of it in the order of bytes.
-    NotEmpty { name: Blob },
+    NotEmpty {
+        name: Blob,
+    },
     /// The remote tier of this partition, the first such, isn't sound, and the audit was written all the same.
-    Unsound { partition: PartitionId },
+    Unsound {
+        partition: PartitionId,
+    },
+    /// The registry of this partition, the first such, was kept for another count of brokers than the script has.
+    Mismatch {
+        partition: PartitionId,
+        kept: u16,
+        asked: u16,
+    },
+    /// The file of this partition's registry, the first such, is invalid: its first fault is at this byte.
+    BadRegistry {
+        partition: PartitionId,
+        at: u32,
+    },
 }
 
 impl Status {
+    ghost use Rattle.broker_call.specs.Statuses.{number_of};
+
     /// Answers the number with which the process ends.
-    pub fn number(&self) -> u8 {
+    pub fn number(&self) -> u8
+        ensures { result ≡ number_of self.now }
+    {
         match self {
             Status::Ok => 0,
             Status::Usage => 2,
@@ -44,6 +68,8 @@ impl Status {
             Status::YardFault => 8,
             Status::NotEmpty { .. } => 9,
             Status::Unsound { .. } => 10,
+            Status::Mismatch { .. } => 11,
+            Status::BadRegistry { .. } => 12,
         }
     }
 
@@ -65,6 +91,18 @@ impl Status {
             Status::Unsound { partition } => {
                 let partition = partition.0;
                 format!(in alloc; "tiered: partition {partition} unsound\n")
+            }
+            Status::Mismatch {
+                partition,
+                kept,
+                asked,
+            } => {
+                let partition = partition.0;
+                format!(in alloc; "tiered: partition {partition} has {kept} brokers, not {asked}\n")
+            }
+            Status::BadRegistry { partition, at } => {
+                let partition = partition.0;
+                format!(in alloc; "tiered: partition {partition} registry damaged at {at}\n")
             }
         }
     }
