@@ -16,6 +16,7 @@ mod beginning;
 mod bytes_of;
 mod change;
 mod complete;
+mod cooling;
 mod counts;
 mod deciding;
 mod elections;
@@ -37,4 +38,4 @@ mod trace;
 
 pub use complete::{is_complete, is_complete_run, runs_end_complete};
 pub use plain::Plain;
-pub use trace::{find_order, first_refused, is_run, replay};
+pub use trace::{find_order, first_refused, is_run, replay, take_all};

@@ -2,6 +2,7 @@
 
 ghost use Rattle.std.specs.Prelude.{◌≡◌, ◌≤◌, ◌<◌, IfOk, OnErr, Some, length, slice_get};
 ghost use Rattle.log_terms.specs.Log.{end_of};
+ghost use Rattle.cold_state.specs.Cold.{cold_of};
 ghost use Rattle.plain_log.specs.Fresh.{fresh};
 ghost use Rattle.plain_log.specs.declared.state.Broker.{Broker as BrokerIs};
 ghost use Rattle.plain_log.specs.State.{actor_at};
@@ -11,7 +12,8 @@ ghost use Rattle.plain_machine.specs.Stepped.{Stepped};
 
 use crate::ends::end;
 use crate::fresh::state;
-use crate::stepping;
+use crate::{cooling, stepping};
+use cold_state::a_cold_state_is_safe;
 use plain_log::{Config, JournalEntry, Order, State, fresh_is_safe, steps_keep_safe};
 use std::alloc::{AllocError, Global};
 use std::marker::Model;
@@ -45,6 +47,14 @@ impl Plain {
         fresh_is_safe();
         let state = state(alloc, config)?;
         Ok(Plain { state })
+    }
+
+    /// Leaves what a power cut of everything leaves: a run over the same disks begins there.
+    pub fn cool(&mut self, alloc: Global)
+        ensures { self.new ≡ cold_of self.old }
+    {
+        a_cold_state_is_safe();
+        cooling::cool(&mut self.state, alloc);
     }
 
     /// The log end offset of a broker, which may have more than 64 bits in a state that no run reaches.

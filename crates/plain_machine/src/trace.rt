@@ -54,7 +54,7 @@ fn take(
 }
 
 /// Carries out entries up to the first that is no step of the plain log, and answers its place.
-fn take_all(
+pub fn take_all(
     alloc: Global,
     plain: &mut Plain,
     lists: &[ActorList],

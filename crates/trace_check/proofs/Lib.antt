@@ -1,4 +1,5 @@
 pub mod Journals
+pub mod Places
 pub mod Partitions
 pub mod Refuted
 pub mod Found

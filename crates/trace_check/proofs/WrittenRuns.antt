@@ -5,14 +5,15 @@ use Rattle.std.proofs.lemmas.Bool.Decides.{nat_tests}
 use Rattle.std.proofs.lemmas.List.Elements.{All-nil, All-cons}
 use Rattle.plain_log.specs.declared.command.Config.{Config}
 use Rattle.plain_log.specs.declared.journal.JournalEntry.{JournalEntry}
-use Rattle.plain_log.specs.Runs.{IsPlainRun, IsComplete}
+use Rattle.plain_log.specs.declared.state.State.{State}
+use Rattle.plain_log.specs.Runs.{IsComplete}
 use Rattle.script_lang.specs.declared.script.PartScript.{PartScript}
 use Rattle.script_lang.specs.declared.script.Script.{Script}
 use Rattle.script_lang.specs.Fit.{AreNumbered, IsFit}
 use Rattle.script_lang.specs.Script.{script_in}
 use Rattle.trace_text.specs.Read.{IsPart, AreRising}
 use Rattle.trace_text.specs.Trace.{journal_text, trace_of}
-use Rattle.trace_check.specs.Whole.{journal_of, HasWholeRun, IsWholeTrace}
+use Rattle.trace_check.specs.Whole.{journal_of, opening, states_left, IsRunFrom, HasWholeRun, IsWholeTrace}
 use Rattle.trace_check.specs.Written.{IsRunOf, AreRunsOf}
 
 -- those that have entries
@@ -71,17 +72,17 @@ from_lower n high runs h = record {
 }
 
 -- a run of each partition from this one on
-runs_from : (config : Config) (parts : List PartScript) (runs : List (ℕ × List JournalEntry)) (n high : ℕ) → high ≤ 64 → n + length parts ≡ high → AreNumbered n parts
-    → AreRunsOf config parts runs → AreFrom n high (with_entries runs)
-runs_from config [] [] n high small count numbered are = record { rising = tt; each = All-nil IsPart; first = λ k d below. absurd (omega (arith, below)); last = λ k d below. absurd (omega (arith, below)) }
-runs_from config [] (run ∷ runs) n high small count numbered are = absurd are
-runs_from config (part ∷ parts) [] n high small count numbered are = absurd are
-runs_from config (part ∷ parts) ((p, []) ∷ runs) n high small count numbered are =
+runs_from : (config : Config) (states : List State) (parts : List PartScript) (runs : List (ℕ × List JournalEntry)) (n high : ℕ) → high ≤ 64 → n + length parts ≡ high → AreNumbered n parts
+    → AreRunsOf config states parts runs → AreFrom n high (with_entries runs)
+runs_from config states [] [] n high small count numbered are = record { rising = tt; each = All-nil IsPart; first = λ k d below. absurd (omega (arith, below)); last = λ k d below. absurd (omega (arith, below)) }
+runs_from config states [] (run ∷ runs) n high small count numbered are = absurd are
+runs_from config states (part ∷ parts) [] n high small count numbered are = absurd are
+runs_from config states (part ∷ parts) ((p, []) ∷ runs) n high small count numbered are =
     let next : AreNumbered (suc n) parts = let on : n + 1 ≡ suc n = omega arith in subst (λ (k : ℕ). AreNumbered k parts) on numbered.1 in
-    from_lower n high (with_entries runs) (runs_from config parts runs (suc n) high small (omega (arith, count)) next are.1)
-runs_from config (part ∷ parts) ((p, e ∷ es) ∷ runs) n high small count numbered are =
+    from_lower n high (with_entries runs) (runs_from config states parts runs (suc n) high small (omega (arith, count)) next are.1)
+runs_from config states (part ∷ parts) ((p, e ∷ es) ∷ runs) n high small count numbered are =
     let next : AreNumbered (suc n) parts = let on : n + 1 ≡ suc n = omega arith in subst (λ (k : ℕ). AreNumbered k parts) on numbered.1 in
-    let rest = runs_from config parts runs (suc n) high small (omega (arith, count)) next are.1 in
+    let rest = runs_from config states parts runs (suc n) high small (omega (arith, count)) next are.1 in
     let own : p ≡ n = are.0.partition ∙ numbered.0 in
     let is : IsPart (p, e ∷ es) = record { partition = omega (arith, own, count, small); some = omega arith; each = are.0.entries } in
     record {
@@ -98,32 +99,32 @@ not_below n (part ∷ parts) h =
     All-cons (λ (q : PartScript). n ≤ q.partition.0) part parts (let own = h.0 in omega (arith, own))
     (λ k d below. let f = not_below (n + 1) parts h.1 k d below in omega (arith, f))
 
-has_run : (config : Config) (js : List (ℕ × List JournalEntry)) (part : PartScript) (run : ℕ × List JournalEntry) → journal_of js part.partition.0 ≡ run.1 → IsRunOf config part run
-    → HasWholeRun config js part
-has_run config js part run e is = record { plain = subst (IsPlainRun config part.lists) (sym e) is.plain; complete = subst (IsComplete part.lists) (sym e) is.complete }
+has_run : (config : Config) (states : List State) (js : List (ℕ × List JournalEntry)) (part : PartScript) (run : ℕ × List JournalEntry) → journal_of js part.partition.0 ≡ run.1 → IsRunOf config (opening config states part.partition.0) part run
+    → HasWholeRun config states js part
+has_run config states js part run e is = record { brokers = is.brokers; plain = subst (IsRunFrom (opening config states part.partition.0) part.lists) (sym e) is.plain; complete = subst (IsComplete part.lists) (sym e) is.complete }
 
 -- a partition above has its run also behind another's
-has_behind : (config : Config) (r : ℕ × List JournalEntry) (js : List (ℕ × List JournalEntry)) (part : PartScript) → r.0 < part.partition.0 → HasWholeRun config js part
-    → HasWholeRun config (r ∷ js) part
-has_behind config r js part l h =
+has_behind : (config : Config) (states : List State) (r : ℕ × List JournalEntry) (js : List (ℕ × List JournalEntry)) (part : PartScript) → r.0 < part.partition.0 → HasWholeRun config states js part
+    → HasWholeRun config states (r ∷ js) part
+has_behind config states r js part l h =
     let e = pass r js part.partition.0 l in
-    record { plain = subst (IsPlainRun config part.lists) (sym e) h.plain; complete = subst (IsComplete part.lists) (sym e) h.complete }
+    record { brokers = h.brokers; plain = subst (IsRunFrom (opening config states part.partition.0) part.lists) (sym e) h.plain; complete = subst (IsComplete part.lists) (sym e) h.complete }
 
 -- each partition has its whole run among them
-whole_from : (config : Config) (parts : List PartScript) (runs : List (ℕ × List JournalEntry)) (n high : ℕ) → high ≤ 64 → n + length parts ≡ high → AreNumbered n parts
-    → AreRunsOf config parts runs → All (HasWholeRun config (with_entries runs)) parts
-whole_from config [] [] n high small count numbered are = All-nil (HasWholeRun config [])
-whole_from config [] (run ∷ runs) n high small count numbered are = absurd are
-whole_from config (part ∷ parts) [] n high small count numbered are = absurd are
-whole_from config (part ∷ parts) ((p, []) ∷ runs) n high small count numbered are =
+whole_from : (config : Config) (states : List State) (parts : List PartScript) (runs : List (ℕ × List JournalEntry)) (n high : ℕ) → high ≤ 64 → n + length parts ≡ high → AreNumbered n parts
+    → AreRunsOf config states parts runs → All (HasWholeRun config states (with_entries runs)) parts
+whole_from config states [] [] n high small count numbered are = All-nil (HasWholeRun config states [])
+whole_from config states [] (run ∷ runs) n high small count numbered are = absurd are
+whole_from config states (part ∷ parts) [] n high small count numbered are = absurd are
+whole_from config states (part ∷ parts) ((p, []) ∷ runs) n high small count numbered are =
     let on : n + 1 ≡ suc n = omega arith in
     let next : AreNumbered (suc n) parts = subst (λ (k : ℕ). AreNumbered k parts) on numbered.1 in
-    let above = runs_from config parts runs (suc n) high small (omega (arith, count)) next are.1 in
+    let above = runs_from config states parts runs (suc n) high small (omega (arith, count)) next are.1 in
     let own = numbered.0 in
-    All-cons (HasWholeRun config (with_entries runs)) part parts
-    (has_run config (with_entries runs) part (p, []) (none_of (with_entries runs) part.partition.0 (λ k d below. let f = above.first k d below in omega (arith, f, own))) are.0)
-    (whole_from config parts runs (suc n) high small (omega (arith, count)) next are.1)
-whole_from config (part ∷ parts) ((p, e ∷ es) ∷ runs) n high small count numbered are =
+    All-cons (HasWholeRun config states (with_entries runs)) part parts
+    (has_run config states (with_entries runs) part (p, []) (none_of (with_entries runs) part.partition.0 (λ k d below. let f = above.first k d below in omega (arith, f, own))) are.0)
+    (whole_from config states parts runs (suc n) high small (omega (arith, count)) next are.1)
+whole_from config states (part ∷ parts) ((p, e ∷ es) ∷ runs) n high small count numbered are =
     let on : n + 1 ≡ suc n = omega arith in
     let next : AreNumbered (suc n) parts = subst (λ (k : ℕ). AreNumbered k parts) on numbered.1 in
     let js = with_entries runs in
@@ -131,20 +132,23 @@ whole_from config (part ∷ parts) ((p, e ∷ es) ∷ runs) n high small count n
     let own : p ≡ part.partition.0 = are.0.partition in
     let here = numbered.0 in
     let mine : journal_of (r ∷ js) part.partition.0 ≡ e ∷ es = subst (λ (k : ℕ). journal_of (r ∷ js) k ≡ e ∷ es) own (take_own r js) in
-    let rest = whole_from config parts runs (suc n) high small (omega (arith, count)) next are.1 in
+    let rest = whole_from config states parts runs (suc n) high small (omega (arith, count)) next are.1 in
     let above = not_below (suc n) parts next in
-    All-cons (HasWholeRun config (r ∷ js)) part parts (has_run config (r ∷ js) part r mine are.0)
-    (λ k d below. has_behind config r js (slice_index_or parts k d) (let f = above k d below in omega (arith, f, own, here)) (rest k d below))
+    All-cons (HasWholeRun config states (r ∷ js)) part parts (has_run config states (r ∷ js) part r mine are.0)
+    (λ k d below. has_behind config states r js (slice_index_or parts k d) (let f = above k d below in omega (arith, f, own, here)) (rest k d below))
 
 -- the law
-pub runs_whole : (bytes : List ℕ) (script : Script) (runs : List (ℕ × List JournalEntry)) → script_in bytes ≡ Ok script → IsFit script
-    → AreRunsOf script.config script.parts runs → IsWholeTrace bytes (trace_of runs)
-runs_whole bytes script runs read fit are =
+pub runs_whole : (bytes : List ℕ) (script : Script) (states : List State) (runs : List (ℕ × List JournalEntry)) → script_in bytes ≡ Ok script → IsFit script
+    → AreRunsOf script.config states script.parts runs → (after : List State) × IsWholeTrace states bytes (trace_of runs) after
+runs_whole bytes script states runs read fit are =
     let high = length script.parts in
-    let all : AreFrom 0 high (with_entries runs) = runs_from script.config script.parts runs 0 high fit.few (omega arith) fit.numbered are in
-    record {
-      said = script;
-      journals = with_entries runs;
-      read = record { script_is = read; are = record { rising = all.rising; each = all.each }; spelled = same_text runs };
-      runs = record { each = whole_from script.config script.parts runs 0 high fit.few (omega arith) fit.numbered are; no_others = all.last };
-    }
+    let all : AreFrom 0 high (with_entries runs) = runs_from script.config states script.parts runs 0 high fit.few (omega arith) fit.numbered are in (
+      states_left script states (with_entries runs),
+      record {
+        said = script;
+        journals = with_entries runs;
+        read = record { script_is = read; are = record { rising = all.rising; each = all.each }; spelled = same_text runs };
+        runs = record { each = whole_from script.config states script.parts runs 0 high fit.few (omega arith) fit.numbered are; no_others = all.last };
+        left = refl;
+      },
+    )

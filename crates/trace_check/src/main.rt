@@ -1,34 +1,70 @@
-//! A checker of traces for everyone: whether a trace is a whole run of the plain log of a script.
+//! A checker of traces for everyone: whether traces are whole runs of the plain log of their scripts, one after another.
 //!
-//! `trace_check SCRIPT TRACE` reads both files, and prints a line: that the trace is one, or the first cause why not. Its
-//! status is 0 where it is, 1 where it isn't, and 2 where nothing could be told. `specs/Whole.antt` says what a whole run
-//! is; nothing of the program that wrote the trace is asked for.
+//! `trace_check SCRIPT TRACE [SCRIPT TRACE ..]` reads the files, and prints a line: that each trace is one from where the run
+//! before it ended, or which is the first that is none, and why. Its status is 0 where all are, 1 where one isn't, and 2
+//! where nothing could be told. `specs/Whole.antt` says what a whole run is, `specs/Chain.antt` how one follows another;
+//! nothing of the program that wrote the traces is asked for.
 #![tactic(auto)]
+
+ghost use Rattle.std.specs.Prelude.{◌≡◌, ◌↔◌, IfOk, IsTrue};
+ghost use Rattle.trace_check.specs.Status.{AreShort, IsStatus, status_of};
 
 mod checking;
 mod judging;
 mod laws;
+mod pair;
 mod verdict;
 
 pub use checking::check;
 pub use laws::runs_are_whole;
+pub use pair::Pair;
 use std::process::ExitCode;
 use std::{env, fs, io};
-pub use verdict::{Flaw, Verdict};
+use tier_base::Blob;
+pub use verdict::{Flaw, Report, Verdict};
 
 /// The most bytes that a script may have.
 pub const SCRIPT_LIMIT: usize = 16_777_216;
 
 /// What is printed where the words have another form.
-const USAGE: &str = "trace_check: usage: trace_check SCRIPT TRACE\n";
+const USAGE: &str = "trace_check: usage: trace_check SCRIPT TRACE [SCRIPT TRACE ..] or --help\n";
 
-/// The names of the two files, where the words are these.
-fn names(rt: &HostRuntime) -> io::Result<Option<(String, String)>> {
-    let mut words = env::args(rt)?.skip(1);
-    match (words.next(), words.next(), words.next()) {
-        (Some(script), Some(trace), None) => Ok(Some((script, trace))),
-        _ => Ok(None),
+/// What `--help` prints.
+const HELP: &str = "trace_check SCRIPT TRACE [SCRIPT TRACE ..]
+
+Checks that each trace is a complete run of the model over its script. The first run begins with empty
+logs. Each later run begins where the run before it ended, as after a power cut: the registry, the logs
+and what is committed stay; every broker is down, and comes up with its log up to the flushed end.
+
+Only finished runs can be checked. A run that was killed, or that ended with another status than 0, has
+no trace, so nobody can say in which state the next one began: leave out every run from there on.
+
+Prints one line. Status 0: all are complete runs. 1: one isn't; the line names the first and the cause.
+2: nothing could be checked.
+";
+
+/// What the words ask for.
+enum Request {
+    Help,
+    /// The names of the files, scripts and traces in turn.
+    Files(Vec<String>),
+    /// They have another form.
+    Other,
+}
+
+/// Reads the words.
+fn words(rt: &HostRuntime) -> io::Result<Request> {
+    let mut names = Vec::new(rt.alloc());
+    for word in env::args(rt)?.skip(1) {
+        names.push(word)?;
     }
+    if names.len() == 1 && names[0].as_str() == "--help" {
+        return Ok(Request::Help);
+    }
+    if names.is_empty() || names.len() % 2 == 1 {
+        return Ok(Request::Other);
+    }
+    Ok(Request::Files(names))
 }
 
 /// Reads a file, and tells of one that can't be read.
@@ -42,30 +78,87 @@ fn bytes_of(rt: &HostRuntime, name: &str) -> io::Result<Option<Vec<u8>>> {
     }
 }
 
-/// Prints what is told of two files' bytes, and gives the status.
-fn told(rt: &HostRuntime, script: &[u8], trace: &[u8]) -> io::Result<u8> {
-    if script.len() > SCRIPT_LIMIT {
+/// Reads a script and a trace.
+fn pair_of(rt: &HostRuntime, script: &str, trace: &str) -> io::Result<Option<Pair>> {
+    let Some(script) = bytes_of(rt, script)? else {
+        return Ok(None);
+    };
+    let Some(trace) = bytes_of(rt, trace)? else {
+        return Ok(None);
+    };
+    Ok(Some(Pair {
+        script: Blob::from_vec(script),
+        trace: Blob::from_vec(trace),
+    }))
+}
+
+/// Reads all of them.
+fn pairs_of(rt: &HostRuntime, names: &[String]) -> io::Result<Option<Vec<Pair>>> {
+    let mut pairs = Vec::new(rt.alloc());
+    for pair in names.chunks_exact(2) {
+        let Some(pair) = pair_of(rt, pair[0].as_str(), pair[1].as_str())? else {
+            return Ok(None);
+        };
+        pairs.push(pair)?;
+    }
+    Ok(Some(pairs))
+}
+
+/// Whether no script is longer than a script may be.
+fn are_short(pairs: &[Pair]) -> bool
+    ensures { IsTrue result ↔ AreShort pairs.now }
+{
+    for pair in pairs {
+        if pair.script.as_slice().len() > SCRIPT_LIMIT {
+            return false;
+        }
+    }
+    true
+}
+
+/// Prints what is told of the files' bytes, and gives the status.
+fn told(rt: &HostRuntime, pairs: &[Pair]) -> io::Result<u8>
+    ensures { IfOk result (IsStatus pairs.now) }
+{
+    if !are_short(pairs) {
         eprint!(rt; "trace_check: script over {SCRIPT_LIMIT} bytes\n")?;
         return Ok(2);
     }
-    let verdict = check(rt.alloc(), script, trace)?;
-    println!(rt; "{verdict}")?;
-    Ok(u8::from(verdict != Verdict::Whole))
+    let verdict = check(rt.alloc(), pairs)?;
+    let report = Report {
+        verdict,
+        runs: pairs.len(),
+    };
+    println!(rt; "{report}")?;
+    Ok(status_of(&verdict))
+}
+
+/// The status of a verdict.
+fn status_of(verdict: &Verdict) -> u8
+    ensures { result ≡ status_of verdict.now }
+{
+    match verdict {
+        Verdict::Whole => 0,
+        Verdict::Flawed { .. } => 1,
+    }
 }
 
 /// Does what the words ask for, and gives the status.
 fn run(rt: &HostRuntime) -> io::Result<u8> {
-    let Some((script, trace)) = names(rt)? else {
-        eprint!(rt; "{USAGE}")?;
-        return Ok(2);
-    };
-    let Some(script) = bytes_of(rt, script.as_str())? else {
-        return Ok(2);
-    };
-    let Some(trace) = bytes_of(rt, trace.as_str())? else {
-        return Ok(2);
-    };
-    told(rt, script.as_slice(), trace.as_slice())
+    match words(rt)? {
+        Request::Help => {
+            print!(rt; "{HELP}")?;
+            Ok(0)
+        }
+        Request::Other => {
+            eprint!(rt; "{USAGE}")?;
+            Ok(2)
+        }
+        Request::Files(names) => match pairs_of(rt, names.as_slice())? {
+            Some(pairs) => told(rt, pairs.as_slice()),
+            None => Ok(2),
+        },
+    }
 }
 
 fn main(rt: HostRuntime) -> ExitCode {

@@ -1,11 +1,11 @@
-//! What is told of a script and a trace.
+//! What is told of scripts and traces.
 
 use script_lang::Why;
 use std::fmt;
 use tier_base::PartitionId;
 
-/// Why a trace is no whole run of the plain log of a script. The first cause is told: of the script's lines, of the
-/// trace's, of the script's partitions as they rise, and of other partitions.
+/// Why a trace is no whole run of the plain log of a script from where the runs before it ended. The first cause is told: of
+/// the script's lines, of the trace's, of the script's partitions as they rise, and of other partitions.
 #[derive(Clone, Copy, Debug, PartialEq, Eq)]
 pub enum Flaw {
     /// The script's line of this number, from 1 on, is the first that has no reading.
@@ -17,10 +17,18 @@ pub enum Flaw {
     BadTrace {
         line: u32,
     },
-    /// The partition's entry of this number, from 0 on, is the first that is no step of the plain log.
+    /// The runs before made the partition with this many brokers, and the script asks for another count.
+    Brokers {
+        partition: PartitionId,
+        kept: usize,
+        asked: u16,
+    },
+    /// The partition's entry of this number, from 0 on, is the first that is no step of the plain log. It is this line of the
+    /// trace, from 1 on.
     NoStep {
         partition: PartitionId,
         entry: usize,
+        line: u64,
     },
     /// The partition's entries are steps, and leave a command without an answer.
     Unfinished {
@@ -32,13 +40,13 @@ pub enum Flaw {
     },
 }
 
-/// What is told of a trace.
+/// What is told of traces.
 #[derive(Clone, Copy, Debug, PartialEq, Eq)]
 pub enum Verdict {
-    /// It is a whole run of the plain log.
+    /// Each is a whole run of the plain log, from where those before it ended.
     Whole,
-    /// It is none, and this is the first cause.
-    Flawed(Flaw),
+    /// The trace of this number, from 1 on, is the first that is none, and this is the first cause.
+    Flawed { run: usize, flaw: Flaw },
 }
 
 impl fmt::Display for Flaw {
@@ -46,9 +54,22 @@ impl fmt::Display for Flaw {
         match self {
             Flaw::BadScript { line, why } => write!(f, "line {line} of the script: {why}"),
             Flaw::BadTrace { line } => write!(f, "line {line} of the trace is none of a trace"),
-            Flaw::NoStep { partition, entry } => write!(
+            Flaw::Brokers {
+                partition,
+                kept,
+                asked,
+            } => write!(
                 f,
-                "partition {}: entry {entry} is no step of the plain log",
+                "partition {} has {kept} brokers, not {asked}",
+                partition.0
+            ),
+            Flaw::NoStep {
+                partition,
+                entry,
+                line,
+            } => write!(
+                f,
+                "partition {}: entry {entry}, line {line} of the trace, is no step of the plain log",
                 partition.0
             ),
             Flaw::Unfinished { partition } => write!(
@@ -65,11 +86,24 @@ impl fmt::Display for Flaw {
     }
 }
 
-impl fmt::Display for Verdict {
+/// What is printed of so many runs.
+#[derive(Clone, Copy, Debug)]
+pub struct Report {
+    pub verdict: Verdict,
+    pub runs: usize,
+}
+
+impl fmt::Display for Report {
     fn fmt<W: fmt::Write>(&self, f: &mut fmt::Formatter<W>) -> fmt::Result {
-        match self {
-            Verdict::Whole => f.write_str("a whole run of the plain log"),
-            Verdict::Flawed(flaw) => write!(f, "{flaw}"),
+        match &self.verdict {
+            Verdict::Whole if self.runs == 1 => f.write_str("a whole run of the plain log"),
+            Verdict::Whole => write!(
+                f,
+                "{} whole runs of the plain log, each from where the one before it ended",
+                self.runs
+            ),
+            Verdict::Flawed { flaw, .. } if self.runs == 1 => write!(f, "{flaw}"),
+            Verdict::Flawed { run, flaw } => write!(f, "run {run}: {flaw}"),
         }
     }
 }
