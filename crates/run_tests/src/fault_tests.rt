@@ -1,4 +1,4 @@
-//! Runs in which one call of a device fails: each call of a disk, of the store and of the metadata log that three scripts
+//! Runs in which one call of a device fails: each call of a disk, of the store and of the metadata log that four scripts
 //! make, one call a run, once not done and once done.
 //!
 //! What such a run writes is proved to be a run of the plain log, if it writes. That it meets its fault and goes on to status
@@ -179,7 +179,7 @@ static KINDS: [&str; 19] = [
 ];
 
 /// The numbers of calls stand in the order of the kinds, without those that have none.
-static CASES: [Case; 3] = [
+static CASES: [Case; 4] = [
     Case {
         name: "a copy with its flush and its trim, and what a broker does that a fault has stopped",
         script: "segment_bytes 100\nlocal_retention_bytes 0\n0 0 0 append 1000,-,:a\n0 0 0 append 1000,-,:b\n0 0 0 flush\n0 0 0 ack\n0 0 0 copy\n0 0 0 trim\n0 0 0 up\n0 0 0 learn\n0 0 0 elect\n0 0 0 learn\n0 0 0 ack\n0 0 0 copy\n0 0 0 trim\n",
@@ -197,6 +197,12 @@ static CASES: [Case; 3] = [
         script: "brokers 2\n0 0 0 append 1000,-,:a\n1 0 1 follow 1000\n1 0 1 flush\n1 0 1 ack\n0 0 0 flush\n0 0 0 ack\n0 0 0 append 1000,-,:z\n0 0 0 stop\n1 0 1 elect\n1 0 1 learn\n1 0 1 append 1000,-,:b\n0 0 0 up\n0 0 0 learn\n0 0 0 join\n0 0 0 follow 1000\n0 0 0 flush\n0 0 0 ack\n1 0 1 flush\n1 0 1 ack\n1 0 1 fetch 1 1000\n",
         kinds: 19,
         calls: 3 + 4 + 3 + 2 + 5 + 1 + 2 + 3 + 2 + 3,
+    },
+    Case {
+        name: "searches by timestamp in the remote tier and in the local log",
+        script: "segment_bytes 100\nlocal_retention_bytes 0\n0 0 0 append 1000,-,:a\n0 0 0 append 3000,-,:b\n0 0 0 flush\n0 0 0 ack\n0 0 0 copy\n0 0 0 trim\n0 0 0 offset at 500\n0 0 0 offset at 1001\n",
+        kinds: 12,
+        calls: 2 + 2 + 2 + 2 + 1 + 4 + 3 + 2 + 7,
     },
 ];
 

@@ -11,7 +11,11 @@ mod fault_tests;
 #[cfg(test)]
 mod law_tests;
 #[cfg(test)]
+mod ready_tests;
+#[cfg(test)]
 mod remote_tests;
+#[cfg(test)]
+mod resumed_tests;
 #[cfg(test)]
 mod round_tests;
 #[cfg(test)]

@@ -421,8 +421,17 @@ fn status(alloc: Global, number: u8) -> Option<Status> {
         7 => Some(Status::TooLong),
         8 => Some(Status::YardFault),
         9 => named(alloc, b"x"),
-        _ => Some(Status::Unsound {
+        10 => Some(Status::Unsound {
             partition: PartitionId(3),
+        }),
+        11 => Some(Status::Mismatch {
+            partition: PartitionId(3),
+            kept: 1,
+            asked: 2,
+        }),
+        _ => Some(Status::BadRegistry {
+            partition: PartitionId(3),
+            at: 20,
         }),
     }
 }
@@ -444,7 +453,7 @@ fn told(alloc: Global, number: u8, line: &str) -> Option<(u8, bool)> {
 }
 
 /// The number and the line of each status.
-static LINES: [(u8, &str); 10] = [
+static LINES: [(u8, &str); 12] = [
     (0, ""),
     (
         2,
@@ -458,6 +467,8 @@ static LINES: [(u8, &str); 10] = [
     (8, "tiered: folder fault\n"),
     (9, "tiered: folder not empty: x\n"),
     (10, "tiered: partition 3 unsound\n"),
+    (11, "tiered: partition 3 has 1 brokers, not 2\n"),
+    (12, "tiered: partition 3 registry damaged at 20\n"),
 ];
 
 /// The number of the first status that has another number or line.
@@ -647,6 +658,10 @@ static FOLDER_SCRIPT: &str =
 static FOLDER_TRACE: &str =
     "0 0 0 = Ok 0 0 0\n0 0 1 = Ok 1 1 0\n0 0 2 = Ok 2\n0 1 0 begin\n0 1 0 = Copied 1\n0 1 1 = Ok 1\n0 1 2 = Ok 0\n0 0 3 = Ok 1\n0 0 4 begin\n0 0 4 = Copied 00000000-0000-0001-0000-000000000000 0 0\n";
 
+/// The same script over what the first run left: every broker is down.
+static FOLDER_AGAIN: &str =
+    "0 0 0 = Down\n0 0 1 = Down\n0 0 2 = Down\n0 1 0 = Down\n0 1 1 = Down\n0 1 2 = Down\n0 0 3 = Down\n0 0 4 = Down\n";
+
 /// Runs the script over a folder.
 fn runs_over(rt: HostRuntime, dir: &str, wanted: Wanted) -> Option<(u8, bool, bool)> {
     let script = (FOLDER_SCRIPT.as_bytes(), [].as_slice());
@@ -684,8 +699,7 @@ fn run_twice(
     let _ = fs::remove_dir_all(&rt, "broker_run");
     let first = runs_over(rt, "broker_run", Wanted::Whole("", FOLDER_TRACE.as_bytes()));
     let missing = first_missing(rt);
-    let refused = Wanted::Whole("tiered: folder not empty: p0\n", b"");
-    let second = runs_over(rt, "broker_run", refused);
+    let second = runs_over(rt, "broker_run", Wanted::Whole("", FOLDER_AGAIN.as_bytes()));
     (
         first,
         missing,
@@ -695,8 +709,8 @@ fn run_twice(
 }
 
 #[test]
-fn a_folder_is_run_over_once(rt: HostRuntime) {
-    assert!(rt; run_twice(rt) == (well(0), None, well(9), true));
+fn a_folder_is_run_over_again(rt: HostRuntime) {
+    assert!(rt; run_twice(rt) == (well(0), None, well(0), true));
 }
 
 /// Whether words print this text, or nothing, without a call.
@@ -717,7 +731,7 @@ fn is_help(alloc: Global, list: &[&str]) -> bool {
 
 /// Words, and what they print.
 static PRINTED: [(&[&str], Option<&str>); 3] = [
-    (&["--version"], Some("tiered 0.2.0\n")),
+    (&["--version"], Some("tiered 0.3.0\n")),
     (&["sim"], None),
     (&["--help", "x"], None),
 ];

@@ -6,6 +6,7 @@ ghost use Rattle.script_lang.specs.Fit.{StepsToEnds, AreNumbered, IsFit};
 
 use crate::tests::{Wanted, is_wanted, sink_of, source_of, well, words_of};
 use broker_call::tiered_in_order;
+use cold_start::ColdRefusal;
 use disk_model::{DiskCall, MemoryDisk};
 use memory_yard::MemoryYard;
 use meta_log::MemoryLog;
@@ -15,7 +16,7 @@ use plain_log::Config;
 use script_lang::{PartScript, Script, parse};
 use std::alloc::Global;
 use tier_base::{MemorySink, MemorySource, Planned, Row};
-use yard_run::{RunRefusal, YardRefusal, run_in_yard, run_on};
+use yard_run::{YardRefusal, run_in_yard, run_on};
 
 /// How a run ends.
 #[derive(Clone, Copy, Debug, PartialEq, Eq)]
@@ -24,6 +25,8 @@ enum End {
     Traced(bool),
     Fault,
     NoMemory,
+    /// A registry refuses it.
+    Refused,
     /// It doesn't begin.
     Unread,
 }
@@ -61,6 +64,7 @@ fn over_a_yard(
         Ok(text) => End::Traced(text.as_slice() == trace.as_bytes()),
         Err(YardRefusal::Fault) => End::Fault,
         Err(YardRefusal::NoMemory) => End::NoMemory,
+        Err(_) => End::Refused,
     };
     (end, yard.faults(), yard.returned().len())
 }
@@ -84,13 +88,16 @@ static TRACE: &str =
 
 #[test]
 fn each_partition_is_run_by_its_schedule(rt: HostRuntime) {
-    assert_eq!(rt; run(rt.alloc(), TWO, &[], TRACE), (End::Traced(true), 0, 8));
+    assert_eq!(rt;
+        run(rt.alloc(), TWO, &[], TRACE),
+        (End::Traced(true), 0, 12)
+    );
 }
 
-/// For each partition two disks are handed out, a store and a metadata log.
+/// Both registries are handed out first. Then, for each partition, two disks are, a store, a metadata log and the registry.
 #[test]
 fn what_was_handed_out_is_back_after_a_fault(rt: HostRuntime) {
-    for before in 0..8u32 {
+    for before in 0..12u32 {
         let ran = run(rt.alloc(), TWO, &[before + 1], TRACE);
         assert_eq!(rt;
             ran,
@@ -134,11 +141,11 @@ fn called_over(rt: HostRuntime, failing: u32, wanted: Wanted) -> Option<(u8, boo
     }
 }
 
-/// The yard is asked for its first name, and then for eight devices.
+/// The yard is asked for its first name, and then for twelve devices.
 #[test]
 fn nothing_is_written_where_a_yard_fails(rt: HostRuntime) {
     let fault = Wanted::Whole("tiered: folder fault\n", b"");
-    for before in 0..9u32 {
+    for before in 0..13u32 {
         assert!(rt;
             called_over(rt, before + 1, fault) == well(8),
             "{before} calls before it"
@@ -149,7 +156,7 @@ fn nothing_is_written_where_a_yard_fails(rt: HostRuntime) {
 #[test]
 fn a_trace_is_written_where_a_yard_goes_on(rt: HostRuntime) {
     let traced = Wanted::Whole("", TRACE.as_bytes());
-    assert!(rt; called_over(rt, 10, traced) == well(0));
+    assert!(rt; called_over(rt, 14, traced) == well(0));
 }
 
 /// Runs a part over devices in memory, of whose disk the first append fails, and tells how that ends.
@@ -174,11 +181,14 @@ fn over_devices(alloc: Global, config: Config, part: PartScript, trace: &str) ->
     };
     let store = MemoryStore::new(alloc, Vec::new(alloc));
     let meta = MemoryLog::new(alloc, Vec::new(alloc));
-    let (_devices, ran) = run_on(alloc, config, part, Devices { disks, store, meta });
+    let registry = MemoryDisk::new(alloc, Vec::new(alloc));
+    let devices = Devices { disks, store, meta };
+    let (_devices, _registry, ran) = run_on(alloc, config, part, devices, registry);
     match ran {
         Ok(text) => End::Traced(text.as_slice() == trace.as_bytes()),
-        Err(RunRefusal::DiskFault) => End::Fault,
-        Err(RunRefusal::NoMemory) => End::NoMemory,
+        Err(ColdRefusal::DeviceFault | ColdRefusal::RegistryFault) => End::Fault,
+        Err(ColdRefusal::NoMemory) => End::NoMemory,
+        Err(_) => End::Refused,
     }
 }
 
