@@ -1,17 +1,19 @@
 #!/usr/bin/env python3
 """Shows examples with the answers beside the commands.
 
-usage: examples/view.py NAME..           prints these examples, as in `examples/view.py failover`
+usage: examples/view.py NAME..           prints these examples, as in `examples/view.py failover power-cut`
        examples/view.py write            writes the table of README.md
        examples/view.py check [PROGRAM]  compares the table; with a program, also each example's trace
 
-An answer is shown at the line that stepped its actor. Long lines are cut, with `..` at their end.
+An answer is shown at the line that stepped its actor. Long lines are cut, with `..` at their end. An
+example that is a folder has the scripts of several runs over one directory, and they are shown in turn.
 """
 import glob
 import os
 import re
 import subprocess
 import sys
+import tempfile
 
 HERE = os.path.dirname(os.path.abspath(__file__))
 LEFT, RIGHT = 40, 58  # columns of commands and of answers
@@ -68,6 +70,8 @@ def cut(text, width):
 
 def view(name):
     """An example's script, with the answers in a second column."""
+    if os.path.isdir(os.path.join(HERE, name)):
+        return "\n\n".join(view(run) for run in runs(name))
     rows = []
     for line, answers in beside(read(name + ".script"), read(name + ".trace")):
         for at, answer in enumerate(answers or [""]):
@@ -80,6 +84,16 @@ def names():
     return sorted(os.path.basename(f)[: -len(".script")] for f in glob.glob(HERE + "/*.script"))
 
 
+def chains():
+    """The examples of several runs."""
+    return sorted(os.path.basename(os.path.dirname(f)) for f in glob.glob(HERE + "/*/1.script"))
+
+
+def runs(chain):
+    """The runs of such an example, in their order."""
+    return [f"{chain}/{n + 1}" for n in range(len(glob.glob(f"{HERE}/{chain}/*.script")))]
+
+
 def first_sentence(name):
     text = " ".join(re.match(r"(# .*\n)+", read(name + ".script"))[0].replace("# ", "").split("\n"))
     return re.split(r"(?<=\.)\s", text)[0]
@@ -89,15 +103,26 @@ def made():
     """The table behind the mark."""
     rows = ["| example | what it shows |", "|---|---|"]
     rows += [f"| [{name}]({name}.script) | {first_sentence(name)} |" for name in names()]
+    rows += [f"| [{name}]({name}/1.script) | {first_sentence(name + '/1')} |" for name in chains()]
     return "\n".join(rows) + "\n"
+
+
+def is_as_told(words, name):
+    """Whether the program writes an example's trace."""
+    run = subprocess.run(words, input=read(name + ".script").encode(), capture_output=True)
+    return run.returncode == 0 and run.stdout.decode() == read(name + ".trace")
 
 
 def differing(program):
     """The examples of which the program writes another trace."""
     for name in names():
-        run = subprocess.run([program, "sim"], input=read(name + ".script").encode(), capture_output=True)
-        if run.returncode != 0 or run.stdout.decode() != read(name + ".trace"):
+        if not is_as_told([program, "sim"], name):
             yield f"{name}: the program gives another trace"
+    for chain in chains():
+        with tempfile.TemporaryDirectory() as folder:
+            for name in runs(chain):
+                if not is_as_told([program, "run", folder], name):
+                    yield f"{name}: the program gives another trace"
 
 
 def main(words):
