@@ -6,7 +6,7 @@ usage: docs/snippets.py check            compares the documents with the tables 
        docs/snippets.py write PROGRAM    writes the answers into the documents, and the tables of the gate
        docs/snippets.py write            the same where only comments or the order of scripts have changed
 
-PROGRAM is the path of `tiered`. README.md, CONTRIBUTING.md, docs/ and examples/ may have four kinds of snippets:
+PROGRAM is the path of `tiered`. README.md, CONTRIBUTING.md, docs/ and examples/ may have five kinds of snippets:
 
 - A block ```script is a valid script. Its lines `#> ..` are the trace, each below the line that stepped its actor. They are
   comments to the program. Long runs are cut. A block ```script PATH shows the file PATH without its comments.
@@ -14,6 +14,7 @@ PROGRAM is the path of `tiered`. README.md, CONTRIBUTING.md, docs/ and examples/
   refused for the row's first cause. A span `N x LINE` is N lines.
 - A block ```console has shell commands after `$ `, and what they print below them.
 - A block ```bytes has hexadecimal digits at the start of its lines: a batch that the script block before it fetched.
+- A block ```text PATH shows the file PATH as it is. Other ```text blocks aren't looked at.
 
 The gate runs no document. Its tests in the crate `run_tests` run copies instead: the refused lines, the scripts with their
 whole traces, those of examples/ too, and those shell commands that need no file. This program makes the copies.
@@ -33,7 +34,7 @@ TABLE = "crates/run_tests/src/shown.rt"
 RUNS = "crates/run_tests/src/shown_runs"
 # So many lines have the texts of scripts at most, but for the last script of each.
 MOST = 600
-BLOCK = re.compile(r"^```(script|console|bytes)(?: (\S+))?\n(.*?)^```$", re.S | re.M)
+BLOCK = re.compile(r"^```(script|console|bytes|text(?= \S))(?: (\S+))?\n(.*?)^```$", re.S | re.M)
 
 
 def gate_cases():
@@ -235,6 +236,8 @@ def blocks(program, path, page, wrong, cases, shell):
             cases.append((f"{os.path.relpath(path, TOP)}, script {count[0]}", script, last[0]))
         elif kind == "console":
             text = console_block(program, text, shell)
+        elif kind == "text":
+            text = read_or_none(os.path.join(TOP, name))
         elif "".join(line.split()[0] for line in text.splitlines()) not in last[0]:
             wrong.append("bytes that the script before them wasn't given:\n" + text)
         return f"```{kind}{' ' + name if name else ''}\n{text}```"
