@@ -1,11 +1,10 @@
-//! What the bytes of a record batch are made of: the checksum CRC-32C, and numbers of variable length.
+//! CRC-32C and varints, the primitives of a record batch's bytes.
 //!
-//! `crc32c` takes in sixteen bytes a step by four registers. Three plainer bodies of the same checksum stand
-//! beside it as its reference, and have the same clause: sixteen bytes a step by one register, a byte a step
-//! and a bit a step.
+//! `crc32c` takes sixteen bytes a step in four registers. Three simpler bodies of the same checksum are kept beside
+//! it as its reference, with the same clause: sixteen bytes a step in one register, a byte a step, and a bit a step.
 //!
-//! A number is read from the front of a slice, with how many bytes it has, so a reader goes on behind them.
-//! It is written at the end of a vector. What is written is read again whatever follows it: `laws`.
+//! A varint is read from the front of a slice, together with its length in bytes, and is written at the end of a
+//! vector. What is written is read back whatever follows it: `laws`.
 #![tactic(auto)]
 
 mod bitwise;

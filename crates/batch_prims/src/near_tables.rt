@@ -1,4 +1,5 @@
-//! What a byte leaves in the register once 0 to 7 more have been taken in: a table for each of the last eight bytes of a step.
+//! What a byte leaves in the register once 0 to 7 more have been taken in: a table for each of the last eight bytes
+//! of a step.
 
 /// The register after 1 zero byte, from each value below 256.
 #[rattlefmt::skip]

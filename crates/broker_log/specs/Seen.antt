@@ -1,8 +1,8 @@
 -- A broker's log as it is seen: its batches and its line, and what comes back of them after a stop.
 --
 -- The batches are seen from offset 0 on, also where the local log begins later: those below the local start stand on no
--- disk, and whatever batches lead up to it may be seen there. A write that failed may have been done or not, so one of two
--- ends comes back after it, each with its line and its local start.
+-- disk, and whatever batches lead up to it may be seen there. A write that failed may have been done or not, so one
+-- of two ends comes back after it, each with its line and its local start.
 --
 --   form                      says
 --   Shows content kept s      the log, or its disk, is seen so

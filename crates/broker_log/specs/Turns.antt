@@ -124,7 +124,8 @@ BreaksUnsaved content old new = Breaks content old new (λ s. loosened s (back_o
 abbrev pub first_in : {D : Type 0} → Log D → List (List ℕ) → List (List ℕ)
 first_in log batches = taking log.settings.segment_bytes log.active.base (size_of log.active) batches
 
--- the first batches of a run stand at the log's end: at least one, and as many as one segment takes, a new one where it is due
+-- the first batches of a run stand at the log's end: at least one, and as many as one segment takes, a new one where
+-- it is due
 pub record Appends {D : Type 0} (content : D → Content) (old new : Kept D) (run : List ℕ) (answer : ℕ × ℕ) : Type 0 where
   pub front : List (List ℕ)
   pub rest : List (List ℕ)
@@ -261,8 +262,8 @@ StopIs Piece run rest next limit mark = next ≢ mark
 StopIs Limit run [] next limit mark = ⊥
 StopIs Limit run (batch ∷ rest) next limit mark = (next ≢ mark) × (limit < length (joined run) + length batch)
 
--- the run of the log at an offset, up to a mark: as many batches as its piece has below the mark and as fit the limit. The
--- piece ends with its log segment, or before it where the next leader epoch starts
+-- the run of the log at an offset, up to a mark: as many batches as its piece has below the mark and as fit the
+-- limit. The piece ends with its log segment, or before it where the next leader epoch starts
 pub record IsRunIn {D : Type 0} (kept : Kept D) (s : Seen) (offset limit mark : ℕ) (out : RunOut) : Type 0 where
   pub run : List (List ℕ)
   pub rest : List (List ℕ)

@@ -215,8 +215,8 @@ impl<D: Disk> BrokerLog<D> {
         }
     }
 
-    /// Where the log would end that is cut to an offset: where the last batch ends that ends at or below it, or at the offset
-    /// itself where the local log begins later.
+    /// Where the log would end that is cut to an offset: where the last batch ends that ends at or below it, or at
+    /// the offset itself where the local log begins later.
     pub fn end_up_to(&self, offset: u64) -> u64
         requires { IsTrue (is_up self.now) }
         ensures { IsEndUpTo D.content self.now offset result }
@@ -251,8 +251,8 @@ impl<D: Disk> BrokerLog<D> {
         outcome
     }
 
-    /// Appends the first batches of a run that stand in one segment, and answers their first and their last offset. They
-    /// come back after a stop once they are flushed.
+    /// Appends the first batches of a run that stand in one segment, and answers their first and their last offset.
+    /// They come back after a stop once they are flushed.
     pub fn append(&mut self, run: &[u8]) -> Result<(u64, u64), AppendRefusal>
         requires { WhileUp self.old (λ log. IsRun log.end log.line run.now) }
         ensures ok { IfOk result (λ answer. Appends D.content self.old self.new run.now answer) }
@@ -330,8 +330,8 @@ impl<D: Disk> BrokerLog<D> {
         outcome
     }
 
-    /// Cuts the log to an offset, durably, and answers its new end; where a batch holds the offset, that batch's base. Below
-    /// the local start nothing is left of it on the disk.
+    /// Cuts the log to an offset, durably, and answers its new end; where a batch holds the offset, that batch's
+    /// base. Below the local start nothing is left of it on the disk.
     pub fn cut_to(&mut self, end: u64) -> Result<u64, Trouble>
         requires { WhileUp self.old (λ log. end ≤ log.end) }
         ensures ok { IfOk result (λ now. Cuts D.content self.old self.new end now) }
@@ -480,8 +480,8 @@ impl<D: Disk> BrokerLog<D> {
         }
     }
 
-    /// While the broker is up, its log can be opened again from the disk, also after a power cut. It does nothing when it runs, and
-    /// cites what the type of a log keeps.
+    /// While the broker is up, its log can be opened again from the disk, also after a power cut. It does nothing
+    /// when it runs, and cites what the type of a log keeps.
     pub fn reopens(&self)
         ensures { IsTrue (is_up self.now) → OnDisk self.now (λ d. Reopens (D.content d)) }
     {

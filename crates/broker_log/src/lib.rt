@@ -1,9 +1,9 @@
-//! A broker's log: open while the broker is up, and its disk alone while it is down.
+//! A broker's log: open while the broker is up, and only its disk while the broker is down.
 //!
-//! Above it nobody sees segments, manifests or images: the clauses speak of the log as it is seen, by its batches, its line,
-//! how far it is stable, and the line that comes back after a stop. A fault of the disk closes the log, since a write may
-//! then have been done or not; opening it again finds what was stable, or what the write was to make stable. The log is seen
-//! whole also where its first segments were dropped, or it was begun anew: what is below its local start stands elsewhere.
+//! Its contracts hide segments, manifests and crash states. They speak of the log as it is seen: its batches, its
+//! leader epochs, its flushed end, and what comes back after a stop. A disk fault closes the log, because the write
+//! may have been done or not; opening it again finds what was flushed, or what the write was to make. The log is seen
+//! whole even if its first segments were dropped or it was started anew: what is below its local start is elsewhere.
 #![tactic(auto)]
 
 mod broker;

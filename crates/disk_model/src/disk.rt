@@ -1,8 +1,8 @@
-//! What a disk's calls do to its files, and what a crash may leave.
+//! The trait of a disk: what its calls do to its files, and what a crash may leave.
 //!
-//! A crash may leave any of the disk's images. What is synced stays; past that a file may hold any
-//! bytes of any length, and what was cut, removed or made since may stand as before. A call that
-//! answers `Failed` may have been done or not, and one that finds no memory changes nothing.
+//! A crash leaves one of the disk's images. What is synced stays; past that a file may have any bytes and any length,
+//! and what was cut, removed or created since may be as it was before. A call that returns `Failed` may have been
+//! done or not. One that runs out of memory changes nothing.
 
 ghost use Rattle.std.specs.Prelude.{◌≡◌, ◌+◌, ◌≤◌, List, [], ℕ, drop, IfOk, OnOk, IsTrue, Some, option_map};
 ghost use Rattle.tier_base.specs.Device.{Control, Ran, RanQuietly, MayBeDone, Rests, Arms, FailsAsPlanned, fate_of, failing};
@@ -15,20 +15,20 @@ use bytes::Bytes;
 use std::alloc::AllocError;
 use tier_base::{Failed, FileName, Row, Trouble};
 
-/// The files of a broker's log or of a metadata log, by name. After `Failed` the call's file reads
-/// as before or as if the call was done, and the others as before; a sync promises nothing then.
-/// The room for the call is used up all the same, and any call may follow.
+/// The files of a local log or of a metadata log, by name. After `Failed` the call's file reads as before or as if
+/// the call was done, and the other files as before; after a failed sync nothing is promised to be durable. A
+/// reserved call is used up all the same, and any call may follow.
 pub trait Disk: Drop {
     /// The files, and what a crash may leave of them.
     ghost content: { Self → Content };
 
-    /// The faults, the plan of faults, the calls made, and the bytes that were handed.
+    /// The number of failed calls, the plan of faults, the calls made, and the bytes that the last read returned.
     ghost control: { Self → Control call_code };
 
-    /// For how many further calls of `sync`, `cut` and `remove` there is room.
+    /// How many further calls of `sync`, `cut` and `remove` are reserved.
     ghost spare: { Self → ℕ };
 
-    /// Adds bytes at a file's end. An absent file is made.
+    /// Appends bytes to a file, which is created if it is absent.
     fn append(&mut self, name: FileName, bytes: &[u8]) -> Result<(), Trouble>
         ensures control { RanQuietly Append (fate_of result)
             (control self.old) (control self.new) }
@@ -37,14 +37,15 @@ pub trait Disk: Drop {
             (MayBeDone Append (fate_of result) (control self.old))
             (content self.old) (content self.new) };
 
-    /// Makes room for so many further calls of `sync`, `cut` and `remove`. A plan can't name it.
+    /// Reserves memory for so many further calls of `sync`, `cut` and `remove`, which then can't run out of it. No
+    /// plan can make this call fail.
     fn reserve(&mut self, calls: u32) -> Result<(), AllocError>
         ensures room { OnOk result (calls ≤ spare self.new) }
         ensures no_less { spare self.old ≤ spare self.new }
         ensures control { Rests (control self.old) (control self.new) }
         ensures content { Keeps (content self.old) (content self.new) };
 
-    /// Makes a file's bytes stay. Nothing is done where it is absent.
+    /// Makes a file's bytes durable. Does nothing if the file is absent.
     fn sync(&mut self, name: FileName) -> Result<(), Failed>
         requires { 1 ≤ spare self.old }
         ensures control { RanQuietly Sync (failing result) (control self.old) (control self.new) }
@@ -53,7 +54,7 @@ pub trait Disk: Drop {
         ensures durable { OnOk result ((c : Files) → Image (content self.new) c
             → Begins ((content self.old).files name) (c name)) };
 
-    /// Gives a file's bytes from a place on, none past its end, and `None` where it is absent.
+    /// Returns a file's bytes from a position on, none past its end, or `None` if the file is absent.
     fn read(&mut self, name: FileName, at: u64) -> Result<Option<Bytes>, Trouble>
         ensures control { Ran Read (fate_of result) (control self.old) (control self.new) }
         ensures handed { (control self.new).handed
@@ -63,7 +64,7 @@ pub trait Disk: Drop {
         ensures bytes { IsTrue (content self.old).tells → IfOk result (λ bytes. bytes
             ≡ option_map (drop at) ((content self.old).files name)) };
 
-    /// Gives the first so many bytes of what `read` gives, and fewer only where these end.
+    /// Returns at most so many of the bytes that `read` returns, and fewer only if these end.
     fn read_part(&mut self, name: FileName, at: u64, most: u64) -> Result<Option<Bytes>, Trouble>
         ensures control { Ran Read (fate_of result) (control self.old) (control self.new) }
         ensures handed { (control self.new).handed
@@ -73,7 +74,7 @@ pub trait Disk: Drop {
         ensures bytes { IsTrue (content self.old).tells → IfOk result (λ bytes. bytes
             ≡ option_map (part_of at most) ((content self.old).files name)) };
 
-    /// Cuts a file to a length. Nothing is done where it is shorter or absent.
+    /// Cuts a file to a length in bytes. Does nothing if the file is shorter or absent.
     fn cut(&mut self, name: FileName, len: u64) -> Result<(), Failed>
         requires { 1 ≤ spare self.old }
         ensures control { RanQuietly Cut (failing result) (control self.old) (control self.new) }
@@ -82,7 +83,7 @@ pub trait Disk: Drop {
             (MayBeDone Cut (failing result) (control self.old))
             (content self.old) (content self.new) };
 
-    /// Puts a file in the place of an old one, and makes its bytes stay.
+    /// Creates a file with these bytes, or replaces the old one, atomically and durably.
     fn replace(&mut self, name: FileName, bytes: &[u8]) -> Result<(), Trouble>
         ensures control { RanQuietly Replace (fate_of result)
             (control self.old) (control self.new) }
@@ -93,7 +94,7 @@ pub trait Disk: Drop {
         ensures durable { OnOk result ((c : Files) → Image (content self.new) c
             → c name ≡ Some bytes.now) };
 
-    /// Removes a file. Nothing is done where it is absent.
+    /// Removes a file. Does nothing if it is absent.
     fn remove(&mut self, name: FileName) -> Result<(), Failed>
         requires { 1 ≤ spare self.old }
         ensures control { RanQuietly Remove (failing result)
@@ -103,7 +104,7 @@ pub trait Disk: Drop {
             (MayBeDone Remove (failing result) (control self.old))
             (content self.old) (content self.new) };
 
-    /// Names the files.
+    /// Lists the names of the files.
     fn list(&mut self) -> Result<Row<FileName>, Trouble>
         ensures control { RanQuietly Listing (fate_of result)
             (control self.old) (control self.new) }
@@ -112,15 +113,15 @@ pub trait Disk: Drop {
         ensures names { IsTrue (content self.old).tells
             → IfOk result (λ names. Names (content self.old).files names) };
 
-    /// Takes out the bytes that the last read gave, without memory. None are handed then until the next
-    /// read. A plan can't name it.
+    /// Takes out the bytes that the last read returned, without using memory. None are kept then until the next read.
+    /// No plan can make this call fail.
     fn take_handed(&mut self) -> Bytes
         ensures taken { result ≡ (control self.old).handed }
         ensures control { control self.new ≡ record (control self.old) { handed = [] } }
         ensures room { spare self.new ≡ spare self.old }
         ensures content { Keeps (content self.old) (content self.new) };
 
-    /// From the first `arm` on planned calls fail. A further one changes nothing.
+    /// From the first `arm` on planned calls fail. Further calls of `arm` change nothing.
     fn arm(&mut self)
         ensures control { Arms (control self.old) (control self.new) }
         ensures room { spare self.new ≡ spare self.old }
@@ -129,6 +130,6 @@ pub trait Disk: Drop {
     /// What holds of every disk's content.
     ghost lawful: { (disk : Self) → Lawful (content disk) };
 
-    /// Where its plan alone decides which calls fail, as many failed as the plan names of those made.
+    /// If its plan alone decides which calls fail, as many failed as the plan names of those that were made.
     ghost planned: { (disk : Self) → FailsAsPlanned (control disk) };
 }

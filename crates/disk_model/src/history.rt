@@ -17,7 +17,8 @@ use std::alloc::{AllocError, Global};
 use std::marker::Model;
 use tier_base::{FileName, Row};
 
-/// What was done to a file. A replacement is kept as what differs from the file of before, and is sure where it answered `Ok`.
+/// What was done to a file. A replacement is kept as what differs from the file of before, and is sure where it
+/// answered `Ok`.
 #[derive(Drop)]
 pub enum Op {
     Append(FileName, Bytes),

@@ -1,10 +1,10 @@
-//! A broker's disk: what its calls do to the files, and what a crash may leave of them.
+//! A broker's disk as a trait: what its calls do to the files, and what a crash may leave of them.
 //!
-//! `Disk` is the trait that the log and the metadata log stand on. A disk may tell its files and its
-//! images, which are the files that a crash may leave, and always tells its faults, the calls made
-//! and the bytes that it handed. `MemoryDisk` tells all of it and is proved to be such a disk: its
-//! calls fail by a plan or a fuse, and its crash drops what isn't synced. `DeafDisk` works and tells
-//! no content, so that a test can put any bytes under the code that reads.
+//! The local log and the metadata log are written against `Disk`. The content of a disk may be observable: its files,
+//! and its images, which are the states that a crash may leave. What can always be observed is how many calls failed,
+//! how many were made, and the bytes that the last read returned. `MemoryDisk` is observable and proved to be such a
+//! disk: its calls fail by a plan or a fuse, and its crash drops what isn't synced. `DeafDisk` works but isn't
+//! observable, so that a test can give any bytes to the code that reads.
 #![tactic(auto)]
 
 mod attempt;

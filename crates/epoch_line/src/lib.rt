@@ -1,8 +1,8 @@
-//! The epoch line of a log: which leader epoch starts at which offset (KIP-101's leader epoch checkpoint).
+//! The leader epochs of a log, each with its start offset: KIP-101's leader-epoch cache and its checkpoint.
 //!
-//! A `Line` is a list of entries, leader epoch and start offset, both strictly rising. It says in which epoch
-//! an offset was appended, where an epoch ends, and where two logs still agree. Epochs are below 2^31 and
-//! offsets at most 2^62. A line is kept as a text with one spelling. It is never cut at its front.
+//! A `Line` is a list of entries, leader epoch and start offset, both strictly rising. It answers in which epoch an
+//! offset was appended, where an epoch ends, and up to where two logs agree. Epochs are below 2^31 and offsets at
+//! most 2^62. As text it has one spelling. It is never truncated at its front.
 #![tactic(auto)]
 
 mod entries;

@@ -1,8 +1,8 @@
-//! A cache of remote segments' offset indexes, so that a fetch needs to load each one only now and then.
+//! A cache of the offset indexes of remote segments, so that most fetches need not load one (Kafka's
+//! RemoteIndexCache).
 //!
-//! A segment that was copied to the remote tier never changes, and nor does its index: what is held
-//! under an id is never stale. The cache is bounded by the number of its indexes. The one that was
-//! used least recently goes first.
+//! A segment in the remote tier never changes, so a cached index is never stale. The cache is bounded by its number
+//! of indexes, and drops the one that was used least recently.
 #![tactic(auto)]
 
 mod cache;

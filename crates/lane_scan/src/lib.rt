@@ -1,7 +1,7 @@
-//! Counting the items of a row that lie below a top, several at a time.
+//! Counts the items of a slice that are below a bound, several at a time.
 //!
-//! A search that has halved down to a block counts inside of it: in a row that rises, the count is
-//! the place. The rows need not rise, and may be of any length.
+//! A search that has halved down to a block counts inside it: in an ascending slice the count is the position. The
+//! slice need not be ascending, and may have any length.
 #![tactic(auto)]
 
 mod lanes;

@@ -1,7 +1,8 @@
 -- A log without what ends past an offset, and its files.
 --
--- Where a batch holds the offset the log ends at that batch's base. A cut to the base of a segment leaves it as the empty
--- open one, and the segment before it closed. A cut below the local start leaves an empty log at the offset itself.
+-- Where a batch holds the offset the log ends at that batch's base. A cut to the base of a segment leaves it as the
+-- empty open one, and the segment before it closed. A cut below the local start leaves an empty log at the offset
+-- itself.
 use Rattle.std.specs.Prelude.{◌≡◌, ◌≢◌, ◌⊎◌, ℕ, ◌+◌, nat_le, nat_lt, if◌then◌else◌, List, [], ◌∷◌, ◌++◌, map, None, IsTrue, true}
 use Rattle.tier_base.specs.declared.plain.FileName.{FileName}
 use Rattle.tier_base.specs.declared.plain.FileName.TheVariants as file

@@ -1,7 +1,7 @@
 -- What an opening reads before its first change, and the parts of the log that it makes.
 --
--- The manifest that is read is written again under the next incarnation. Where there is none, the manifest that is written
--- first is that of incarnation 1, and so is the next one.
+-- The manifest that is read is written again under the next incarnation. Where there is none, the manifest that is
+-- written first is that of incarnation 1, and so is the next one.
 use Rattle.std.specs.Prelude.{◌≡◌, ◌⊎◌, ℕ, ◌+◌, ◌≤◌, ◌<◌, ◌^◌, List, [], ◌∷◌, ◌++◌, map, Option, Some, None, Ok, Err, IsTrue}
 use Rattle.tier_base.specs.declared.plain.FileName.TheVariants as file
 use Rattle.disk_model.specs.Content.{Content, Files, Image}

@@ -1,8 +1,8 @@
 -- What is read of a log: the run at an offset, and its closed segments.
 --
 -- A run has the batch that holds the offset, and as many further ones as the mark and the limit allow. It lies in a
--- piece: in one segment, and before the next epoch starts. A start that is no batch's end ends no piece. The line gives the
--- epoch of each batch that is read.
+-- piece: in one segment, and before the next epoch starts. A start that is no batch's end ends no piece. The line
+-- gives the epoch of each batch that is read.
 use Rattle.std.specs.Prelude.{◌≡◌, ℕ, ◌+◌, ◌<◌, ◌≤◌, ◌⊎◌, ◌==◌, ◌&&◌, nat_lt, min, Bool, true, false, if◌then◌else◌, List, [], ◌∷◌, ◌++◌, length, take, Option, Some, None, Result, Ok, Err, unwrap_or, slice_range}
 use Rattle.tier_base.specs.declared.plain.FileName.{FileName}
 use Rattle.tier_base.specs.declared.plain.FileName.TheVariants as file
@@ -108,7 +108,8 @@ CutFails line base position bytes offset limit mark piece (Damaged name at) =
 CutFails line base position bytes offset limit mark piece DiskFault = ⊥
 CutFails line base position bytes offset limit mark piece NoMemory = Unit {0}
 
--- the disk was read once, in this call, and what it handed was given or is the cause; without memory it may not have been
+-- the disk was read once, in this call, and what it handed was given or is the cause; without memory it may not have
+-- been
 abbrev pub ReadOnce : {T : Type 0} → Result T ReadRefusal → Control call_code → Control call_code → Type 0
 ReadOnce (Ok x) old new = Ran Read Went old new
 ReadOnce (Err (Damaged name at)) old new = Ran Read Went old new

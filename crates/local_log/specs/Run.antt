@@ -1,8 +1,8 @@
 -- What a log takes of a run of batches, and where it rolls to a new segment.
 --
--- The log rolls before an append where the open segment isn't empty and would pass the settings' segment_bytes, or where
--- the batch's last offset less the segment's base would pass 2,147,483,647. A batch larger than segment_bytes stands
--- alone in a segment.
+-- The log rolls before an append where the open segment isn't empty and would pass the settings' segment_bytes, or
+-- where the batch's last offset less the segment's base would pass 2,147,483,647. A batch larger than segment_bytes
+-- stands alone in a segment.
 use Rattle.std.specs.Prelude.{◌≡◌, ◌≢◌, ℕ, ◌+◌, ◌-◌, ◌^◌, ◌≤◌, ◌<◌, ◌==◌, ◌&&◌, ◌||◌, nat_lt, nat_le, Bool, false, if◌then◌else◌, List, [], ◌∷◌, ◌++◌, length, Option, Some, None, unwrap_or, IsOk, IsTrue}
 use Rattle.std.specs.Int.{w32}
 use Rattle.log_terms.specs.Batch.{field_at, base_of, last_of, epoch_of}
@@ -85,7 +85,8 @@ module _ {D : Type 0} where
   abbrev pub open_for : Log D → List ℕ → Log D
   open_for log run = if is_due log run then rolled log else log
 
-  -- a run was appended to a base, the log rolled or not, and these are its first offset and the last one of what was taken
+  -- a run was appended to a base, the log rolled or not, and these are its first offset and the last one of what was
+  -- taken
   pub record IsAppendedTo (content : D → Content) (old base new : Log D) (run : List ℕ) (answer : ℕ × ℕ) : Type 0 where
     pub is : IsRun old.end old.line run
     pub becomes : Becomes content (with_first base is.batches) new

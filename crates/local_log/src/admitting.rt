@@ -13,8 +13,8 @@ use segment_file::{Found, walk};
 /// Epochs are below 2^31.
 const EPOCHS: u32 = 1 << 31;
 
-/// A place in a run, and what is asked of the batch there: that it begins at the base and so many offsets further on, and
-/// the epoch that its own is not below.
+/// A place in a run, and what is asked of the batch there: that it begins at the base and so many offsets further on,
+/// and the epoch that its own is not below.
 #[derive(Clone, Copy)]
 struct Spot {
     at: usize,

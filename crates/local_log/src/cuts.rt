@@ -1,9 +1,9 @@
-//! Cuts of a log, which are durable when they answer.
+//! Truncation of a log, durable when the call returns.
 //!
-//! The manifest comes first, so that want of memory for it changes nothing, and no crash leaves one that lists more than
-//! stands: the segment that will be the last one is synced, and the manifest that lists the log up to its new end is made
-//! the present one. Then the files behind the end are removed, from the last to the first, and the last one is cut.
-//! What a crash brings back of them no manifest lists.
+//! The manifest is written first, so running out of memory for it changes nothing, and no crash leaves one that lists
+//! more than there is: the segment that will be the last one is synced, and then the manifest with the new end
+//! replaces the old one. After that the files behind the end are removed, from the last to the first, and the last
+//! one is cut. What a crash brings back of them is in no manifest.
 
 ghost use Rattle.std.specs.Prelude.{◌≡◌, ◌⊎◌, ◌+◌, ◌≤◌, ◌<◌, ℕ, length, false, true, OnOk, OnErr, IfOk, IsErrOf, IsTrue};
 ghost use Rattle.disk_model.specs.Content.{LeavesOnly, Image, Files, Keeps};
@@ -25,8 +25,8 @@ use std::alloc::AllocError;
 use tier_base::{Failed, Trouble};
 
 impl<D: Disk> LocalLog<D> {
-    /// Cuts the log to an offset, durably; where a batch holds the offset, to that batch's base. Below the local start
-    /// nothing is left of it.
+    /// Truncates the log durably to an offset, or to the base offset of the batch that contains it. An offset below
+    /// the local log start leaves the log empty.
     pub fn cut_to(&mut self, end: u64) -> Result<(), Trouble>
         requires unbroken { self.old.broken ≡ false }
         requires within { end ≤ self.old.end }
@@ -128,8 +128,8 @@ impl<D: Disk> LocalLog<D> {
         self.disk.reserve(calls)
     }
 
-    /// Makes the manifest that lists the log up to one of its ends the present one, once the segment that it lists last is
-    /// synced. The others were when they closed.
+    /// Makes the manifest that lists the log up to one of its ends the present one, once the segment that it lists
+    /// last is synced. The others were when they closed.
     fn settle(&mut self, bytes: &[u8], end: u64) -> Result<(), Trouble>
         requires unbroken { self.old.broken ≡ false }
         requires from { self.old.local_start ≤ end }

@@ -1,7 +1,7 @@
-//! Dropping the first closed segment of a log.
+//! Dropping the first closed segment of a log: the local part of a trim.
 //!
-//! The manifest without it comes first, and then its file goes. The new manifest lists no more than the old one: what isn't
-//! stable stays so.
+//! The manifest without it is written first, and then its file is removed. The new manifest lists no more than the
+//! old one, so what isn't flushed stays so.
 
 ghost use Rattle.std.specs.Prelude.{◌≡◌, ◌⊎◌, ◌+◌, ◌≤◌, ◌<◌, ◌∷◌, ℕ, [], length, false, true, OnOk, OnErr, IfOk, IsErrOf};
 ghost use Rattle.disk_model.specs.Content.{LeavesOnly, Image, Files};
@@ -24,7 +24,8 @@ use std::alloc::AllocError;
 use tier_base::Trouble;
 
 impl<D: Disk> LocalLog<D> {
-    /// Drops the first closed segment, durably, and answers its base and its last offset. The stable end stays.
+    /// Drops the first closed segment durably, and returns its base offset and its last offset. The flushed end stays
+    /// the same.
     pub fn drop_first(&mut self) -> Result<(u64, u64), Trouble>
         requires unbroken { self.old.broken ≡ false }
         requires first { IsFirstStable self.old.stable self.old.closed }

@@ -1,7 +1,7 @@
 //! Whether the line gives the epochs of batches that were read. A batch's checksum doesn't cover its epoch.
 //!
-//! An epoch spans many batches, so the line is asked once for all of those that begin where one epoch reaches. The batches
-//! were checked, so that their heads alone are read.
+//! An epoch spans many batches, so the line is asked once for all of those that begin where one epoch reaches. The
+//! batches were checked, so that their heads alone are read.
 
 ghost use Rattle.std.specs.Prelude.{◌≡◌, ◌↔◌, Some, None, IfSome, IsTrue};
 ghost use Rattle.std.specs.Int.{w32, w64, cast_unsigned};

@@ -1,7 +1,8 @@
-//! The log of a broker on its disk.
+//! The log itself: creating, opening, appending, rolling and flushing.
 //!
-//! A write that the disk answers with a fault may have been done or not, so the log is broken then and may only be closed;
-//! opening it again finds what is stable. Want of memory is found before the first change, or changes no image.
+//! A write that the disk reports as failed may have been done or not. So the log is broken from then on and can only
+//! be closed; opening it again finds what was flushed. Running out of memory is noticed before the first change, or
+//! changes nothing that a crash could leave.
 
 ghost use Rattle.std.specs.Prelude.{◌≡◌, ◌⊎◌, ◌↔◌, ◌+◌, ◌≤◌, ◌<◌, ◌^◌, ◌++◌, ◌∷◌, List, [], ℕ, length, false, true, None, IfOk, IfErr, OnOk, OnErr, IsTrue, IsFalse, IsErrOf};
 ghost use Rattle.disk_model.specs.Content.{LeavesOnly, Image, Files, Keeps};
@@ -42,10 +43,10 @@ use std::marker::Model;
 use std::mem;
 use tier_base::{Failed, OFFSET_LIMIT, Settings, Trouble};
 
-/// The most segments of a log.
+/// The most segments of a log, the open one included.
 const MOST_SEGMENTS: usize = 4_096;
 
-/// A log over a disk.
+/// A local log over a disk.
 #[derive(Drop)]
 pub struct LocalLog<D: Disk> {
     pub(crate) alloc: Global,
@@ -73,7 +74,7 @@ impl<D: Disk> Model for LocalLog<D> {
 }
 
 impl<D: Disk> LocalLog<D> {
-    /// Makes the empty log at 0 over a disk with no files.
+    /// Creates the empty log at offset 0 on a disk without files. An `Err` returns the disk.
     pub fn create(
         alloc: Global,
         disk: D,
@@ -123,9 +124,9 @@ impl<D: Disk> LocalLog<D> {
         }
     }
 
-    /// Opens the log that the disk's manifest gives, under the next incarnation, whatever else the disk holds. A disk without
-    /// a manifest gives the empty log at 0. The disk is read before the first change, and a manifest without a reading is
-    /// never written again.
+    /// Opens the log that the disk's manifest describes, under the next incarnation, whatever else is on the disk. A
+    /// disk without a manifest has the empty log at offset 0. An invalid manifest, or one with the last incarnation,
+    /// is refused before the first change to the disk, and never written again. An `Err` returns the disk.
     pub fn open_at(
         alloc: Global,
         disk: D,
@@ -141,16 +142,16 @@ impl<D: Disk> LocalLog<D> {
             → Lists (D.content disk).files (log.closed ++ log.active ∷ [])) }
         ensures durable { IfOk result (λ log. (c : Files) → Image (D.content log.disk) c → Opens c (whole_log log)) }
 
-        // Where a log could be opened after any crash before, a crash at any moment of the call leaves what it might have
-        // left before, or what was read, perhaps under the next incarnation.
+        // Where a log could be opened after any crash before, a crash at any moment of the call leaves what it might
+        // have left before, or what was read, perhaps under the next incarnation.
         ensures any_moment { IfOk result (λ log. Reopens (D.content disk)
             → LeavesOnly (D.content disk) (D.content log.disk) (Opening (D.content disk))) }
         ensures any_moment_err { IfErr result (λ e. Reopens (D.content disk)
             → LeavesOnly (D.content disk) (D.content e.0) (Opening (D.content disk))) }
         ensures again { IfErr result (λ e. Reopens (D.content disk) → Reopens (D.content e.0)) }
 
-        // Each cause, by what the disk handed last. A fault of the manifest is told before the first change, and none of what
-        // the disk handed where what it reads opens.
+        // Each cause, by what the disk handed last. A fault of the manifest is told before the first change, and none
+        // of what the disk handed where what it reads opens.
         ensures err { IfErr result (λ e. OpenFails (D.control e.0).handed e.1) }
         ensures place { IfErr result (λ e. IsTrue (D.content disk).tells → OpenFailsIn (D.content disk).files e.1) }
         ensures sound { IfErr result (λ e. IsTrue (D.content disk).tells
@@ -186,8 +187,9 @@ impl<D: Disk> LocalLog<D> {
         }
     }
 
-    /// Every image opens as the stable log. It does nothing when it runs, and stands for proofs: calling it cites what the type
-    /// keeps of each of its values. No law over definitions could say it, since it doesn't hold of just any `Log`.
+    /// For proofs: whatever a crash leaves of the disk now opens as the flushed log. Does nothing at run time;
+    /// calling it cites what the type guarantees of each of its values. A law over definitions could not say it,
+    /// since it doesn't hold of every `Log`.
     pub fn stands(&self)
         ensures { self.now.broken ≡ false → (c : Files) → Image (D.content self.now.disk) c → OpensStable self.now c }
     {
@@ -195,23 +197,23 @@ impl<D: Disk> LocalLog<D> {
         let _ = &self.active;
     }
 
-    /// The batches are checked and follow one another up to the end, and a cut and a piece end where one of them does. It does
-    /// nothing when it runs, and cites what the type keeps, as `stands` does.
+    /// For proofs: the batches are valid and consecutive up to the end, and truncations and reads end where a batch
+    /// does. Does nothing at run time, as `stands`.
     pub fn coheres(&self)
         ensures { self.now.broken ≡ false → IsTrue (D.content self.now.disk).tells → Coheres self.now }
     {
         let _ = &self.active;
     }
 
-    /// A log can be opened again from the disk, also after a power cut and where this one is broken. It does nothing when it runs,
-    /// and cites what the type keeps.
+    /// For proofs: a log can be opened again from the disk, also after a power cut and if this one is broken. Does
+    /// nothing at run time, as `stands`.
     pub fn reopens(&self)
         ensures { Reopens (D.content self.now.disk) }
     {
         let _ = &self.active;
     }
 
-    /// Gives the disk back. A log can be opened from it again, also where this one is broken.
+    /// Returns the disk, without flushing. A log can be opened from it again, also if this one is broken.
     pub fn close(self) -> D
         ensures disk { result ≡ self.disk }
         ensures again { Reopens (D.content result) }
@@ -219,8 +221,9 @@ impl<D: Disk> LocalLog<D> {
         self.disk
     }
 
-    /// Appends the first batches of a run that stand in one segment, and answers their first and their last offset. It
-    /// rolls before them where that is due. They aren't stable before the next `flush`.
+    /// Appends as many batches from the front of `run` as fit into one segment, at least one, and returns the first
+    /// and the last offset of what it took. Rolls first if a roll is due. What is appended is durable after the next
+    /// `flush`. `takes` tests whether the log can take `run`.
     pub fn append(&mut self, run: &[u8]) -> Result<(u64, u64), AppendRefusal>
         requires unbroken { self.old.broken ≡ false }
         requires run { IsRun self.old.end self.old.line run.now }
@@ -351,7 +354,7 @@ impl<D: Disk> LocalLog<D> {
         }
     }
 
-    /// Closes the open segment, and opens a new one.
+    /// Closes the open segment, which is synced, and opens a new one. Returns the new one's base offset.
     pub fn roll(&mut self) -> Result<u64, RollRefusal>
         requires { self.old.broken ≡ false }
         ensures base { IfOk result (λ base. base ≡ self.old.end) }
@@ -399,7 +402,7 @@ impl<D: Disk> LocalLog<D> {
         }
     }
 
-    /// Makes all of the log stable, and answers its end.
+    /// Makes the whole log durable, and returns its end.
     pub fn flush(&mut self) -> Result<u64, Trouble>
         requires { self.old.broken ≡ false }
         ensures end { IfOk result (λ end. end ≡ self.old.end) }
@@ -426,7 +429,7 @@ impl<D: Disk> LocalLog<D> {
         self.commit(line)
     }
 
-    /// Enters a leader epoch that begins at the log's end, makes all stable, and answers the end.
+    /// Adds a leader epoch that starts at the log's end, makes the whole log durable, and returns the end.
     pub fn lead(&mut self, epoch: u32) -> Result<u64, Trouble>
         requires unbroken { self.old.broken ≡ false }
         requires fits { epoch < 2 ^ 31 }
@@ -456,7 +459,7 @@ impl<D: Disk> LocalLog<D> {
         self.commit(line)
     }
 
-    /// Makes all of the log stable, with a line that says the same below the end.
+    /// Makes the whole log durable with these leader epochs, which agree with the old ones below the end.
     fn commit(&mut self, line: Line) -> Result<u64, Trouble>
         requires unbroken { self.old.broken ≡ false }
         requires line { IsLine line }
@@ -501,7 +504,7 @@ impl<D: Disk> LocalLog<D> {
         }
     }
 
-    /// The offset of the first batch.
+    /// The local log start offset, where the first segment begins.
     pub fn local_start(&self) -> u64
         ensures is { result ≡ self.now.local_start }
         ensures low { result ≤ 2 ^ 62 }
@@ -509,49 +512,49 @@ impl<D: Disk> LocalLog<D> {
         self.local_start
     }
 
-    /// The offset after the last batch.
+    /// The log end offset: the offset after the last batch.
     pub fn end(&self) -> u64
         ensures { result ≡ self.now.end }
     {
         self.active.end()
     }
 
-    /// The offset up to which the log is stable.
+    /// The flushed end: what is below this offset survives a crash.
     pub fn stable(&self) -> u64
         ensures { result ≡ self.now.stable }
     {
         self.stable
     }
 
-    /// How often the log was opened.
+    /// The log's incarnation: 1 when it is created, and raised by each opening, also by one that fails late.
     pub fn incarnation(&self) -> u32
         ensures { result ≡ self.now.incarnation }
     {
         self.incarnation
     }
 
-    /// Which leader epoch starts where.
+    /// The leader epochs, each with its start offset.
     pub fn line(&self) -> &Line
         ensures { result.now ≡ self.now.line }
     {
         &self.line
     }
 
-    /// The bytes of the open segment.
+    /// The size of the open segment in bytes.
     pub fn open_size(&self) -> u64
         ensures { result ≡ size_of self.now.active }
     {
         self.active.size()
     }
 
-    /// The closed segments, each with its base, its end and its size.
+    /// The closed segments, oldest first, each with its base offset, its end, and its size in bytes.
     pub fn closed(&self) -> &[Growing]
         ensures { result.now ≡ self.now.closed }
     {
         &self.closed
     }
 
-    /// How the log is cut into segments, and how dense its indexes are.
+    /// The settings: how large a segment gets, and how dense its indexes are, both in bytes.
     pub fn settings(&self) -> &Settings
         ensures are { result.now ≡ self.now.settings }
         ensures fit { AreSettings result.now }
@@ -559,14 +562,14 @@ impl<D: Disk> LocalLog<D> {
         &self.settings
     }
 
-    /// The disk.
+    /// The disk under the log.
     pub fn disk(&self) -> &D
         ensures { result.now ≡ self.now.disk }
     {
         &self.disk
     }
 
-    /// Arms the disk: planned calls fail from now on.
+    /// Arms the disk: from now on its planned calls fail.
     pub fn arm(&mut self)
         ensures log { self.new ≡ record self.old { disk = self.new.disk } }
         ensures content { Keeps (D.content self.old.disk) (D.content self.new.disk) }
@@ -577,7 +580,7 @@ impl<D: Disk> LocalLog<D> {
         self.disk.arm()
     }
 
-    /// Whether a write has failed. Such a log may only be closed.
+    /// Whether a write has failed. A broken log can only be closed.
     pub fn is_broken(&self) -> bool
         ensures { result ≡ self.now.broken }
     {

@@ -11,8 +11,8 @@ ghost use Rattle.local_log.specs.Reading.{first_past, is_edge, piece_end, positi
 use crate::seeking::count_ended;
 use segment_file::Growing;
 
-/// A piece: the base of its segment, the position from which its file is read, how many bytes are, and the offset at which
-/// it ends.
+/// A piece: the base of its segment, the position from which its file is read, how many bytes are, and the offset at
+/// which it ends.
 #[derive(Clone, Copy)]
 pub(crate) struct Piece {
     pub base: u64,

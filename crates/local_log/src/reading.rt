@@ -1,10 +1,10 @@
-//! What is read of a log: a run of its batches, and a closed segment. Each is one read of a part of a segment's file, and the
-//! bytes that are given are a part of what the disk handed.
+//! Reading a log: a run of its batches, and a whole closed segment. Each is one read of a part of a segment's file,
+//! and the returned bytes are a part of what the disk returned.
 //!
-//! What memory keeps says where the run begins and ends, so that no other batch is read, and a mark that is no batch's end
-//! is found before the disk is asked. Of the batch at which the limit ends a run the head is read too, since the bytes
-//! are tested without what memory keeps. Last of all the batches' epochs are held against the line, since no checksum
-//! covers them.
+//! Memory keeps where batches end, so no batch outside the run is read, and a high watermark at which no batch ends
+//! is refused before the disk is asked. If the limit ends a run, the head of the next batch is read too, because the
+//! bytes are checked without what memory keeps. Last, the batches' leader epochs are compared with the log's, because
+//! no checksum covers them.
 
 ghost use Rattle.std.specs.Prelude.{◌≡◌, ◌≢◌, ◌<◌, ◌≤◌, ◌+◌, ℕ, None, option_map, min, false, true, ◌^◌, ◌↔◌, IfOk, IfErr, IfSome, IsOk, IsErrOf, IsTrue};
 ghost use Rattle.tier_base.specs.declared.fault.Trouble.TheVariants as fault;
@@ -29,7 +29,7 @@ use segment_file::{Closed, ClosedRefusal, take_run};
 use std::alloc::Global;
 use tier_base::{Stop, Trouble};
 
-/// A run: the base offset of its segment, its batches' bytes, the offset after it, and why it ends.
+/// A run: the base offset of its segment, the bytes of its batches, the offset after it, and why it ends.
 #[derive(Drop)]
 pub struct RunOut {
     pub base: u64,
@@ -39,8 +39,9 @@ pub struct RunOut {
 }
 
 impl<D: Disk> LocalLog<D> {
-    /// Reads the run at an offset: the batch that holds it, and further ones that end at or below the mark and together
-    /// fit the limit, in bytes. The log is as it was also where the read failed.
+    /// Reads the run at an offset: the batch that contains it, and as many of the next ones as end at or below `mark`
+    /// (the high watermark), are in the same segment and leader epoch, and fit into `limit` bytes together. A first
+    /// batch larger than the limit is returned all the same. The log stays as it was, also if the read fails.
     pub fn read_run(&mut self, offset: u64, limit: u64, mark: u64) -> Result<RunOut, ReadRefusal>
         requires unbroken { self.old.broken ≡ false }
         requires start { self.old.local_start ≤ offset }
@@ -88,8 +89,8 @@ impl<D: Disk> LocalLog<D> {
         run_in(piece, &self.line, part, offset, limit, mark)
     }
 
-    /// Reads the first closed segment that ends past an offset. There is none where the offset lies in the open segment, or
-    /// past the end.
+    /// Reads the first closed segment that ends past an offset. Returns `None` if the offset is in the open segment
+    /// or past the end.
     pub fn closed_from(&mut self, offset: u64) -> Result<Option<Closed>, ReadRefusal>
         requires { self.old.broken ≡ false }
         ensures log { Becomes D.content self.old self.new }
@@ -127,7 +128,7 @@ impl<D: Disk> LocalLog<D> {
         Ok(Some(closed))
     }
 
-    /// Whether a batch of the log ends at an offset, or its first one begins there.
+    /// Whether a batch of the log ends at this offset, or the first one begins there.
     pub fn is_edge(&self, offset: u64) -> bool
         ensures segment { result ≡ is_edge (segment_at self.now offset) offset }
         ensures told { self.now.broken ≡ false → IsTrue (D.content self.now.disk).tells → self.now.local_start ≤ offset

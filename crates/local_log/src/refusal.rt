@@ -1,4 +1,4 @@
-//! Why a call of a log gave no answer.
+//! Why a call of a local log failed.
 
 ghost use Rattle.std.specs.Prelude.{◌≡◌};
 
@@ -6,36 +6,36 @@ use std::alloc::AllocError;
 use thiserror::Error;
 use tier_base::{FileName, Trouble};
 
-/// Why a log wasn't made. The disk's images are those of before, or the new log.
+/// Why a log wasn't created. A crash leaves the disk as it was before, or with the new log.
 #[derive(Clone, Copy, Debug, PartialEq, Eq, Drop, Error)]
 pub enum CreateRefusal {
     /// A call of the disk failed.
     #[error("the disk failed")]
     DiskFault,
-    /// There was no memory for the manifest.
+    /// Out of memory.
     #[error("out of memory")]
     NoMemory,
 }
 
-/// Why a log wasn't opened. The disk can be opened again as far as it could before.
+/// Why a log wasn't opened. What could be opened from the disk before still can.
 #[derive(Clone, Copy, Debug, PartialEq, Eq, Drop, Error)]
 pub enum OpenRefusal {
     /// A call of the disk failed.
     #[error("the disk failed")]
     DiskFault,
-    /// What the disk handed of this file has no reading at this place.
+    /// What the disk returned of this file is invalid at this position, in bytes.
     #[error("{file:?} is damaged at {at}")]
     Damaged { file: FileName, at: u64 },
-    /// The manifest's incarnation is 4,294,967,295, and no other may follow.
+    /// The manifest's incarnation is 4,294,967,295, and there is no next one.
     #[error("the last incarnation")]
     LastIncarnation,
-    /// There was no memory for what was read.
+    /// Out of memory.
     #[error("out of memory")]
     NoMemory,
 }
 
-/// Why a run wasn't appended. The first of the first two causes is told, before the disk is asked. After a fault of the disk
-/// the log is broken, and may only be closed; any other refusal leaves it as it was.
+/// Why batches weren't appended. Of the first two causes, the first that holds is returned, before the disk is asked.
+/// A `DiskFault` breaks the log, which can only be closed then; any other refusal leaves it as it was.
 #[derive(Clone, Copy, Debug, PartialEq, Eq, Drop, Error)]
 pub enum AppendRefusal {
     /// The first batch's last offset would be 2^62 or more.
@@ -47,16 +47,16 @@ pub enum AppendRefusal {
     /// A call of the disk failed.
     #[error("the disk failed")]
     DiskFault,
-    /// There was no memory.
+    /// Out of memory.
     #[error("out of memory")]
     NoMemory,
 }
 
-/// Why the open segment wasn't closed. The first of the first two causes is told, before the disk is asked. After a fault of
-/// the disk the log is broken, and may only be closed; any other refusal leaves it as it was.
+/// Why the open segment wasn't closed. Of the first two causes, the first that holds is returned, before the disk is
+/// asked. A `DiskFault` breaks the log, which can only be closed then; any other refusal leaves it as it was.
 #[derive(Clone, Copy, Debug, PartialEq, Eq, Drop, Error)]
 pub enum RollRefusal {
-    /// The open segment has no batch, so that there is nothing to close.
+    /// The open segment has no batch.
     #[error("the open segment is empty")]
     EmptySegment,
     /// There are 4,096 segments already.
@@ -65,23 +65,24 @@ pub enum RollRefusal {
     /// A call of the disk failed.
     #[error("the disk failed")]
     DiskFault,
-    /// There was no memory.
+    /// Out of memory.
     #[error("out of memory")]
     NoMemory,
 }
 
-/// Why nothing was read of a log. It is as it was. A mark that misses the batches' ends is told before the disk is asked, and
-/// damage of what the disk handed is found last.
+/// Why nothing was read. The log is as it was. A high watermark at which no batch ends is refused before the disk is
+/// asked; damage in what the disk returned is found last.
 #[derive(Clone, Copy, Debug, PartialEq, Eq, Drop, Error)]
 pub enum ReadRefusal {
-    /// What the disk handed of this file has no reading at this place, or there stands a batch whose epoch the line doesn't
-    /// give; or a mark misses the batches' ends, and the batch that holds it begins at this place.
+    /// What the disk returned of this file is invalid at this position, or the batch there has another leader epoch
+    /// than the log has at its offset. Or no batch ends at the high watermark, and the batch that contains it begins
+    /// at this position.
     #[error("{file:?} is damaged at {at}")]
     Damaged { file: FileName, at: u64 },
     /// A call of the disk failed.
     #[error("the disk failed")]
     DiskFault,
-    /// There was no memory.
+    /// Out of memory.
     #[error("out of memory")]
     NoMemory,
 }

@@ -1,7 +1,7 @@
-//! A log that is begun anew at an offset, empty and durable.
+//! Starting a log anew at an offset, empty and durable.
 //!
-//! The manifest with the one empty segment comes first: from then on no image opens as the old log. Only then do the old
-//! segments' files go, the open one's too, so that nothing reads where the new open segment begins.
+//! The manifest with the one empty segment is written first: from then on no crash brings back the old log. Only then
+//! are the old segments' files removed, the open one's too, so that the new open segment begins without bytes.
 
 ghost use Rattle.std.specs.Prelude.{◌≡◌, ◌⊎◌, ◌+◌, ◌≤◌, ◌<◌, ◌^◌, ◌++◌, ◌∷◌, ℕ, [], length, false, true, OnOk, OnErr, IsErrOf};
 ghost use Rattle.disk_model.specs.Content.{LeavesOnly, Image, Files};
@@ -44,7 +44,7 @@ pub(crate) fn renew<D: Disk>(
 }
 
 impl<D: Disk> LocalLog<D> {
-    /// Begins the log anew at an offset, empty and durable, with this line.
+    /// Starts the log anew at an offset: empty, durable, and with these leader epochs.
     pub fn restart_at(&mut self, start: u64, line: Line) -> Result<(), Trouble>
         requires unbroken { self.old.broken ≡ false }
         requires low { start ≤ 2 ^ 62 }

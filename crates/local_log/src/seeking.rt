@@ -12,7 +12,8 @@ use disk_model::Disk;
 use segment_file::Growing;
 
 impl<D: Disk> LocalLog<D> {
-    /// Where the last batch ends that ends at or below an offset: where the log would end that is cut to it.
+    /// Where the last batch ends that ends at or below an offset: the end of the log after a truncation to that
+    /// offset.
     pub fn end_up_to(&self, offset: u64) -> u64
         ensures { result ≡ cut_point offset self.now.closed self.now.active }
     {

@@ -1,5 +1,5 @@
-//! What a cut makes of a log's segments and of their files: those behind are removed, from the last to the first, and the
-//! one that is the last then is cut. Nothing is read.
+//! What a cut makes of a log's segments and of their files: those behind are removed, from the last to the first, and
+//! the one that is the last then is cut. Nothing is read.
 
 ghost use Rattle.std.specs.Prelude.{◌≡◌, ◌+◌, ◌≤◌, ◌<◌, ◌^◌, ◌++◌, ◌∷◌, [], length, map, OnOk, IfOk};
 ghost use Rattle.tier_base.specs.declared.plain.FileName.TheVariants as file;

@@ -1,5 +1,5 @@
--- What bytes say as a manifest, or their first fault: each part as what it reads at the front of bytes, with what stands
--- behind it.
+-- What bytes say as a manifest, or their first fault: each part as what it reads at the front of bytes, with what
+-- stands behind it.
 --
 -- A fault is the place of the first field that is missing, is cut or breaks a rule, or of the first byte that follows
 -- the last field. The places are those of the table in the module Spelling.

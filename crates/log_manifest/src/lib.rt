@@ -1,7 +1,8 @@
-//! The manifest of a broker's log: what of it is stable.
+//! The manifest of a local log: what of the log is durable.
 //!
-//! A manifest holds the incarnation, the local start, the base and the stable length of each log segment, and the epoch
-//! line. It alone says what a log has after a crash, so it is replaced as a whole. It has one spelling in bytes.
+//! It has the incarnation, the local log start offset, the base offset and the flushed length of each segment in
+//! bytes, and the leader epochs. It alone decides what a log has after a crash, so it is replaced as a whole. It has
+//! one spelling in bytes.
 #![tactic(auto)]
 
 mod fields;

@@ -1,4 +1,5 @@
-//! A manifest out of its bytes. The module Reading of specs/ says what bytes say as a manifest, and Spelling has the table.
+//! A manifest out of its bytes. The module Reading of specs/ says what bytes say as a manifest, and Spelling has the
+//! table.
 //!
 //! The fields are read from left to right, so the first fault is told. Both lists grow by the items that are there, so
 //! a count alone takes no memory.

@@ -1,7 +1,7 @@
 -- A disk from which a log can be opened, now and after a crash, and what an opening leaves.
 --
--- A crash in the course of an opening may leave the manifest of one image beside the files of another. So it isn't enough
--- that each image opens.
+-- A crash in the course of an opening may leave the manifest of one image beside the files of another. So it isn't
+-- enough that each image opens.
 use Rattle.std.specs.Prelude.{◌≡◌, ◌⊎◌, ℕ, ◌+◌, List, Some, Ok}
 use Rattle.tier_base.specs.declared.plain.FileName.TheVariants as file
 use Rattle.disk_model.specs.Content.{Content, Files, Image}

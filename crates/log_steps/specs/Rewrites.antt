@@ -1,4 +1,5 @@
--- The first part of an opening: the manifest is written again, the files are cut to what it lists, and others are removed.
+-- The first part of an opening: the manifest is written again, the files are cut to what it lists, and others are
+-- removed.
 use Rattle.std.specs.Prelude.{◌≡◌, ◌≢◌, ◌⊎◌, ℕ, List, Some, None, IsTrue}
 use Rattle.tier_base.specs.declared.plain.FileName.{FileName}
 use Rattle.tier_base.specs.declared.plain.FileName.TheVariants as file

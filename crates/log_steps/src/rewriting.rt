@@ -1,6 +1,6 @@
-//! The first part of an opening: the manifest is written again as it was read, so that no crash brings an older one back;
-//! then each listed file is cut to its length and synced, and the log files that aren't listed are removed, since a later
-//! roll appends to a new file.
+//! The first part of an opening: the manifest is written again as it was read, so that no crash brings an older one
+//! back; then each listed file is cut to its length and synced, and the log files that aren't listed are removed,
+//! since a later roll appends to a new file.
 
 ghost use Rattle.std.specs.Prelude.{◌≡◌, ◌≢◌, ◌↔◌, ◌+◌, ◌*◌, ◌≤◌, [], ℕ, length, OnOk, IsTrue, IsFalse};
 ghost use Rattle.tier_base.specs.Device.{fate_of, failing};
@@ -13,7 +13,8 @@ use disk_model::{Disk, FileName};
 use log_manifest::Extent;
 use tier_base::{Failed, Trouble};
 
-/// Writes the manifest again, cuts the files to its lengths, and removes the log files of these names that it doesn't list.
+/// Writes the manifest again, cuts the files to its lengths, and removes the log files of these names that it doesn't
+/// list.
 pub fn rewrite<D: Disk>(
     disk: &mut D,
     manifest: &[u8],

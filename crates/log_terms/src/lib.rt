@@ -1,4 +1,4 @@
-//! The words that a log is told in: a batch's fields, consecutive batches, leader epochs.
+//! The terms that all definitions about logs share: a batch's fields, consecutive batches, leader epochs.
 //!
-//! Definitions and laws alone. The crates above cite them, so that each word has one meaning.
+//! There is no code here, only definitions and laws. The crates above cite them, so that each term has one meaning.
 #![tactic(auto)]

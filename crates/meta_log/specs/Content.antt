@@ -36,8 +36,8 @@ LeavesTold c = (l : List Note) → Left c l → l ≡ c.notes
 abbrev pub appended_if : Bool → Note → List Note → List Note
 appended_if done note notes = if done then notes ++ note ∷ [] else notes
 
--- A call that puts a note at the end, where it was done. A power cut then may leave what it might have left before, or the notes that
--- were told with the note behind them.
+-- A call that puts a note at the end, where it was done. A power cut then may leave what it might have left before,
+-- or the notes that were told with the note behind them.
 pub record Grows (note : Note) (may_be_done : Bool → Type 0) (old new : Content) : Type 0 where
   pub tells : new.tells ≡ old.tells
   pub notes : IsTrue old.tells → (done : Bool) × may_be_done done × (new.notes ≡ appended_if done note old.notes)

@@ -1,8 +1,10 @@
-//! The metadata log of a partition's remote segments: notes, one behind another.
+//! The metadata log of a partition's remote segments: a list of metadata events, as Kafka keeps them in the topic
+//! `__remote_log_metadata`. The code calls an event a note.
 //!
-//! `MetaLog` is the trait that brokers tell each other through. A log may tell its notes, and always
-//! tells its faults and the calls made; what it gives keeps the rules of a note even where it doesn't
-//! tell. `MemoryLog` tells all of it and is proved to be such a log: its calls fail by a plan.
+//! `MetaLog` is the trait through which brokers learn of each other's remote segments. The events of a log may be
+//! observable; what can always be observed is how many calls failed and how many were made. The events that it
+//! returns are valid even if it isn't observable. `MemoryLog` is observable and proved to be such a log: its calls
+//! fail by a plan.
 #![tactic(auto)]
 
 mod call;

@@ -1,7 +1,7 @@
-//! What the calls of a metadata log do to its notes.
+//! The trait of a metadata log.
 //!
-//! A call is whole: it is done or not, and one that answers `Failed` may have been done. One that
-//! finds no memory changes nothing. No call hands bytes.
+//! A call is done as a whole or not at all. One that returns `Failed` may have been done; one that runs out of memory
+//! changes nothing. No call reports raw bytes.
 
 ghost use Rattle.std.specs.Prelude.{◌≡◌, length, drop, IfOk, OnOk, IsTrue};
 ghost use Rattle.tier_base.specs.Device.{Control, RanQuietly, MayBeDone, Arms, FailsAsPlanned, fate_of};
@@ -13,16 +13,16 @@ ghost use Rattle.meta_log.specs.Content.{Content, AreNotes, LeavesTold, Grows, K
 use segment_meta::Note;
 use tier_base::{Row, Trouble};
 
-/// What was noted of a partition's remote segments, in order. After an `append` that answers
-/// `Failed` its note stands at the end or nowhere, all earlier ones stay, and any call may follow.
+/// The metadata events of a partition's remote segments, in order. After an `append` that returns `Failed` its event
+/// is at the end or nowhere, all earlier ones stay, and any call may follow.
 pub trait MetaLog: Drop {
-    /// The notes.
+    /// The events.
     ghost content: { Self → Content };
 
-    /// The faults, the plan of faults, and the calls made.
+    /// The number of failed calls, the plan of faults, and the calls made.
     ghost control: { Self → Control call_code };
 
-    /// Puts a note at the end, and answers its place, from 0.
+    /// Appends an event, and returns its position, counted from 0.
     fn append(&mut self, note: &Note) -> Result<u64, Trouble>
         requires { IsNote note.now }
         ensures control { RanQuietly Append (fate_of result) (control self.old) (control self.new) }
@@ -31,7 +31,8 @@ pub trait MetaLog: Drop {
         ensures place { IsTrue (content self.old).tells
             → IfOk result (λ at. at ≡ length (content self.old).notes) };
 
-    /// Gives the notes from a place on, none where the log ends there or before. A power cut then leaves the notes that it told.
+    /// Returns the events from a position on, none if the log ends there or before. After that a power cut leaves
+    /// exactly the events that the log has.
     fn read(&mut self, at: u64) -> Result<Row<Note>, Trouble>
         ensures control { RanQuietly Read (fate_of result) (control self.old) (control self.new) }
         ensures content { Keeps (content self.old) (content self.new) }
@@ -40,11 +41,11 @@ pub trait MetaLog: Drop {
             → IfOk result (λ notes. notes ≡ drop at (content self.old).notes) }
         ensures rules { IfOk result AreNotes };
 
-    /// From the first `arm` on planned calls fail. A further one changes nothing.
+    /// From the first `arm` on planned calls fail. Further calls of `arm` change nothing.
     fn arm(&mut self)
         ensures control { Arms (control self.old) (control self.new) }
         ensures content { Keeps (content self.old) (content self.new) };
 
-    /// Where its plan alone decides which calls fail, as many failed as the plan names of those made.
+    /// If its plan alone decides which calls fail, as many failed as the plan names of those that were made.
     ghost planned: { (log : Self) → FailsAsPlanned (control log) };
 }

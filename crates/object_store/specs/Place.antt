@@ -1,7 +1,7 @@
 -- Where the parts of a remote segment stand in the store, what is read there, and under which keys its objects stand.
 --
--- The one object of a packed segment has the parts one behind another, in the order of `Part`. The custom metadata of the
--- segment's entry tells their layout, so where each stands. Where it tells none, no part has a place.
+-- The one object of a packed segment has the parts one behind another, in the order of `Part`. The custom metadata of
+-- the segment's entry tells their layout, so where each stands. Where it tells none, no part has a place.
 use Rattle.std.specs.Prelude.{ℕ, ◌+◌, ◌-◌, min, nat_lt, if◌then◌else◌, Bool, true, false, List, [], ◌∷◌, length, take, drop, Option, Some, None, option_map}
 use Rattle.tier_base.specs.declared.names.PartitionId.{PartitionId}
 use Rattle.tier_base.specs.declared.names.SegmentId.{SegmentId}

@@ -1,11 +1,10 @@
-//! The remote store: what its calls do to the objects that the segments of the remote tier are made of.
+//! The object store of the remote tier as a trait: what its calls do to the objects of remote segments.
 //!
-//! `Store` is the trait that copies, fetches and deletions stand on. A store may tell its objects,
-//! and always tells its faults, the calls made and the bytes that it handed. `MemoryStore` tells all
-//! of it and is proved to be such a store: its calls fail by a plan. `DeafStore` works and tells no
-//! content, so that a test can put any bytes under the code that reads. `place` and `keys_of` say
-//! where the parts of a segment stand and under which keys its objects; `get_spot` and `get_in_spot`
-//! read a part there.
+//! Copies, fetches and deletions are written against `Store`. The objects of a store may be observable; what can
+//! always be observed is how many calls failed, how many were made, and the bytes that the last read returned.
+//! `MemoryStore` is observable and proved to be such a store: its calls fail by a plan. `DeafStore` works but isn't
+//! observable, so that a test can give any bytes to the code that reads. `place` and `keys_of` say where the parts of
+//! a segment are and which keys its objects have; `get_spot` and `get_in_spot` read a part there.
 #![tactic(auto)]
 
 mod call;

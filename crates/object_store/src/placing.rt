@@ -61,8 +61,8 @@ impl Keys {
     }
 }
 
-/// Where a part of a segment stands. Of a packed one `custom` tells it, the custom metadata of the segment's entry, and none has
-/// a place where that tells no layout.
+/// Where a part of a segment stands. Of a packed one `custom` tells it, the custom metadata of the segment's entry,
+/// and none has a place where that tells no layout.
 pub fn place(
     partition: PartitionId,
     id: SegmentId,

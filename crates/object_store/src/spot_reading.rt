@@ -1,7 +1,7 @@
 //! How a part is read where it stands: no byte of its object that isn't its own is asked for.
 //!
-//! The object may be shorter than its layout tells. Then fewer bytes come than the part has, and the object is damaged where they
-//! end. So whoever reads asks `short` or `short_in` of what came, before it looks into the bytes.
+//! The object may be shorter than its layout tells. Then fewer bytes come than the part has, and the object is
+//! damaged where they end. So whoever reads asks `short` or `short_in` of what came, before it looks into the bytes.
 
 ghost use Rattle.std.specs.Prelude.{◌≡◌, ◌+◌, ◌-◌, ◌<◌, ◌^◌, min, option_map};
 ghost use Rattle.object_store.specs.Calls.{Gets};

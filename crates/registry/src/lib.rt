@@ -1,10 +1,10 @@
-//! The registry of a partition, which stands for Kafka's controller quorum: the leader epoch and its leader, the replicas
-//! in sync and what they acknowledged, the high watermark, and the log start offset.
+//! The registry of a partition, which stands for Kafka's controller quorum: the leader and its epoch, the ISR and
+//! what its brokers acknowledged, the high watermark, and the log start offset.
 //!
-//! It never stops, and no call of it takes memory. Each call that answers tests its causes in a fixed order and changes
-//! the registry only where none of them holds. `specs/Calls.antt` says what each answers and leaves; the plain log's rows on
-//! elections, acknowledgements, replicas in sync and the log start cite the same definitions. `lead` and `lead_alone` are
-//! what an election comes to once it is allowed, for a caller that has tested it.
+//! It never stops, and no call of it allocates. A call that can be refused tests its causes in a fixed order and
+//! changes the registry only if none of them holds. `specs/Calls.antt` says what each call returns and changes; the
+//! plain log's rows for elections, acknowledgements, the ISR and the log start cite the same definitions. `lead` and
+//! `lead_alone` carry out an election that the caller has already tested.
 #![tactic(auto)]
 
 mod laws;

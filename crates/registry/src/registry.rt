@@ -121,8 +121,8 @@ impl Registry {
         Ok(self.epoch)
     }
 
-    /// Elects a broker that may not be in sync, and answers the new leader epoch. What its log has up to its stable end,
-    /// `stable`, is committed from then on, and nothing else.
+    /// Elects a broker that may not be in sync, and answers the new leader epoch. What its log has up to its stable
+    /// end, `stable`, is committed from then on, and nothing else.
     pub fn elect_unclean(
         &mut self,
         broker: BrokerId,
@@ -150,8 +150,8 @@ impl Registry {
         Ok(self.epoch)
     }
 
-    /// Takes an acknowledgement of a broker's stable end, and answers the high watermark. `epoch` is the one in which the
-    /// broker leads or has joined.
+    /// Takes an acknowledgement of a broker's stable end, and answers the high watermark. `epoch` is the one in which
+    /// the broker leads or has joined.
     pub fn ack(&mut self, broker: BrokerId, epoch: u32, stable: u64) -> Result<u64, RegRefusal>
         requires { broker.0 < length self.old.replicas }
         ensures is { AtReplica self.old broker.0 (λ s. after_ack self.old broker.0 s epoch stable result ≡ Some self.new) }

@@ -1,5 +1,5 @@
--- What bytes say as a registry's file, or their first fault: each part as what it reads at the front of bytes, with what
--- stands behind it.
+-- What bytes say as a registry's file, or their first fault: each part as what it reads at the front of bytes, with
+-- what stands behind it.
 --
 -- A fault is the place of the first field that is missing, is cut or breaks a rule, or of the first byte that follows
 -- the last field. A rule on two fields is broken at the later of them. The places are those of the table in the module

@@ -1,7 +1,7 @@
-//! The file of a partition's registry: who leads, who is in sync, and between which offsets the log can be read.
+//! The registry of a partition as a file: the leader, the ISR, and the offsets between which the log can be read.
 //!
-//! It is replaced as a whole, and has one spelling in bytes. What a registry's view must say stands with the view. A view
-//! is written whatever it says, and read only where it keeps its rules.
+//! It is replaced as a whole, and has one spelling in bytes. Any view can be written, but only one that satisfies the
+//! registry's rules is read back.
 #![tactic(auto)]
 
 mod fields;

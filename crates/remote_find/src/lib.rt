@@ -1,7 +1,8 @@
-//! Where a log's offsets are found in the remote tier: by the line of epochs of the log that is read.
+//! Which remote segment has an offset of a log: decided by the leader epochs of the log that is read.
 //!
-//! Brokers that led in turn may have copied different batches under one offset. So a remote segment counts at an offset
-//! only where its map gives the epoch that the reading log has there, and only as far as this epoch goes in both.
+//! Brokers that led in turn may have copied different batches under the same offset. So a remote segment counts at an
+//! offset only if its leader epochs give the epoch that the reading log has there, and only as far as this epoch goes
+//! in both.
 #![tactic(auto)]
 
 mod laws;

@@ -1,7 +1,7 @@
 //! How far the remote tier has all of a log, from an offset on.
 //!
-//! In an epoch of the log's line the view knows at once how far copies go. So the pieces are passed by the epoch, however many
-//! there are.
+//! In an epoch of the log's line the view knows at once how far copies go. So the pieces are passed by the epoch,
+//! however many there are.
 
 ghost use Rattle.std.specs.Prelude.{◌≡◌, ◌≤◌, ◌<◌, ℕ, true, None, IsSome};
 ghost use Rattle.std.specs.List.{AllByRecursion};

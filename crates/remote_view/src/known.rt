@@ -1,7 +1,7 @@
 //! Entries in the order of their first notes, each found by its id.
 //!
-//! Deletions mostly come in that order too. So a count of entries in front, whose objects are all gone, spares the search for
-//! what is due a walk over them.
+//! Deletions mostly come in that order too. So a count of entries in front, whose objects are all gone, spares the
+//! search for what is due a walk over them.
 
 ghost use Rattle.std.specs.Prelude.{◌≡◌, [], ◌∷◌, ◌++◌, false, None, OnOk, OnErr, IfSome};
 ghost use Rattle.std.specs.Option.{option_map};

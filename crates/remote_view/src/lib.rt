@@ -1,12 +1,12 @@
-//! A broker's view of a partition's remote segments: the fold of the notes that it has read.
+//! A broker's view of a partition's remote segments: what the metadata events that it has read add up to.
 //!
-//! Each broker reads the metadata log by itself and feeds it note by note, so two views differ at most by how far
-//! their brokers have read. The module Fold of specs/ says what notes come to, Lookup what is found in that.
+//! Each broker reads the metadata log by itself and adds event after event, so two views differ only in how far their
+//! brokers have read. specs/Fold.antt says what events add up to, specs/Lookup.antt what is found in that.
 //!
-//! Beside its entries a view keeps a stair for each epoch: which copy is the best at an offset, by ranges of offsets. So a
-//! look-up is a search by halving, and a copy that finishes, or whose deletion starts, changes the stairs of its epochs.
-//! The module Stairs of specs/ says what a stair is. Where a row of copies ends that follow one another without a gap, a
-//! stair knows by itself.
+//! Beside its entries a view keeps, for each leader epoch, which copy is the best at which offsets, as ranges (a
+//! stair). So a lookup is a binary search, and only a finished copy or a started deletion changes the ranges, those
+//! of its epochs. specs/Stairs.antt defines them. A stair also knows where a row of copies ends that follow one
+//! another without a gap.
 #![tactic(auto)]
 
 mod changing;

@@ -1,7 +1,7 @@
 //! A view and its calls: entries by their ids, and stairs by their epochs.
 //!
-//! Everything is found by a search in an order, but for what a log start leaves behind. A note that makes a step changes the
-//! entry and the stairs of its epochs together, once there is memory for all of it.
+//! Everything is found by a search in an order, but for what a log start leaves behind. A note that makes a step
+//! changes the entry and the stairs of its epochs together, once there is memory for all of it.
 
 ghost use Rattle.std.specs.Prelude.{◌≡◌, ◌≢◌, [], OnOk, OnErr, IfSome};
 ghost use Rattle.std.specs.Option.{option_map};

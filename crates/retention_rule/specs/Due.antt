@@ -1,11 +1,11 @@
 -- Which closed segments retention takes, oldest first.
 --
--- A segment goes by age where its greatest timestamp is more than the limit in milliseconds ago.
--- It goes by size where what is left without it still reaches the limit in bytes. A negative limit
--- is none. The first segment that neither takes ends the list.
+-- A segment is due by age if its greatest timestamp is more than the limit in milliseconds ago. It is due by size if
+-- what remains without it still reaches the limit in bytes. A negative limit is none. The first segment that is not
+-- due ends the list.
 --
--- Source: Kafka's retention.ms and retention.bytes. That a size which is left at the limit lets
--- the oldest segment go is this project's choice.
+-- Source: retention.ms and retention.bytes as Kafka's UnifiedLog applies them; both comparisons are Kafka's. The rule
+-- is the same for remote segments. There Kafka's remote log manager also takes a segment whose age equals the limit.
 use Rattle.std.specs.Prelude.{ℕ, ◌+◌, ℤ, pos, ◌-ℤ◌, ◌&&◌, ◌||◌, Bool, false, nat_lt, int_le, int_lt, if◌then◌else◌, List, [], ◌∷◌, sum_by}
 use Rattle.tier_base.specs.declared.plain.Item.{Item}
 use Rattle.tier_base.specs.declared.plain.Keep.{Keep}

@@ -1,8 +1,8 @@
-//! Retention: which closed segments have expired, by age and by size.
+//! Retention: which closed segments are due, by age and by size.
 //!
-//! The local log asks whether its oldest segment is due, the remote log how many segments its
-//! start passes. Both ask the same rule, oldest first. Sizes and ages are reckoned in 128 bits, so
-//! that none is too large.
+//! The local log asks whether its oldest segment is due, the remote log how many segments its start passes. Both use
+//! the same rule, oldest first. Sizes in bytes and ages in milliseconds are computed in 128 bits, so that nothing
+//! overflows.
 #![tactic(auto)]
 
 mod due;

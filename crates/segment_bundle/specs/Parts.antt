@@ -8,8 +8,8 @@
 --   Pack        these four, one behind another
 --
 -- Source: KIP-405, LogSegmentData. The formats of the indexes and of the epochs are in the modules Offsets and Times of
--- sparse_index and Text of epoch_line. The pack is ours: its layout (the module Layout of tier_base) is what KIP-917 lets a
--- store keep of a segment.
+-- sparse_index and Text of epoch_line. The pack is ours: its layout (the module Layout of tier_base) is what KIP-917
+-- lets a store keep of a segment.
 use Rattle.std.specs.Prelude.{◌≡◌, ◌≢◌, ℕ, ◌^◌, ◌&&◌, nat_lt, Bool, if◌then◌else◌, List, [], ◌∷◌, ◌++◌, length, Option, Some, None}
 use Rattle.log_terms.specs.Batch.{base_of}
 use Rattle.log_terms.specs.Log.{joined, end_from}

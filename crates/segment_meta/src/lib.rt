@@ -1,7 +1,7 @@
-//! The metadata of remote segments: an entry a segment, its states, and the notes that change it.
+//! The metadata of remote segments: an entry for each segment, its states, and the events that change them.
 //!
-//! A remote segment's life is told by notes in a metadata log. The first adds its entry, as its copy starts, and each
-//! further one makes the next state. A note has one spelling in bytes.
+//! The first event of a segment adds its entry, when its copy starts; each further one moves it to the next state
+//! (KIP-405). An event is called a note here, and has one spelling in bytes.
 #![tactic(auto)]
 
 mod custom;

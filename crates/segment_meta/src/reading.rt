@@ -1,7 +1,7 @@
 //! A note out of its bytes. The module Reading of specs/ says what bytes say as a note, and Spelling has the table.
 //!
-//! The fields are read from left to right, so the first fault is told. The map and the custom metadata alone take memory:
-//! the map grows by the epochs that are there, so a count alone takes none.
+//! The fields are read from left to right, so the first fault is told. The map and the custom metadata alone take
+//! memory: the map grows by the epochs that are there, so a count alone takes none.
 
 ghost use Rattle.std.specs.Prelude.{◌≡◌, ◌<◌, ◌≤◌, ◌^◌, IfOk, None};
 ghost use Rattle.std.specs.Option.{option_map};

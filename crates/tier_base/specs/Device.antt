@@ -1,7 +1,8 @@
--- What every device tells beside its content: its faults, its plan of calls that are to fail, and the calls made.
+-- What can be observed of every device beside its content: how many calls failed, the plan of calls that are to fail,
+-- and how many calls were made.
 --
 --   form                        says
---   Control code                what is told, for the kinds of call that `code` tells apart
+--   Control code                what is observed, for the kinds of call that `code` tells apart
 --   Ran call fate old new       a call of this kind ended so
 --   RanQuietly call fate ..     and it leaves the bytes that were handed
 --   MayBeDone call fate old b   whether it may have been done
@@ -9,10 +10,11 @@
 --   Lasts old new               any calls but `arm`
 --   Arms old new                from now on planned calls fail
 --   IsFresh c                   as the device is handed out
---   FailsAsPlanned c            those calls failed that its plan names
+--   FailsAsPlanned c            of a ruled device: as many calls failed as its plan names of those that were made
 --
--- Planned calls are counted from the first `arm` on. A device is calm while no call can fail. It is ruled
--- where its plan alone decides which calls fail, and did so from the first on.
+-- Planned calls are counted from the first `arm` on. A device is calm while no call can fail. It is ruled if its plan
+-- alone decides which calls fail, and has done so from the first call on. Which call failed is said call by call, in
+-- `Ran`.
 use Rattle.std.specs.Prelude.{◌≡◌, ◌≢◌, ◌↔◌, ℕ, ◌≤◌, ◌+◌, nat_le, Bool, false, not, ◌&&◌, ◌==◌, if◌then◌else◌, List, [], ◌∷◌, IsTrue, IsFalse, IsSome, is_some, Option, Some, None, Ok, Err}
 use Rattle.std.specs.declared.result.Result.{Result}
 use Rattle.tier_base.specs.declared.fault.Failed.{Failed}

@@ -111,7 +111,8 @@ impl<K: CallKind> FaultPlan<K> {
         self.fuse.is_some()
     }
 
-    /// Answers whether the plan alone decides which calls fail, and did so from the first on: whether there was no fuse.
+    /// Answers whether the plan alone decides which calls fail, and did so from the first on: whether there was no
+    /// fuse.
     pub fn is_ruled(&self) -> bool
         ensures { result ≡ self.now.ruled }
     {

@@ -1,12 +1,12 @@
-//! What the crates above stand on: small types that contracts see as lists, names and plain types,
-//! and streams of bytes.
+//! Types that all crates use: lists that contracts can compare, ids and names, sources and sinks of bytes, and the
+//! accounting of device faults.
 //!
-//! `Row`, `Roll` and `Blob` are vectors that a contract compares by what they hold. A `Source` and a
-//! `Sink` say in ghost members what they gave and took, where they tell, and count their faults, so
-//! that an answer of a fault above has its cause here. `read_all` and `write_all` go through them.
+//! `Row`, `Roll` and `Blob` are vectors that a contract compares by content. A `Source` and a `Sink` count their
+//! faults, so that each failure that a call above returns has its cause here; where it is observable, their ghost
+//! members say which bytes they returned and took. `read_all` and `write_all` use them.
 //!
-//! `FaultPlan` is what a device in memory has of faults: which of its calls are to fail, done or not,
-//! and how many were made. specs/Device.antt says what every device tells of that.
+//! `FaultPlan` decides for a device in memory which of its calls fail, done or not, and counts the calls.
+//! specs/Device.antt says what can be observed of that for every device.
 #![tactic(auto)]
 
 mod blob;

@@ -43,8 +43,8 @@ Takes (Ok x) log old new = Refreshes log old new
 Takes (Err Failed) log old new = new ≡ old
 Takes (Err NoMemory) log old new = Advances log old new
 
--- what a power cut may leave of the log after a refresh: after one that was done what is told, and no other notes. Where memory was
--- wanting that holds, or the view is as it was
+-- what a power cut may leave of the log after a refresh: after one that was done what is told, and no other notes.
+-- Where memory was wanting that holds, or the view is as it was
 abbrev pub Leaves : {T : Type 0} → Result T Trouble → Seen → Seen → Content → Content → Type 0
 Leaves (Ok x) before after old new = IsTrue old.tells → LeavesTold new
 Leaves (Err Failed) before after old new = Unit {0}

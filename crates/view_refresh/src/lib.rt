@@ -1,6 +1,6 @@
-//! How a broker's view takes in what the metadata log has more than it.
+//! Refreshes a broker's view of the remote metadata: adds the metadata events that it hasn't read yet.
 //!
-//! A task refreshes its broker's view in a turn of its own, and looks up in it then. The module Refreshing of specs/ says what
+//! A task refreshes its broker's view in a turn of its own, and then looks up in it. specs/Refreshing.antt says what
 //! a refresh makes of a view.
 #![tactic(auto)]
 
