@@ -1,7 +1,7 @@
-//! Tests of the primitives: words, checksums, streams, plans of faults, indexes, lines of leader epochs,
-//! retention, the registry, notes, manifests and loads.
+//! Tests of the primitives: words, checksums, streams, plans of faults, indexes, leader epochs, retention, the
+//! registry, metadata events, manifests and loads.
 //!
-//! They stand apart from the crates that they test, since a crate is proved anew where its tests are built.
+//! They are in a crate of their own because a crate is proved again where its tests are built.
 #![tactic(auto)]
 
 #[cfg(test)]

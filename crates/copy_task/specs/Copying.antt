@@ -17,10 +17,11 @@ use Rattle.segment_meta.specs.declared.note.Note.TheVariants.{Add, Update}
 use Rattle.meta_log.specs.declared.teller.Teller.{Teller}
 use Rattle.copy_task.specs.Source.{batches_in}
 
--- A copy keeps a segment, its log's line and the interval of its indexes. What it puts is a function of these: whether the bundle
--- has been made yet, and by whom, is nowhere seen.
+-- A copy keeps a segment, its log's line and the interval of its indexes. What it puts is a function of these:
+-- whether the bundle has been made yet, and by whom, is nowhere seen.
 
--- a closed segment under a remote id, with the line of its log and the interval of its indexes; packed, it gets one object
+-- a closed segment under a remote id, with the line of its log and the interval of its indexes; packed, it gets one
+-- object
 pub record Copied : Type 0 where
   pub id : SegmentId
   pub partition : PartitionId
@@ -30,7 +31,8 @@ pub record Copied : Type 0 where
   pub interval : ℕ
   pub parts : Parts
 
--- what a copy keeps: batches that the segment is, and that its parts are made of, which can be packed where they are to be
+-- what a copy keeps: batches that the segment is, and that its parts are made of, which can be packed where they are
+-- to be
 pub record IsCopied (copy : Copied) : Type 0 where
   pub batches : List (List ℕ)
   pub some : batches ≢ []

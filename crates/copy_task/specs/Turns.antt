@@ -7,10 +7,12 @@
 --   Check     refreshes the view                  Copied, MetaFault, Damaged
 --   Delete    takes an object away                Overtaken, StoreFault, Damaged
 --
--- The objects are put in the order of their keys, of which a packed segment has one. A copy that finds its entry's deletion begun takes all of its objects away
--- again, in the same order. It keeps no state: it answers the one that its entry has in its broker's view then.
+-- The objects are put in the order of their keys, of which a packed segment has one. A copy that finds its entry's
+-- deletion begun takes all of its objects away again, in the same order. It keeps no state: it answers the one that
+-- its entry has in its broker's view then.
 --
--- Source: KIP-405, where a segment's metadata is added as started, its objects are copied, and the metadata is updated as finished.
+-- Source: KIP-405, where a segment's metadata is added as started, its objects are copied, and the metadata is
+-- updated as finished.
 use Rattle.std.specs.Prelude.{◌≡◌, ◌⊎◌, ℕ, ◌+◌, false, Option, Some, None, slice_get, Ok, Err}
 use Rattle.std.specs.declared.result.Result.{Result}
 use Rattle.std.specs.declared.alloc.AllocError.{AllocError}
@@ -44,8 +46,8 @@ abbrev pub put_at : ℕ → Option ObjectKey → Next
 put_at n None = Finish
 put_at n (Some key) = Put n
 
--- what a copy that took its objects away answers, by the state of its entry in a view of so many notes: an entry that is
--- missing is damage of the metadata log
+-- what a copy that took its objects away answers, by the state of its entry in a view of so many notes: an entry that
+-- is missing is damage of the metadata log
 abbrev pub overtaken : ℕ → Option State → Answer
 overtaken notes None = Damaged Meta notes
 overtaken notes (Some state) = Overtaken state
@@ -55,8 +57,8 @@ abbrev pub delete_at : Copied → Seen → ℕ → Option ObjectKey → CopyTurn
 delete_at copy view n None = Ends (overtaken view.notes (state_of copy.id view.entries))
 delete_at copy view n (Some key) = Goes (Delete n)
 
--- what a refreshed view of so many notes says of a copy, by the state of its entry: an entry that is missing, or that isn't
--- finished yet, is damage of the metadata log
+-- what a refreshed view of so many notes says of a copy, by the state of its entry: an entry that is missing, or that
+-- isn't finished yet, is damage of the metadata log
 abbrev pub checked : Copied → ℕ → Option State → CopyTurn
 checked copy notes (Some CopyFinished) = Ends (CopiedSegment copy.id copy.segment.base copy.segment.last)
 checked copy notes (Some DeleteStarted) = Goes (Delete 0)

@@ -16,11 +16,13 @@ use std::alloc::{AllocError, Global};
 use std::marker::Model;
 use tier_base::{Blob, Part, PartitionId, SegmentId, State};
 
-/// The most entries of a line whose text has room in any layout: a line of text has 32 bytes at most, and 32 * 2^26 + 14 < 2^32.
+/// The most entries of a line whose text has room in any layout: a line of text has 32 bytes at most, and 32 * 2^26 +
+/// 14 < 2^32.
 const SHORT_LINE: usize = 1 << 26;
 
-/// A closed segment under a remote id, and what its objects hold. The bundle of its parts is made when a turn first needs it, or is
-/// given by who made it elsewhere; from then on it is kept. No clause tells which. The segment's bytes are shared, not copied.
+/// A closed segment under a remote id, and what its objects hold. The bundle of its parts is made when a turn first
+/// needs it, or is given by who made it elsewhere; from then on it is kept. No clause tells which. The segment's
+/// bytes are shared, not copied.
 #[derive(Drop)]
 pub struct Copying {
     id: SegmentId,
@@ -45,8 +47,8 @@ impl Model for Copying {
 }
 
 impl Copying {
-    /// A segment of the partition under an id, and whether it is to be packed: it isn't where its parts can't be. The line is its
-    /// log's, the interval that of its indexes in bytes.
+    /// A segment of the partition under an id, and whether it is to be packed: it isn't where its parts can't be. The
+    /// line is its log's, the interval that of its indexes in bytes.
     pub fn of(
         alloc: Global,
         partition: PartitionId,
@@ -79,8 +81,8 @@ impl Copying {
         Ok(copying)
     }
 
-    /// Whether the parts can be packed. Those of a short line can. Of another one the length of the text decides, so the bundle is made
-    /// at once.
+    /// Whether the parts can be packed. Those of a short line can. Of another one the length of the text decides, so
+    /// the bundle is made at once.
     fn packs(&mut self, alloc: Global) -> Result<bool, AllocError>
         ensures packs { IfOk result (λ packs. packs ≡ can_pack self.old.parts) }
         ensures same { self.new ≡ self.old }
@@ -140,8 +142,8 @@ impl Copying {
         self.interval
     }
 
-    /// Keeps a bundle that was made elsewhere, where there is none yet and it is of this segment, its line and its interval. It is
-    /// dropped otherwise.
+    /// Keeps a bundle that was made elsewhere, where there is none yet and it is of this segment, its line and its
+    /// interval. It is dropped otherwise.
     pub fn give(self, bundle: Bundle) -> Copying
         ensures { result ≡ self }
     {

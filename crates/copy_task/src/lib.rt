@@ -1,8 +1,9 @@
-//! How a leader copies a closed segment to the remote tier.
+//! A leader's copy of a closed segment to the remote tier, turn by turn.
 //!
-//! A copy takes a turn for each call of a device, so that stops, elections and other brokers may come between any two of them. First
-//! the metadata log is told that it starts; then its objects are put, four of them, or one that has the four parts; then the log is
-//! told that it is whole. What it finds then in the log decides the answer: an expiry may have overtaken it.
+//! Each device call of a copy is a turn of its own, so that stops, elections and other brokers may come between any
+//! two of them. First a *copy started* event goes to the metadata log; then the objects are put, four of them, or one
+//! with the four parts packed; then a *copy finished* event. What the log says of the copy after that decides the
+//! answer, because an expiry may have overtaken it.
 #![tactic(auto)]
 
 mod choosing;

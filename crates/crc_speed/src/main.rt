@@ -1,8 +1,8 @@
-//! How fast the bodies of CRC-32C are, beside a copy of the same memory.
+//! Measures the bodies of CRC-32C against a copy of the same memory.
 //!
-//! `crc_speed [SIZE [ROUNDS [time]]]` takes the checksum of SIZE bytes by each body, ROUNDS times over, and
-//! prints a line a round: the four checksums, which are one number. With the word `time` the line also tells
-//! the pace of the copy, and that of each body as a part of it. Only then does the output differ between runs.
+//! `crc_speed [SIZE [ROUNDS [time]]]` computes the checksum of SIZE bytes with each body, ROUNDS times, and prints a
+//! line a round: the four checksums, which are equal. With the word `time` the line also has the speed of the copy,
+//! and that of each body as a fraction of it. Without it the output is the same in every run.
 #![tactic(auto)]
 
 ghost use Rattle.std.specs.Prelude.{◌≡◌, length};

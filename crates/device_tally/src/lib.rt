@@ -1,8 +1,8 @@
-//! The counts of a device that works on something outside the program, or on another device: it has no plan of faults,
-//! and each of its calls can fail.
+//! Counts the calls and faults of a device that works on something outside the program, or on another device. Such a
+//! device has no plan of faults, and each of its calls can fail.
 //!
-//! A `Tally` counts the calls since the device was armed, and those that failed. What it counts is what every device
-//! tells, so a device that has one answers for each call by what the call came to.
+//! A `Tally` counts the calls since the device was armed, and those that failed. These counts are what can be
+//! observed of every device.
 #![tactic(auto)]
 
 mod tally;

@@ -1,6 +1,6 @@
-//! Tests of the devices: disks, stores, metadata logs, and the yards that hand them out.
+//! Tests of the devices: disks, stores, metadata logs, and the environments that provide them.
 //!
-//! They stand apart from the crates that they test, since a crate is proved anew where its tests are built.
+//! They are in a crate of their own because a crate is proved again where its tests are built.
 #![tactic(auto)]
 
 #[cfg(test)]

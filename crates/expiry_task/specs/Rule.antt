@@ -1,12 +1,14 @@
 -- How far retention lets a log start rise.
 --
--- The items are the pieces of remote segments from the log start on, one after another, as long as they end at or below the known
--- mark. Each counts the whole of its remote segment. Where segments aren't copied any more, and the local log goes on where the
--- pieces end, its closed segments from there on are items too, as long as they end at or below the known mark. Behind all of them
--- the local segments count that end past the last one. The log start comes to the end of the last item that is due.
+-- The items are the pieces of remote segments from the log start on, one after another, as long as they end at or
+-- below the known mark. Each counts the whole of its remote segment. Where segments aren't copied any more, and the
+-- local log goes on where the pieces end, its closed segments from there on are items too, as long as they end at or
+-- below the known mark. Behind all of them the local segments count that end past the last one. The log start comes
+-- to the end of the last item that is due.
 --
--- Source: Kafka's retention.ms and retention.bytes, which count the remote log and what of the local log isn't copied. A segment that
--- is still to be copied never goes by them (KIP-405); where copying is disabled (KIP-950) nothing is.
+-- Source: Kafka's retention.ms and retention.bytes, which count the remote log and what of the local log isn't
+-- copied. A segment that is still to be copied never goes by them (KIP-405); where copying is disabled (KIP-950)
+-- nothing is.
 use Rattle.std.specs.Prelude.{ℕ, zero, suc, ◌-◌, ◌&&◌, ◌||◌, Bool, nat_lt, nat_le, if◌then◌else◌, List, [], ◌∷◌, ◌++◌, map, filter, sum, Option, Some, None}
 use Rattle.std.specs.Prelude.{slice_get, ℤ, pos}
 use Rattle.tier_base.specs.declared.plain.Item.{Item}
@@ -46,8 +48,8 @@ uncopied_of segment = record {
 abbrev pub is_within : ℕ → ℕ → Grown → Bool
 is_within offset known segment = nat_lt offset (end_of segment) && nat_le (end_of segment) known
 
--- the closed segments that count with pieces that end at an offset: none where segments are copied, or where the local log begins
--- past it
+-- the closed segments that count with pieces that end at an offset: none where segments are copied, or where the
+-- local log begins past it
 abbrev pub uncopied : Bool → ℕ → ℕ → ℕ → List Grown → List Uncopied
 uncopied copying local offset known closed =
     if copying || nat_lt offset local then [] else map uncopied_of (filter (is_within offset known) closed)
@@ -61,8 +63,8 @@ end_behind offset (one ∷ more) = end_behind one.end more
 abbrev pub bytes_past : ℕ → List Grown → ℕ
 bytes_past offset segments = sum (map size_of (filter (λ segment. nat_lt offset (end_of segment)) segments))
 
--- the bytes of the local log behind an offset: of the closed segments, and of an open one that ends at the log's end; a sum
--- past 2^64 - 1 stands there
+-- the bytes of the local log behind an offset: of the closed segments, and of an open one that ends at the log's end;
+-- a sum past 2^64 - 1 stands there
 abbrev pub rest_behind : ℕ → List Grown → ℕ → ℕ → ℕ
 rest_behind offset closed open_size log_end =
     counted (if nat_lt offset log_end then open_size else 0) (bytes_past offset closed)

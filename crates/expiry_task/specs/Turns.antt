@@ -5,10 +5,11 @@
 --   Delete    takes an object away                       StoreFault
 --   Finish    appends the note that no object stands     Deleted, MetaFault
 --
--- The objects are taken away in the order of their keys, of which a packed segment has one. An expiry that fails is taken up by a later one, which does all of it again.
+-- The objects are taken away in the order of their keys, of which a packed segment has one. An expiry that fails is
+-- taken up by a later one, which does all of it again.
 --
--- Source: KIP-405, where a segment's metadata is updated as delete-started, its objects are deleted, and the metadata is updated as
--- delete-finished.
+-- Source: KIP-405, where a segment's metadata is updated as delete-started, its objects are deleted, and the metadata
+-- is updated as delete-finished.
 use Rattle.std.specs.Prelude.{◌≡◌, ℕ, ◌+◌, List, Option, Some, None, slice_get, Ok, Err}
 use Rattle.std.specs.declared.result.Result.{Result}
 use Rattle.std.specs.declared.alloc.AllocError.{AllocError}

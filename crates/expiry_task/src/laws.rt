@@ -21,7 +21,8 @@ pub fn a_log_start_rises_up_to_the_known_mark()
         → (start < s) × (s ≤ known) }
 {}
 
-/// While segments are copied, a log start moves no further than the pieces reach: each offset that goes is in a finished copy.
+/// While segments are copied, a log start moves no further than the pieces reach: each offset that goes is in a
+/// finished copy.
 pub fn only_what_is_copied_goes()
     ensures reach { (entries : List Entry) (line : List (ℕ × ℕ)) (log_end start known local : ℕ) (closed : List Grown)
         (rest : ℕ) (now : ℤ) (keep : Keep) (s : ℕ) → AreKept entries → AreDistinct entries → IsLine line

@@ -1,7 +1,9 @@
-//! How a leader lets go what retention doesn't keep: the log start rises, and the remote segments below it are deleted.
+//! Retention and deletion in the remote tier: a leader raises the log start offset and deletes the remote segments
+//! below it.
 //!
-//! An expiry takes a turn for each call of a device. The metadata log is told before the first object goes, so nobody reads a segment
-//! whose deletion has begun, and told again once none of them stands.
+//! Each device call of an expiry is a turn of its own. A *delete started* event goes to the metadata log before the
+//! first object is deleted, so that no broker reads a segment whose deletion has begun, and a *delete finished* event
+//! after the last one.
 #![tactic(auto)]
 
 mod laws;

@@ -12,7 +12,8 @@ use segment_file::Growing;
 use std::alloc::{AllocError, Global};
 use tier_base::{Item, Keep};
 
-/// A closed segment of the local log that retention counts as it counts a remote one, since segments aren't copied any more.
+/// A closed segment of the local log that retention counts as it counts a remote one, since segments aren't copied
+/// any more.
 #[derive(Clone, Copy, Debug, PartialEq, Eq)]
 pub struct Uncopied {
     /// What retention asks about it.
@@ -21,9 +22,9 @@ pub struct Uncopied {
     pub end: u64,
 }
 
-/// Where the log start comes to, where retention lets it rise, at a time in milliseconds. The pieces are those from the log start
-/// on that end at or below the known mark, and behind them are the closed segments that count with them; the rest are the bytes of
-/// the local log behind both.
+/// Where the log start comes to, where retention lets it rise, at a time in milliseconds. The pieces are those from
+/// the log start on that end at or below the known mark, and behind them are the closed segments that count with
+/// them; the rest are the bytes of the local log behind both.
 pub fn raised_to(
     alloc: Global,
     view: &View,
@@ -43,8 +44,8 @@ pub fn raised_to(
     ))
 }
 
-/// The closed segments that count with the pieces up to an offset: none where segments are copied, or where the local log begins
-/// past it.
+/// The closed segments that count with the pieces up to an offset: none where segments are copied, or where the local
+/// log begins past it.
 pub fn find_uncopied(
     alloc: Global,
     copying: bool,

@@ -1,9 +1,10 @@
-//! How long a look-up in the remote tier takes, by how many copies a view has.
+//! Measures lookups in the remote tier, by how many copies a view has.
 //!
-//! `find_speed [COPIES [OFFSETS [time]]]` feeds a view the notes of COPIES copies, each of ten offsets behind those of the one
-//! before and all of one epoch, looks up OFFSETS of their offsets in no order, and prints how many were found. Then it asks a
-//! thousand times how far the copies go, prints how often that was all of them, and feeds the notes by which they are deleted.
-//! With the word `time` a line more tells how long each took in the mean. Only then does the output differ between runs.
+//! `find_speed [COPIES [OFFSETS [time]]]` feeds a view the events of COPIES copies of ten consecutive offsets each,
+//! all of one leader epoch. It looks up OFFSETS of their offsets in a mixed order and prints how many were found.
+//! Then it asks a thousand times how far the copies reach, prints how often the answer was all of them, and feeds the
+//! events that delete them. With the word `time` another line has the mean time of each. Without it the output is the
+//! same in every run.
 #![tactic(auto)]
 
 mod copies;

@@ -7,8 +7,8 @@
 --   partition P end E mark M start S          each partition from 0 on: the log end offset of broker 0, the high watermark
 --                                             and the log start offset
 --
--- Commands: append, flush, ack, join, follow, copy, trim, expire, clock, fetch. Words are separated by one space, a line ends
--- with LF, and a number is decimal digits.
+-- Commands: append, flush, ack, join, follow, copy, trim, expire, clock, fetch. Words are separated by one space, a
+-- line ends with LF, and a number is decimal digits.
 use Rattle.std.specs.Prelude.{ℕ, ◌==◌, ◌&&◌, nat_eq, nat_lt, if◌then◌else◌, Bool, true, false, List, [], ◌∷◌, ◌++◌, codes, count_by}
 use Rattle.std.specs.List.{flat_map}
 use Rattle.std.specs.Fmt.{decimal}

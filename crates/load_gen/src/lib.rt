@@ -1,7 +1,7 @@
-//! Scripts of load for the broker: a number gives a script, the same at each call.
+//! The generated loads of `gen`: a number gives a script, always the same one.
 //!
-//! The script's format and the draws behind it stand in `specs/Script.antt`, the format in which the
-//! outcome of such a script is told in `specs/Summary.antt`.
+//! `specs/Script.antt` has the script's form and the random draws behind it, `specs/Summary.antt` the form of the
+//! summary of its run.
 #![tactic(auto)]
 
 mod draws;

@@ -1,9 +1,9 @@
-//! How fast a local log is, over a disk in memory and over a folder.
+//! Measures a local log over a disk in memory and over a folder.
 //!
-//! `log_speed [PLACE [COUNT [VALUE [SEGMENT [READS [time]]]]]]` makes a log in `memory` or in the folder `log_speed.yard`, appends
-//! COUNT batches of one record with VALUE bytes to segments of SEGMENT bytes, flushes them a hundred at a time, reads at
-//! READS offsets in no order, and opens the log again. It prints what came of it. With the word `time` a second line tells
-//! how long the calls took. Only then does the output differ between runs.
+//! `log_speed [PLACE [COUNT [VALUE [SEGMENT [READS [time]]]]]]` makes a log in `memory` or in the folder
+//! `log_speed.yard`. It appends COUNT batches of one record with VALUE bytes to segments of SEGMENT bytes, flushes
+//! after each hundred, reads at READS offsets in a mixed order, opens the log again, and prints a summary. With the
+//! word `time` a second line has the times of the calls. Without it the output is the same in every run.
 #![tactic(auto)]
 
 ghost use Rattle.std.specs.Prelude.{◌≡◌, None, IsTrue};

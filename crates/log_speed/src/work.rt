@@ -19,8 +19,8 @@ use tier_base::{Blob, Row, Settings};
 /// How many appends go before a flush.
 const EVERY: u32 = 100;
 
-/// What came of the calls: the size of a batch, the end of the log and its closed segments, the bytes that were read, and
-/// the end and the incarnation of the log that was opened again.
+/// What came of the calls: the size of a batch, the end of the log and its closed segments, the bytes that were read,
+/// and the end and the incarnation of the log that was opened again.
 #[derive(Clone, Copy, Debug)]
 pub struct Found {
     size: usize,

@@ -1,5 +1,5 @@
-//! The batches worked by hand, both ways: what their records are, and that these become their bytes; and the bound of a batch's
-//! size.
+//! The batches worked by hand, both ways: what their records are, and that these become their bytes; and the bound of
+//! a batch's size.
 
 use crate::vectors::{FIRST, HEADER, SECOND, THREE, WRAPPED};
 use record_batch::{BuildRefusal, Rec, build, check, records, stamp};

@@ -77,7 +77,8 @@ fn has(alloc: Global, bundle: &Bundle, part: Part, bytes: &[u8]) -> bool {
     }
 }
 
-/// Whether a bundle's log part and its source are the segment's bytes, and its line and its interval those it was made of.
+/// Whether a bundle's log part and its source are the segment's bytes, and its line and its interval those it was
+/// made of.
 fn keeps(alloc: Global, bundle: &Bundle, closed: &Closed) -> (bool, bool, bool, u32) {
     (
         has(alloc, bundle, Part::Log, closed.bytes().as_slice()),

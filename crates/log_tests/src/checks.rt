@@ -44,7 +44,8 @@ fn changed(
     }
 }
 
-/// Changed batches: whether of `THREE` or of `FIRST`, the changes, the checksum, and why the batch is refused, if it is.
+/// Changed batches: whether of `THREE` or of `FIRST`, the changes, the checksum, and why the batch is refused, if it
+/// is.
 static CHANGED: [(&str, bool, &[(usize, u8)], u32, Option<BatchRefusal>); 17] = [
     (
         "a bit of the value",
@@ -191,8 +192,8 @@ fn refusal_of(
     }
 }
 
-/// The name of the first changed batch of which something else is told. What says nothing is read over: a record's attributes,
-/// bits 6 to 15 of the batch's.
+/// The name of the first changed batch of which something else is told. What says nothing is read over: a record's
+/// attributes, bits 6 to 15 of the batch's.
 fn first_wrong_change(alloc: Global) -> Option<&'static str> {
     for (name, of_three, changes, crc, want) in &CHANGED {
         if refusal_of(alloc, *of_three, changes, *crc) != Ok(*want) {

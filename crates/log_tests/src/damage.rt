@@ -1,5 +1,5 @@
-//! Openings over files of any bytes: each is a log or the cause why there is none, with its place. And reads of a log whose
-//! file has changed under it. Values worked by hand.
+//! Openings over files of any bytes: each is a log or the cause why there is none, with its place. And reads of a log
+//! whose file has changed under it. Values worked by hand.
 
 use crate::checks::put;
 use crate::files::{FLUSHED, SEGMENT, SIZE};
@@ -72,7 +72,8 @@ fn damaged(file: FileName, at: u64) -> Opened {
     Err(OpenRefusal::Damaged { file, at })
 }
 
-/// What an opening comes to of the log's segment, of no segment, of another kind of manifest, and of the last incarnation.
+/// What an opening comes to of the log's segment, of no segment, of another kind of manifest, and of the last
+/// incarnation.
 fn openings(alloc: Global) -> (Opened, Opened, Opened, Opened) {
     (
         open(alloc, FLUSHED.as_slice(), LOG, SEGMENT.as_slice()),
@@ -102,8 +103,8 @@ fn open_turned(alloc: Global, at: usize, byte: u8) -> Opened {
     }
 }
 
-/// What an opening comes to whose manifest has the byte 255 at a place: the first field that breaks a rule then, or what
-/// the segment lacks that is longer then, or whose epoch the line doesn't give.
+/// What an opening comes to whose manifest has the byte 255 at a place: the first field that breaks a rule then, or
+/// what the segment lacks that is longer then, or whose epoch the line doesn't give.
 fn told_of_manifest(at: usize) -> Opened {
     match at {
         0..=3 => damaged(FileName::Manifest, 0),
@@ -251,8 +252,8 @@ fn reads_with(alloc: Global, at: usize, byte: u8, places: Option<(u64, u64)>) ->
     reads_over(alloc, files, SEGMENT.as_slice()) == Some(wanted)
 }
 
-/// The first byte of the batches' epochs that isn't told where it has changed. Where the first epoch has risen, a closed
-/// segment is damaged at the second batch, whose epoch is below it: the line is asked last.
+/// The first byte of the batches' epochs that isn't told where it has changed. Where the first epoch has risen, a
+/// closed segment is damaged at the second batch, whose epoch is below it: the line is asked last.
 fn first_untold_epoch(alloc: Global) -> Option<usize> {
     let second = SIZE as u64;
     for at in 12..16 {

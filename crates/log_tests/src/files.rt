@@ -1,4 +1,5 @@
-//! Files of a log worked by hand, field by field; the checksums are those of a program that was written apart from this one.
+//! Files of a log worked by hand, field by field; the checksums are those of a program that was written apart from
+//! this one.
 
 /// The bytes of a batch of one letter.
 pub(crate) const SIZE: usize = 69;

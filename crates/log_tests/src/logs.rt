@@ -1,5 +1,5 @@
-//! Logs over a disk in memory, turn by turn: what stands in their files, what crashes and faults leave, and where segments
-//! end. Values worked by hand; a batch of one record has 69 bytes, and one of three has 85.
+//! Logs over a disk in memory, turn by turn: what stands in their files, what crashes and faults leave, and where
+//! segments end. Values worked by hand; a batch of one record has 69 bytes, and one of three has 85.
 
 use crate::files::{FLUSHED, LED, SEGMENT, SIZE, THREE};
 use crate::trial::{LARGE, Trial, part};
@@ -190,8 +190,8 @@ fn leaves(log: Trial, left: Left) -> bool {
     }
 }
 
-/// A log's story: whether a segment has room for more than a batch, the planned faults, how many calls of the disk pass, the
-/// turns, and what is left.
+/// A log's story: whether a segment has room for more than a batch, the planned faults, how many calls of the disk
+/// pass, the turns, and what is left.
 struct Story {
     name: &'static str,
     large: bool,

@@ -1,7 +1,7 @@
 //! Worked rows, by hand. A batch of one record without key and value has 68 bytes.
 //!
-//! A segment on trial is a type of its own whose methods have no contracts, so a test knows nothing of it but what it is
-//! told.
+//! A segment on trial is a type of its own whose methods have no contracts, so a test knows nothing of it but what it
+//! is told.
 
 use crate::checks::put;
 use bytes::Bytes;
@@ -407,8 +407,8 @@ fn is_spelt(bytes: Result<Vec<u8>, AllocError>, wanted: &[u8]) -> bool {
 /// The batches of two epochs, from 5 on.
 static EPOCHS: [(u64, u32, i64); 4] = [(5, 1, 30), (6, 1, 50), (7, 3, 50), (8, 3, 40)];
 
-/// What the closed segment of two epochs tells, whether its epochs start there, and whether its indexes are right: an entry of
-/// the third batch, before which stand more than 100 bytes, and the first batch of the greatest timestamp.
+/// What the closed segment of two epochs tells, whether its epochs start there, and whether its indexes are right: an
+/// entry of the third batch, before which stand more than 100 bytes, and the first batch of the greatest timestamp.
 fn of_epochs(alloc: Global) -> Option<((u64, u64, i64, usize), bool, bool)> {
     let offsets = b"\x00\x00\x00\x02\x00\x00\x00\x88";
     let times = b"\x00\x00\x00\x00\x00\x00\x00\x32\x00\x00\x00\x01";

@@ -1,5 +1,5 @@
-//! A log on trial, over a disk in memory. Each call is a method without a contract: it asks first whether the call may be
-//! made, and tells what it answered. A test is a table of turns, and never holds a log.
+//! A log on trial, over a disk in memory. Each call is a method without a contract: it asks first whether the call
+//! may be made, and tells what it answered. A test is a table of turns, and never holds a log.
 
 ghost use Rattle.std.specs.Prelude.{◌≡◌, ◌≤◌, None, IsTrue};
 ghost use Rattle.tier_base.specs.declared.plain.FileName.{FileName};
@@ -36,8 +36,8 @@ impl Model for Trial {
 }
 
 impl Trial {
-    /// Makes an empty log, of large segments or of segments that hold a batch, over a disk with these planned faults that
-    /// lets so many calls pass.
+    /// Makes an empty log, of large segments or of segments that hold a batch, over a disk with these planned faults
+    /// that lets so many calls pass.
     pub(crate) fn create(
         alloc: Global,
         segment_bytes: u32,
@@ -319,9 +319,9 @@ fn read_both(log: &mut LocalLog<DeafDisk>) -> Option<Reads> {
     Some((run, closed))
 }
 
-/// Begins an opened log of these files anew at 0, fills it with a run, and tells what is read. Of the segment's file the
-/// disk may have two. The log drops the first as it begins anew, and the run is appended to the second, so that the
-/// second's bytes are read in its place.
+/// Begins an opened log of these files anew at 0, fills it with a run, and tells what is read. Of the segment's file
+/// the disk may have two. The log drops the first as it begins anew, and the run is appended to the second, so that
+/// the second's bytes are read in its place.
 pub(crate) fn reads_over(
     alloc: Global,
     files: Vec<(FileName, Bytes)>,

@@ -29,7 +29,8 @@ use Rattle.memory_run.specs.Planned.{FaultsArePlanned}
 use Rattle.memory_run.specs.Devices.{HaveFaults}
 
 module _ {D S M : Type 0} (disk : DiskGhosts D) (store : StoreGhosts S) (meta : MetaGhosts M) where
-  -- a fresh world whose logs, store and metadata log are empty, on devices of which those calls fail that the faults name
+  -- a fresh world whose logs, store and metadata log are empty, on devices of which those calls fail that the faults
+  -- name
   pub record StartsWith (partition : PartitionId) (config : Config) (lists : List ActorList) (faults : List Fault) (w : Whole D S M)
       : Type 0 where
     pub disks : List D
@@ -39,9 +40,10 @@ module _ {D S M : Type 0} (disk : DiskGhosts D) (store : StoreGhosts S) (meta : 
     pub fresh : IsFresh disk store meta partition config lists disks objects notes w
     pub empty : IsSeenEmpty disk store meta w
 
-  -- the journal is that of a world which the partition's schedule reaches from the fresh one over its faults; in it the central
-  -- fact holds: its logs are the plain log's, and the remote tier beside them keeps its safety rules; its devices have counted
-  -- each fault that is told and no other, and of their calls those have failed that the plans name of those that were made
+  -- the journal is that of a world which the partition's schedule reaches from the fresh one over its faults; in it
+  -- the central fact holds: its logs are the plain log's, and the remote tier beside them keeps its safety rules; its
+  -- devices have counted each fault that is told and no other, and of their calls those have failed that the plans
+  -- name of those that were made
   pub record IsReached (config : Config) (part : PartScript) (journal : List JournalEntry) : Type 0 where
     pub first : Whole D S M
     pub last : Whole D S M
@@ -54,10 +56,10 @@ module _ {D S M : Type 0} (disk : DiskGhosts D) (store : StoreGhosts S) (meta : 
     pub planned : FaultsArePlanned disk store meta part.faults last
     pub its : last.journal.items ≡ journal
 
-  -- a partition's number and journal: a run of the plain log over the partition's lists, by its schedule, which ends with
-  -- the safety rules; each command is answered once and in order, and begins at most once, right before its answer; each
-  -- fetch is given a part of the log of a leader epoch as the run ends, and while elections are clean of what is committed
-  -- then; no command is answered `Damaged`; and it is that of a world which the schedule reaches so
+  -- a partition's number and journal: a run of the plain log over the partition's lists, by its schedule, which ends
+  -- with the safety rules; each command is answered once and in order, and begins at most once, right before its
+  -- answer; each fetch is given a part of the log of a leader epoch as the run ends, and while elections are clean of
+  -- what is committed then; no command is answered `Damaged`; and it is that of a world which the schedule reaches so
   pub record IsRunOf (config : Config) (part : PartScript) (run : ℕ × List JournalEntry) : Type 0 where
     pub partition : run.0 ≡ part.partition.0
     pub plain : IsPlainRun config part.lists run.1

@@ -1,10 +1,10 @@
-//! A partition of a script run over devices in memory: a disk for each broker, a store and a metadata log, of which those
-//! calls fail that the script's fault lines name.
+//! Runs a partition of a script over devices in memory: a disk for each broker, a store and a metadata log, whose
+//! calls fail if the script's `fault` lines name them.
 //!
-//! `run_partition` runs it by its own schedule. `specs/Run.antt` says what a run is: its journal is one of the plain log, in
-//! which each command is answered once and in order, and that of a world which the schedule reaches. Of its devices' calls
-//! as many failed as the lines name of those that were made; as many faults are told of each device as it has counted,
-//! and a call that a line names was made of each of which one is told.
+//! `run_partition` runs it by the script's schedule. `specs/Run.antt` says what a run is: its journal is a run of the
+//! plain log in which each command is answered once and in order, and it is the journal of a world that the schedule
+//! reaches. Of each device as many calls failed as the lines name of those that were made, and as many faults are
+//! reported as the device counted. A fault is reported of a device only if a call of it was made that a line names.
 #![tactic(auto)]
 
 mod devices;

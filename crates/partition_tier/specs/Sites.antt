@@ -8,8 +8,8 @@ use Rattle.remote_view.specs.Fold.{Seen, view_of}
 use Rattle.partition_seen.specs.Seen.{Back, Node}
 use Rattle.tier_safe.specs.Scene.{Site}
 
--- what a broker knows of the remote tier: its view, the number of its next copy since its log was opened so often, and its
--- cache of remote indexes
+-- what a broker knows of the remote tier: its view, the number of its next copy since its log was opened so often,
+-- and its cache of remote indexes
 pub record Side : Type 0 where
   pub view : Seen
   pub incarnation : ℕ

@@ -1,7 +1,7 @@
 -- What a seat of the tier's desk keeps of a command that has begun.
 --
--- A join that has begun is a rebuild. Any other command keeps nothing there, but for copies, expiries and fetches from the
--- remote tier.
+-- A join that has begun is a rebuild. Any other command keeps nothing there, but for copies, expiries and fetches
+-- from the remote tier.
 use Rattle.std.specs.Prelude.{◌≡◌, ℕ, Bool, false, List, Option, Some, None}
 use Rattle.std.specs.Option.{unwrap_or}
 use Rattle.plain_log.specs.declared.command.Command.{Command}

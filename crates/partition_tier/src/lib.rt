@@ -1,13 +1,12 @@
-//! A partition as it is seen, beside the scene of its remote tier.
+//! Laws of a partition beside its remote tier: turns of commands that don't work on the tier keep it safe.
 //!
-//! What a broker knows of the tier, its view, its cache and the number of its next copy, stands
-//! beside its node (`specs/Sites.antt`), and both are its side of the scene. Each turn of a command
-//! that works on no remote device is a step of the plain log, and a list of changes that the tier's
-//! rules allow: the brokers' sides follow the step, a trim or a rebuild lets a local log start later,
-//! and a join puts its rebuild on the desk (`specs/Laws.antt`). So such a turn keeps the tier safe.
+//! What a broker knows of the tier, which is its view, its index cache and the number of its next copy, is beside its
+//! state (`specs/Sites.antt`); both are its side of the tier. Each turn of a command that calls no remote device is a
+//! step of the plain log, and changes the tier only as its rules allow: the brokers' sides follow the step, a trim or
+//! a rebuild lets a local log start later, and a join records its rebuild as in progress (`specs/Laws.antt`).
 //!
-//! Where a command works on a remote device too, the sides follow its answer in the same way. What it
-//! did there is told elsewhere, of copies and of expiries in the tier's own laws.
+//! If a command also calls a remote device, the sides follow its answer in the same way. The laws of what it does
+//! there are elsewhere; those of copies and expiries are in `tier_safe`.
 #![tactic(auto)]
 
 mod laws;

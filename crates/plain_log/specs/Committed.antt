@@ -1,5 +1,5 @@
--- What takes back what is committed, and what fetches are given: parts of the logs of leader epochs, and while elections
--- are clean of one committed list.
+-- What takes back what is committed, and what fetches are given: parts of the logs of leader epochs, and while
+-- elections are clean of one committed list.
 use Rattle.std.specs.Prelude.{◌≡◌, ℕ, ◌≤◌, Bool, true, false, Some, List, ◌∷◌, ◌++◌}
 use Rattle.std.specs.List.{AllByRecursion}
 use Rattle.tier_base.specs.declared.plain.Stop.{Stop}
@@ -60,7 +60,8 @@ IsRunOfPath lists paths entry = (order : Order) (offset limit : ℕ) (tier : Tie
     → order_of lists entry ≡ Some order → order.command ≡ Fetch offset limit → entry.event ≡ Answers (Run tier size stop bytes)
     → IsPartOfPath paths offset bytes
 
--- a list of consecutive batches from offset 0 on for each leader epoch; each run that a fetch was given is a part of one
+-- a list of consecutive batches from offset 0 on for each leader epoch; each run that a fetch was given is a part of
+-- one
 pub record IsLed (lists : List ActorList) (journal : List JournalEntry) : Type 0 where
   pub paths : List Path
   pub consecutive : (e : ℕ) (log : List (List ℕ)) → path_of paths e ≡ Some log → IsConsecutive 0 log

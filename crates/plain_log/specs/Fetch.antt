@@ -44,7 +44,8 @@ is_within limit [] = false
 is_within limit (batch ∷ []) = true
 is_within limit (batch ∷ next ∷ log) = nat_le (length (joined (batch ∷ next ∷ log))) limit
 
--- the stop says why the run ends: at the known high watermark, with its piece, or since the next batch would pass the limit
+-- the stop says why the run ends: at the known high watermark, with its piece, or since the next batch would pass the
+-- limit
 abbrev pub stops_rightly : Broker → ℕ → ℕ → ℕ → Stop → Bool
 stops_rightly x offset limit size Mark = end_of (run_of x offset size) == x.known
 stops_rightly x offset limit size Piece = not (end_of (run_of x offset size) == x.known)

@@ -12,7 +12,8 @@ use Rattle.plain_log.specs.Safe.{Has}
 abbrev pub PathsGrow : List Path → List Path → Type 0
 PathsGrow ps qs = (e : ℕ) (log : List (List ℕ)) → path_of ps e ≡ Some log → Has qs e log
 
--- a broker's log is cut or gains batches; one that leads either led that epoch before, without a stop, or is its first leader
+-- a broker's log is cut or gains batches; one that leads either led that epoch before, without a stop, or is its
+-- first leader
 pub record BrokerGrows (paths : List Path) (x y : Broker) : Type 0 where
   pub stops : x.stops ≤ y.stops
   pub log : IsPrefix x.log y.log ⊎ IsPrefix y.log x.log

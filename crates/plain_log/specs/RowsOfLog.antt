@@ -7,8 +7,8 @@
 --   stop     Down, Ok
 --   up       IsUp, DiskFault, Damaged, LastIncarnation, Up
 --
--- The plain log has no segments: it takes TooManySegments and EmptySegment as they come. A disk fault breaks the broker,
--- but for one of `up`.
+-- The plain log has no segments: it takes TooManySegments and EmptySegment as they come. A disk fault breaks the
+-- broker, but for one of `up`.
 use Rattle.std.specs.Prelude.{ℕ, ◌+◌, ◌==◌, ◌&&◌, not, nat_le, Bool, List, [], ◌∷◌, ◌++◌, Option, None, Result, Ok, Err, if◌then◌else◌, slice_set, true, false}
 use Rattle.log_terms.specs.Batch.{last_offset_delta_of}
 use Rattle.log_terms.specs.Log.{end_of, up_to}

@@ -6,8 +6,8 @@
 --            latest tiered, of a timestamp: first Down, NotLeader, MetaFault; then Stopped, NotLeader, Offset, NoOffset;
 --            of a timestamp also MetaFault, StoreFault, DiskFault, Damaged
 --
--- Nothing changes. A device's fault stands only where there would be a run or, of a question of several turns, where the broker
--- leads on.
+-- Nothing changes. A device's fault stands only where there would be a run or, of a question of several turns, where
+-- the broker leads on.
 use Rattle.std.specs.Prelude.{ℕ, ◌==◌, ◌&&◌, not, nat_le, max, int_lt, ℤ, Bool, true, false, List, [], ◌∷◌, Option, Some, None, if◌then◌else◌}
 use Rattle.log_terms.specs.Batch.{base_of, max_ts_of}
 use Rattle.log_terms.specs.Log.{end_of, up_to, from_offset}

@@ -69,7 +69,8 @@ pub record MarkSafe (paths : List Path) (r : Registry) (committed : List (List �
   pub begins : IsPrefix committed (current paths r.epoch committed)
   pub epoch : r.epoch ≤ epoch_limit
 
--- what a broker knows to be committed is, while elections are clean; the leader of the current epoch knows no more than the mark
+-- what a broker knows to be committed is, while elections are clean; the leader of the current epoch knows no more
+-- than the mark
 pub record KnownSafe (unclean : Bool) (epoch mark : ℕ) (committed : List (List ℕ)) (x : Broker) : Type 0 where
   pub shared : unclean ≡ false → SharedTo x.known x.log committed
   pub leader : x.role ≡ Leads epoch → x.known ≤ mark

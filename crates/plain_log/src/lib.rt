@@ -1,11 +1,11 @@
-//! The plain log: one partition as Kafka's replication rules have it, with neither segments nor tiers.
+//! The plain log: the model of one partition under Kafka's replication rules, without segments or tiers.
 //!
-//! A broker's log is a list of record batches. The state (`State`) has the registry's fields, one broker after
-//! another, the path that each leader epoch's log has taken, what is committed, and how far each actor has come in
-//! its list of commands. `specs/Step.antt` says which journal entries are a step and what each does; `specs/Runs.antt`
-//! says when a journal is a run of given lists. `specs/Safe.antt` has the rules that hold of every state that a run
-//! reaches, and the laws of this crate say that they do. The crates above cite these definitions: a written trace is
-//! right exactly where it is such a run.
+//! A broker's log is a list of record batches. The state (`State`) has the registry's fields, the brokers, the log
+//! that each leader epoch has had, what is committed, and how far each actor is in its list of commands.
+//! `specs/Step.antt` says which journal entries are a step and what each changes; `specs/Runs.antt` says when a
+//! journal is a run of given lists. `specs/Safe.antt` has the rules that every state of a run satisfies, and the laws
+//! of this crate say so. The crates above cite these definitions: a written trace is right exactly if it is such a
+//! run.
 #![tactic(auto)]
 
 mod answer;

@@ -18,7 +18,8 @@ pub enum Role {
     Joined(u32),
 }
 
-/// A broker with its whole log, however little of it a disk has. One that is down has no role and knows no high watermark.
+/// A broker with its whole log, however little of it a disk has. One that is down has no role and knows no high
+/// watermark.
 #[derive(Debug, Drop)]
 pub struct Broker {
     pub up: bool,
@@ -65,8 +66,8 @@ pub struct Actor {
     pub begun: Option<Noted>,
 }
 
-/// A partition: what the registry says and what is committed, the log of each leader epoch, the brokers, and how far the actors
-/// have come. `specs/Safe.antt` has the rules that hold of it after every run.
+/// A partition: what the registry says and what is committed, the log of each leader epoch, the brokers, and how far
+/// the actors have come. `specs/Safe.antt` has the rules that hold of it after every run.
 #[derive(Debug, Drop)]
 pub struct State {
     pub registry: Registry,

@@ -20,7 +20,8 @@ use bytes::Bytes;
 use plain_log::{Broker, Order, Role, State};
 use std::alloc::{AllocError, Global};
 
-/// Takes a broker's stable end for an acknowledgement. The first batches of the current path, so many, are committed then.
+/// Takes a broker's stable end for an acknowledgement. The first batches of the current path, so many, are committed
+/// then.
 fn acknowledge(p: &mut State, alloc: Global, b: usize, count: usize) -> Result<(), AllocError>
     requires broker { b < length p.old.brokers }
     requires replica { b < length p.old.registry.replicas }

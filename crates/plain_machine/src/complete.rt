@@ -57,8 +57,8 @@ fn ends_complete(alloc: Global, plain: &Plain, lists: &[ActorList]) -> Result<bo
     Ok(are_at_end(plain, lists, counts.as_slice()))
 }
 
-/// Answers whether a journal is a run of the plain log that answers every command of every list. The journal is gone over
-/// once.
+/// Answers whether a journal is a run of the plain log that answers every command of every list. The journal is gone
+/// over once.
 pub fn is_complete_run(
     alloc: Global,
     config: &Config,

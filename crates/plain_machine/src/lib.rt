@@ -1,14 +1,16 @@
-//! The plain log as a machine: the model that every run of the program has to be a run of, carried out.
+//! The plain log as code: carries out a journal entry if it is a step of the model, and refuses it otherwise.
 //!
-//! `Plain` is seen as the plain log's state, and keeps its safety rules. Its step tests an entry of a journal by the row
-//! of the entry's command, and changes the state where the entry is a step of the plain log, and only there. A row's
-//! tests take no memory and come first (`deciding`, and a module a group of commands); they give what is to change, a
-//! `Change`, which is then made (`altering`, `making`, `moving`). `specs/Change.antt` has the state after each.
+//! `Plain` has the model's state, and keeps its safety rules. A step tests an entry by the row of its command and
+//! changes the state only if the entry is a step of the plain log. The tests of a row allocate nothing and come first
+//! (`deciding`, and a module for each group of commands); they return what is to change, a `Change`, which is then
+//! made (`altering`, `making`, `moving`). `specs/Change.antt` has the state after each.
 //!
-//! Batches are shared bytes, so a log, a path and what is committed have them in common. Ends of logs are numbers of 128
-//! bits, since the model's have no bound; where one would have to be kept that has no 64, there is no memory for it.
+//! Batches are shared bytes, so a log, an epoch's log and what is committed have them in common. Log ends are
+//! computed in 128 bits, because the model's have no bound; if one that must be stored exceeds 64 bits, the call
+//! reports out of memory.
 //!
-//! `replay`, `first_refused`, `is_run` and `is_complete_run` go over whole journals by steps, `is_complete` by counts alone.
+//! `replay`, `first_refused`, `is_run` and `is_complete_run` go over whole journals step by step, `is_complete` by
+//! counts alone.
 #![tactic(auto)]
 
 mod altering;

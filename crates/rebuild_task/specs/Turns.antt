@@ -3,14 +3,14 @@
 --   turn       does                                           answers
 --   Epochs     reads a remote segment's line of epochs        StoreFault, Damaged
 --
--- The segment is the one that holds the last offset below the wanted one, by the leader's line up to there, the wanted offset
--- standing for the log's end. The local log is to begin anew with the entries of the line that was read which start below the
--- wanted offset. A view without such a segment, or whose entry of it places no epochs, is damage of the metadata log. An object
--- that isn't there is damaged at 0, one that lacks bytes of the epochs behind those that it has, and a text without a reading where
--- it begins.
+-- The segment is the one that holds the last offset below the wanted one, by the leader's line up to there, the
+-- wanted offset standing for the log's end. The local log is to begin anew with the entries of the line that was read
+-- which start below the wanted offset. A view without such a segment, or whose entry of it places no epochs, is
+-- damage of the metadata log. An object that isn't there is damaged at 0, one that lacks bytes of the epochs behind
+-- those that it has, and a text without a reading where it begins.
 --
--- Source: KIP-405, where a follower that begins at its leader's local log start offset builds its leader epochs out of the remote
--- segment of the offset before.
+-- Source: KIP-405, where a follower that begins at its leader's local log start offset builds its leader epochs out
+-- of the remote segment of the offset before.
 use Rattle.std.specs.Prelude.{◌≡◌, ◌≢◌, ℕ, ◌-◌, List, Option, Some, None, Ok, Err, IsErr}
 use Rattle.std.specs.declared.result.Result.{Result}
 use Rattle.std.specs.declared.alloc.AllocError.{AllocError}

@@ -1,13 +1,15 @@
-//! How a follower's rebuild reads, out of the remote tier, the line of leader epochs with which its local log begins anew.
+//! The part of a follower's rebuild that reads the remote tier: it gets the leader epochs with which the local log
+//! starts anew.
 //!
-//! A follower whose log ends below its leader's local log can't follow on: the leader's disk hasn't what comes next any more. Its
-//! local log begins anew then, empty, where the leader's begins. What is below stands in the remote tier, and so does the line of
-//! leader epochs up to there: beside each remote segment's log stand the epochs up to its last offset. The turn here reads that
-//! line.
+//! If a follower's log ends below its leader's local log it can't follow any more, because the next batches aren't on
+//! the leader's disk. Its local log then starts anew, empty, where the leader's local log starts. Its batches below
+//! that are in the remote tier, and so are the leader epochs up to there: beside each remote segment's log are the
+//! epochs up to its last offset. The turn here reads them.
 //!
-//! Before it the broker's view has been refreshed; behind it the local log begins anew with the line. Stops, elections and other
-//! commands may come between any two of these turns, so its caller tests before each that nothing has come that matters, and
-//! that the log start hasn't come up to the wanted offset. The turn tests none of it again.
+//! Before this turn the broker's view has been refreshed; after it the local log starts anew with the epochs. Stops,
+//! elections and other commands may come between any two of these turns, so the caller tests before each that none of
+//! these prevents it and that the log start offset is still below the wanted offset. The turn doesn't test this
+//! again.
 #![tactic(auto)]
 
 mod turn;

@@ -1,8 +1,8 @@
-//! The summary of a run: how often each command was answered in which way, and where each partition ended.
+//! The summary of a run: how often each command got which answer, and the final state of each partition.
 //!
-//! `tell` replays a partition's journal by the plain log's machine, and gives what the summary wants of it; `summary`
-//! writes what several partitions were told as one text. Its form stands in `load_gen`'s `specs/Summary.antt`, what is
-//! told of a journal in `specs/Told.antt`.
+//! `tell` replays a partition's journal in the executable model and collects what the summary needs; `summary` writes
+//! it for all partitions as one text. Its form is in `load_gen`'s `specs/Summary.antt`, what is collected of a
+//! journal in `specs/Told.antt`.
 #![tactic(auto)]
 
 mod given;

@@ -36,8 +36,8 @@ pub record IsEnded (text : List ℕ) : Type 0 where
   pub body : List ℕ
   pub parts : text ≡ body ++ 10 ∷ []
 
--- the text shows a line of the script with a caret under a word or at the line's end, where no byte is at fault, and goes
--- on to the end of a line
+-- the text shows a line of the script with a caret under a word or at the line's end, where no byte is at fault, and
+-- goes on to the end of a line
 pub record Explains (script : List ℕ) (why : Why) (text : List ℕ) : Type 0 where
   pub line : List ℕ
   pub of_script : IsPart line script

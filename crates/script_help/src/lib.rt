@@ -1,10 +1,10 @@
-//! Explanations of refused lines of a script: a caret under the word that has no reading, and what would be right there.
+//! Explanations of refused script lines: a caret under the invalid word, and what would be valid there.
 //!
-//! What would be right is asked of the reader of scripts itself: a word is told only where a line with it has a reading.
-//! So nothing of the language's grammar stands here, but for lists of words that are worth asking for. The cause in words
-//! and the section to read stand in `causes`.
+//! What would be valid is asked of the parser itself: a word is suggested only if a line with it parses. So none of
+//! the grammar is repeated here, only lists of words that are worth asking for. `causes` has the text for each cause
+//! and the section to read.
 //!
-//! `KeptSource` is a source that keeps what it hands over, so that a line can be shown after a script was refused.
+//! `KeptSource` is a source that keeps what it returns, so that a line can be shown after its script was refused.
 #![tactic(auto)]
 
 mod asking;

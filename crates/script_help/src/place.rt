@@ -134,8 +134,8 @@ fn count_further(
     Ok(good)
 }
 
-/// How many words of a line have a reading: up to the last one behind which the line can go on. A line that has one with
-/// more than a few words is an append, and each further word a record.
+/// How many words of a line have a reading: up to the last one behind which the line can go on. A line that has one
+/// with more than a few words is an append, and each further word a record.
 fn count_readable(alloc: Global, counts: &[u8], heads: &[&[u8]]) -> Result<usize, AllocError>
     ensures within { IfOk result (λ count. count ≤ length heads.now) }
     ensures goes { IfOk result (λ count. 0 < count

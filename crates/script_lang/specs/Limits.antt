@@ -7,7 +7,8 @@
 --   turns of turn lines                                          at most 2^20        TurnSum
 --
 -- The largest batch is the largest of all lines so far: a later batch counts for the fetches and copies before it too.
--- The bytes of raw count as a batch, whether they are one or not. A command that asks for an offset counts as one alone.
+-- The bytes of raw count as a batch, whether they are one or not. A command that asks for an offset counts as one
+-- alone.
 use Rattle.std.specs.Prelude.{ℕ, ◌≤◌, ◌+◌, ◌*◌, ◌^◌, nat_lt, max, if◌then◌else◌, length, Result, Ok, Err}
 use Rattle.record_batch.specs.Build.{built}
 use Rattle.plain_log.specs.declared.command.Command.{Command}

@@ -144,7 +144,8 @@ options_with options (RetentionBytes n) = record options { retention_bytes = Som
 options_with options (LocalRetentionMs n) = record options { local_retention_ms = Some n }
 options_with options (LocalRetentionBytes n) = record options { local_retention_bytes = Some n }
 
--- the schedule of an order that is put at once steps its actor until it has answered so many; that of a later one doesn't
+-- the schedule of an order that is put at once steps its actor until it has answered so many; that of a later one
+-- doesn't
 abbrev pub parts_stepped : List PartScript → Bool → ActorId → ℕ → ℕ → List PartScript
 parts_stepped parts false actor number partition = parts
 parts_stepped parts true actor number partition = with_pace parts partition (Until actor number)

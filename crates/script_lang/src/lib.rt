@@ -1,9 +1,9 @@
-//! Scripts: the options, commands, turns and faults that a simulation is made of, as lines of text.
+//! The script language: options, commands, turns and faults, as lines of text.
 //!
-//! `parse` reads a whole script, or tells its first line that has no reading, and why. What each line says, and which
-//! of several causes is told, stands in the definitions: `Lines`, `Words`, `Names`, `Records`, `Commands` and `Forms`
-//! are the grammar, each with a table of its forms, and `Limits` and `Script` say what the lines come to together.
-//! `Fit` says what the crates above may take for granted of a script that was read.
+//! `parse` reads a whole script, or reports its first invalid line and why it is invalid. The definitions say what
+//! each line means and which of several causes is reported: `Lines`, `Words`, `Names`, `Records`, `Commands` and
+//! `Forms` are the grammar, each with a table of its forms, and `Limits` and `Script` say what the lines mean
+//! together. `Fit` says what the crates above may assume of a parsed script.
 #![tactic(auto)]
 
 mod actors;

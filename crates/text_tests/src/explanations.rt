@@ -270,8 +270,8 @@ fn keeps(alloc: Global, wanted: &[u8]) -> Result<(usize, usize, bool), AllocErro
     Ok((first, failed, source.kept() == wanted))
 }
 
-/// How many bytes a source gives at its first read of three bytes, where it only passes them on, and whether it has kept
-/// none of them.
+/// How many bytes a source gives at its first read of three bytes, where it only passes them on, and whether it has
+/// kept none of them.
 fn passes(alloc: Global) -> Result<(usize, bool), AllocError> {
     let bytes = Vec::from_slice(alloc, b"0 0 0 up".as_slice())?;
     let mut source = KeptSource::passing(MemorySource::new(bytes, Vec::new(alloc)));

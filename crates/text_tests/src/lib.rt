@@ -1,6 +1,6 @@
-//! Tests of scripts and traces, of what explains a refused line, of the plain machine, and of summaries.
+//! Tests of scripts and traces, of explanations of refused lines, of the executable model, and of summaries.
 //!
-//! They stand apart from the crates that they test, since a crate is proved anew where its tests are built.
+//! They are in a crate of their own because a crate is proved again where its tests are built.
 #![tactic(auto)]
 
 #[cfg(test)]

@@ -44,8 +44,8 @@ fn padded(
     Ok(script)
 }
 
-/// Long scripts: a front, a text so many times, and an end; and what is told of them. 1,048,576 bytes of a batch are 61 of the
-/// head, 3 of the record's length, 8 of its fields, and the value.
+/// Long scripts: a front, a text so many times, and an end; and what is told of them. 1,048,576 bytes of a batch are
+/// 61 of the head, 3 of the record's length, 8 of its fields, and the value.
 static LONG: [(&str, &str, u32, &str, &str); 13] = [
     ("0 0 0 append 1,-,:", "v", 1_048_504, "\n", ""),
     (

@@ -1,5 +1,5 @@
-//! Each form of line once, both ways; worked journals; and what has no reading. The expected texts are worked by hand; the
-//! batches' bytes are those of Kafka's record batch, magic 2.
+//! Each form of line once, both ways; worked journals; and what has no reading. The expected texts are worked by
+//! hand; the batches' bytes are those of Kafka's record batch, magic 2.
 
 use std::alloc::{AllocError, Global};
 use trace_text::{PartJournal, print, read};
@@ -217,8 +217,8 @@ fn are_of(parts: &[PartJournal], wanted: &[(u16, usize)]) -> bool {
     parts.len() == wanted.len()
 }
 
-/// Texts of whole journals, and the partitions with their entries. The bytes of the run are two batches of one record each:
-/// timestamp 1000, no key, values `a` and `b`, base offsets 0 and 1.
+/// Texts of whole journals, and the partitions with their entries. The bytes of the run are two batches of one record
+/// each: timestamp 1000, no key, values `a` and `b`, base offsets 0 and 1.
 static TEXTS: [(&str, &[(u16, usize)]); 4] = [
     ("", &[]),
     (

@@ -19,7 +19,8 @@ use Rattle.script_lang.specs.Fit.{IsFit}
 use Rattle.script_lang.specs.Script.{script_in}
 use Rattle.memory_run.specs.Run.{StartsWith, IsRunOf}
 
--- the script's bytes, and which of its partitions this is; its world; the actors of the turns so far; whether one found no memory
+-- the script's bytes, and which of its partitions this is; its world; the actors of the turns so far; whether one
+-- found no memory
 pub record Trace (D S M : Type 0) : Type 0 where
   pub script : List ℕ
   pub place : ℕ

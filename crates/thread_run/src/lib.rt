@@ -1,10 +1,10 @@
-//! Runs of a script's partitions by threads: one for each actor of each partition, and a lock for each partition's world.
+//! Runs the partitions of a script by threads: one for each actor of a partition, and a lock for each partition.
 //!
-//! A thread passes a gate, takes the lock of its partition, has its actor take one turn, and gives the lock back. Which thread
-//! is the next to have the lock is the system's choice, so the order of the turns is. A proof knows of a value under a lock what
-//! its type says and nothing else. So a world stands there as a `Traced`, whose type keeps that the turns so far lead from the
-//! fresh world of a partition of a script to the present one (`specs/Traced.antt`); of which partition and script it was made is
-//! told by the value itself, and compared once the threads are done.
+//! A thread passes a gate, takes the lock of its partition, lets its actor take one turn, and releases the lock. The
+//! system decides which thread gets the lock next, and so the order of the turns. All that a proof knows of a value
+//! under a lock is what its type says. So a partition is kept as a `Traced`, whose type says that the turns so far
+//! lead from the fresh partition of a script to the present one (`specs/Traced.antt`). Which script and partition
+//! that is, the value itself says, and it is compared once the threads have ended.
 #![tactic(auto)]
 
 mod gate;

@@ -22,9 +22,9 @@ struct Runner {
     actor: ActorId,
 }
 
-/// Runs each actor of each partition in a thread of its own, or by the caller where none can be made for it, up to the end of its
-/// list. Answers the partitions in the order in which they came; one in which a turn found no memory has ended. Without memory for
-/// the threads none comes back.
+/// Runs each actor of each partition in a thread of its own, or by the caller where none can be made for it, up to
+/// the end of its list. Answers the partitions in the order in which they came; one in which a turn found no memory
+/// has ended. Without memory for the threads none comes back.
 pub fn run_threads<
     H: AllocGlobal + Threads + Wait + Sync,
     D: Disk + Send,

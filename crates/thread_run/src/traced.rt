@@ -154,8 +154,8 @@ impl<D: Disk, S: Store, M: MetaLog> Traced<D, S, M> {
         }
     }
 
-    /// Steps the actors, in the order of their lists, each to the end of its list. Where the threads came there nothing is left
-    /// to do.
+    /// Steps the actors, in the order of their lists, each to the end of its list. Where the threads came there
+    /// nothing is left to do.
     fn run_to_end(&mut self, alloc: Global) -> Result<(), AllocError>
         ensures goes_on { OnOk result (GoesOn self.old self.new) }
         ensures ended { OnOk result ((a : ℕ) → IsAtEnd self.new.world a) }

@@ -60,7 +60,8 @@ abbrev pub IsWithin : List ℕ → LogPart → Type 0
 IsWithin bytes (log_part.Right found) = Unit {0}
 IsWithin bytes (log_part.Wrong at) = at ≤ length bytes
 
--- a place in a part, told as one in its object, of which these are the bytes from the part on: the part's end as the object's
+-- a place in a part, told as one in its object, of which these are the bytes from the part on: the part's end as the
+-- object's
 abbrev pub from_rest : Spot → List ℕ → ℕ → ℕ
 from_rest spot rest at = spot.at + (if at == length (capped spot.len rest) then length rest else at)
 

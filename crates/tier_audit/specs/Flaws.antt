@@ -1,10 +1,11 @@
 -- The first flaw of a remote tier at rest, and what an audit says.
 --
--- Flaws have an order: first those of keys, by the keys' texts; then those of finished copies, in the order of their entries. Of one
--- copy the custom metadata comes first, and then its parts in their order. Of a part that isn't right the place in its object is told
--- of the first batch, index entry or text line that can't stand: the front before it can, and with it no longer. Where no single one
--- breaks it, or something lacks, that is the object's end; so it is where an index isn't cut into whole entries, and where the object
--- ends before the part does. A batch has the epoch that the entry's map has at its base offset, or it can't stand.
+-- Flaws have an order: first those of keys, by the keys' texts; then those of finished copies, in the order of their
+-- entries. Of one copy the custom metadata comes first, and then its parts in their order. Of a part that isn't right
+-- the place in its object is told of the first batch, index entry or text line that can't stand: the front before it
+-- can, and with it no longer. Where no single one breaks it, or something lacks, that is the object's end; so it is
+-- where an index isn't cut into whole entries, and where the object ends before the part does. A batch has the epoch
+-- that the entry's map has at its base offset, or it can't stand.
 --
 --   form                                 says
 --   IsFirstBad spelled MayBegin b at     the first place in bytes at which an item can't stand
@@ -51,7 +52,8 @@ pub record IsFirstBad {X : Type 0} (spelled : List X → List ℕ) (MayBegin : L
   pub begins : MayBegin before
   pub stops : (item : X) (more : List ℕ) → bytes ≡ spelled (before ++ item ∷ []) ++ more → MayBegin (before ++ item ∷ []) → ⊥
 
--- batches may begin the log of a copy: they end within it, each has the map's epoch at its base, and none is past its greatest timestamp
+-- batches may begin the log of a copy: they end within it, each has the map's epoch at its base, and none is past its
+-- greatest timestamp
 pub record MayBegin (entry : Entry) (batches : List (List ℕ)) : Type 0 where
   pub is : IsSegment entry.start batches
   pub within : end_from entry.start batches ≤ entry.end + 1

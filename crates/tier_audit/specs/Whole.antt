@@ -1,5 +1,5 @@
--- What is right of a partition's remote tier at rest: the store holds exactly what the metadata log says, and each finished copy is
--- readable and of one piece.
+-- What is right of a partition's remote tier at rest: the store holds exactly what the metadata log says, and each
+-- finished copy is readable and of one piece.
 --
 --   part        it holds
 --   Log         the batches that the entry tells of, one after another
@@ -16,8 +16,8 @@
 --
 -- Of how dense indexes are nothing is said: an interval isn't kept.
 --
--- Source: KIP-405, LogSegmentData. A copy's parts are those that segment_bundle makes. Each has an object of its own, or they have one
--- together, as the module Place of object_store says.
+-- Source: KIP-405, LogSegmentData. A copy's parts are those that segment_bundle makes. Each has an object of its own,
+-- or they have one together, as the module Place of object_store says.
 use Rattle.std.specs.Prelude.{◌≡◌, ◌≢◌, ℕ, ◌+◌, ◌-◌, ℤ, negsuc, int_lt, if◌then◌else◌, true, List, [], ◌∷◌, length, slice_get, Option, Some, None}
 use Rattle.std.specs.List.{AllByRecursion}
 use Rattle.tier_base.specs.declared.plain.Part.{Part}
@@ -57,7 +57,8 @@ abbrev pub marks_of : ℕ → ℕ → List Placed → List (ℕ × ℕ)
 marks_of base at [] = []
 marks_of base at (batch ∷ batches) = (batch.last - base, at) ∷ marks_of base batch.to batches
 
--- the moments of batches whose timestamp is above this one and those of all before them: it, and the last offset less the base
+-- the moments of batches whose timestamp is above this one and those of all before them: it, and the last offset less
+-- the base
 abbrev pub heights_of : ℕ → ℤ → List Placed → List (ℤ × ℕ)
 heights_of base ts [] = []
 heights_of base ts (batch ∷ batches) =

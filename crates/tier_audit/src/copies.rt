@@ -184,8 +184,8 @@ fn read_log_at(
     read_log(alloc, entry, bytes)
 }
 
-/// Reads a part behind the log, of whose object these are the bytes from there on: none where it is right, or the place in the part
-/// that is told.
+/// Reads a part behind the log, of whose object these are the bytes from there on: none where it is right, or the
+/// place in the part that is told.
 fn read_at(
     alloc: Global,
     entry: &Entry,

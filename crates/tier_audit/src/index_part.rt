@@ -1,7 +1,7 @@
 //! A copy's offset index, read beside the batches of its log.
 //!
-//! Its entries rise, and so do the marks of the batches. So one pass over both finds each entry among the marks that are
-//! left behind the last one.
+//! Its entries rise, and so do the marks of the batches. So one pass over both finds each entry among the marks that
+//! are left behind the last one.
 
 ghost use Rattle.std.specs.Prelude.{◌≡◌, ◌<◌, ◌^◌, ℕ, IfOk, IfSome, IsNone, length};
 ghost use Rattle.std.specs.Int.{w32, to_be_bytes};

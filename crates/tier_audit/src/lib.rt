@@ -1,8 +1,8 @@
-//! An audit of a partition's remote tier at rest, when no command is under way and nobody else writes.
+//! An audit of a partition's remote tier at rest: no command is in progress and nobody else writes.
 //!
-//! `audit` says whether the store holds exactly what the metadata log says, and whether each finished copy is readable and of
-//! one piece, or tells the first flaw. It reads alone. The module Whole of specs/ says what is right, and the module Flaws
-//! what is told of a flaw, in which order.
+//! `audit` reports whether the store has exactly what the metadata log says and whether each finished copy is
+//! complete and readable, or else the first flaw. It only reads. specs/Whole.antt says what a sound tier is,
+//! specs/Flaws.antt which flaw is reported and in which order.
 #![tactic(auto)]
 
 mod auditing;

@@ -1,9 +1,9 @@
 //! A copy's log, read batch by batch beside its entry.
 //!
 //! The batches go on as long as they may begin the log of the copy: they are consecutive from its first offset on, end
-//! within it, each has the epoch of the copy's map at its base offset, and none is past the copy's greatest timestamp. The
-//! log is right where they come to all that the entry says, at the end of the bytes: also where each entry of the map
-//! begins with one of them.
+//! within it, each has the epoch of the copy's map at its base offset, and none is past the copy's greatest
+//! timestamp. The log is right where they come to all that the entry says, at the end of the bytes: also where each
+//! entry of the map begins with one of them.
 
 ghost use Rattle.std.specs.Prelude.{◌≡◌, ◌↔◌, ◌+◌, ◌≤◌, ◌<◌, ◌^◌, ℕ, List, IfOk, OnOk, IfSome, Some, None, IsTrue, length, take};
 ghost use Rattle.std.specs.Option.{ForSome};
@@ -25,8 +25,8 @@ use std::alloc::{AllocError, Global};
 /// The greatest size of a segment, and how far offsets reach past its base: below 2^31.
 const REACH: u64 = 1 << 31;
 
-/// What the batches up to a place come to: the place, the offset after them, how many of the map's entries they begin (none
-/// where they pass one over), their greatest timestamp, and where each of them stands.
+/// What the batches up to a place come to: the place, the offset after them, how many of the map's entries they begin
+/// (none where they pass one over), their greatest timestamp, and where each of them stands.
 #[derive(Drop)]
 pub(crate) struct Front {
     pub at: u32,

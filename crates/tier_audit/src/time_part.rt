@@ -1,7 +1,7 @@
 //! A copy's time index, read beside the batches of its log.
 //!
-//! Its moments rise, and so do the timestamps that are later than all before them. So one pass over both finds each moment
-//! among those that are left behind the last one.
+//! Its moments rise, and so do the timestamps that are later than all before them. So one pass over both finds each
+//! moment among those that are left behind the last one.
 
 ghost use Rattle.std.specs.Prelude.{◌≡◌, ◌<◌, ◌^◌, ℕ, negsuc, FitsSigned, IfOk, IfSome, IsNone, length};
 ghost use Rattle.std.specs.Int.{w32, w64, to_be_bytes, cast_unsigned};

@@ -23,7 +23,7 @@ pub enum Flaw {
     Custom { id: SegmentId },
     /// An object of a finished copy doesn't stand.
     Missing { key: ObjectKey },
-    /// A part of a finished copy isn't what the metadata log and the parts before it say: the object that has it, and the
-    /// place there of what can't stand, or the object's end.
+    /// A part of a finished copy isn't what the metadata log and the parts before it say: the object that has it, and
+    /// the place there of what can't stand, or the object's end.
     Wrong { key: ObjectKey, at: u64 },
 }

@@ -1,8 +1,8 @@
 -- What a search by timestamp comes to: it goes through its log batch by batch, and what it answers is the log's.
 --
--- A remote segment whose entry tells of an earlier greatest timestamp has no batch that isn't too early, and up to the batch that its
--- time index shows there is none. A piece's batches are the log's, as far as it goes. So where the cursor comes to, all before it are
--- too early, and the first batch of a run that isn't is the log's first.
+-- A remote segment whose entry tells of an earlier greatest timestamp has no batch that isn't too early, and up to
+-- the batch that its time index shows there is none. A piece's batches are the log's, as far as it goes. So where the
+-- cursor comes to, all before it are too early, and the first batch of a run that isn't is the log's first.
 use Rattle.std.specs.Prelude.{◌≡◌, ◌⊎◌, ℕ, ◌<◌, ◌≤◌, List, Some, Ok}
 use Rattle.tier_base.specs.declared.plain.Part.{Part}
 use Rattle.tier_base.specs.declared.plain.Part.TheVariants as part
@@ -34,8 +34,9 @@ use Rattle.partition_seen.specs.Log.{IsRunOf}
 use Rattle.tier_dates.specs.Passed.{IsDatedTo, HasPassed}
 use Rattle.tier_dates.specs.Searching.{IsAtSearch}
 
--- a run of a log, up to the known mark, that was read at the offset to which a search has come, and searched: where it has a batch that
--- isn't too early, its offset is that of the timestamp, and else the search has come to its end, which is past the offset
+-- a run of a log, up to the known mark, that was read at the offset to which a search has come, and searched: where
+-- it has a batch that isn't too early, its offset is that of the timestamp, and else the search has come to its end,
+-- which is past the offset
 abbrev pub RunsAreSearched : Type 0
 RunsAreSearched = (asked : Asked) (offset at limit : ℕ) (log run : List (List ℕ)) (stop : Stop) → IsConsecutive 0 log
     → HasPassed asked.ts asked.start log offset → asked.start ≤ offset → IsRunOf log offset limit asked.mark stop run → AreChecked run
@@ -54,8 +55,8 @@ pub record IsOfLog (asked : Asked) (next : Next) (place : Place) : Type 0 where
 
 module _ {S M : Type 0} (objects : S → store.Content) (calls : S → Control store_call.call_code)
     (notes : M → meta.Content) (notings : M → Control meta_call.call_code) where
-  -- where a turn goes on, all before its cursor is too early, and the cursor hasn't fallen; where the turn sought, or searched a log,
-  -- and comes to no piece, it has risen
+  -- where a turn goes on, all before its cursor is too early, and the cursor hasn't fallen; where the turn sought, or
+  -- searched a log, and comes to no piece, it has risen
   abbrev pub SearchesGoOn : Type 0
   SearchesGoOn =
       (asked : Asked) (line : List (ℕ × ℕ)) (cursor at : ℕ) (next then : Next) (old new : Tiers S M)

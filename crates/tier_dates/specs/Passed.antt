@@ -12,7 +12,8 @@ use Rattle.time_find.specs.declared.turn.Next.TheVariants.{Seek, Times, Index, L
 abbrev pub AreEarly : ℤ → List (List ℕ) → Type 0
 AreEarly ts batches = AllByRecursion (λ batch. max_ts_of batch <ℤ ts) batches
 
--- those of the batches from the log start on that end at or below an offset; it isn't past the log, but for the log start
+-- those of the batches from the log start on that end at or below an offset; it isn't past the log, but for the log
+-- start
 pub record HasPassed (ts : ℤ) (start : ℕ) (log : List (List ℕ)) (offset : ℕ) : Type 0 where
   pub within : offset ≤ max start (end_of log)
   pub early : AreEarly ts (from_offset start (up_to offset log))

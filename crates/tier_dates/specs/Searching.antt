@@ -1,8 +1,9 @@
 -- What the scene of the tier has of a search by timestamp that goes on.
 --
--- A search that has taken up a piece is a fetch there, at its cursor, or at the offset from which it reads the piece. One that hasn't
--- keeps nothing. Whoever takes a turn tests first that its broker leads the epoch that it led when the search began, without a stop
--- between, that the cursor isn't below the log start, and that it is below the known mark.
+-- A search that has taken up a piece is a fetch there, at its cursor, or at the offset from which it reads the piece.
+-- One that hasn't keeps nothing. Whoever takes a turn tests first that its broker leads the epoch that it led when
+-- the search began, without a stop between, that the cursor isn't below the log start, and that it is below the known
+-- mark.
 use Rattle.std.specs.Prelude.{◌≡◌, ℕ, ◌^◌, ◌<◌, ◌≤◌, List, length, Some, Ok, Err, slice_get}
 use Rattle.std.specs.declared.result.Result.{Result}
 use Rattle.std.specs.declared.alloc.AllocError.{AllocError}

@@ -22,8 +22,8 @@ pub fn passed_has_none()
     ensures { PassedHasNone }
 {}
 
-/// Each turn of a search among the remote segments is changes of the tier, done or not where its call failed, and where it
-/// wanted memory.
+/// Each turn of a search among the remote segments is changes of the tier, done or not where its call failed, and
+/// where it wanted memory.
 pub fn search_turns_change<S: Store, M: MetaLog>()
     ensures { SearchTurnsChange S.content S.control M.content M.control }
 {}

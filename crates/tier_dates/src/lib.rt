@@ -1,10 +1,10 @@
-//! Searches by timestamp, as changes of the remote tier: each turn of one keeps the tier's rules, goes on through its log batch by
-//! batch, and answers the offset that the log has.
+//! Laws of timestamp lookups over both tiers: each turn of one keeps the tier's safety rules, goes on through its log
+//! batch by batch, and the offset that it returns is right for the log.
 //!
-//! `time_find` says what a turn of a search does by what the devices answer, `tier_safe` what may change in the tier, and
-//! `tier_serves` what a read of a remote segment gives. Here stand the laws between them. They hold of a turn whose broker leads
-//! on as it did when the search began, where the cursor isn't below the log start and is below the known mark: its caller tests
-//! all of it before each turn.
+//! `time_find` says what a turn of a lookup does depending on what the devices return, `tier_safe` what may change in
+//! the tier, and `tier_serves` what a read of a remote segment returns. Here are the laws between them. They hold of
+//! a turn whose broker still leads as it did when the lookup began, if the cursor isn't below the log start offset
+//! and is below the broker's high watermark: the caller tests all of this before each turn.
 #![tactic(auto)]
 
 mod laws;

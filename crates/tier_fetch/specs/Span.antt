@@ -1,9 +1,10 @@
 -- Which bytes of a remote segment's log a fetch needs, as the segment's offset index shows.
 --
--- An entry has a batch's last offset, and the position where that batch begins. So the batch that holds an offset begins at the
--- first entry past the offset, or before it, and ends where the second one begins, or before. A run of several batches goes no
--- further than the limit behind its first position. None of its batches begins at an entry that lies behind the piece. Behind
--- the run the next batch's head is needed too, since it tells that this batch would pass the limit.
+-- An entry has a batch's last offset, and the position where that batch begins. So the batch that holds an offset
+-- begins at the first entry past the offset, or before it, and ends where the second one begins, or before. A run of
+-- several batches goes no further than the limit behind its first position. None of its batches begins at an entry
+-- that lies behind the piece. Behind the run the next batch's head is needed too, since it tells that this batch
+-- would pass the limit.
 --
 -- Source: KIP-405, where a remote segment is read from the position on that its offset index gives.
 use Rattle.std.specs.Prelude.{ℕ, ◌+◌, ◌-◌, ◌^◌, nat_lt, min, max, List, map, filter, Option, Some, None, slice_get}

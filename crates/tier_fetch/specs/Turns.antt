@@ -5,10 +5,10 @@
 --   Index      has the piece's index of the cache, or else reads it     StoreFault, Damaged
 --   Log        reads the part of the log that the index shows           Run, StoreFault, Damaged
 --
--- The piece is the one that holds the offset in the line of the broker's own log. A view without one, or whose entry of it places
--- no part, is damage of the metadata log. An object that isn't there is damaged at 0, one that lacks bytes of what is read behind
--- those that it has, an index without a reading where it begins, and a segment's log at the first place where no batch follows
--- before the run has ended.
+-- The piece is the one that holds the offset in the line of the broker's own log. A view without one, or whose entry
+-- of it places no part, is damage of the metadata log. An object that isn't there is damaged at 0, one that lacks
+-- bytes of what is read behind those that it has, an index without a reading where it begins, and a segment's log at
+-- the first place where no batch follows before the run has ended.
 --
 -- Source: KIP-405, fetches below the local log start offset, and RemoteIndexCache.
 use Rattle.std.specs.Prelude.{◌≡◌, ℕ, ◌+◌, ◌<◌, min, List, length, slice_range, option_map, Option, Some, None, Ok, Err, IsErr}
@@ -88,7 +88,8 @@ pub record IsLoaded (wanted : Wanted) (piece : Piece) (base : ℕ) (bytes : List
   pub kept_is : new ≡ kept old piece.id.0 index
   pub turn_is : turn ≡ reads_by wanted piece index
 
--- what becomes of a fetch by bytes of its index, of a segment with this base offset, and by where more of them are lacking
+-- what becomes of a fetch by bytes of its index, of a segment with this base offset, and by where more of them are
+-- lacking
 abbrev pub LoadsBytes : Option ℕ → Wanted → Piece → ℕ → Spot → List ℕ → Result FetchTurn AllocError → Cache → Cache → Type 0
 LoadsBytes (Some end) wanted piece base spot bytes result old new =
     (result ≡ Ok (Ends (Damaged (Key spot.key) end))) × (new ≡ old)

@@ -1,4 +1,5 @@
-//! Which bytes of a remote segment's log a fetch needs, as the segment's offset index shows. The module Span of specs/ says why.
+//! Which bytes of a remote segment's log a fetch needs, as the segment's offset index shows. The module Span of
+//! specs/ says why.
 //!
 //! The entries past an offset are found by halving, and none is gone through.
 

@@ -1,8 +1,9 @@
-//! Rebuilds from the remote tier, beside its rules: what one reads there is of the path that its follower has joined.
+//! Laws of rebuilds from the remote tier: the leader epochs that a follower reads there are those of the log that it
+//! joined.
 //!
-//! `rebuild_task` says what the turn of a rebuild does that reads the tier, by what the store answers, and `tier_safe` what may
-//! change in the tier. Here stand the laws between the two. They hold of a turn where the log start is below the offset at which
-//! the follower's local log is to begin: its caller tests that before.
+//! `rebuild_task` says what the turn of a rebuild that reads the tier does, depending on what the store returns, and
+//! `tier_safe` what may change in the tier. Here are the laws between the two. They hold of a turn at which the log
+//! start offset is below the offset where the follower's local log is to start: the caller tests that before.
 #![tactic(auto)]
 
 mod laws;

@@ -1,8 +1,8 @@
-//! What a run leaves of a remote tier, as an audit finds it: each finished copy is readable, and what a sweep leaves is whole.
+//! Laws of what an audit finds after a run: each finished copy is readable, and after a sweep the tier is sound.
 //!
-//! `tier_safe` has the rules that hold between any two turns, `tier_audit` says what is right of a tier at rest, and `tier_sweep`
-//! what a sweep leaves. Here stand the laws between the three. A copy that another broker's deletion overtook may put an object
-//! after the deletion was finished, and that one is left until a sweep.
+//! `tier_safe` has the rules that hold between any two turns, `tier_audit` says what is right of a tier at rest, and
+//! `tier_sweep` what a sweep leaves. Here are the laws between the three. A copy that another broker's deletion
+//! overtook may put an object after the deletion was finished; that object stays until a sweep.
 #![tactic(auto)]
 
 mod laws;

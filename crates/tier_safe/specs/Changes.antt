@@ -34,8 +34,8 @@ use Rattle.tier_safe.specs.Scene.{Site, Rebuild, Sought, Work, Free, Copies, Exp
 
 -- moves: changes of the desk alone
 
--- a copy finds that it was overtaken; an expiry takes its segment; a rebuild its offset, that all notes were seen, and a line; a
--- fetch its offset, a piece, a later offset in it, and the position from which it reads
+-- a copy finds that it was overtaken; an expiry takes its segment; a rebuild its offset, that all notes were seen,
+-- and a line; a fetch its offset, a piece, a later offset in it, and the position from which it reads
 pub data Move : Type 0 where
   Leaves : Move
   Overtakes : (copy : Copied) → Move

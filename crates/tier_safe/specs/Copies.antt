@@ -4,8 +4,8 @@
 --   Named      each object has an entry that names it
 --   Copies     a copy on the desk is where its entry and its objects say
 --
--- Another broker's deletion may overtake a copy at any turn. So what a copy has put stands only while its entry's state is still
--- that it started.
+-- Another broker's deletion may overtake a copy at any turn. So what a copy has put stands only while its entry's
+-- state is still that it started.
 --
 -- Source: KIP-405, where a copy is told as started before its objects are put, and as finished after the last.
 use Rattle.std.specs.Prelude.{◌≡◌, ◌≢◌, ℕ, ◌<◌, Bool, true, false, List, Some, None, length, slice_get}

@@ -3,8 +3,9 @@
 --   Fetches    what a fetch on the desk has found is of the log that it reads
 --   Caches     a cached index is that of its segment
 --
--- A fetch takes several turns, and a stop, an election or a deletion may come between any two. What it has found stands as
--- long as its broker leads on and the log start isn't above its offset. Otherwise it is answered without it.
+-- A fetch takes several turns, and a stop, an election or a deletion may come between any two. What it has found
+-- stands as long as its broker leads on and the log start isn't above its offset. Otherwise it is answered without
+-- it.
 --
 -- Source: KIP-405: fetches below the local log start offset, and RemoteIndexCache.
 use Rattle.std.specs.Prelude.{◌≡◌, ◌≢◌, ℕ, ◌+◌, ◌<◌, ◌≤◌, List, Some, None, slice_get}
@@ -28,7 +29,8 @@ use Rattle.tier_safe.specs.Lineage.{Describes}
 
 -- what is found
 
--- the piece holds the offset, is of a copy that was finished after the first so many notes, and copy and log have one epoch in it
+-- the piece holds the offset, is of a copy that was finished after the first so many notes, and copy and log have one
+-- epoch in it
 pub record PieceStands (notes : List Note) (log : List (List ℕ)) (offset : ℕ) (piece : Piece) : Type 0 where
   pub before : List Note
   pub begins : IsPrefix before notes
@@ -70,8 +72,9 @@ pub record StillLeads (sought : Sought) (x : Broker) : Type 0 where
   pub stops : x.stops ≡ sought.stops
   pub role : x.role ≡ Leads sought.epoch
 
--- a fetch on the desk: its broker's view has the entry of its piece, whose copy isn't under way any more; while that broker
--- leads as it did, its offset is below the local start until it has found a piece, and what it has found stands
+-- a fetch on the desk: its broker's view has the entry of its piece, whose copy isn't under way any more; while that
+-- broker leads as it did, its offset is below the local start until it has found a piece, and what it has found
+-- stands
 pub record FetchStands (paths : List Path) (notes : List Note) (start : ℕ) (site : Site) (x : Broker) (sought : Sought)
     : Type 0 where
   pub stops : sought.stops ≤ x.stops

@@ -1,7 +1,7 @@
 -- How the brokers' sides of the tier follow a step of the plain log.
 --
--- A stop, an opening or a cut changes a broker's local log together with its log. None raises a local start: that is a change
--- of its own (Drops).
+-- A stop, an opening or a cut changes a broker's local log together with its log. None raises a local start: that is
+-- a change of its own (Drops).
 use Rattle.std.specs.Prelude.{◌≡◌, ◌⊎◌, ℕ, ◌<◌, ◌≤◌, true, List, Some, length, slice_get}
 use Rattle.log_terms.specs.Log.{end_of}
 use Rattle.plain_log.specs.declared.state.State.{State as Plain}
@@ -12,13 +12,15 @@ use Rattle.plain_log.specs.declared.journal.JournalEntry.{JournalEntry}
 use Rattle.plain_log.specs.Step.{step}
 use Rattle.tier_safe.specs.Scene.{Site, Scene}
 
--- the incarnation stays, and that of the next copy where the broker stays up; or the log was opened under a later incarnation
+-- the incarnation stays, and that of the next copy where the broker stays up; or the log was opened under a later
+-- incarnation
 abbrev pub IdsGo : Site → Site → Type 0
 IdsGo old new =
     ((new.incarnation ≡ old.incarnation) × (new.up ≡ true → (old.up ≡ true) × (new.next ≡ old.next)))
     ⊎ (old.incarnation < new.incarnation)
 
--- a side follows its broker: the local start doesn't rise, and is at or below the log's end; that of one that leads on stays
+-- a side follows its broker: the local start doesn't rise, and is at or below the log's end; that of one that leads
+-- on stays
 pub record SiteGoes (old new : Site) (x y : Broker) : Type 0 where
   pub up : new.up ≡ y.up
   pub start : new.start ≤ old.start

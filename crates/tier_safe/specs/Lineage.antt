@@ -1,9 +1,10 @@
 -- Batches as a part of a leader epoch's path, and what a remote segment says of them.
 --
--- A path is the log that the leader of an epoch has. A remote segment whose batches are a part of a path is of one lineage
--- with each log that has its last batch, since logs match.
+-- A path is the log that the leader of an epoch has. A remote segment whose batches are a part of a path is of one
+-- lineage with each log that has its last batch, since logs match.
 --
--- Source: KIP-405, whose remote segments carry the leader epochs of their offsets, and KIP-101, by which logs are told apart.
+-- Source: KIP-405, whose remote segments carry the leader epochs of their offsets, and KIP-101, by which logs are
+-- told apart.
 use Rattle.std.specs.Prelude.{◌≡◌, ◌≢◌, ℕ, ◌+◌, List, [], ◌++◌, length, slice_get, Option, Some, true}
 use Rattle.tier_base.specs.declared.names.SegmentId.{SegmentId}
 use Rattle.tier_base.specs.declared.object_key.ObjectKey.{ObjectKey}

@@ -1,7 +1,7 @@
 -- When a change may happen.
 --
--- The plain log moves in `Steps` alone; any other change leaves it. A turn that is answered is some changes, and then a step
--- of the plain log.
+-- The plain log moves in `Steps` alone; any other change leaves it. A turn that is answered is some changes, and then
+-- a step of the plain log.
 use Rattle.std.specs.Prelude.{◌≡◌, ◌⊎◌, ℕ, ◌<◌, ◌≤◌, true, List, [], ◌∷◌, Some, slice_get}
 use mathlib.Core.List.{IsPrefix}
 use Rattle.tier_base.specs.Key.{IsId}

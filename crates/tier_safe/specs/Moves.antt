@@ -1,7 +1,7 @@
 -- When a command on the desk may move.
 --
--- What a view shows is said of an id's entry in it. What a fetch finds must stand only for as long as its broker leads on and
--- the log start isn't above its offset.
+-- What a view shows is said of an id's entry in it. What a fetch finds must stand only for as long as its broker
+-- leads on and the log start isn't above its offset.
 use Rattle.std.specs.Prelude.{◌≡◌, ℕ, ◌<◌, ◌≤◌, true, false, List, Some, None, slice_get}
 use mathlib.Core.List.{IsPrefix}
 use Rattle.tier_base.specs.declared.plain.State.{State}
@@ -43,7 +43,8 @@ pub record MayDoom (a b : ℕ) (doomed : Doomed) (c : Scene) (p : Plain) : Type 
   pub due : is_due p.registry.start entry ≡ true
   pub partition : doomed.partition ≡ entry.partition
 
--- the wanted offset is the local start of a broker whose log begins the epoch's path, and above where the rebuild's log ended
+-- the wanted offset is the local start of a broker whose log begins the epoch's path, and above where the rebuild's
+-- log ended
 pub record MayWant (a : ℕ) (rebuild : Rebuild) (c : Scene) (p : Plain) : Type 0 where
   pub seat : slice_get c.desk a ≡ Some Free
   pub unread : (rebuild.refreshed ≡ false) × (rebuild.line ≡ None)
@@ -83,7 +84,8 @@ pub record MayAsk (a : ℕ) (sought : Sought) (c : Scene) (p : Plain) : Type 0 w
   pub path : path_of p.paths sought.epoch ≡ Some x.log
   pub below : sought.offset < site.start
 
--- the piece has an entry in the broker's view, of a copy that isn't under way there, is of a finished copy, and one with the log
+-- the piece has an entry in the broker's view, of a copy that isn't under way there, is of a finished copy, and one
+-- with the log
 pub record MayFind (a : ℕ) (sought : Sought) (piece : Piece) (c : Scene) (p : Plain) : Type 0 where
   pub seat : slice_get c.desk a ≡ Some (Seeks sought)
   pub unread : sought.from ≡ None

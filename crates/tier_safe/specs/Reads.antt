@@ -1,7 +1,7 @@
 -- What the tier's rules give to turns that read: look-ups find, what they find stands, and what is read is the log's.
 --
--- A look-up goes by the line of the reading log's leader epochs. These laws hold of any line that says in which epoch each offset
--- of the log is.
+-- A look-up goes by the line of the reading log's leader epochs. These laws hold of any line that says in which epoch
+-- each offset of the log is.
 use Rattle.std.specs.Prelude.{◌≡◌, ℕ, ◌-◌, ◌<◌, ◌≤◌, true, List, Some, None, slice_get}
 use Rattle.std.specs.List.{AllByRecursion}
 use mathlib.Core.List.{IsPrefix}
@@ -76,8 +76,8 @@ WantedIsFound = (c : Scene) (p : Plain) (a : ℕ) (rebuild : Rebuild) (site : Si
 
 -- reads
 
--- the piece's segment is finished and stands, and what of its batches ends with the piece is what the log has from the offset on;
--- the position is the one that their index gives
+-- the piece's segment is finished and stands, and what of its batches ends with the piece is what the log has from
+-- the offset on; the position is the one that their index gives
 pub record IsServed (c : Scene) (p : Plain) (log : List (List ℕ)) (sought : Sought) (piece : Piece) : Type 0 where
   pub entry : Entry
   pub there : entry_of piece.id (fold c.notes) ≡ Some entry

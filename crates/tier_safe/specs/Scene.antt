@@ -1,11 +1,11 @@
 -- The remote tier of a partition as it is seen, with what its brokers and the commands on its desk know of it.
 --
--- It stands beside a state of the plain log, which has each broker's log whole, from offset 0 on, whatever of it is on a disk.
--- Of a broker that is down its disk alone says what it has. There `start` is the greatest local start and `incarnation` the least
--- one that an image of its disk may have.
+-- It stands beside a state of the plain log, which has each broker's log whole, from offset 0 on, whatever of it is
+-- on a disk. Of a broker that is down its disk alone says what it has. There `start` is the greatest local start and
+-- `incarnation` the least one that an image of its disk may have.
 --
--- Source: KIP-405: objects in a remote store, a log of remote segments' metadata, and on each broker a view of that metadata, a
--- local log start offset, and a cache of remote indexes.
+-- Source: KIP-405: objects in a remote store, a log of remote segments' metadata, and on each broker a view of that
+-- metadata, a local log start offset, and a cache of remote indexes.
 use Rattle.std.specs.Prelude.{ℕ, Bool, List, Option}
 use Rattle.tier_base.specs.declared.names.PartitionId.{PartitionId}
 use Rattle.tier_base.specs.declared.names.SegmentId.{SegmentId}

@@ -5,8 +5,8 @@
 --   Covered    what a local log lacks from the log start on is covered by finished copies
 --   Rebuilds   so is what a rebuild is to leave out
 --
--- Source: KIP-405: the local log start offset, deletion by the log start offset, and followers that begin their local log anew
--- at the leader's local log start offset.
+-- Source: KIP-405: the local log start offset, deletion by the log start offset, and followers that begin their local
+-- log anew at the leader's local log start offset.
 use Rattle.std.specs.Prelude.{◌≡◌, ◌≢◌, ℕ, ◌-◌, ◌<◌, ◌≤◌, true, List, Some, length, slice_get}
 use mathlib.Core.List.{IsPrefix}
 use Rattle.tier_base.specs.declared.plain.State.{State}
@@ -82,8 +82,8 @@ CoveredStands entries start sites brokers =
     (b : ℕ) (site : Site) (x : Broker) → slice_get sites b ≡ Some site → slice_get brokers b ≡ Some x
     → (o : ℕ) → start ≤ o → o < site.start → CoversLog entries x.log o
 
--- a rebuild on the desk: the batches below the wanted offset are the path's; from the log start on they are covered, the last
--- one also in the refreshed view; and the line has their epochs
+-- a rebuild on the desk: the batches below the wanted offset are the path's; from the log start on they are covered,
+-- the last one also in the refreshed view; and the line has their epochs
 pub record RebuildStands (paths : List Path) (notes : List Note) (start : ℕ) (sites : List Site) (rebuild : Rebuild)
     : Type 0 where
   pub front : List (List ℕ)

@@ -1,7 +1,8 @@
 -- That each turn of a copy and of an expiry is changes of the tier.
 --
--- The tier shows what a store and a metadata log tell, a broker's view, and the seat of the command. A turn whose row holds
--- leaves a tier that changes lead to: where its call went, where it failed, done or not, and where memory was wanting.
+-- The tier shows what a store and a metadata log tell, a broker's view, and the seat of the command. A turn whose row
+-- holds leaves a tier that changes lead to: where its call went, where it failed, done or not, and where memory was
+-- wanting.
 use Rattle.std.specs.Prelude.{◌≡◌, ℕ, ◌^◌, ◌<◌, List, length, Some, Ok, Err, slice_get, slice_set, IsTrue}
 use Rattle.std.specs.declared.result.Result.{Result}
 use Rattle.std.specs.declared.alloc.AllocError.{AllocError}

@@ -5,8 +5,8 @@
 --   Partition  everything is of the one partition
 --   Ids        no id is used twice
 --
--- Source: KIP-405. A broker reads the remote log metadata in its order, as far as it has come. Kafka draws a random id for each
--- copy; here it is made of what makes it unique.
+-- Source: KIP-405. A broker reads the remote log metadata in its order, as far as it has come. Kafka draws a random
+-- id for each copy; here it is made of what makes it unique.
 use Rattle.std.specs.List.{AllByRecursion}
 use Rattle.std.specs.Prelude.{◌≡◌, ◌⊎◌, ℕ, ◌^◌, ◌<◌, ◌≤◌, true, List, Some, slice_get}
 use mathlib.Core.List.{IsPrefix}

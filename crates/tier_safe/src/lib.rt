@@ -1,14 +1,14 @@
-//! The safety of a partition's remote tier: what holds of its objects and its metadata between any
-//! two turns, as laws over definitions.
+//! The safety rules of a partition's remote tier: what holds of its objects and its metadata between any two turns.
+//! There is no code here, only laws over definitions.
 //!
-//! The tier is seen as a whole (`specs/Scene.antt`), beside a state of the plain log.
-//! `specs/Safe.antt` says what holds of both, `specs/Changes.antt` what one call of a device may
-//! change, and `specs/May.antt` when it may. Such changes keep the rules, a fresh tier has them, and
-//! each turn of a copy and of an expiry is such changes, whichever of its calls fails. So what a
-//! local log has dropped stands in the remote tier, of the log's own lineage, until the log start is
-//! past it; and what a fetch or a rebuild looks up and reads there is its log's.
+//! The tier is a whole of store, metadata log, views and commands in progress (`specs/Scene.antt`), beside a state of
+//! the plain log. `specs/Safe.antt` has the rules of both, `specs/Changes.antt` says what one device call may change,
+//! and `specs/May.antt` when it may. Such changes keep the rules, a fresh tier satisfies them, and each turn of a
+//! copy and of an expiry is such changes, whichever of its calls fails. So what a local log has dropped is in the
+//! remote tier, in the log's own lineage, until the log start offset is past it; and what a fetch or a rebuild finds
+//! and reads there is its log's.
 //!
-//! A world's central fact has these rules, and goes on by these laws.
+//! The central fact of a partition includes these rules, and is kept by these laws.
 #![tactic(auto)]
 
 mod laws;

@@ -1,7 +1,7 @@
 -- Where a fetch from the tier may tell of damage while no call fails: in its last turn alone.
 --
--- Its broker's view has the piece, and the entry of its segment; the segment's index and its log stand, and the index has a
--- reading. What is left is that the part of the log which was read has no run.
+-- Its broker's view has the piece, and the entry of its segment; the segment's index and its log stand, and the index
+-- has a reading. What is left is that the part of the log which was read has no run.
 use Rattle.std.specs.Prelude.{◌≡◌, ◌⊎◌, ℕ, List, Ok}
 use Rattle.tier_base.specs.declared.plain.Part.{Part}
 use Rattle.tier_base.specs.declared.plain.Part.TheVariants as part
@@ -26,7 +26,8 @@ use Rattle.tier_fetch.specs.Turns.{Tiers, FetchRow}
 use Rattle.tier_safe.specs.Scene.{Site, Scene}
 use Rattle.tier_serves.specs.Seeking.{IsAtTurn}
 
--- damage of the log of the segment whose piece was found, which the turn was to read: it is told of the object that has it
+-- damage of the log of the segment whose piece was found, which the turn was to read: it is told of the object that
+-- has it
 pub record IsOfLog (wanted : Wanted) (next : Next) (place : Place) : Type 0 where
   pub piece : Piece
   pub span : Span

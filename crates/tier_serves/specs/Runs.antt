@@ -1,7 +1,7 @@
 -- That a run which a fetch reads in the tier is its log's.
 --
--- A copy's batches are the log's as far as the piece goes, and no further. So the run is the log's, and where it ends since the
--- next batch would pass the limit, that batch is the log's too.
+-- A copy's batches are the log's as far as the piece goes, and no further. So the run is the log's, and where it ends
+-- since the next batch would pass the limit, that batch is the log's too.
 use Rattle.std.specs.Prelude.{◌≡◌, ℕ, List, length, Some, Ok}
 use Rattle.tier_base.specs.Device.{Control}
 use Rattle.tier_base.specs.declared.plain.Stop.{Stop}

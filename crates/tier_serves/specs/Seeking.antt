@@ -1,7 +1,8 @@
 -- What the scene of the tier has of a fetch that goes on, and of a broker's cache of remote indexes.
 --
--- A broker serves a fetch still where it leads the epoch that it led when the fetch began, without a stop between, and the log
--- start isn't above the offset. Whoever takes a turn tests both first; the turn goes by the line and the end of that broker's log.
+-- A broker serves a fetch still where it leads the epoch that it led when the fetch began, without a stop between,
+-- and the log start isn't above the offset. Whoever takes a turn tests both first; the turn goes by the line and the
+-- end of that broker's log.
 use Rattle.std.specs.Prelude.{◌≡◌, ℕ, ◌^◌, ◌<◌, ◌≤◌, List, length, map, Option, Some, None, Ok, Err, slice_get, slice_set}
 use Rattle.std.specs.declared.result.Result.{Result}
 use Rattle.std.specs.declared.alloc.AllocError.{AllocError}
@@ -74,7 +75,8 @@ indexes_in cache = map under_id cache.pairs
 
 -- the tier
 
--- actor a's fetch is at this turn, at broker b, in a tier that shows devices, view and cache, and the broker serves it still
+-- actor a's fetch is at this turn, at broker b, in a tier that shows devices, view and cache, and the broker serves
+-- it still
 pub record IsAtTurn (c : Scene) (p : Plain) (a b : ℕ) (site : Site) (x : Broker) (stops epoch : ℕ) (wanted : Wanted)
     (line : List (ℕ × ℕ)) (next : Next) (objects : store.Content) (notes : meta.Content) (view : Seen) (cache : Cache) : Type 0 where
   pub safe : BothSafe c p

@@ -89,8 +89,9 @@ struct Row {
     came: Came,
 }
 
-/// Of index entries: one for each batch; then the second one's position isn't where its batch begins. Of moments: the second
-/// batch is no later than the first. Of a packed copy the one object has its time index at 138, and its epochs at 150.
+/// Of index entries: one for each batch; then the second one's position isn't where its batch begins. Of moments: the
+/// second batch is no later than the first. Of a packed copy the one object has its time index at 138, and its epochs
+/// at 150.
 static ROWS: [Row; 24] = [
     Row {
         part: Part::Log,

@@ -588,7 +588,8 @@ fn lacks(copying: &Copying) -> bool {
     copying.closed().is_some() && copying.line().is_some()
 }
 
-/// Whether a copy is without its bundle, and whether it is once it was given that of its segment and line with an interval.
+/// Whether a copy is without its bundle, and whether it is once it was given that of its segment and line with an
+/// interval.
 fn lacks_until_given(
     alloc: Global,
     interval: u32,

@@ -197,8 +197,8 @@ impl Tiers {
 }
 
 impl Tiers {
-    /// What an expiry comes to, once the objects of two segments stand, and after how many turns; whether the metadata log
-    /// tells of both states, and the objects of the other segment are left alone.
+    /// What an expiry comes to, once the objects of two segments stand, and after how many turns; whether the
+    /// metadata log tells of both states, and the objects of the other segment are left alone.
     fn expire(&mut self, alloc: Global) -> (Came, u32, bool, bool) {
         if !self.puts(alloc, 0) | !self.puts(alloc, 1) {
             return (Came::Other, 0, false, false);
@@ -321,7 +321,8 @@ fn raised(alloc: Global, known: u64, now: i64, keep: Keep) -> Result<Option<u64>
     raised_in(alloc, &view, known, now, keep)
 }
 
-/// The known mark, the limits of age and size, and the time; where the log start comes to. Behind the copy stand 69 bytes.
+/// The known mark, the limits of age and size, and the time; where the log start comes to. Behind the copy stand 69
+/// bytes.
 static RAISED: [(u64, i64, i64, i64, Option<u64>); 7] = [
     (3, 10, -1, 1010, None),
     (3, 10, -1, 1011, Some(2)),
@@ -347,7 +348,8 @@ fn a_log_start_rises_by_age_and_by_size(rt: HostRuntime) {
     }
 }
 
-/// Where the log start comes to by size, where nothing is remote, of a log that ends at 3 with an open segment of 69 bytes.
+/// Where the log start comes to by size, where nothing is remote, of a log that ends at 3 with an open segment of 69
+/// bytes.
 fn raised_behind(
     alloc: Global,
     closed: &[Growing],

@@ -1,5 +1,5 @@
-//! What the tests of several files are given: notes by their bytes, batches of a letter each, and devices of which a call fails.
-//! Values worked by hand.
+//! What the tests of several files are given: notes by their bytes, batches of a letter each, and devices of which a
+//! call fails. Values worked by hand.
 //!
 //! Each function has no contract: it makes a value, or borrows one and tells how a call of it ended.
 

@@ -1,6 +1,6 @@
-//! Tests of the remote log: views, look-up, the turns of its tasks, and the laws that are generic over its devices.
+//! Tests of the remote tier: views, lookups, the turns of its tasks, and the laws that are generic over its devices.
 //!
-//! They stand apart from the crates that they test, since a crate is proved anew where its tests are built.
+//! They are in a crate of their own because a crate is proved again where its tests are built.
 #![tactic(auto)]
 
 #[cfg(test)]

@@ -143,8 +143,8 @@ fn row(
     Ok(read(alloc, &mut store, offset, leaders, text))
 }
 
-/// The wanted offset, the leader's line, the epochs that stand there, and those that are read. Of the offset 4, of none below 0,
-/// and of epoch 3 there is no copy.
+/// The wanted offset, the leader's line, the epochs that stand there, and those that are read. Of the offset 4, of
+/// none below 0, and of epoch 3 there is no copy.
 static ROWS: [(u64, &str, Option<&str>, &str, Came); 10] = [
     (
         4,

@@ -91,7 +91,8 @@ fn went(alloc: Global, plan: &[u32], steps: &[Step]) -> Option<usize> {
 /// A copy started, and one of its objects stands.
 static STARTED: [Left; 2] = [Left::Started(1), Left::Stands(1, Part::Log)];
 
-/// Two tiers. What stands under the finished copy's keys are no parts of a segment, which an audit tells once nothing is to go.
+/// Two tiers. What stands under the finished copy's keys are no parts of a segment, which an audit tells once nothing
+/// is to go.
 static ROUNDS: [Step; 9] = [
     Step::Audits("", None),
     Step::Sweeps(""),

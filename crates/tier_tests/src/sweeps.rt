@@ -78,8 +78,8 @@ fn swept_twice(
     Ok((left, first, second))
 }
 
-/// A finished copy, a copy under way with two objects, a deletion under way with one, an object without an entry, and a packed copy
-/// under way with its object.
+/// A finished copy, a copy under way with two objects, a deletion under way with one, an object without an entry, and
+/// a packed copy under way with its object.
 pub(crate) static LEFT: [Left; 16] = [
     Left::Started(0),
     Left::Came(0, 1),

@@ -1,7 +1,7 @@
 -- What batches have of a timestamp: the first whose greatest timestamp isn't below it.
 --
--- Source: Kafka's ListOffsets by timestamp, which looks a record up in the first batch that may have it. Here whole batches are
--- looked up, and no record in them.
+-- Source: Kafka's ListOffsets by timestamp, which looks a record up in the first batch that may have it. Here whole
+-- batches are looked up, and no record in them.
 use Rattle.std.specs.Prelude.{◌≡◌, ℕ, ℤ, List, Some, None, IsOk}
 use Rattle.std.specs.List.{AllByRecursion}
 use Rattle.log_terms.specs.Log.{end_from}

@@ -8,8 +8,8 @@
 --   Index    has the segment's offset index of the cache, or else reads it     StoreFault, Damaged
 --   Log      reads what is left of the segment's log                           Offset, StoreFault, Damaged
 --
--- The time index shows a batch up to which all are too early, so the search of the segment goes on behind it. Where a piece or a run
--- has no batch that isn't too early, the cursor comes to its end.
+-- The time index shows a batch up to which all are too early, so the search of the segment goes on behind it. Where a
+-- piece or a run has no batch that isn't too early, the cursor comes to its end.
 --
 -- Source: KIP-405, whose remote segments have time indexes, and Kafka's ListOffsets.
 use Rattle.std.specs.Prelude.{◌≡◌, ◌⊎◌, ℕ, ◌+◌, ◌<◌, ◌≤◌, ◌^◌, ◌-◌, max, nat_lt, if◌then◌else◌, ℤ, List, Option, Some, None, Ok, Err, IsErr}
@@ -62,7 +62,8 @@ IsSet cursor (ReadsTimes piece) = cursor < piece.to
 IsSet cursor (Index piece from) = (cursor ≤ from) × (from < piece.to)
 IsSet cursor (Log piece from span) = (cursor ≤ from) × (from < piece.to)
 
--- a search that goes on from a cursor has such a turn next: its cursor hasn't fallen, and has risen where it has no piece
+-- a search that goes on from a cursor has such a turn next: its cursor hasn't fallen, and has risen where it has no
+-- piece
 abbrev pub GoesOn : ℕ → TimeTurn → Type 0
 GoesOn cursor (Goes at Seek) = cursor < at
 GoesOn cursor (Goes at next) = (cursor ≤ at) × IsSet at next
@@ -73,7 +74,8 @@ abbrev pub IsBelow : Asked → ℕ → Next → Type 0
 IsBelow asked cursor Seek = cursor < asked.local
 IsBelow asked cursor next = Unit {0}
 
--- what a search comes to with a run of batches that was read at an offset, and ends at or below the known mark: it ends past it
+-- what a search comes to with a run of batches that was read at an offset, and ends at or below the known mark: it
+-- ends past it
 abbrev pub IsSearched : Asked → ℕ → List ℕ → TimeTurn → Type 0
 IsSearched asked offset run (Ends (Offset n)) =
     (batches : List (List ℕ)) → AreChecked batches → end_from offset batches ≤ asked.mark → run ≡ joined batches
@@ -85,7 +87,8 @@ IsSearched asked offset run turn = ⊥
 
 -- the time index
 
--- from where on a segment is to be searched, as its time index shows: behind the last batch up to which all are too early
+-- from where on a segment is to be searched, as its time index shows: behind the last batch up to which all are too
+-- early
 abbrev pub from_of : ℕ → Option (ℤ × ℕ) → ℕ
 from_of cursor None = cursor
 from_of cursor (Some moment) = max cursor (moment.1 + 1)
@@ -103,7 +106,8 @@ pub record IsTimed (asked : Asked) (cursor : ℕ) (piece : Piece) (base : ℕ) (
   pub bytes_are : bytes ≡ bytes_of moment_bytes index.entries
   pub turn_is : turn ≡ shown asked cursor piece (from_of cursor (below_time index asked.ts))
 
--- what becomes of a search by bytes of the time index of a segment with this base offset, and by where more of them are lacking
+-- what becomes of a search by bytes of the time index of a segment with this base offset, and by where more of them
+-- are lacking
 abbrev pub TimesBytes : Option ℕ → Asked → ℕ → Piece → ℕ → Spot → List ℕ → Result TimeTurn AllocError → Type 0
 TimesBytes (Some end) asked cursor piece base spot bytes result = result ≡ Ok (Ends (Damaged (Key spot.key) end))
 TimesBytes None asked cursor piece base spot bytes (Ok (Goes at next)) = IsTimed asked cursor piece base bytes (Goes at next)

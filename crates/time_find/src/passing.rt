@@ -44,8 +44,8 @@ fn is_early(view: &View, piece: &Piece, ts: i64) -> bool
     }
 }
 
-/// Passes over the pieces of remote segments, from a cursor on, up to the first that may have the timestamp, or up to the local
-/// log or the known mark.
+/// Passes over the pieces of remote segments, from a cursor on, up to the first that may have the timestamp, or up to
+/// the local log or the known mark.
 pub(crate) fn seek(asked: &Asked, line: &Line, view: &View, cursor: u64) -> TimeTurn
     requires local { cursor < asked.now.local }
     requires mark { cursor < asked.now.mark }

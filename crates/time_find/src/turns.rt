@@ -26,8 +26,8 @@ use tier_base::{Part, Trouble};
 use tier_fetch::{FetchTurn, Next as Fetch, Span, Wanted, fetch_turn};
 use view_refresh::refresh;
 
-/// Takes the next turn of a search whose cursor is below the local log, or that has taken up a remote segment. The line is that
-/// of its broker's log.
+/// Takes the next turn of a search whose cursor is below the local log, or that has taken up a remote segment. The
+/// line is that of its broker's log.
 pub fn time_turn<S: Store, M: MetaLog>(
     alloc: Global,
     asked: &Asked,

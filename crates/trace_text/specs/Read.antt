@@ -1,7 +1,7 @@
 -- What reading a trace answers.
 --
--- A trace has a part for each partition that has entries, and partitions rise. So an entry may stand behind those of its
--- own partition and of lower ones, and nowhere else.
+-- A trace has a part for each partition that has entries, and partitions rise. So an entry may stand behind those of
+-- its own partition and of lower ones, and nowhere else.
 use Rattle.std.specs.Prelude.{◌≡◌, ◌≢◌, ℕ, ◌+◌, ◌-◌, ◌^◌, ◌<◌, ◌≤◌, min, List, [], ◌∷◌, ◌++◌, length, map, All, Result, Ok, Err}
 use Rattle.plain_log.specs.declared.journal.JournalEntry.{JournalEntry}
 use Rattle.trace_text.specs.declared.line.PartJournal.{PartJournal}

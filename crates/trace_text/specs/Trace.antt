@@ -35,8 +35,8 @@
 --   Run remote id size stop hex      Run              from this remote segment
 --   Offset offset                    Offset           an offset
 --
--- A number is decimal, without a leading zero. An id is a UUID with hyphens, in lower case. hex is a run's bytes, each as
--- two digits of 0 to 9 and a to f; a run has a byte at least.
+-- A number is decimal, without a leading zero. An id is a UUID with hyphens, in lower case. hex is a run's bytes,
+-- each as two digits of 0 to 9 and a to f; a run has a byte at least.
 use Rattle.std.specs.Prelude.{ℕ, List, [], ◌∷◌, ◌++◌, codes, flat_map, decimal, None, Some}
 use Rattle.hex.specs.Hex.{encode_lower}
 use Rattle.tier_base.specs.Key.{id_text, key_text}

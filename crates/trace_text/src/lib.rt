@@ -1,10 +1,9 @@
-//! The trace: what a run answered, as text, both ways.
+//! The trace of a run as text: writing and reading.
 //!
-//! `specs/Trace.antt` has the forms of its lines. `print` goes over a journal twice: first the length
-//! of its text is reckoned, so that the text never moves while it grows, and then the lines are
-//! written, a run's bytes straight into the text. `read` goes over the bytes once and gives the
-//! journals whose text they are, or the first line that is none. The laws say that the two are each
-//! other's inverse.
+//! `specs/Trace.antt` has the forms of its lines. `print` goes over a journal twice: first it computes the length of
+//! the text, so that the text never moves while it grows, and then it writes the lines, a run's bytes straight into
+//! the text. `read` goes over the bytes once and returns the journals whose text they are, or the first line that is
+//! invalid. The laws say that the two are each other's inverse.
 #![tactic(auto)]
 
 mod answers;
