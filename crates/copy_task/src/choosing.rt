@@ -6,7 +6,8 @@ ghost use Rattle.copy_task.specs.Candidate.{below};
 
 use segment_file::Growing;
 
-/// The closed segment to copy, of the first one that ends past the end up to which the remote tier has all of the log.
+/// The closed segment to copy: the first one that ends past what the remote tier already has, if it ends at or below
+/// the broker's high watermark `known`.
 pub fn candidate(past: Option<&Growing>, known: u64) -> Option<&Growing>
     ensures { option_map (λ segment. segment.now) result ≡ below known (option_map (λ segment. segment.now) past.entry) }
 {

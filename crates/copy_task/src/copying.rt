@@ -1,4 +1,4 @@
-//! A segment that is copied.
+//! A segment that is being copied.
 
 ghost use Rattle.std.specs.Prelude.{◌≡◌, ◌&&◌, true, IfOk, IfSome, slice_get};
 ghost use Rattle.segment_meta.specs.Rules.{IsNote};
@@ -20,9 +20,9 @@ use tier_base::{Blob, Part, PartitionId, SegmentId, State};
 /// 14 < 2^32.
 const SHORT_LINE: usize = 1 << 26;
 
-/// A closed segment under a remote id, and what its objects hold. The bundle of its parts is made when a turn first
-/// needs it, or is given by who made it elsewhere; from then on it is kept. No clause tells which. The segment's
-/// bytes are shared, not copied.
+/// A closed segment under a remote id, and what its objects will have. The bundle of its parts is made when a turn
+/// first needs it, or passed in by whoever made it elsewhere, and is kept from then on; no clause says which. The
+/// segment's bytes are shared, not copied.
 #[derive(Drop)]
 pub struct Copying {
     id: SegmentId,
@@ -47,8 +47,8 @@ impl Model for Copying {
 }
 
 impl Copying {
-    /// A segment of the partition under an id, and whether it is to be packed: it isn't where its parts can't be. The
-    /// line is its log's, the interval that of its indexes in bytes.
+    /// A segment of the partition under an id. If `packed` is set it is packed, unless a part is too long for the
+    /// layout. `line` has the leader epochs of its log; `interval` is the interval of its indexes in bytes.
     pub fn of(
         alloc: Global,
         partition: PartitionId,
@@ -115,7 +115,7 @@ impl Copying {
         }
     }
 
-    /// Lends the segment, until there is a bundle of it.
+    /// The segment, until its bundle is made.
     pub fn closed(&self) -> Option<&Closed>
         ensures { IfSome result (λ closed. closed.now ≡ self.now.segment) }
     {
@@ -125,7 +125,7 @@ impl Copying {
         }
     }
 
-    /// Lends the line of its log, until there is a bundle of the segment.
+    /// The leader epochs of its log, until its bundle is made.
     pub fn line(&self) -> Option<&Line>
         ensures { IfSome result (λ line. line.now ≡ self.now.line) }
     {
@@ -142,8 +142,8 @@ impl Copying {
         self.interval
     }
 
-    /// Keeps a bundle that was made elsewhere, where there is none yet and it is of this segment, its line and its
-    /// interval. It is dropped otherwise.
+    /// Takes a bundle that was made elsewhere, if none is kept yet and if it is of this segment, these leader epochs
+    /// and this interval. Drops it otherwise.
     pub fn give(self, bundle: Bundle) -> Copying
         ensures { result ≡ self }
     {
@@ -178,35 +178,35 @@ impl Copying {
         true
     }
 
-    /// The id under which the segment is copied.
+    /// The id of the remote segment.
     pub fn id(&self) -> SegmentId
         ensures { result ≡ self.now.id }
     {
         self.id
     }
 
-    /// The partition that the segment is of.
+    /// The partition of the segment.
     pub fn partition(&self) -> PartitionId
         ensures { result ≡ self.now.partition }
     {
         self.partition
     }
 
-    /// The offset of the segment's first record.
+    /// The segment's base offset.
     pub fn base(&self) -> u64
         ensures { result ≡ self.now.segment.base }
     {
         self.segment.base()
     }
 
-    /// The offset of its last record.
+    /// The segment's last offset.
     pub fn last(&self) -> u64
         ensures { result ≡ self.now.segment.last }
     {
         self.segment.last()
     }
 
-    /// The key of an object, where one has this number, counted from 0.
+    /// The key of its `n`-th object, counted from 0, or `None` if it has fewer objects.
     pub fn key(&self, n: u8) -> Option<ObjectKey>
         ensures { result ≡ slice_get (keys self.now) n }
     {
@@ -229,7 +229,7 @@ impl Copying {
         bytes
     }
 
-    /// What a broker tells of the copy as it starts.
+    /// The event that the copy starts.
     pub fn start_note(&self, alloc: Global, teller: Teller) -> Result<Note, AllocError>
         ensures note { IfOk result (λ note. note ≡ start_note self.now teller) }
         ensures rules { IfOk result IsNote }
@@ -253,7 +253,7 @@ impl Copying {
         }))
     }
 
-    /// What a broker tells of the copy once its objects stand.
+    /// The event that the copy is finished, to be appended once its objects are put.
     pub fn finish_note(&mut self, alloc: Global, teller: Teller) -> Result<Note, AllocError>
         ensures note { IfOk result (λ note. note ≡ finish_note self.old teller) }
         ensures rules { IfOk result IsNote }

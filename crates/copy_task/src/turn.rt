@@ -1,27 +1,27 @@
-//! What a copy does next, and what a turn of it came to.
+//! What a copy does next, and the result of a turn.
 
 use plain_log::Answer;
 
 /// What the next turn of a copy does.
 #[derive(Clone, Copy, Debug, PartialEq, Eq)]
 pub enum Next {
-    /// It tells the metadata log that the copy starts.
+    /// Append the event that the copy starts.
     Start,
-    /// It puts an object: the one under the key of this number among those of its segment.
+    /// Put the object whose key has this number among those of its segment.
     Put(u8),
-    /// It tells the metadata log that the copy is whole.
+    /// Append the event that the copy is finished.
     Finish,
-    /// It looks how the copy's entry stands.
+    /// Refresh the view, and see which state the copy's entry has.
     Check,
-    /// It takes an object away: the one under the key of this number.
+    /// Delete the object whose key has this number, since an expiry has overtaken the copy.
     Delete(u8),
 }
 
-/// What a turn of a copy came to.
+/// The result of a turn of a copy.
 #[derive(Debug, Drop)]
 pub enum CopyTurn {
-    /// It goes on with this turn.
+    /// The copy continues with this turn.
     Goes(Next),
-    /// It was answered.
+    /// The copy has ended with this answer.
     Ends(Answer),
 }

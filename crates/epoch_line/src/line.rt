@@ -1,7 +1,6 @@
-//! A line and its calls.
+//! The leader epochs of a log, and their calls.
 //!
-//! The entries rise in both columns, so what starts before an offset stands in front, and a call finds it by
-//! halving.
+//! Epochs and start offsets both rise, so every call finds its entry by binary search.
 
 ghost use Rattle.std.specs.Prelude.{◌≡◌, ◌≤◌, ◌<◌, ◌^◌, [], ◌∷◌, ◌++◌, min, OnOk, OnErr, IfOk};
 ghost use Rattle.std.specs.Option.{ForSome};
@@ -32,7 +31,7 @@ impl Model for Line {
 }
 
 impl Line {
-    /// A line with no entry.
+    /// No leader epochs.
     pub fn new(alloc: Global) -> Line
         ensures { result ≡ [] }
     {
@@ -41,7 +40,7 @@ impl Line {
         }
     }
 
-    /// A line of the same entries.
+    /// A copy of the leader epochs.
     pub fn copy(&self, alloc: Global) -> Result<Line, AllocError>
         ensures { IfOk result (λ line. line ≡ self.now) }
     {
@@ -49,7 +48,7 @@ impl Line {
         Ok(Line { pairs })
     }
 
-    /// The entries, epoch and start.
+    /// The entries, each an epoch and its start offset.
     pub fn entries(&self) -> &[(u32, u64)]
         ensures entries { result.now ≡ self.now }
         ensures line { IsLine self.now }
@@ -57,7 +56,7 @@ impl Line {
         self.pairs.as_slice()
     }
 
-    /// The last entry, epoch and start.
+    /// The last entry, an epoch and its start offset.
     #[tactic(auto, using(crate::proofs::Rising::last_entry_get))]
     pub fn last(&self) -> Option<(u32, u64)>
         ensures { result ≡ last_entry self.now }
@@ -75,28 +74,28 @@ impl Line {
         last_epoch(self.entries())
     }
 
-    /// The epoch that an offset belongs to.
+    /// The leader epoch of an offset, or `None` below the first start offset.
     pub fn epoch_at(&self, offset: u64) -> Option<u32>
         ensures { result ≡ epoch_at self.now offset }
     {
         epoch_at(self.entries(), offset)
     }
 
-    /// Where an epoch ends: at the next entry's start, or at the log's end.
+    /// The end offset of an epoch: where the next one starts, or the log's end.
     pub fn end_of(&self, epoch: u32, log_end: u64) -> Option<u64>
         ensures { result ≡ end_of self.now epoch log_end }
     {
         end_of(self.entries(), epoch, log_end)
     }
 
-    /// The greatest offset up to both ends to which two logs of these lines agree.
+    /// The greatest offset, up to both ends, up to which two logs with these leader epochs agree (KIP-101).
     pub fn meet(&self, own_end: u64, other: &Line, other_end: u64) -> u64
         ensures { IsMeetBelow self.now other.now (min own_end other_end) result }
     {
         meet_below(self.entries(), other.entries(), own_end.min(other_end))
     }
 
-    /// The part within the segment from a base to a last offset. Its first entry starts at the base.
+    /// The leader epochs of a segment with this base and last offset. The first one starts at the base.
     pub fn within(&self, alloc: Global, base: u64, last: u64) -> Result<Line, AllocError>
         requires { base ≤ 2 ^ 62 }
         ensures part { IfOk result (λ part. part ≡ within self.now base last) }
@@ -106,7 +105,7 @@ impl Line {
         Ok(Line { pairs })
     }
 
-    /// Starts a new epoch, in place of the entries that start at or past it.
+    /// Starts a new epoch at an offset. Entries that start there or later are dropped.
     pub fn assign(&mut self, epoch: u32, start: u64) -> Result<(), AllocError>
         requires epoch_fits { epoch < 2 ^ 31 }
         requires start_fits { start ≤ 2 ^ 62 }
@@ -121,7 +120,7 @@ impl Line {
         Ok(())
     }
 
-    /// Adds an entry above the last one.
+    /// Adds an entry, whose epoch and start offset are above the last one's.
     pub fn push(&mut self, epoch: u32, start: u64) -> Result<(), AllocError>
         requires epoch_fits { epoch < 2 ^ 31 }
         requires start_fits { start ≤ 2 ^ 62 }
@@ -133,7 +132,7 @@ impl Line {
         self.add((epoch, start))
     }
 
-    /// Adds an entry that makes a line of it.
+    /// Adds an entry that keeps both columns rising.
     pub(crate) fn add(&mut self, entry: (u32, u64)) -> Result<(), AllocError>
         requires { IsLine (self.old ++ entry ∷ []) }
         ensures ok { OnOk result (self.new ≡ self.old ++ entry ∷ []) }

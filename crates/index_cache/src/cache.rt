@@ -12,7 +12,7 @@ use std::num::NonZeroUsize;
 use tier_base::SegmentId;
 use uuid::Uuid;
 
-/// The offset indexes of the remote segments that were used last.
+/// The offset indexes of the remote segments that were used most recently.
 #[derive(Debug, Drop)]
 pub struct IndexCache {
     pairs: LruCache<Uuid, OffsetIndex>,
@@ -29,7 +29,7 @@ impl Model for IndexCache {
 impl IndexCache {
     ghost use Rattle.index_cache.specs.Lending.{EndsBroughtFront};
 
-    /// An empty cache of at most so many indexes.
+    /// An empty cache for at most `size` indexes.
     pub fn new(alloc: Global, size: usize) -> Result<IndexCache, AllocError>
         requires { 1 ≤ size }
         ensures { IfOk result (λ cache. cache ≡ record { size = size; pairs = [] }) }
@@ -39,7 +39,7 @@ impl IndexCache {
         Ok(IndexCache { pairs })
     }
 
-    /// The index that is held under an id, which is now the most recently used.
+    /// The index of a segment, if it is cached. It is then the most recently used.
     pub fn get(&mut self, id: SegmentId) -> Option<&OffsetIndex>
         ensures* order { sem 𝓛 (EndsBroughtFront self.entry id.0) }
         ensures answer { option_copied result ≡ found id.0 self.old.pairs }
@@ -47,7 +47,7 @@ impl IndexCache {
         self.pairs.get(&id.0)
     }
 
-    /// Keeps an index under an id, as the most recently used.
+    /// Caches the index of a segment, as the most recently used. A full cache drops the least recently used one.
     pub fn keep(&mut self, id: SegmentId, index: OffsetIndex) -> Result<(), AllocError>
         ensures ok { OnOk result (self.new ≡ kept self.old id.0 index) }
         ensures err { OnErr result (self.new ≡ self.old) }
@@ -57,7 +57,7 @@ impl IndexCache {
         Ok(())
     }
 
-    /// Counts the indexes.
+    /// The number of cached indexes.
     pub fn len(&self) -> usize
         ensures count { result ≡ length self.now.pairs }
         ensures holds { IsCache self.now }
@@ -65,7 +65,7 @@ impl IndexCache {
         self.pairs.len()
     }
 
-    /// The most indexes that it can hold.
+    /// The most indexes that the cache can have.
     pub fn size(&self) -> usize
         ensures { result ≡ self.now.size }
     {

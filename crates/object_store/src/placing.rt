@@ -1,6 +1,6 @@
-//! Where the parts of a remote segment stand in the store, and under which keys its objects.
+//! Where the parts of a remote segment are in the store, and the keys of its objects.
 //!
-//! Whoever reads, puts or deletes objects asks here and makes no key itself.
+//! Keys are made here and nowhere else.
 
 ghost use Rattle.std.specs.Prelude.{◌≡◌, ◌+◌, ◌<◌, ◌^◌, length, Some, IfSome, slice_get, option_map};
 ghost use Rattle.object_store.specs.Place.{key_of, keys_of, spot_of, part_of, at_in, length_in, told_layout};
@@ -8,14 +8,14 @@ ghost use Rattle.object_store.specs.Place.{key_of, keys_of, spot_of, part_of, at
 use std::marker::Model;
 use tier_base::{Blob, Layout, ObjectKey, Part, PartitionId, SegmentId};
 
-/// Where a part of a segment stands.
+/// The place of a part of a segment.
 #[derive(Clone, Copy, Debug, PartialEq, Eq)]
 pub struct Spot {
-    /// The key of the object that has it.
+    /// The key of its object.
     pub key: ObjectKey,
-    /// Where it begins there.
+    /// Where it begins there, in bytes.
     pub at: u64,
-    /// How long it is there, where the object may go on behind it.
+    /// How long it is there, if the object may continue behind it.
     pub len: Option<u64>,
 }
 
@@ -38,7 +38,7 @@ impl Model for Keys {
 }
 
 impl Keys {
-    /// Counts the keys.
+    /// The number of keys.
     pub fn count(&self) -> u8
         ensures { result ≡ length self.now }
     {
@@ -61,8 +61,8 @@ impl Keys {
     }
 }
 
-/// Where a part of a segment stands. Of a packed one `custom` tells it, the custom metadata of the segment's entry,
-/// and none has a place where that tells no layout.
+/// Where a part of a segment is. For a packed segment the custom metadata of its entry says where; `None` if that has
+/// no layout.
 pub fn place(
     partition: PartitionId,
     id: SegmentId,

@@ -1,7 +1,8 @@
-//! How a part is read where it stands: no byte of its object that isn't its own is asked for.
+//! Reading a part of a remote segment, and nothing else of its object.
 //!
-//! The object may be shorter than its layout tells. Then fewer bytes come than the part has, and the object is
-//! damaged where they end. So whoever reads asks `short` or `short_in` of what came, before it looks into the bytes.
+//! The object may be shorter than its layout says. Then fewer bytes are returned than the part should have, and the
+//! object is damaged where they end. So test what was returned with `short` or `short_in` before you look into the
+//! bytes.
 
 ghost use Rattle.std.specs.Prelude.{◌≡◌, ◌+◌, ◌-◌, ◌<◌, ◌^◌, min, option_map};
 ghost use Rattle.object_store.specs.Calls.{Gets};
@@ -12,7 +13,7 @@ use crate::store::Store;
 use bytes::Bytes;
 use tier_base::Trouble;
 
-/// Gives a part's bytes, none past where its object ends, and `None` where the object is absent.
+/// Returns a part's bytes, fewer if its object ends before, or `None` if the object is absent.
 pub fn get_spot<S: Store>(store: &mut S, spot: &Spot) -> Result<Option<Bytes>, Trouble>
     ensures { Gets S.content S.control spot.now.key (all_of spot.now) result store.old store.new }
 {
@@ -22,7 +23,7 @@ pub fn get_spot<S: Store>(store: &mut S, spot: &Spot) -> Result<Option<Bytes>, T
     }
 }
 
-/// Gives at most so many of a part's bytes, from a place in the part on.
+/// Returns at most `most` of a part's bytes, from a position in the part on.
 pub fn get_in_spot<S: Store>(
     store: &mut S,
     spot: &Spot,
@@ -40,7 +41,7 @@ pub fn get_in_spot<S: Store>(
 }
 
 impl Spot {
-    /// Where bytes of the part are lacking in its object, which has these of it.
+    /// Where in the object bytes of the part are missing, if only these were returned; `None` if none are.
     pub fn short(&self, bytes: &[u8]) -> Option<u64>
         requires { self.now.at < 2 ^ 34 }
         ensures { result ≡ short_of self.now bytes.now }
@@ -48,7 +49,8 @@ impl Spot {
         short_at(self.at, self.len, bytes.len() as u64)
     }
 
-    /// Where some of it are lacking, at most so many from a place in the part on, of which the object has these.
+    /// Where in the object bytes are missing, if of at most `most` bytes from a position in the part on only these
+    /// were returned; `None` if none are.
     pub fn short_in(&self, from: u64, most: u64, bytes: &[u8]) -> Option<u64>
         requires { self.now.at + from < 2 ^ 63 }
         ensures { result ≡ short_in self.now from most bytes.now }

@@ -2,7 +2,7 @@
 
 use tier_base::SegmentId;
 
-/// The offsets from one to another, which isn't included, of one epoch in a remote segment.
+/// The offsets from `from` up to `to`, which is not included, of one leader epoch in a remote segment.
 #[derive(Clone, Copy, Debug, PartialEq, Eq)]
 pub struct Piece {
     pub id: SegmentId,

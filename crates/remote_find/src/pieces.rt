@@ -1,4 +1,5 @@
-//! Looking up one offset, and following pieces one after another. The module Pieces of specs/ says what is found.
+//! Finding the remote segment of an offset, and following segments one after another. specs/Pieces.antt says what is
+//! found.
 
 ghost use Rattle.std.specs.Prelude.{◌≡◌, ◌<◌, ◌^◌, IfOk};
 ghost use Rattle.remote_find.specs.Pieces.{clipped, piece_below, piece_at, covered_to, chain};
@@ -9,7 +10,8 @@ use remote_view::{View, span_of};
 use segment_meta::Entry;
 use std::alloc::{AllocError, Global};
 
-/// The piece that holds an offset of a log.
+/// The remote segment that has an offset of a log, and which offsets to read from it. `line` has the leader epochs of
+/// the log that is read. Returns `None` if no finished copy has the offset in its leader epoch.
 pub fn find(view: &View, line: &Line, log_end: u64, offset: u64) -> Option<Piece>
     ensures { result ≡ piece_at view.now.entries line.now log_end offset }
 {
@@ -58,7 +60,7 @@ pub(crate) fn followed(view: &View, line: &Line, log_end: u64, at: u64) -> u64
     place
 }
 
-/// The pieces from an offset on, one after another, as long as they end at or below a top.
+/// The pieces from an offset on, each beginning where the one before ends, as long as they end at or below `top`.
 pub fn chain(
     alloc: Global,
     view: &View,

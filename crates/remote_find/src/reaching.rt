@@ -1,7 +1,7 @@
 //! How far the remote tier has all of a log, from an offset on.
 //!
-//! In an epoch of the log's line the view knows at once how far copies go. So the pieces are passed by the epoch,
-//! however many there are.
+//! Within a leader epoch the view knows at once how far copies go. So pieces are passed an epoch at a time, however
+//! many there are.
 
 ghost use Rattle.std.specs.Prelude.{◌≡◌, ◌≤◌, ◌<◌, ℕ, true, None, IsSome};
 ghost use Rattle.std.specs.List.{AllByRecursion};
@@ -44,7 +44,8 @@ fn end_in_epoch(view: &View, line: &Line, log_end: u64, at: u64) -> u64
     view.reach(epoch, at).min(own.to).min(log_end)
 }
 
-/// The end that pieces reach from an offset on, one after another: the offset itself where it has none.
+/// The offset up to which the remote tier has the log from `at` on without a gap; `at` itself if it doesn't have that
+/// offset.
 pub fn covered_to(view: &View, line: &Line, log_end: u64, at: u64) -> u64
     ensures { result ≡ covered_to view.now.entries line.now log_end at }
 {

@@ -1,7 +1,8 @@
-//! A view and its calls: entries by their ids, and stairs by their epochs.
+//! A broker's view of the remote metadata (Kafka's RemoteLogMetadataCache) and its calls.
 //!
-//! Everything is found by a search in an order, but for what a log start leaves behind. A note that makes a step
-//! changes the entry and the stairs of its epochs together, once there is memory for all of it.
+//! Entries are found by their ids and ranges by their leader epochs, both by binary search; only what is below a log
+//! start is found by a pass. An event changes the entry and the ranges of its epochs together, once there is memory
+//! for all of it.
 
 ghost use Rattle.std.specs.Prelude.{◌≡◌, ◌≢◌, [], OnOk, OnErr, IfSome};
 ghost use Rattle.std.specs.Option.{option_map};
@@ -23,7 +24,7 @@ use std::alloc::{AllocError, Global};
 use std::marker::Model;
 use tier_base::{Blob, BrokerId, SegmentId, State};
 
-/// The remote segments that a broker knows of, in the order of their first notes.
+/// The remote segments that a broker knows of, in the order of their first events.
 #[derive(Drop)]
 pub struct View {
     alloc: Global,
@@ -44,7 +45,7 @@ impl Model for View {
 }
 
 impl View {
-    /// A view of no note.
+    /// A view that has read no event.
     pub fn new(alloc: Global) -> View
         ensures { result ≡ record { entries = []; notes = 0 } }
     {
@@ -56,7 +57,8 @@ impl View {
         }
     }
 
-    /// Takes in the next note of the log. One that makes no step is counted, and changes nothing else.
+    /// Adds the next event of the metadata log. An event that is no step from its segment's state is counted, and
+    /// changes nothing else. After an `Err` the view is as before.
     pub fn feed(&mut self, note: &Note) -> Result<(), AllocError>
         requires { IsNote note.now }
         ensures ok { OnOk result (self.new ≡ fed self.old note.now) }
@@ -76,21 +78,21 @@ impl View {
         Ok(())
     }
 
-    /// Counts the notes that it was fed. A count past its type's end stands still.
+    /// How many events the view has read: where in the metadata log it reads on.
     pub fn seen(&self) -> u64
         ensures { result ≡ self.now.notes }
     {
         self.notes
     }
 
-    /// The entry of a segment.
+    /// The entry of a segment, if the view has one.
     pub fn entry(&self, id: SegmentId) -> Option<&Entry>
         ensures { option_map (λ e. e.now) result ≡ entry_of id self.now.entries }
     {
         self.known.get(&id)
     }
 
-    /// The state of a segment.
+    /// The state of a segment, if the view has its entry.
     pub fn state(&self, id: SegmentId) -> Option<State>
         ensures { result ≡ state_of id self.now.entries }
     {
@@ -100,7 +102,8 @@ impl View {
         }
     }
 
-    /// The segment to read an offset of an epoch from: of those that hold it the one that ends last.
+    /// The finished copy to read an offset of a leader epoch from: of those that have the offset in this epoch, the
+    /// one that ends last.
     pub fn finished(&self, epoch: u32, offset: u64) -> Option<&Entry>
         ensures best { option_map (λ e. e.now) result ≡ finished epoch offset self.now.entries }
         ensures kept { IfSome result (λ e. IsKept e.now) }
@@ -111,21 +114,21 @@ impl View {
         }
     }
 
-    /// Which segments an epoch is read from, by ranges of offsets. The ranges rise.
+    /// Which finished copies an epoch is read from, by ranges of offsets that rise.
     pub fn stair(&self, epoch: u32) -> &[Tread]
         ensures { IsStair self.now.entries epoch result.now }
     {
         self.stairs.stair(epoch)
     }
 
-    /// The first offset from one on that no copy holds in an epoch.
+    /// The first offset from `at` on that no finished copy has in an epoch.
     pub fn reach(&self, epoch: u32, at: u64) -> u64
         ensures { IsReach epoch self.now.entries at result }
     {
         self.stairs.end_from(epoch, at)
     }
 
-    /// All entries, in the order of their first notes.
+    /// All entries, in the order of their first events.
     pub fn entries(&self) -> &[Entry]
         ensures entries { result.now ≡ self.now.entries }
         ensures kept { AreKept self.now.entries }
@@ -134,7 +137,7 @@ impl View {
         self.known.entries()
     }
 
-    /// The first segment that a log start leaves behind, and whose deletion isn't whole.
+    /// The first entry that ends below a log start and whose deletion isn't finished.
     pub fn due(&self, start: u64) -> Option<&Entry>
         ensures { option_map (λ e. e.now) result ≡ due start self.now.entries }
     {

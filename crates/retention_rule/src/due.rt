@@ -1,13 +1,14 @@
-//! The rule, and a walk over the segments that keeps what is left.
+//! The retention rule.
 //!
-//! The sizes are added once. Each segment that goes is taken off, so no sum is made again.
+//! The sizes are summed once, and each segment that is due is subtracted.
 
 ghost use Rattle.std.specs.Prelude.{◌≡◌, ◌<◌, ◌≤◌, ◌^◌, ◌-◌, ◌*◌, ◌||◌, ◌&&◌, ◌-ℤ◌, pos, int_le, int_lt, length};
 ghost use Rattle.retention_rule.specs.Due.{size_of, is_old, is_enough, local_due, start_due};
 
 use tier_base::{Item, Keep};
 
-/// Whether the oldest closed segment of the local log is due.
+/// Whether the oldest closed segment of the local log is due. `open_size` is the size of the open segment in bytes,
+/// `now` the time in milliseconds, `start` the log start offset.
 pub fn local_due(items: &[Item], open_size: u64, now: i64, keep: Keep, start: u64) -> bool
     ensures { result ≡ local_due items.now open_size now keep start }
 {
@@ -18,7 +19,7 @@ pub fn local_due(items: &[Item], open_size: u64, now: i64, keep: Keep, start: u6
     first.last < start || is_due(first, left, now, keep)
 }
 
-/// How many of the oldest segments are due.
+/// How many of the oldest segments are due. `rest` is the size in bytes of what comes behind them.
 pub fn start_due(items: &[Item], rest: u64, now: i64, keep: Keep) -> usize
     ensures count { result ≡ start_due items.now rest now keep }
     ensures within { result ≤ length items.now }

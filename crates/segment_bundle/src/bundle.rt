@@ -1,4 +1,4 @@
-//! The parts of a remote segment, and what they were made of. The module Parts of specs/ says what each holds.
+//! The parts of a remote segment, and what they were made of. specs/Parts.antt says what each part has.
 
 ghost use Rattle.std.specs.Prelude.{◌≡◌, ◌+◌, ◌<◌, ◌^◌, ◌++◌, ℕ, List, IfOk};
 ghost use Rattle.tier_base.specs.declared.plain.Part.TheVariants.{Pack};
@@ -15,7 +15,8 @@ use std::alloc::{AllocError, Global};
 use std::marker::Model;
 use tier_base::{Layout, Part};
 
-/// The parts of a remote segment. The log part is the source itself.
+/// The four parts of a remote segment: batches, offset index, time index, leader epochs. The batches are the
+/// segment's own bytes.
 #[derive(Drop)]
 pub struct Bundle {
     source: Bytes,
@@ -37,7 +38,8 @@ impl Model for Bundle {
 }
 
 impl Bundle {
-    /// The bundle of a closed segment, of its log's line, and of the interval of the indexes in bytes.
+    /// Makes the parts of a closed segment, in one pass. `line` has the leader epochs of its log; `interval` is the
+    /// interval of the indexes in bytes (Kafka's `index.interval.bytes`).
     pub fn of(
         alloc: Global,
         closed: &Closed,
@@ -73,7 +75,7 @@ impl Bundle {
         &self.source
     }
 
-    /// The line that the epoch text was made of.
+    /// The leader epochs that the epochs part was made of.
     pub fn line(&self) -> &Line
         ensures { result.now ≡ self.now.line }
     {
@@ -87,7 +89,7 @@ impl Bundle {
         self.interval
     }
 
-    /// The bytes of a part. Those of the four are shared; the pack is made when it is asked for.
+    /// The bytes of a part. The four parts are shared; the packed object is made at each call.
     pub fn part(&self, alloc: Global, part: Part) -> Result<Bytes, AllocError>
         ensures { IfOk result (λ bytes. bytes ≡ part_in self.now.parts part) }
     {
@@ -100,7 +102,8 @@ impl Bundle {
         }
     }
 
-    /// How long the parts are, where a layout has room for that.
+    /// The lengths of the parts in bytes, or `None` if one doesn't fit the layout of a packed segment, which has 32
+    /// bits for each.
     pub fn layout(&self) -> Option<Layout>
         ensures { result ≡ pack_of self.now.parts }
     {

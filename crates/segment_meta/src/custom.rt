@@ -6,7 +6,7 @@ ghost use Rattle.segment_meta.specs.Rules.{bare_custom};
 use std::alloc::{AllocError, Global};
 use tier_base::Blob;
 
-/// Custom metadata of the same bytes.
+/// A copy of custom metadata.
 pub fn copied_custom(alloc: Global, custom: &Option<Blob>) -> Result<Option<Blob>, AllocError>
     ensures { IfOk result (λ copy. copy ≡ custom.now) }
 {
@@ -16,7 +16,7 @@ pub fn copied_custom(alloc: Global, custom: &Option<Blob>) -> Result<Option<Blob
     }
 }
 
-/// What an update tells that has nothing to tell of it, without memory.
+/// The custom metadata of an update that has none to add, without allocating.
 pub fn bare_custom(alloc: Global, packed: bool) -> Option<Blob>
     ensures { result ≡ bare_custom packed }
 {

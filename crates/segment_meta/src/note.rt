@@ -1,4 +1,4 @@
-//! A remote segment's entry, and the notes that tell of it. The module Rules of specs/ has what a note must say.
+//! A remote segment's metadata, and the events that change it. specs/Rules.antt says which events are valid.
 
 ghost use Rattle.std.specs.Prelude.{◌≡◌, IfOk};
 
@@ -18,23 +18,23 @@ pub struct Entry {
     pub end: u64,
     /// The greatest timestamp of its batches.
     pub max_ts: i64,
-    /// The broker whose note counted last.
+    /// The broker whose event changed it last.
     pub broker: BrokerId,
-    /// When the note that counted last was made.
+    /// When that event was made, in milliseconds.
     pub event_ts: i64,
-    /// The bytes of its log segment.
+    /// The size of its log segment in bytes.
     pub size: u32,
     pub state: State,
-    /// Which leader epochs it holds, and where each starts in it.
+    /// The leader epochs in it, and where each starts.
     pub map: Line,
-    /// Whether its objects are one.
+    /// Whether its parts are packed into one object.
     pub packed: bool,
-    /// What the store told of it (Kafka's CustomMetadata).
+    /// What the store says of it (Kafka's CustomMetadata): the part lengths of a packed segment.
     pub custom: Option<Blob>,
 }
 
 impl Entry {
-    /// An entry of the same fields.
+    /// A copy of the entry.
     pub fn copy(&self, alloc: Global) -> Result<Entry, AllocError>
         ensures { IfOk result (λ copy. copy ≡ self.now) }
     {
@@ -55,12 +55,12 @@ impl Entry {
     }
 }
 
-/// What the metadata log is told.
+/// A metadata event of a remote segment.
 #[derive(Debug, Drop)]
 pub enum Note {
-    /// The copy of a segment has started.
+    /// The copy of a segment starts.
     Add(Entry),
-    /// A segment has another state.
+    /// A segment gets another state.
     Update {
         id: SegmentId,
         broker: BrokerId,

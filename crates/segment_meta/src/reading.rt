@@ -1,7 +1,7 @@
-//! A note out of its bytes. The module Reading of specs/ says what bytes say as a note, and Spelling has the table.
+//! A metadata event out of its bytes. specs/Reading.antt says what bytes mean, specs/Spelling.antt has the table.
 //!
-//! The fields are read from left to right, so the first fault is told. The map and the custom metadata alone take
-//! memory: the map grows by the epochs that are there, so a count alone takes none.
+//! The fields are read from left to right, so the first fault is reported. Only the leader epochs and the custom
+//! metadata allocate, and only as much as there are bytes for: a count alone allocates nothing.
 
 ghost use Rattle.std.specs.Prelude.{◌≡◌, ◌<◌, ◌≤◌, ◌^◌, IfOk, None};
 ghost use Rattle.std.specs.Option.{option_map};
@@ -23,7 +23,7 @@ const MOST_EPOCHS: u32 = 67_108_864;
 /// The most bytes of custom metadata.
 const MOST_CUSTOM: u16 = 128;
 
-/// The note of these bytes, or their first fault.
+/// The metadata event of these bytes, or their first fault.
 #[tactic(auto, unfolding(crate::specs::Reading::note_in))]
 pub fn decode(alloc: Global, bytes: &[u8]) -> Result<Note, NoteRefusal>
     ensures exact { Answers (λ note. note) result (note_in bytes.now) }

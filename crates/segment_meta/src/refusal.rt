@@ -1,26 +1,26 @@
-//! Why bytes are no note.
+//! Why bytes are not a metadata event.
 
 ghost use Rattle.std.specs.Prelude.{◌≡◌};
 
 use std::alloc::AllocError;
 use thiserror::Error;
 
-/// Why bytes are no note: the first fault from the left. Nothing is read from them then.
+/// Why bytes are not a metadata event: the first fault from the left.
 #[derive(Clone, Copy, Debug, PartialEq, Eq, Drop, Error)]
 pub enum NoteRefusal {
-    /// The bytes end before the note does.
+    /// The bytes end before the event does.
     #[error("the note is cut short")]
     Short,
-    /// The version is neither 0 nor 1, so its fields aren't known here.
+    /// The version is neither 0 nor 1.
     #[error("the note has an unknown version")]
     BadVersion,
-    /// The state can't stand in a note of this kind.
+    /// An event of this kind can't have this state.
     #[error("the note has a state that can't stand there")]
     BadState,
-    /// The field that begins at this place breaks a rule, or the note ends before it.
+    /// The field at this position breaks a rule, or the event ends before it.
     #[error("the note can't go on so at {at}")]
     Bad { at: u32 },
-    /// There was no memory for the map or the custom metadata.
+    /// Out of memory.
     #[error("no memory for the note")]
     NoMemory,
 }

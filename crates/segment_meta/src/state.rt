@@ -1,4 +1,4 @@
-//! The life of a remote segment, by the states that its notes tell.
+//! The states of a remote segment, and the steps between them (KIP-405's RemoteLogSegmentState).
 //!
 //! ```text
 //!         copy started ------> copy finished
@@ -18,7 +18,7 @@ ghost use Rattle.segment_meta.specs.Steps.{next_state};
 
 use tier_base::State;
 
-/// The state that a note makes, where that is a step from the old one.
+/// The state after an event, or `None` if the event is no step from the old state.
 pub fn next_state(old: Option<State>, new: State) -> Option<State>
     ensures { result ≡ next_state old new }
 {

@@ -1,4 +1,4 @@
-//! A note into its bytes. The module Spelling of specs/ has their table.
+//! A metadata event into its bytes. specs/Spelling.antt has their table.
 
 ghost use Rattle.std.specs.Prelude.{◌≡◌, ◌≤◌, ◌++◌, ◌∷◌, [], length, OnOk, IfOk};
 ghost use Rattle.std.specs.Int.{w16, w32, w64, to_be_bytes};
@@ -10,7 +10,7 @@ use crate::note::{Entry, Note};
 use std::alloc::{AllocError, Global};
 use tier_base::{Blob, SegmentId, State};
 
-/// The bytes of a note.
+/// The bytes of a metadata event.
 #[tactic(auto, unfolding(crate::specs::Spelling::note_bytes, crate::specs::Spelling::update_bytes))]
 pub fn encode(alloc: Global, note: &Note) -> Result<Vec<u8>, AllocError>
     requires { IsNote note.now }

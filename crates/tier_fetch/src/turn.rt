@@ -1,4 +1,4 @@
-//! What a fetch asks for, what it does next, and what a turn of it came to.
+//! What a fetch asks for, what it does next, and the result of a turn.
 
 use plain_log::Answer;
 use remote_find::Piece;
@@ -11,13 +11,13 @@ pub struct Wanted {
     pub offset: u64,
     /// The most bytes of a run of several batches.
     pub limit: u32,
-    /// The log's end.
+    /// The log end offset.
     pub log_end: u64,
-    /// The high watermark that the broker knows.
+    /// The broker's high watermark.
     pub mark: u64,
 }
 
-/// The bytes of a remote segment that are read: from a position on, at most so many.
+/// The bytes of a remote segment to read: from a position on, at most so many.
 #[derive(Clone, Copy, Debug, PartialEq, Eq)]
 pub struct Span {
     pub from: u32,
@@ -27,19 +27,19 @@ pub struct Span {
 /// What the next turn of a fetch does.
 #[derive(Clone, Copy, Debug, PartialEq, Eq)]
 pub enum Next {
-    /// It refreshes its broker's view, and chooses the piece that holds the offset.
+    /// Refresh the broker's view, and choose the piece that has the offset.
     Refresh,
-    /// It has the offset index of the piece's segment.
+    /// Get the offset index of the piece's segment, from the cache or the store.
     Index(Piece),
-    /// It reads these bytes of the segment.
+    /// Read these bytes of the segment, and cut the run out of them.
     Log(Piece, Span),
 }
 
-/// What a turn of a fetch came to.
+/// The result of a turn of a fetch.
 #[derive(Debug, Drop)]
 pub enum FetchTurn {
-    /// It goes on with this turn.
+    /// The fetch continues with this turn.
     Goes(Next),
-    /// It was answered.
+    /// The fetch has ended with this answer.
     Ends(Answer),
 }

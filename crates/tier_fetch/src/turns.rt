@@ -27,7 +27,7 @@ use std::alloc::{AllocError, Global};
 use tier_base::{Part, Trouble};
 use view_refresh::refresh;
 
-/// Takes the next turn of a fetch. The line is that of its broker's log.
+/// Takes the next turn of a fetch. `line` has the leader epochs of its broker's log.
 pub fn fetch_turn<S: Store, M: MetaLog>(
     alloc: Global,
     wanted: &Wanted,

@@ -10,7 +10,8 @@ use segment_meta::Note;
 use std::alloc::AllocError;
 use tier_base::Trouble;
 
-/// Takes in all notes that the metadata log has more than the view.
+/// Reads on in the metadata log: adds all events to the view that it hasn't read yet. After `NoMemory` it may have
+/// added some of them.
 #[tactic(auto, using(crate::proofs::Feeding::failed_takes))]
 pub fn refresh<M: MetaLog>(view: &mut View, meta: &mut M) -> Result<(), Trouble>
     ensures view { Takes result (M.content meta.old) view.old view.new }
