@@ -1,4 +1,4 @@
-//! Laws of retention, each the contract of a function that does nothing.
+//! Laws of retention.
 
 ghost use Rattle.std.specs.Prelude.{◌≡◌, ◌<◌, ◌≤◌, ℕ, ℤ, Bool, true, List, Some};
 ghost use Rattle.std.specs.Option.{IsSome};
@@ -11,7 +11,7 @@ ghost use Rattle.remote_view.specs.Fold.{AreKept, AreDistinct};
 ghost use Rattle.remote_find.specs.Pieces.{piece_at, covered_to, chain};
 ghost use Rattle.expiry_task.specs.Rule.{end_from, uncopied, raised_to};
 
-/// Where retention moves a log start, it rises, and to the known mark at most.
+/// Retention raises the log start offset, and at most to the broker's high watermark.
 #[tactic(auto, using(crate::proofs::Raising::raised_within))]
 pub fn a_log_start_rises_up_to_the_known_mark()
     ensures { (entries : List Entry) (line : List (ℕ × ℕ)) (log_end start known : ℕ) (copying : Bool) (local : ℕ) (closed : List Grown)
@@ -21,8 +21,8 @@ pub fn a_log_start_rises_up_to_the_known_mark()
         → (start < s) × (s ≤ known) }
 {}
 
-/// While segments are copied, a log start moves no further than the pieces reach: each offset that goes is in a
-/// finished copy.
+/// While copying is on, retention raises the log start offset no further than the pieces reach: each offset that
+/// expires is in a finished copy.
 pub fn only_what_is_copied_goes()
     ensures reach { (entries : List Entry) (line : List (ℕ × ℕ)) (log_end start known local : ℕ) (closed : List Grown)
         (rest : ℕ) (now : ℤ) (keep : Keep) (s : ℕ) → AreKept entries → AreDistinct entries → IsLine line

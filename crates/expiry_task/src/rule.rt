@@ -1,4 +1,4 @@
-//! How far retention lets the log start rise.
+//! How far retention raises the log start offset.
 
 ghost use Rattle.std.specs.Prelude.{◌≡◌, IfOk, map};
 ghost use Rattle.expiry_task.specs.Rule.{items_of, item_of, all_items, all_ends, end_from, end_behind, uncopied, uncopied_of, is_within, bytes_past, rest_behind, end_of_first, raised_to};
@@ -12,19 +12,18 @@ use segment_file::Growing;
 use std::alloc::{AllocError, Global};
 use tier_base::{Item, Keep};
 
-/// A closed segment of the local log that retention counts as it counts a remote one, since segments aren't copied
-/// any more.
+/// A closed local segment that retention counts after the remote ones. That is so only while copying is off.
 #[derive(Clone, Copy, Debug, PartialEq, Eq)]
 pub struct Uncopied {
     /// What retention asks about it.
     pub item: Item,
-    /// The offset behind its last one.
+    /// The offset after its last one.
     pub end: u64,
 }
 
-/// Where the log start comes to, where retention lets it rise, at a time in milliseconds. The pieces are those from
-/// the log start on that end at or below the known mark, and behind them are the closed segments that count with
-/// them; the rest are the bytes of the local log behind both.
+/// The log start offset to which retention raises it at a time `now` in milliseconds, or `None` if it doesn't. The
+/// pieces are those from the log start offset on that end at or below the broker's high watermark, and the closed
+/// segments come after them; `rest` is the size in bytes of the local log behind both.
 pub fn raised_to(
     alloc: Global,
     view: &View,
@@ -44,8 +43,8 @@ pub fn raised_to(
     ))
 }
 
-/// The closed segments that count with the pieces up to an offset: none where segments are copied, or where the local
-/// log begins past it.
+/// The closed segments that count after the pieces, which end at an offset: none while copying is on, or if the local
+/// log starts past that offset.
 pub fn find_uncopied(
     alloc: Global,
     copying: bool,

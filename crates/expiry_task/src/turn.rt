@@ -1,33 +1,33 @@
-//! What an expiry does next, and what a turn of it came to.
+//! What an expiry does next, and the result of a turn.
 
 use plain_log::Answer;
 use tier_base::{PartitionId, SegmentId};
 
-/// A remote segment whose objects are to go.
+/// A remote segment that is to be deleted.
 #[derive(Clone, Copy, Debug, PartialEq, Eq)]
 pub struct Doomed {
     pub partition: PartitionId,
     pub id: SegmentId,
-    /// Whether its objects are one.
+    /// Whether its parts are packed into one object.
     pub packed: bool,
 }
 
 /// What the next turn of an expiry does.
 #[derive(Clone, Copy, Debug, PartialEq, Eq)]
 pub enum Next {
-    /// It tells the metadata log that the deletion starts.
+    /// Append the event that the deletion starts.
     Start,
-    /// It takes an object away: the one under the key of this number among those of its segment.
+    /// Delete the object whose key has this number among those of its segment.
     Delete(u8),
-    /// It tells the metadata log that no object stands.
+    /// Append the event that the deletion is finished.
     Finish,
 }
 
-/// What a turn of an expiry came to.
+/// The result of a turn of an expiry.
 #[derive(Debug, Drop)]
 pub enum ExpiryTurn {
-    /// It goes on with this turn.
+    /// The expiry continues with this turn.
     Goes(Next),
-    /// It was answered.
+    /// The expiry has ended with this answer.
     Ends(Answer),
 }

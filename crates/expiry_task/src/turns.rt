@@ -1,4 +1,4 @@
-//! The turns of an expiry, one call of a device each.
+//! The turns of an expiry, one device call each.
 
 ghost use Rattle.std.specs.Prelude.{◌≡◌, slice_get};
 ghost use Rattle.expiry_task.specs.Turns.{Tiers, keys, note_of, delete_at, StartRow, FinishRow, DeleteRow, ExpiryRow};

@@ -1,11 +1,11 @@
--- The summary of a run: how often each command was answered in which way, and where each partition ended.
+-- The summary of a run: how often each command got which answer, and the final state of each partition.
 --
 --   line                                      lines
---   COMMAND WORD COUNT                        commands in the order below, and for each the first words of its answers, in
---                                             the order of their bytes; no line for what was not answered
---   bytes N                                   one: the sizes of all runs that a fetch was answered with, summed
---   partition P end E mark M start S          each partition from 0 on: the log end offset of broker 0, the high watermark
---                                             and the log start offset
+--   COMMAND WORD COUNT                        commands in the order below, and for each the first words of its answers,
+--                                             in the order of their bytes; no line for an answer that didn't occur
+--   bytes N                                   one: the sizes of all runs that fetches returned, summed
+--   partition P end E mark M start S          each partition from 0 on: the log end offset of broker 0, the high
+--                                             watermark and the log start offset
 --
 -- Commands: append, flush, ack, join, follow, copy, trim, expire, clock, fetch. Words are separated by one space, a
 -- line ends with LF, and a number is decimal digits.

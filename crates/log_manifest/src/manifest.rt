@@ -1,29 +1,29 @@
-//! A manifest and its parts. The module Rules of specs/ has what it must say.
+//! A manifest and its parts. specs/Rules.antt has its rules.
 
 use epoch_line::Line;
 use tier_base::Row;
 
-/// What is stable of a log segment.
+/// What of a log segment is durable.
 #[derive(Clone, Copy, Debug, PartialEq, Eq)]
 pub struct Extent {
     /// The base offset.
     pub base: u64,
-    /// The bytes that are stable.
+    /// The flushed length in bytes.
     pub len: u32,
 }
 
-/// The segments of a log, from its local start on. The last is the open one.
+/// The segments of a log, from its local log start offset on. The last one is the open one.
 pub type SegmentList = Row<Extent>;
 
 /// What a log has after a crash.
 #[derive(Debug, Drop)]
 pub struct Manifest {
-    /// How often the log was opened.
+    /// The log's incarnation, which each opening raises.
     pub incarnation: u32,
     /// Where the log begins on this broker (Kafka's local log start offset).
     pub local_start: u64,
     pub segments: SegmentList,
-    /// Which leader epoch starts where.
+    /// The leader epochs, each with its start offset.
     pub line: Line,
 }
 

@@ -1,8 +1,7 @@
-//! A manifest out of its bytes. The module Reading of specs/ says what bytes say as a manifest, and Spelling has the
-//! table.
+//! A manifest out of its bytes. specs/Reading.antt says what bytes mean, specs/Spelling.antt has the table.
 //!
-//! The fields are read from left to right, so the first fault is told. Both lists grow by the items that are there, so
-//! a count alone takes no memory.
+//! The fields are read from left to right, so the first fault is reported. Both lists grow by the items that are
+//! there, so a count alone allocates nothing.
 
 ghost use Rattle.std.specs.Prelude.{◌≡◌, ◌≤◌, ◌^◌, ℕ, IfOk, None};
 ghost use Rattle.log_manifest.specs.Rules.{IsManifest};
@@ -28,7 +27,7 @@ const ENTRIES: u64 = 24;
 /// The bytes of a segment, 8 + 4, and of a line's entry, 4 + 8.
 const ITEM: u64 = 12;
 
-/// The manifest of these bytes, or the place of their first fault.
+/// The manifest of these bytes, or the position of their first fault.
 pub fn decode(alloc: Global, bytes: &[u8]) -> Result<Manifest, ManifestRefusal>
     ensures exact { Answers (λ manifest. manifest) result (manifest_in bytes.now) }
     ensures rules { IfOk result IsManifest }

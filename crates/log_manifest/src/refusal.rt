@@ -1,18 +1,18 @@
-//! Why bytes are no manifest.
+//! Why bytes are not a manifest.
 
 ghost use Rattle.std.specs.Prelude.{◌≡◌};
 
 use std::alloc::AllocError;
 use thiserror::Error;
 
-/// Why bytes are no manifest: the first fault from the left. Nothing is read from them then.
+/// Why bytes are not a manifest: the first fault from the left.
 #[derive(Clone, Copy, Debug, PartialEq, Eq, Drop, Error)]
 pub enum ManifestRefusal {
-    /// The field that begins at this place is missing, is cut or breaks a rule, or this byte stands behind the last
-    /// field. A place past the end of its type is told as that end.
+    /// The field at this position is missing, is cut short or breaks a rule, or this byte comes after the last field.
+    /// A position past the end of its type is reported as that end.
     #[error("the manifest can't go on so at {at}")]
     Bad { at: u32 },
-    /// There was no memory for the segments or for the line.
+    /// Out of memory.
     #[error("no memory for the manifest")]
     NoMemory,
 }

@@ -1,4 +1,4 @@
-//! A manifest into its bytes. The module Spelling of specs/ has their table.
+//! A manifest into its bytes. specs/Spelling.antt has their table.
 
 ghost use Rattle.std.specs.Prelude.{◌≡◌, ◌≤◌, ◌++◌, length, OnOk, IfOk};
 ghost use Rattle.std.specs.Int.{w32, w64, to_be_bytes};

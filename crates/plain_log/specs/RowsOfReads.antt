@@ -3,8 +3,8 @@
 --   fetch    first Down, then Stopped; NotLeader, OutOfRange, Empty, Run; first DiskFault, then MetaFault, StoreFault;
 --            Damaged
 --   offset   earliest, latest, earliest local: Down, NotLeader, Offset
---            latest tiered, of a timestamp: first Down, NotLeader, MetaFault; then Stopped, NotLeader, Offset, NoOffset;
---            of a timestamp also MetaFault, StoreFault, DiskFault, Damaged
+--            latest tiered, of a timestamp: first Down, NotLeader, MetaFault; then Stopped, NotLeader, Offset,
+--            NoOffset; of a timestamp also MetaFault, StoreFault, DiskFault, Damaged
 --
 -- Nothing changes. A device's fault stands only where there would be a run or, of a question of several turns, where
 -- the broker leads on.

@@ -1,4 +1,4 @@
-//! What a rebuild asks for, what it does next, and what a turn of it came to.
+//! What a rebuild asks for, what it does next, and the result of a turn.
 
 use epoch_line::Line;
 use plain_log::Answer;
@@ -8,24 +8,24 @@ use tier_base::PartitionId;
 #[derive(Clone, Copy, Debug, PartialEq, Eq)]
 pub struct Wanted {
     pub partition: PartitionId,
-    /// Where the local log is to begin.
+    /// Where the local log is to start.
     pub offset: u64,
 }
 
 /// What the next turn of a rebuild does, once its broker's view is refreshed.
 #[derive(Debug, Drop)]
 pub enum Next {
-    /// It reads the line of leader epochs of a remote segment.
+    /// Read the leader epochs of a remote segment.
     Epochs,
-    /// It begins the local log anew, with this line.
+    /// Start the local log anew, with these leader epochs.
     Restart(Line),
 }
 
-/// What a turn of a rebuild came to.
+/// The result of a turn of a rebuild.
 #[derive(Debug, Drop)]
 pub enum RebuildTurn {
-    /// It goes on with this turn.
+    /// The rebuild continues with this turn.
     Goes(Next),
-    /// It was answered.
+    /// The rebuild has ended with this answer.
     Ends(Answer),
 }

@@ -1,4 +1,4 @@
-//! The turn of a rebuild that reads the remote tier, at most one call of a device.
+//! The turn of a rebuild that reads the remote tier: at most one device call.
 
 ghost use Rattle.std.specs.Prelude.{◌≡◌, ◌-◌, ◌<◌, ◌^◌, Ok, IfSome};
 ghost use Rattle.plain_log.specs.declared.answer.Answer.TheVariants.{Damaged};
@@ -17,7 +17,7 @@ use remote_view::View;
 use std::alloc::{AllocError, Global};
 use tier_base::{Part, Trouble};
 
-/// Reads the line of leader epochs up to the wanted offset. The line that is given is the leader's, up to there.
+/// Reads the leader's epochs up to the wanted offset. `line` has the leader's, up to there.
 pub fn rebuild_turn<S: Store>(
     alloc: Global,
     wanted: Wanted,

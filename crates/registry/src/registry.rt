@@ -13,15 +13,15 @@ use tier_base::{BrokerId, Row};
 /// The greatest leader epoch: Kafka's is a signed number of 32 bits.
 const LAST_EPOCH: u32 = 2_147_483_647;
 
-/// What the registry holds of one broker.
+/// What the registry has of one broker.
 #[derive(Clone, Copy, Debug, PartialEq, Eq)]
 pub struct Replica {
     pub in_sync: bool,
-    /// The stable end that it acknowledged last in this epoch.
+    /// The flushed end that it acknowledged last in this epoch.
     pub acked: u64,
 }
 
-/// What the controller holds of a partition: who leads it, who is in sync, and between which offsets it can be read.
+/// What the controller has of a partition: the leader, the ISR, and the offsets between which the log can be read.
 #[derive(Debug, Drop)]
 pub struct Registry {
     /// The leader epoch.
@@ -36,7 +36,7 @@ pub struct Registry {
 }
 
 impl Registry {
-    /// Refuses an epoch below the current one, whose leader may have been replaced.
+    /// Refuses an epoch below the current one: its leader may have been replaced.
     fn fence(&self, epoch: u32) -> Result<(), RegRefusal>
         ensures ok { IsOk result ↔ (self.now.epoch ≤ epoch) }
         ensures stale { IsErrOf result (RegRefusal.StaleEpoch self.now.epoch) ↔ (epoch < self.now.epoch) }
@@ -49,7 +49,8 @@ impl Registry {
         Ok(())
     }
 
-    /// Makes the registry of so many brokers. Broker 0 leads epoch 0, and all are in sync.
+    /// Makes the registry of a new partition with so many brokers, 1 to 8. Broker 0 leads in epoch 0, and all are in
+    /// the ISR.
     pub fn fresh(alloc: Global, brokers: u16) -> Result<Registry, AllocError>
         requires some { 1 ≤ brokers }
         requires few { brokers ≤ 8 }
@@ -71,7 +72,7 @@ impl Registry {
         })
     }
 
-    /// Begins the next epoch under a broker whose election is allowed.
+    /// Starts the next epoch with this leader, whose election is allowed.
     pub fn lead(&mut self, broker: BrokerId)
         requires { self.old.epoch < 2 ^ 32 - 1 }
         ensures is { self.new ≡ elected self.old broker.0 }
@@ -83,7 +84,7 @@ impl Registry {
         self.leader = broker;
     }
 
-    /// Begins the next epoch under a broker whose unclean election is allowed, and who has this stable end.
+    /// Starts the next epoch with this leader, whose unclean election is allowed, and whose flushed end is `stable`.
     pub fn lead_alone(&mut self, broker: BrokerId, stable: u64)
         requires within { broker.0 < length self.old.replicas }
         requires follows { self.old.epoch < 2 ^ 32 - 1 }
@@ -101,7 +102,7 @@ impl Registry {
         self.mark = stable;
     }
 
-    /// Elects a broker out of the replicas in sync, and answers the new leader epoch. `up` tells whether it is up.
+    /// Elects a leader from the ISR, and returns the new leader epoch. `up` says whether the broker is up.
     pub fn elect(&mut self, broker: BrokerId, up: bool) -> Result<u32, RegRefusal>
         requires { broker.0 < length self.old.replicas }
         ensures is { AtReplica self.old broker.0 (λ s. after_elect self.old broker.0 s up result ≡ Some self.new) }
@@ -121,8 +122,8 @@ impl Registry {
         Ok(self.epoch)
     }
 
-    /// Elects a broker that may not be in sync, and answers the new leader epoch. What its log has up to its stable
-    /// end, `stable`, is committed from then on, and nothing else.
+    /// Elects a leader that may be outside the ISR, and returns the new leader epoch. From then on exactly what its
+    /// log has below its flushed end, `stable`, is committed.
     pub fn elect_unclean(
         &mut self,
         broker: BrokerId,
@@ -150,8 +151,8 @@ impl Registry {
         Ok(self.epoch)
     }
 
-    /// Takes an acknowledgement of a broker's stable end, and answers the high watermark. `epoch` is the one in which
-    /// the broker leads or has joined.
+    /// Records that a broker acknowledges its flushed end, and returns the high watermark. `epoch` is the one in
+    /// which the broker leads or has joined.
     pub fn ack(&mut self, broker: BrokerId, epoch: u32, stable: u64) -> Result<u64, RegRefusal>
         requires { broker.0 < length self.old.replicas }
         ensures is { AtReplica self.old broker.0 (λ s. after_ack self.old broker.0 s epoch stable result ≡ Some self.new) }
@@ -170,7 +171,7 @@ impl Registry {
         Ok(self.mark)
     }
 
-    /// Takes a broker out of the replicas in sync.
+    /// Removes a broker from the ISR.
     pub fn shrink(&mut self, broker: BrokerId) -> Result<(), RegRefusal>
         requires { broker.0 < length self.old.replicas }
         ensures is { AtReplica self.old broker.0 (λ s. after_shrink self.old broker.0 s result ≡ Some self.new) }
@@ -193,8 +194,7 @@ impl Registry {
         Ok(())
     }
 
-    /// Takes a broker back to the replicas in sync, where it has acknowledged all that is committed. `up` tells whether
-    /// it is up.
+    /// Adds a broker to the ISR if it has acknowledged everything that is committed. `up` says whether it is up.
     pub fn expand(&mut self, broker: BrokerId, up: bool) -> Result<(), RegRefusal>
         requires { broker.0 < length self.old.replicas }
         ensures is { AtReplica self.old broker.0 (λ s. after_expand self.old broker.0 s up result ≡ Some self.new) }
@@ -220,7 +220,7 @@ impl Registry {
         Ok(())
     }
 
-    /// Raises the log start offset, and answers the new one. `epoch` is the one that the caller leads.
+    /// Raises the log start offset, and returns the new one. `epoch` is the one that the caller leads.
     pub fn raise(&mut self, epoch: u32, start: u64) -> Result<u64, RegRefusal>
         ensures is { after_raise self.old epoch start result ≡ Some self.new }
         ensures err { OnErr result (self.new ≡ self.old) }

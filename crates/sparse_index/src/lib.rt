@@ -1,8 +1,8 @@
 //! The sparse indexes of a log segment: where to begin a search for an offset or for a timestamp.
 //!
-//! An index has entries for some of the batches. A lookup takes the last entry at or below its target. The entries are
-//! stored as columns, so that a lookup halves one column down to a block and then counts inside it, several entries at a
-//! time.
+//! An index has entries for some of the batches. A lookup takes the last entry at or below its target. The entries
+//! are stored as columns, so that a lookup halves one column down to a block and then counts inside it, several
+//! entries at once.
 #![tactic(auto)]
 
 mod columns;

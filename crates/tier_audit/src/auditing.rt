@@ -21,7 +21,7 @@ use std::alloc::Global;
 use tier_base::Trouble;
 use view_refresh::refresh;
 
-/// Says whether a remote tier at rest is whole, or what its first flaw is.
+/// Audits a remote tier at rest: reports that it is sound, or its first flaw.
 pub fn audit<S: Store, M: MetaLog>(
     alloc: Global,
     store: &mut S,

@@ -1,11 +1,11 @@
-//! What a search asks for, what it does next, and what a turn of it came to.
+//! What a timestamp lookup asks for, what it does next, and the result of a turn.
 
 use plain_log::Answer;
 use remote_find::Piece;
 use tier_base::PartitionId;
 use tier_fetch::Span;
 
-/// What a search asks for, and how far its broker's log goes at this turn.
+/// What a lookup asks for, and how far its broker's log goes at this turn.
 #[derive(Clone, Copy, Debug, PartialEq, Eq)]
 pub struct Asked {
     pub partition: PartitionId,
@@ -13,32 +13,32 @@ pub struct Asked {
     pub ts: i64,
     /// The log start offset.
     pub start: u64,
-    /// Where the local log begins.
+    /// The local log start offset.
     pub local: u64,
-    /// The log's end.
+    /// The log end offset.
     pub log_end: u64,
-    /// The high watermark that the broker knows.
+    /// The broker's high watermark.
     pub mark: u64,
 }
 
 /// What the next turn of a search does.
 #[derive(Clone, Copy, Debug, PartialEq, Eq)]
 pub enum Next {
-    /// It goes on at its cursor: below the local log among the remote segments, else in the local log.
+    /// Go on at the cursor: below the local log in the remote segments, else in the local log.
     Seek,
-    /// It reads the time index of the piece's segment.
+    /// Read the time index of the piece's segment.
     Times(Piece),
-    /// It has the offset index of the piece's segment, whose log is to be read from this offset on.
+    /// Get the offset index of the piece's segment, whose log is to be read from this offset on.
     Index(Piece, u64),
-    /// It reads these bytes of the segment's log, for this offset.
+    /// Read these bytes of the segment's log, for this offset.
     Log(Piece, u64, Span),
 }
 
-/// What a turn of a search came to.
+/// The result of a turn of a lookup.
 #[derive(Debug, Drop)]
 pub enum TimeTurn {
-    /// It goes on at this cursor, with this turn.
+    /// The lookup continues at this cursor, with this turn.
     Goes(u64, Next),
-    /// It was answered.
+    /// The lookup has ended with this answer.
     Ends(Answer),
 }

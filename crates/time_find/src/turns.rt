@@ -1,4 +1,4 @@
-//! The turns of a search among the remote segments, at most one call of a device each.
+//! The turns of a timestamp lookup in the remote segments, at most one device call each.
 
 ghost use Rattle.std.specs.Prelude.{◌≡◌, ◌<◌, ◌≤◌, ◌^◌, Ok, IfOk, IfSome};
 ghost use Rattle.tier_base.specs.declared.plain.Part.TheVariants as part;
@@ -26,8 +26,8 @@ use tier_base::{Part, Trouble};
 use tier_fetch::{FetchTurn, Next as Fetch, Span, Wanted, fetch_turn};
 use view_refresh::refresh;
 
-/// Takes the next turn of a search whose cursor is below the local log, or that has taken up a remote segment. The
-/// line is that of its broker's log.
+/// Takes the next turn of a lookup whose cursor is below the local log, or which is in a remote segment. `line` has
+/// the leader epochs of its broker's log.
 pub fn time_turn<S: Store, M: MetaLog>(
     alloc: Global,
     asked: &Asked,
