@@ -3,7 +3,7 @@
 //! Each call asks first how it is going to end, does as much as is to be done, and is counted last;
 //! so one that finds no memory has changed nothing and isn't counted.
 
-ghost use Rattle.std.specs.Prelude.{◌≡◌, ◌↔◌, [], ℕ, IsTrue, IsFalse};
+ghost use Rattle.std.specs.Prelude.{◌≡◌, ◌↔◌, [], ℕ, Some, None, IsTrue, IsFalse};
 ghost use Rattle.tier_base.specs.Device.{IsFresh};
 ghost use Rattle.tier_base.specs.Faults.{control_of};
 ghost use Rattle.tier_base.specs.Laws.{fails_as_planned};
@@ -32,7 +32,7 @@ pub struct MemoryDisk {
 
 impl MemoryDisk {
     ghost use Rattle.disk_model.specs.Memory.{IsEmptyDisk, Crashes, Fuses, Unfuses};
-    ghost use Rattle.disk_model.specs.MemoryFiles.{safe_files};
+    ghost use Rattle.disk_model.specs.MemoryFiles.{safe_files, fuse_of};
 
     /// Makes a disk with no files, whose planned calls fail once it is armed, without memory.
     pub fn new(alloc: Global, plan: Vec<Planned>) -> MemoryDisk
@@ -42,6 +42,7 @@ impl MemoryDisk {
         ensures calm { IsTrue (⟦<MemoryDisk as Disk>⟧.control result).calm }
         ensures ruled { IsTrue (⟦<MemoryDisk as Disk>⟧.control result).ruled }
         ensures spare { ⟦<MemoryDisk as Disk>⟧.spare result ≡ 0 }
+        ensures fuse { fuse_of result ≡ None }
     {
         MemoryDisk {
             history: History::new(alloc),
@@ -60,6 +61,7 @@ impl MemoryDisk {
         ensures ruled { IsTrue (⟦<MemoryDisk as Disk>⟧.control self.new).ruled }
         ensures spare { ⟦<MemoryDisk as Disk>⟧.spare self.new
             ≡ ⟦<MemoryDisk as Disk>⟧.spare self.old }
+        ensures fuse { fuse_of self.new ≡ None }
     {
         self.faults = FaultPlan::new(plan);
         self.handed = Bytes::new();
@@ -73,6 +75,7 @@ impl MemoryDisk {
             (⟦<MemoryDisk as Disk>⟧.control self.new) }
         ensures spare { ⟦<MemoryDisk as Disk>⟧.spare self.new
             ≡ ⟦<MemoryDisk as Disk>⟧.spare self.old }
+        ensures fuse { fuse_of self.new ≡ Some calls }
     {
         self.faults.set_fuse(Some(calls));
     }
@@ -87,6 +90,7 @@ impl MemoryDisk {
             (⟦<MemoryDisk as Disk>⟧.control self.new) }
         ensures spare { ⟦<MemoryDisk as Disk>⟧.spare self.new
             ≡ ⟦<MemoryDisk as Disk>⟧.spare self.old }
+        ensures fuse { fuse_of self.new ≡ None }
     {
         self.faults.set_fuse(None);
         self.history.crash();

@@ -162,6 +162,7 @@ impl<K: CallKind> FaultPlan<K> {
         ensures armed { self.new.armed ≡ self.old.armed }
         ensures ruled { self.new.ruled ≡ self.old.ruled }
         ensures fuse { has_none self.new.fuse ≡ has_none self.old.fuse }
+        ensures burns { self.new.fuse ≡ shorter self.old.fuse }
         ensures alone { IsTrue self.old.ruled → self.old.fuse ≡ None }
         ensures later { faults_of K.code self.old ≤ faults_of K.code self.new }
         ensures faults { faults_of K.code self.new ≡ if goes_well ending
@@ -188,6 +189,7 @@ impl<K: CallKind> FaultPlan<K> {
         ensures done { (handed : List ℕ) → MayBeDone call (failing result)
             (control_of K.code self.old handed) (is_done ending) }
         ensures ok { OnOk result (ending ≡ Ending.Done) }
+        ensures burns { self.new.fuse ≡ shorter self.old.fuse }
     {
         self.tally(call, ending);
         match ending {
