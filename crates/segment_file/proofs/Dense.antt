@@ -20,13 +20,13 @@ use Rattle.segment_file.proofs.Laying.{marked_append, marked_size, last_push}
 contains_one : {X : Type 0} (x : X) → Contains (x ∷ []) x
 contains_one x = (0, omega arith, refl)
 
-contains_last : {X : Type 0} (xs : List X) (x : X) → last_of xs ≡ Some x → Contains xs x
+pub contains_last : {X : Type 0} (xs : List X) (x : X) → last_of xs ≡ Some x → Contains xs x
 contains_last [] x e = absurd (cc)
 contains_last (y ∷ []) x e = subst (λ z. Contains (y ∷ []) z) (same_Some y x e) (contains_one y)
 contains_last (y ∷ z ∷ xs) x e = Contains-append_right (y ∷ []) (z ∷ xs) x (contains_last (z ∷ xs) x e)
 
 -- no entry begins behind the bytes so far
-abbrev IsLow : Marks → Type 0
+abbrev pub IsLow : Marks → Type 0
 IsLow marks = begun_at (last_of marks.entries) ≤ marks.size
 
 low_step : (base interval : ℕ) (marks : Marks) (one : Placed) → marks.size ≤ one.to → IsLow marks → IsLow (marked base interval marks one)
@@ -36,7 +36,7 @@ low_step base interval marks one up low = go (is_due interval marks.entries mark
     go true = rw (last_push marks.entries (one.last - base, marks.size)) up
     go false = omega (arith, low, up)
 
-low_all : (base interval : ℕ) (marks : Marks) (batches : List (List ℕ)) → IsLow marks → IsLow (marked_by base interval marks (placed_from marks.size batches))
+pub low_all : (base interval : ℕ) (marks : Marks) (batches : List (List ℕ)) → IsLow marks → IsLow (marked_by base interval marks (placed_from marks.size batches))
 low_all base interval marks [] low = low
 low_all base interval marks (batch ∷ batches) low =
     low_all base interval (marked base interval marks (placed marks.size batch)) batches
@@ -99,21 +99,21 @@ each_near base interval front rest batch =
     (subst (λ (n : ℕ). IsNear interval (marked base interval marks one).entries n) place near))
 
 -- the greatest timestamp is at or above each
-above_old : (top : ℤ × ℕ) (one : Placed) → top.0 ≤ℤ (raised top one).0
+pub above_old : (top : ℤ × ℕ) (one : Placed) → top.0 ≤ℤ (raised top one).0
 above_old top one = go (int_lt top.0 one.max_ts) refl
   where
     go : (t : Bool) → int_lt top.0 one.max_ts ≡ t → top.0 ≤ℤ (cond t (one.max_ts, one.last) top).0
     go true e = grind (arith, ints)
     go false e = omega (arith, ints)
 
-above_new : (top : ℤ × ℕ) (one : Placed) → one.max_ts ≤ℤ (raised top one).0
+pub above_new : (top : ℤ × ℕ) (one : Placed) → one.max_ts ≤ℤ (raised top one).0
 above_new top one = go (int_lt top.0 one.max_ts) refl
   where
     go : (t : Bool) → int_lt top.0 one.max_ts ≡ t → one.max_ts ≤ℤ (cond t (one.max_ts, one.last) top).0
     go true e = omega (arith, ints)
     go false e = grind (arith, ints)
 
-up_through : (a b c : ℤ) → a ≤ℤ b → b ≤ℤ c → a ≤ℤ c
+pub up_through : (a b c : ℤ) → a ≤ℤ b → b ≤ℤ c → a ≤ℤ c
 up_through a b c h k = omega (arith, ints, h, k)
 
 above_all : (base interval : ℕ) (ts : ℤ) (marks : Marks) (batches : List Placed) → ts ≤ℤ marks.top.0 → ts ≤ℤ (marked_by base interval marks batches).top.0
@@ -122,7 +122,7 @@ above_all base interval ts marks (one ∷ batches) up =
     above_all base interval ts (marked base interval marks one) batches (up_through ts marks.top.0 (raised marks.top one).0 up (above_old marks.top one))
 
 -- the last time entry, with that of the greatest timestamp
-top_closed : (base : ℕ) (moments : List (ℤ × ℕ)) (top : ℤ × ℕ) → top.0 ≤ℤ time_of (last_of (with_time base moments top))
+pub top_closed : (base : ℕ) (moments : List (ℤ × ℕ)) (top : ℤ × ℕ) → top.0 ≤ℤ time_of (last_of (with_time base moments top))
 top_closed base moments top = go (int_lt (time_of (last_of moments)) top.0) refl
   where
     go : (t : Bool) → int_lt (time_of (last_of moments)) top.0 ≡ t → top.0 ≤ℤ time_of (last_of (cond t (moments ++ (top.0, top.1 - base) ∷ []) moments))

@@ -10,3 +10,4 @@ pub mod Gaining
 pub mod Tracking
 pub mod Fitting
 pub mod Dense
+pub mod Timing

@@ -1,6 +1,7 @@
 //! Laws of a segment's bytes and of its placed batches, each the contract of a function that does nothing.
 
-ghost use Rattle.std.specs.Prelude.{◌≡◌, ℕ, ◌+◌, ◌<◌, ◌^◌, ◌≤ℤ◌, List, [], ◌∷◌, ◌++◌, length, slice_index_or, IsOk};
+ghost use Rattle.std.specs.Prelude.{◌≡◌, ℕ, ◌+◌, ◌<◌, ◌^◌, ◌≤ℤ◌, ℤ, List, [], ◌∷◌, ◌++◌, length, slice_index_or, IsOk};
+ghost use Rattle.std.specs.List.{Contains};
 ghost use Rattle.log_terms.specs.Batch.{max_ts_of};
 ghost use Rattle.log_terms.specs.Log.{joined, end_from, up_to};
 ghost use Rattle.record_batch.specs.Head.{head_of};
@@ -11,7 +12,7 @@ ghost use Rattle.segment_file.specs.Walk.{found_at};
 ghost use Rattle.segment_file.specs.Segment.{IsSegment};
 ghost use Rattle.sparse_index.specs.Entries.{last_of};
 ghost use Rattle.segment_file.specs.Index.{placed, placed_in, placed_from, index_of, time_index_of, time_of};
-ghost use Rattle.segment_file.specs.Density.{IsNear};
+ghost use Rattle.segment_file.specs.Density.{IsNear, IsTimeOf, IsTimed};
 ghost use Rattle.segment_file.specs.Growing.{end_after, size_after, ending_by, AreParted};
 
 /// A batch is found where it stands, whatever stands behind it.
@@ -77,4 +78,21 @@ pub fn each_batch_has_an_entry_near()
 pub fn no_batch_is_later_than_the_time_index()
     ensures { (base interval : ℕ) (front rest : List (List ℕ)) (batch : List ℕ) → max_ts_of batch
         ≤ℤ time_of (last_of (time_index_of base interval (placed_from 0 (front ++ batch ∷ rest))).entries) }
+{}
+
+/// Each time entry of a closed segment has the greatest timestamp up to the batch that it is of.
+#[tactic(auto, using(crate::proofs::Timing::each_entry))]
+pub fn each_time_entry_is_the_greatest_so_far()
+    ensures { (base interval : ℕ) (batches : List (List ℕ)) (entry : ℤ × ℕ)
+        → Contains (time_index_of base interval (placed_from 0 batches)).entries entry → IsTimeOf base batches entry }
+{}
+
+/// The time index reaches each batch's timestamp by a batch that follows none which begins more than the interval's bytes
+/// behind it.
+#[tactic(auto, using(crate::proofs::Timing::each_near))]
+pub fn each_batch_has_a_time_entry_near()
+    ensures { (base interval : ℕ) (front rest : List (List ℕ)) (batch : List ℕ)
+        → IsTimed base (front ++ batch ∷ rest)
+        (time_index_of base interval (placed_from 0 (front ++ batch ∷ rest))).entries
+        (length (joined front) + interval) (max_ts_of batch) }
 {}
