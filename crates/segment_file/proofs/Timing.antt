@@ -1,6 +1,6 @@
 -- Each time entry is the greatest so far, and each batch's timestamp is reached soon.
-use Rattle.std.proofs.Common.{◌≡◌, ◌∙◌, ap, sym, refl, subst, ⊎_elim, ℕ, ◌+◌, ◌-◌, ◌≤◌, nat_lt, Bool, true, false, cond, ℤ, negsuc, List, [], ◌∷◌, ◌++◌, length, Some, None, inl, inr, arith, append_assoc, append-nil, length-append}
-use Rattle.std.specs.Prelude.{int_lt, ◌≤ℤ◌, ◌<ℤ◌}
+use Rattle.std.proofs.Common.{◌≡◌, ◌∙◌, ap, sym, refl, subst, ◌⊎◌, ⊎_elim, ℕ, zero, suc, ◌+◌, ◌-◌, ◌<◌, ◌≤◌, Bool, true, false, cond, ℤ, negsuc, List, [], ◌∷◌, ◌++◌, length, Some, None, inl, inr, arith, append_assoc, append-nil, length-append}
+use Rattle.std.specs.Prelude.{int_lt, ◌≤ℤ◌, ◌<ℤ◌, slice_index_or}
 use Rattle.std.specs.List.{Contains}
 use Rattle.std.specs.declared.option.Option.{Option}
 use Rattle.std.proofs.lemmas.Bool.{ltb-false}
@@ -11,7 +11,7 @@ use Rattle.log_terms.specs.Log.{joined}
 use Rattle.sparse_index.specs.Entries.{last_of}
 use Rattle.segment_file.specs.declared.placed.Placed.{Placed}
 use Rattle.segment_file.specs.Index.{Marks, placed, placed_from, begun_at, is_due, time_of, with_time, raised, unmarked, marked, marked_by, time_index_of}
-use Rattle.segment_file.specs.Density.{AreEarlier, IsTimeOf, BeginBy, HasTime, IsTimed}
+use Rattle.segment_file.specs.Density.{AreEarlier, IsTimeOf, BeginBy, IsTimed}
 use Rattle.segment_file.proofs.Runs.{joined_push}
 use Rattle.segment_file.proofs.Laying.{marked_append, last_push}
 use Rattle.segment_file.proofs.Placing.{placed_append}
@@ -19,10 +19,11 @@ use Rattle.segment_file.proofs.Dense.{low_all, contains_last, above_old, above_n
 
 -- the one element of a list
 contains_single : {X : Type 0} (x y : X) → Contains (x ∷ []) y → x ≡ y
-contains_single x y h = go h.0 h.1.0 h.1.1
+contains_single x y h = go h.0 h.1 h.2
   where
-    go : (n : ℕ) → n < 1 → get (x ∷ []) n ≡ Some y → x ≡ y
-    go n = cc
+    go : (k : ℕ) → k < 1 → slice_index_or (x ∷ []) k y ≡ y → x ≡ y
+    go zero low is = is
+    go (suc k) low is = absurd (omega (arith, low))
 
 -- no batch is later than a timestamp
 abbrev AreUpTo : ℤ → List (List ℕ) → Type 0
@@ -41,7 +42,7 @@ earlier_all ts now [] up all = tt
 earlier_all ts now (b ∷ batches) up all = (below (max_ts_of b) ts now all.0 up, earlier_all ts now batches up all.1)
 
 -- an entry stays with a batch more
-time_more : (base : ℕ) (batches : List (List ℕ)) (batch : List ℕ) (entry : ℤ × ℕ) → IsTimeOf base batches entry → IsTimeOf base (batches ++ batch ∷ []) entry
+abbrev time_more : (base : ℕ) (batches : List (List ℕ)) (batch : List ℕ) (entry : ℤ × ℕ) → IsTimeOf base batches entry → IsTimeOf base (batches ++ batch ∷ []) entry
 time_more base batches batch entry t = record {
   front = t.front;
   batch = t.batch;
@@ -60,7 +61,7 @@ record Timed (base : ℕ) (batches : List (List ℕ)) (marks : Marks) : Type 0 w
   each : (entry : ℤ × ℕ) → Contains marks.moments entry → IsTimeOf base batches entry
 
 timed_none : (base : ℕ) → Timed base [] (unmarked base)
-timed_none base = record { size = refl; top = inl refl; up_to = tt; least = omega (arith, ints); each = λ entry among. absurd (omega (arith, among.1.0)) }
+timed_none base = record { size = refl; top = inl refl; up_to = tt; least = omega (arith, ints); each = λ entry among. absurd (omega (arith, among.1)) }
 
 -- the greatest with a batch more
 top_more : (base : ℕ) (batches : List (List ℕ)) (batch : List ℕ) (top : ℤ × ℕ) (size : ℕ) → AreUpTo top.0 batches → (top.0 ≡ negsuc 0) ⊎ IsTimeOf base batches (top.0, top.1 - base)

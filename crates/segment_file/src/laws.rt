@@ -81,7 +81,6 @@ pub fn no_batch_is_later_than_the_time_index()
 {}
 
 /// Each time entry of a closed segment has the greatest timestamp up to the batch that it is of.
-#[tactic(auto, using(crate::proofs::Timing::each_entry))]
 pub fn each_time_entry_is_the_greatest_so_far()
     ensures { (base interval : ℕ) (batches : List (List ℕ)) (entry : ℤ × ℕ)
         → Contains (time_index_of base interval (placed_from 0 batches)).entries entry → IsTimeOf base batches entry }
@@ -89,7 +88,6 @@ pub fn each_time_entry_is_the_greatest_so_far()
 
 /// The time index reaches each batch's timestamp by a batch that follows none which begins more than the interval's bytes
 /// behind it.
-#[tactic(auto, using(crate::proofs::Timing::each_near))]
 pub fn each_batch_has_a_time_entry_near()
     ensures { (base interval : ℕ) (front rest : List (List ℕ)) (batch : List ℕ)
         → IsTimed base (front ++ batch ∷ rest)
