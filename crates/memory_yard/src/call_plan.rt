@@ -1,7 +1,8 @@
 //! The calls of a yard that are to fail, and the fuse of the disks that it hands out.
 
-ghost use Rattle.std.specs.Prelude.{◌≡◌, ◌↔◌, IsErr, Contains, true, not, is_some};
+ghost use Rattle.std.specs.Prelude.{◌≡◌, ◌↔◌, IsErr, Contains, None};
 ghost use Rattle.device_yard.specs.Plan.{next_of};
+ghost use Rattle.memory_yard.specs.Calls.{plan_of};
 
 use std::marker::Model;
 use tier_base::Failed;
@@ -16,18 +17,17 @@ pub struct CallPlan {
 }
 
 impl Model for CallPlan {
-    ghost use Rattle.std.specs.Prelude.{not, is_some};
-    ghost use Rattle.device_yard.specs.Plan.{Plan};
+    ghost use Rattle.memory_yard.specs.Calls.{Calls};
 
-    ghost Value = { Plan };
+    ghost Value = { Calls };
 
-    ghost view = { λ p. record { calls = p.calls; failing = p.failing.items; alone = not (is_some p.fuse) } };
+    ghost view = { λ p. record { calls = p.calls; failing = p.failing.items; fuse = p.fuse } };
 }
 
 impl CallPlan {
     /// Counts no call yet.
     pub fn new(failing: Vec<u32>) -> CallPlan
-        ensures { result ≡ record { calls = 0; failing = failing.items; alone = true } }
+        ensures { result ≡ record { calls = 0; failing = failing.items; fuse = None } }
     {
         CallPlan {
             failing,
@@ -38,22 +38,22 @@ impl CallPlan {
 
     /// The fuse of the disks that are handed out.
     pub fn fuse(&self) -> Option<u64>
-        ensures { not (is_some result) ≡ self.now.alone }
+        ensures { result ≡ self.now.fuse }
     {
         self.fuse
     }
 
     /// Sets the fuse, or ends it.
     pub fn set_fuse(&mut self, fuse: Option<u64>)
-        ensures { self.new ≡ record self.old { alone = not (is_some fuse) } }
+        ensures { self.new ≡ record self.old { fuse = fuse } }
     {
         self.fuse = fuse;
     }
 
     /// Counts a call, and answers whether it goes on.
     pub fn count(&mut self) -> Result<(), Failed>
-        ensures fails { IsErr result ↔ Contains self.old.failing (next_of self.old) }
-        ensures counted { self.new ≡ record self.old { calls = next_of self.old } }
+        ensures fails { IsErr result ↔ Contains self.old.failing (next_of (plan_of self.old)) }
+        ensures counted { self.new ≡ record self.old { calls = next_of (plan_of self.old) } }
     {
         self.calls = self.calls.saturating_add(1);
         if self.failing.contains(&self.calls) {

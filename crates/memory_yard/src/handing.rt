@@ -4,6 +4,7 @@ ghost use Rattle.std.specs.Prelude.{◌≡◌, ◌≢◌, ◌≤◌, ◌+◌, No
 ghost use Rattle.tier_base.specs.Device.{IsFresh};
 ghost use Rattle.tier_base.specs.declared.fault.Trouble.TheVariants.{Failed};
 ghost use Rattle.disk_model.specs.Content.{Keeps};
+ghost use Rattle.disk_model.specs.MemoryFiles.{fuse_of};
 ghost use Rattle.meta_log.specs.Content as log;
 ghost use Rattle.device_yard.specs.Held.{Both, HandsDisk, HandsStore, HandsLog};
 ghost use Rattle.memory_yard.specs.Log.{told};
@@ -24,9 +25,11 @@ use tier_base::{PartitionId, Trouble};
 fn fused(disk: MemoryDisk, fuse: Option<u64>) -> MemoryDisk
     requires fresh { IsFresh (⟦<MemoryDisk as Disk>⟧.control disk) }
     requires calm { IsTrue (⟦<MemoryDisk as Disk>⟧.control disk).calm }
+    requires unfused { fuse_of disk ≡ None }
     ensures fresh { IsFresh (⟦<MemoryDisk as Disk>⟧.control result) }
     ensures content { Keeps (⟦<MemoryDisk as Disk>⟧.content disk) (⟦<MemoryDisk as Disk>⟧.content result) }
     ensures calm { (⟦<MemoryDisk as Disk>⟧.control result).calm ≡ not (is_some fuse) }
+    ensures fuse { fuse_of result ≡ fuse }
 {
     let mut disk = disk;
     if let Some(calls) = fuse {
@@ -40,6 +43,7 @@ pub fn hand_disk(alloc: Global, held: Option<MemoryDisk>, fuse: Option<u64>) -> 
     ensures fresh { IsFresh (⟦<MemoryDisk as Disk>⟧.control result) }
     ensures content { HandsDisk ⟦<MemoryDisk as Disk>⟧.content held (⟦<MemoryDisk as Disk>⟧.content result) }
     ensures calm { (⟦<MemoryDisk as Disk>⟧.control result).calm ≡ not (is_some fuse) }
+    ensures fuse { fuse_of result ≡ fuse }
 {
     match held {
         Some(mut disk) => {

@@ -1,12 +1,14 @@
 //! A yard in memory, some of whose calls are to fail.
 
-ghost use Rattle.std.specs.Prelude.{◌≡◌, ◌≤◌, ◌↔◌, Some, None, IfSome, true, false, IfOk, OnOk, Contains};
+ghost use Rattle.std.specs.Prelude.{◌≡◌, ◌≤◌, ◌↔◌, Some, None, IfSome, true, false, IfOk, OnOk, OnErr, IsTrue, Contains};
 ghost use Rattle.std.specs.Option.{option_copied};
 ghost use Rattle.tier_base.specs.Device.{Fault, fate_of, IsFresh};
 ghost use Rattle.tier_base.specs.Told.{In};
 ghost use Rattle.device_yard.specs.Control as control;
 ghost use Rattle.device_yard.specs.Plan.{Plan, Counts, next_of};
-ghost use Rattle.device_yard.specs.Held.{IsFirst, IsName, AreUsed, Rise, Same, HandsDisk, HandsStore, HandsLog};
+ghost use Rattle.device_yard.specs.Held.{IsFirst, IsName, AreUsed, Rise, Same, DiskIs, RegistryIs, IsOut, HandsDisk, HandsStore, HandsLog};
+ghost use Rattle.disk_model.specs.MemoryFiles.{fuse_of};
+ghost use Rattle.memory_yard.specs.Calls.{plan_of};
 ghost use Rattle.memory_yard.specs.First.{IsFirstWith};
 ghost use Rattle.memory_yard.specs.Yard.{held_by, IsEmptyYard, CrashesHeld, HasRoom};
 ghost use Rattle.memory_yard.specs.Names.{SameHeld, IsFirstOf, AreUsedOf, HaveTiers, HaveRegistries, AreBare};
@@ -52,6 +54,7 @@ impl MemoryYard {
         ensures named { (⟦<MemoryYard as Yard>⟧.control result).named ≡ None }
         ensures plan { ⟦<MemoryYard as Yard>⟧.plan result ≡ Some (record { calls = 0; failing = plan.items; alone = true }) }
         ensures held { IsEmptyYard strays.items (⟦<MemoryYard as Yard>⟧.held result) }
+        ensures fuse { result.plan.fuse ≡ None }
     {
         MemoryYard {
             alloc,
@@ -90,7 +93,8 @@ impl MemoryYard {
     pub fn fuse(&mut self, calls: u64)
         ensures held { ⟦<MemoryYard as Yard>⟧.held self.new ≡ ⟦<MemoryYard as Yard>⟧.held self.old }
         ensures control { ⟦<MemoryYard as Yard>⟧.control self.new ≡ ⟦<MemoryYard as Yard>⟧.control self.old }
-        ensures plan { ⟦<MemoryYard as Yard>⟧.plan self.new ≡ Some (record self.old.plan { alone = false }) }
+        ensures plan { ⟦<MemoryYard as Yard>⟧.plan self.new ≡ Some (record (plan_of self.old.plan) { alone = false }) }
+        ensures fuse { self.new.plan.fuse ≡ Some calls }
     {
         self.plan.set_fuse(Some(calls));
     }
@@ -99,7 +103,8 @@ impl MemoryYard {
     pub fn crash(&mut self)
         ensures held { CrashesHeld (⟦<MemoryYard as Yard>⟧.held self.old) (⟦<MemoryYard as Yard>⟧.held self.new) }
         ensures control { ⟦<MemoryYard as Yard>⟧.control self.new ≡ ⟦<MemoryYard as Yard>⟧.control self.old }
-        ensures plan { ⟦<MemoryYard as Yard>⟧.plan self.new ≡ Some (record self.old.plan { alone = true }) }
+        ensures plan { ⟦<MemoryYard as Yard>⟧.plan self.new ≡ Some (record (plan_of self.old.plan) { alone = true }) }
+        ensures fuse { self.new.plan.fuse ≡ None }
     {
         self.plan.set_fuse(None);
         self.disks.crash(self.alloc);
@@ -167,7 +172,8 @@ impl MemoryYard {
     /// Counts a call that hands a device out, where it goes on.
     fn hand_out(&mut self) -> Result<(), Trouble>
         ensures control { control.Hands (fate_of result) self.old.counts self.new.counts }
-        ensures plan { Counts (fate_of result) (Some self.old.plan) (Some self.new.plan) }
+        ensures plan { Counts (fate_of result) (Some (plan_of self.old.plan)) (Some (plan_of self.new.plan)) }
+        ensures fuse { self.new.plan.fuse ≡ self.old.plan.fuse }
         ensures disks { self.new.disks.slots ≡ self.old.disks.slots }
         ensures stores { self.new.stores.slots ≡ self.old.stores.slots }
         ensures logs { self.new.logs.slots ≡ self.old.logs.slots }
@@ -180,8 +186,8 @@ impl MemoryYard {
 
     /// Counts a call, and makes room for one more device to come back.
     fn begin(&mut self) -> Result<(), Trouble>
-        ensures fails { (fate_of result ≡ Fault) ↔ Contains self.old.plan.failing (next_of self.old.plan) }
-        ensures plan { self.new.plan ≡ record self.old.plan { calls = next_of self.old.plan } }
+        ensures fails { (fate_of result ≡ Fault) ↔ Contains self.old.plan.failing (next_of (plan_of self.old.plan)) }
+        ensures plan { self.new.plan ≡ record self.old.plan { calls = next_of (plan_of self.old.plan) } }
         ensures disks { self.new.disks.slots ≡ self.old.disks.slots }
         ensures stores { self.new.stores.slots ≡ self.old.stores.slots }
         ensures logs { self.new.logs.slots ≡ self.old.logs.slots }
@@ -197,8 +203,8 @@ impl MemoryYard {
 
     /// Counts a call that finds the first name.
     fn find_first(&mut self) -> Result<Option<Blob>, Trouble>
-        ensures fails { (fate_of result ≡ Fault) ↔ Contains self.old.plan.failing (next_of self.old.plan) }
-        ensures plan { self.new.plan ≡ record self.old.plan { calls = next_of self.old.plan } }
+        ensures fails { (fate_of result ≡ Fault) ↔ Contains self.old.plan.failing (next_of (plan_of self.old.plan)) }
+        ensures plan { self.new.plan ≡ record self.old.plan { calls = next_of (plan_of self.old.plan) } }
         ensures counts { self.new.counts ≡ self.old.counts }
         ensures held { SameHeld (⟦<MemoryYard as Yard>⟧.held self.old) (⟦<MemoryYard as Yard>⟧.held self.new) }
         ensures first { IfOk result (IsFirstOf (⟦<MemoryYard as Yard>⟧.held self.old)) }
@@ -210,8 +216,8 @@ impl MemoryYard {
 
     /// Counts a call that finds the partitions of which something stands.
     fn find_partitions(&mut self) -> Result<Row<PartitionId>, Trouble>
-        ensures fails { (fate_of result ≡ Fault) ↔ Contains self.old.plan.failing (next_of self.old.plan) }
-        ensures plan { self.new.plan ≡ record self.old.plan { calls = next_of self.old.plan } }
+        ensures fails { (fate_of result ≡ Fault) ↔ Contains self.old.plan.failing (next_of (plan_of self.old.plan)) }
+        ensures plan { self.new.plan ≡ record self.old.plan { calls = next_of (plan_of self.old.plan) } }
         ensures counts { self.new.counts ≡ self.old.counts }
         ensures held { SameHeld (⟦<MemoryYard as Yard>⟧.held self.old) (⟦<MemoryYard as Yard>⟧.held self.new) }
         ensures rise { IfOk result Rise }
@@ -304,7 +310,7 @@ impl Yard for MemoryYard {
 
     ghost control = { λ y. y.counts };
 
-    ghost plan = { λ y. Some y.plan };
+    ghost plan = { λ y. Some (plan_of y.plan) };
 
     fn first_name(&mut self) -> Result<Option<Blob>, Trouble> {
         let found = self.find_first();
@@ -316,7 +322,27 @@ impl Yard for MemoryYard {
         self.counts.ask(found)
     }
 
-    fn disk(&mut self, partition: PartitionId, broker: BrokerId) -> Result<MemoryDisk, Trouble> {
+    fn disk(&mut self, partition: PartitionId, broker: BrokerId) -> Result<MemoryDisk, Trouble>
+        ensures control { control.Hands (fate_of result)
+            (⟦<MemoryYard as Yard>⟧.control self.old) (⟦<MemoryYard as Yard>⟧.control self.new) }
+        ensures plan { Counts (fate_of result)
+            (⟦<MemoryYard as Yard>⟧.plan self.old) (⟦<MemoryYard as Yard>⟧.plan self.new) }
+        ensures tells { (⟦<MemoryYard as Yard>⟧.held self.new).tells ≡ (⟦<MemoryYard as Yard>⟧.held self.old).tells }
+        ensures fresh { IfOk result (λ disk. IsFresh (⟦<MemoryDisk as Disk>⟧.control disk)) }
+        ensures told { IfOk result (λ disk. (⟦<MemoryDisk as Disk>⟧.content disk).tells
+            ≡ (⟦<MemoryYard as Yard>⟧.held self.old).tells) }
+        ensures content { IsTrue (⟦<MemoryYard as Yard>⟧.held self.old).tells → IfOk result (λ disk.
+            HandsDisk ⟦<MemoryDisk as Disk>⟧.content ((⟦<MemoryYard as Yard>⟧.held self.old).disks partition broker)
+            (⟦<MemoryDisk as Disk>⟧.content disk)) }
+        ensures out { IsTrue (⟦<MemoryYard as Yard>⟧.held self.old).tells → OnOk result
+            (DiskIs partition broker None (⟦<MemoryYard as Yard>⟧.held self.old) (⟦<MemoryYard as Yard>⟧.held self.new)) }
+        ensures err { IsTrue (⟦<MemoryYard as Yard>⟧.held self.old).tells → OnErr result
+            (SameHeld (⟦<MemoryYard as Yard>⟧.held self.old) (⟦<MemoryYard as Yard>⟧.held self.new)) }
+
+        // It lets as many calls pass as the yard's fuse says, and then fails every call.
+        ensures fuse { IfOk result (λ disk. fuse_of disk ≡ self.old.plan.fuse) }
+        ensures stays { self.new.plan.fuse ≡ self.old.plan.fuse }
+    {
         self.hand_out()?;
         let place = DiskPlace { partition, broker };
         let held = self.disks.take(place);
@@ -340,7 +366,27 @@ impl Yard for MemoryYard {
         }
     }
 
-    fn registry(&mut self, partition: PartitionId) -> Result<MemoryDisk, Trouble> {
+    fn registry(&mut self, partition: PartitionId) -> Result<MemoryDisk, Trouble>
+        ensures control { control.Hands (fate_of result)
+            (⟦<MemoryYard as Yard>⟧.control self.old) (⟦<MemoryYard as Yard>⟧.control self.new) }
+        ensures plan { Counts (fate_of result)
+            (⟦<MemoryYard as Yard>⟧.plan self.old) (⟦<MemoryYard as Yard>⟧.plan self.new) }
+        ensures tells { (⟦<MemoryYard as Yard>⟧.held self.new).tells ≡ (⟦<MemoryYard as Yard>⟧.held self.old).tells }
+        ensures fresh { IfOk result (λ disk. IsFresh (⟦<MemoryDisk as Disk>⟧.control disk)) }
+        ensures told { IfOk result (λ disk. (⟦<MemoryDisk as Disk>⟧.content disk).tells
+            ≡ (⟦<MemoryYard as Yard>⟧.held self.old).tells) }
+        ensures content { IsTrue (⟦<MemoryYard as Yard>⟧.held self.old).tells → IfOk result (λ disk.
+            HandsDisk ⟦<MemoryDisk as Disk>⟧.content ((⟦<MemoryYard as Yard>⟧.held self.old).registries partition)
+            (⟦<MemoryDisk as Disk>⟧.content disk)) }
+        ensures out { IsTrue (⟦<MemoryYard as Yard>⟧.held self.old).tells → OnOk result
+            (RegistryIs partition IsOut (⟦<MemoryYard as Yard>⟧.held self.old) (⟦<MemoryYard as Yard>⟧.held self.new)) }
+        ensures err { IsTrue (⟦<MemoryYard as Yard>⟧.held self.old).tells → OnErr result
+            (SameHeld (⟦<MemoryYard as Yard>⟧.held self.old) (⟦<MemoryYard as Yard>⟧.held self.new)) }
+
+        // So does that of a registry.
+        ensures fuse { IfOk result (λ disk. fuse_of disk ≡ self.old.plan.fuse) }
+        ensures stays { self.new.plan.fuse ≡ self.old.plan.fuse }
+    {
         self.hand_out()?;
         let held = disk_of(self.registries.take(partition));
         Ok(hand_disk(self.alloc, held, self.plan.fuse()))
