@@ -101,7 +101,13 @@ loosened s back = record s { loose = Some back }
 -- a cut failed that was to make this come back: the smaller end is stable
 abbrev pub torn : Seen → Back → Seen
 torn s back =
-    if nat_lt back.0 s.stable then record s { stable = back.0; saved = back.1; local = back.2; loose = Some (back_of s) }
+    if nat_lt back.0 s.stable then record s {
+      stable =
+          back.0;
+      saved = back.1;
+      local = back.2;
+      loose = Some (back_of s);
+    }
     else loosened s back
 
 -- a write failed, and the broker is down
@@ -111,7 +117,8 @@ pub record Breaks {D : Type 0} (content : D → Content) (old new : Kept D) (aft
   pub seen : Goes content old new (λ s s'. s' ≡ after s)
 
 -- a write failed, and the broker is down; where that is so, this is seen of it
-pub record BreaksIf {D : Type 0} (content : D → Content) (old new : Kept D) (P : Seen → Type 0) (after : Seen → Seen) : Type 0 where
+pub record BreaksIf {D : Type 0} (content : D → Content) (old new : Kept D) (P : Seen → Type 0)
+    (after : Seen → Seen) : Type 0 where
   pub down : is_up new ≡ false
   pub settings : settings_in new ≡ settings_in old
   pub seen : GoesIf content old new P (λ s s'. s' ≡ after s)
@@ -126,7 +133,8 @@ first_in log batches = taking log.settings.segment_bytes log.active.base (size_o
 
 -- the first batches of a run stand at the log's end: at least one, and as many as one segment takes, a new one where
 -- it is due
-pub record Appends {D : Type 0} (content : D → Content) (old new : Kept D) (run : List ℕ) (answer : ℕ × ℕ) : Type 0 where
+pub record Appends {D : Type 0} (content : D → Content) (old new : Kept D) (run : List ℕ)
+    (answer : ℕ × ℕ) : Type 0 where
   pub front : List (List ℕ)
   pub rest : List (List ℕ)
   pub some : front ≢ []
@@ -135,7 +143,8 @@ pub record Appends {D : Type 0} (content : D → Content) (old new : Kept D) (ru
   pub are : Each (λ (batch : List ℕ). IsOk (checked batch)) (front ++ rest)
   pub consecutive : IsConsecutive answer.0 (front ++ rest)
   -- whatever batches the run was made of, these are they
-  pub those : (batches : List (List ℕ)) → Each (λ (batch : List ℕ). IsOk (checked batch)) batches → run ≡ joined batches → batches ≡ front ++ rest
+  pub those : (batches : List (List ℕ)) → Each (λ (batch : List ℕ). IsOk (checked batch)) batches → run ≡ joined batches
+      → batches ≡ front ++ rest
   pub base_is : end_in old ≡ Some answer.0
   pub end_is : end_in new ≡ Some (answer.1 + 1)
   pub last_is : answer.1 + 1 ≡ end_from answer.0 front
@@ -145,7 +154,8 @@ pub record Appends {D : Type 0} (content : D → Content) (old new : Kept D) (ru
   pub seen : Goes content old new (λ s s'. s' ≡ with_batches s front)
 
 -- all of the log is stable, with this line, and this is its end
-pub record Settles {D : Type 0} (content : D → Content) (old new : Kept D) (line : List (ℕ × ℕ) → ℕ → List (ℕ × ℕ)) (end : ℕ) : Type 0 where
+pub record Settles {D : Type 0} (content : D → Content) (old new : Kept D) (line : List (ℕ × ℕ) → ℕ → List (ℕ × ℕ))
+    (end : ℕ) : Type 0 where
   pub base_is : end_in old ≡ Some end
   pub end_is : end_in new ≡ Some end
   pub stable_is : stable_in new ≡ Some end
@@ -207,7 +217,8 @@ pub record Drops {D : Type 0} (content : D → Content) (old new : Kept D) (answ
   pub line_is : line_in new ≡ line_in old
   pub layout : WhileUp old (λ log. layout_in new ≡ Some (layout_of (dropped_log log)))
   -- from the local start up to an end of the log that is stable
-  pub ends : (s : Seen) → Shows content old s → (answer.0 ≡ s.local) × EndsAt (answer.1 + 1) s.batches × (answer.1 + 1 ≤ s.stable)
+  pub ends : (s : Seen) → Shows content old s
+      → (answer.0 ≡ s.local) × EndsAt (answer.1 + 1) s.batches × (answer.1 + 1 ≤ s.stable)
       × (s.local ≤ answer.1 + 1)
   pub seen : Goes content old new (λ s s'. s' ≡ dropped s (answer.1 + 1))
 
@@ -216,7 +227,8 @@ pub record DropBreaks {D : Type 0} (content : D → Content) (old new : Kept D) 
   pub down : is_up new ≡ false
   pub settings : settings_in new ≡ settings_in old
   pub seen : (s : Seen) → Shows content old s → (start : ℕ) × EndsAt start s.batches × (start ≤ s.stable)
-      × Shows content new (loosened s (s.stable, kept_line s, start)) × (start ≡ start_behind s.local (closed_in old)) × (s.local ≤ start)
+      × Shows content new (loosened s (s.stable, kept_line s, start)) × (start ≡ start_behind s.local (closed_in old))
+      × (s.local ≤ start)
 
 -- these batches lead up to an offset
 pub record LeadsTo (whole : List (List ℕ)) (n : ℕ) : Type 0 where
@@ -230,13 +242,16 @@ pub record Restarts {D : Type 0} (content : D → Content) (old new : Kept D) (n
   pub local_is : local_in new ≡ Some n
   pub line_is : line_in new ≡ Some line
   pub layout : WhileUp old (λ log. layout_in new ≡ Some (layout_of (restarted_log log n line)))
-  pub seen : (s : Seen) → Shows content old s → (whole : List (List ℕ)) → LeadsTo whole n → Shows content new (restarted s whole line n)
+  pub seen : (s : Seen) → Shows content old s → (whole : List (List ℕ)) → LeadsTo whole n
+      → Shows content new (restarted s whole line n)
 
 -- a write failed that was to do so: of batches that have what was stable, that or all comes back
-pub record RestartBreaks {D : Type 0} (content : D → Content) (old new : Kept D) (n : ℕ) (line : List (ℕ × ℕ)) : Type 0 where
+pub record RestartBreaks {D : Type 0} (content : D → Content) (old new : Kept D) (n : ℕ)
+    (line : List (ℕ × ℕ)) : Type 0 where
   pub down : is_up new ≡ false
   pub settings : settings_in new ≡ settings_in old
-  pub seen : (s : Seen) → Shows content old s → (whole : List (List ℕ)) → LeadsTo whole n → up_to s.stable whole ≡ up_to s.stable s.batches
+  pub seen : (s : Seen) → Shows content old s → (whole : List (List ℕ)) → LeadsTo whole n
+      → up_to s.stable whole ≡ up_to s.stable s.batches
       → Shows content new (unbuilt s whole line n)
 
 -- a closed segment's batches, which pass every test, stand in the log, from its base to its last offset
@@ -288,13 +303,15 @@ module _ {D : Type 0} (content : D → Content) (control : D → Control call_co
     -- its segment's base
     pub base : WhileUp old (λ log. out.base ≡ (segment_at log offset).base)
     pub ran : OnDisk old (λ d. OnDisk new (λ d'. Ran Read Went (control d) (control d')))
-    pub part : WhileUp old (λ log. OnDisk new (λ d. IsCut log.line (control d).handed offset limit mark (piece_of log offset) out))
+    pub part : WhileUp old (λ log. OnDisk new
+        (λ d. IsCut log.line (control d).handed offset limit mark (piece_of log offset) out))
     pub run : (s : Seen) → Shows content old s → EndsAt mark s.batches → IsRunIn old s offset limit mark out
 
   -- no run was read, since what the disk handed has none, or no batch ends at the mark
   pub record Misreads (old new : Kept D) (offset limit mark : ℕ) (name : FileName) (at : ℕ) : Type 0 where
     pub stays : Stays content old new
-    pub cause : WhileUp old (λ log. OnDisk new (λ d. RunFails log offset limit mark (control d).handed (refusal.Damaged name at)))
+    pub cause : WhileUp old (λ log. OnDisk new
+        (λ d. RunFails log offset limit mark (control d).handed (refusal.Damaged name at)))
     pub unmarked : (s : Seen) → Shows content old s → EndsAt mark s.batches → ⊥
 
   -- the log wasn't opened, since what the disk handed has no reading
@@ -337,9 +354,12 @@ pub record ComesUp {D : Type 0} (content : D → Content) (old new : Kept D) (en
   pub stable_is : stable_in new ≡ Some end
   pub settings : settings_in new ≡ settings_in old
   -- its segments' indexes have the settings' interval
-  pub intervals : WhileUp new (λ log. Each (λ (segment : Grown). segment.interval ≡ log.settings.index_interval) (log.closed ++ log.active ∷ []))
+  pub intervals : WhileUp new
+      (λ log. Each (λ (segment : Grown). segment.interval ≡ log.settings.index_interval)
+      (log.closed ++ log.active ∷ []))
   -- its segments are those that the manifest of a disk that tells lists
-  pub layout : OnDisk old (λ d. IsTrue (content d).tells → WhileUp new (λ log. Lists (content d).files (log.closed ++ log.active ∷ [])))
+  pub layout : OnDisk old (λ d. IsTrue (content d).tells
+      → WhileUp new (λ log. Lists (content d).files (log.closed ++ log.active ∷ [])))
   -- what the files of a disk that tells open as is seen, whatever batches lead up to it
   pub read : OnDisk old (λ d. IsTrue (content d).tells → (o : Opened) × OpenAs (content d).files o
       × ((below : List (List ℕ)) → LeadsTo below o.local_start → Shows content new (read_behind o below)))

@@ -69,10 +69,13 @@ impl<D: Disk> BrokerLog<D> {
         ensures ok { IfOk result (λ broker. IsFirst D.content disk settings broker) }
         ensures control { IfOk result (λ broker. OnDisk broker (λ d. Lasts (D.control disk) (D.control d))) }
         ensures control_err { IfErr result (λ e. Lasts (D.control disk) (D.control e.0)) }
-        ensures cause { IfErr result (λ e. e.1 ≡ create.DiskFault → Rose (D.control disk).faults (D.control e.0).faults) }
+        ensures cause { IfErr result (λ e. e.1 ≡ create.DiskFault
+            → Rose (D.control disk).faults (D.control e.0).faults) }
         ensures quiet { IfOk result (λ broker. OnDisk broker (λ d. (D.control d).faults ≡ (D.control disk).faults)) }
-        ensures quiet_err { IfErr result (λ e. (e.1 ≡ create.DiskFault → ⊥) → (D.control e.0).faults ≡ (D.control disk).faults) }
-        ensures once { IfErr result (λ e. e.1 ≡ create.DiskFault → (D.control e.0).faults ≡ counted (D.control disk).faults 1) }
+        ensures quiet_err { IfErr result (λ e. (e.1 ≡ create.DiskFault → ⊥)
+            → (D.control e.0).faults ≡ (D.control disk).faults) }
+        ensures once { IfErr result (λ e. e.1 ≡ create.DiskFault
+            → (D.control e.0).faults ≡ counted (D.control disk).faults 1) }
     {
         match LocalLog::create(alloc, disk, settings) {
             Ok(log) => Ok(BrokerLog {
@@ -237,7 +240,8 @@ impl<D: Disk> BrokerLog<D> {
         ensures ok { IfOk result (λ end. Settles D.content self.old self.new (λ line _. line) end) }
         ensures refused { OnErr result (IsErrOf result NoMemory ⊎ IsErrOf result Failed) }
         ensures no_memory { IsErrOf result NoMemory → Stays D.content self.old self.new }
-        ensures fault { IsErrOf result Failed → Breaks D.content self.old self.new (λ s. loosened s (end_of s.batches, s.line, s.local)) }
+        ensures fault { IsErrOf result Failed
+            → Breaks D.content self.old self.new (λ s. loosened s (end_of s.batches, s.line, s.local)) }
         ensures control { Lasting D.control self.old self.new }
         ensures cause { IsErrOf result Failed → Faulted D.control self.old self.new }
         ensures quiet { (IsErrOf result Failed → ⊥) → NoFault D.control self.old self.new }
@@ -261,7 +265,8 @@ impl<D: Disk> BrokerLog<D> {
         ensures last_offset { IsErrOf result append.LastOffset ↔ (2 ^ 62 ≤ last_of run.now) }
         ensures many { IsErrOf result append.TooManySegments ↔ (last_of run.now < 2 ^ 62)
             × WhileUp self.old (λ log. IsTrue (is_due log run.now) × (4095 ≤ length log.closed)) }
-        ensures unchanged { (IsErrOf result append.LastOffset ⊎ IsErrOf result append.TooManySegments) → self.new ≡ self.old }
+        ensures unchanged { (IsErrOf result append.LastOffset ⊎ IsErrOf result append.TooManySegments)
+            → self.new ≡ self.old }
         ensures refused { OnErr result ((IsErrOf result append.LastOffset ⊎ IsErrOf result append.TooManySegments)
             ⊎ (IsErrOf result append.NoMemory ⊎ IsErrOf result append.DiskFault)) }
         ensures no_memory { IsErrOf result append.NoMemory → Stays D.content self.old self.new }
@@ -313,7 +318,8 @@ impl<D: Disk> BrokerLog<D> {
         ensures empty { IsErrOf result roll.EmptySegment ↔ WhileUp self.old (λ log. size_of log.active ≡ 0) }
         ensures many { IsErrOf result roll.TooManySegments ↔ WhileUp self.old (λ log. (0 < size_of log.active)
             × (4095 ≤ length log.closed)) }
-        ensures unchanged { (IsErrOf result roll.EmptySegment ⊎ IsErrOf result roll.TooManySegments) → self.new ≡ self.old }
+        ensures unchanged { (IsErrOf result roll.EmptySegment ⊎ IsErrOf result roll.TooManySegments)
+            → self.new ≡ self.old }
         ensures refused { OnErr result ((IsErrOf result roll.EmptySegment ⊎ IsErrOf result roll.TooManySegments)
             ⊎ (IsErrOf result roll.NoMemory ⊎ IsErrOf result roll.DiskFault)) }
         ensures no_memory { IsErrOf result roll.NoMemory → Stays D.content self.old self.new }
@@ -337,7 +343,8 @@ impl<D: Disk> BrokerLog<D> {
         ensures ok { IfOk result (λ now. Cuts D.content self.old self.new end now) }
         ensures refused { OnErr result (IsErrOf result NoMemory ⊎ IsErrOf result Failed) }
         ensures no_memory { IsErrOf result NoMemory → Stays D.content self.old self.new }
-        ensures fault { IsErrOf result Failed → BreaksIf D.content self.old self.new (MayCut end) (λ s. torn s (cut_back s end)) }
+        ensures fault { IsErrOf result Failed
+            → BreaksIf D.content self.old self.new (MayCut end) (λ s. torn s (cut_back s end)) }
         ensures control { Lasting D.control self.old self.new }
         ensures cause { IsErrOf result Failed → Faulted D.control self.old self.new }
         ensures quiet { (IsErrOf result Failed → ⊥) → NoFault D.control self.old self.new }
@@ -412,8 +419,10 @@ impl<D: Disk> BrokerLog<D> {
         ensures stays { Stays D.content self.old self.new }
         ensures segment { IfOk result (λ segment. WhileUp self.old (λ log. OnDisk self.new (λ d.
             IsClosedFrom log offset (D.control d).handed segment))) }
-        ensures part { IfOk result (λ segment. (s : Seen) → Shows D.content self.old s → IfSome segment (λ segment. IsSegmentOf s segment)) }
-        ensures err { IfErr result (λ e. WhileUp self.old (λ log. OnDisk self.new (λ d. ClosedFails log offset (D.control d).handed e))) }
+        ensures part { IfOk result (λ segment. (s : Seen) → Shows D.content self.old s
+            → IfSome segment (λ segment. IsSegmentOf s segment)) }
+        ensures err { IfErr result
+            (λ e. WhileUp self.old (λ log. OnDisk self.new (λ d. ClosedFails log offset (D.control d).handed e))) }
         ensures whole { IfErr result (λ e. (s : Seen) → Shows D.content self.old s → IsOfDevice e) }
         ensures ran { WhileUp self.old (λ log. first_past offset log.closed ≢ None
             → OnDisk self.old (λ d. OnDisk self.new (λ d'. ReadOnce result (D.control d) (D.control d')))) }

@@ -57,9 +57,13 @@ pub record LeavesOnly (old new : Content) (P : Files → Type 0) : Type 0 where
   pub before : (t : ℕ) (c : Files) → t ≤ old.moment → new.left t c → old.left t c ⊎ P c
 
 -- a call that changes one file: what it makes of it where it was done, and what a crash may make of it
-pub record Changes (name : FileName) (made : Option (List ℕ) → Option (List ℕ)) (crash : Option (List ℕ) → Option (List ℕ) → Type 0) (may_be_done : Bool → Type 0) (old new : Content) : Type 0 where
+pub record Changes (name : FileName) (made : Option (List ℕ) → Option (List ℕ))
+    (crash : Option (List ℕ) → Option (List ℕ) → Type 0) (may_be_done : Bool → Type 0)
+    (old new : Content) : Type 0 where
   pub tells : new.tells ≡ old.tells
-  pub files : IsTrue old.tells → (done : Bool) × may_be_done done × OnlyAt name (λ before after. after ≡ (if done then made before else before)) old.files new.files
+  pub files : IsTrue old.tells
+      → (done : Bool) × may_be_done done
+      × OnlyAt name (λ before after. after ≡ (if done then made before else before)) old.files new.files
   pub images : (c : Files) → Image new c → (d : Files) × Image old d × OnlyAt name crash d c
   pub undone : (may_be_done true → ⊥) → (c : Files) → Image new c → Image old c
   pub time : Elapses old new

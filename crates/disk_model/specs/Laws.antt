@@ -36,7 +36,8 @@ begins None some = absurd (false≢true some)
 begins (Some bytes) some = ([], ap Some (sym (append-nil bytes)))
 
 -- a file that is named or another, with what a crash may leave of it
-pub named_keeps : (b : Bool) (P : Option (List ℕ) → Type 0) (R : Option (List ℕ) → Option (List ℕ) → Type 0) (r o : Option (List ℕ)) → P r → R r o
+pub named_keeps : (b : Bool) (P : Option (List ℕ) → Type 0) (R : Option (List ℕ) → Option (List ℕ)
+    → Type 0) (r o : Option (List ℕ)) → P r → R r o
     → MatchBool b ((p : Option (List ℕ)) × (P p × R p (if b then o else r))) (P (if b then o else r))
 named_keeps true P R r o p keeps = (r, (p, keeps))
 named_keeps false P R r o p keeps = p
@@ -60,23 +61,47 @@ mutual
   -- what reads is one of the images
   pub left_as_read : (past : List Step) (n : FileName) → LeftOf past n (reads past n)
   left_as_read [] n = refl
-  left_as_read (Append name bytes ∷ past) n = named_keeps (same_name n name) (LeftOf past n) Grown (reads past n) (appended bytes (reads past n)) (left_as_read past n) (grown_by bytes (reads past n))
-  left_as_read (Sync name ∷ past) n = (left_as_read past n, on_true_any (same_name n name) (Begins (reads past n) (reads past n)) (begins (reads past n)))
-  left_as_read (Cut name len ∷ past) n = named_keeps (same_name n name) (LeftOf past n) (CutBack len) (reads past n) (cut_to len (reads past n)) (left_as_read past n) (cut_back len (reads past n))
-  left_as_read (Replace name bytes true ∷ past) n = named_keeps (same_name n name) (LeftOf past n) (λ before after. after ≡ Some bytes) (reads past n) (Some bytes) (left_as_read past n) refl
-  left_as_read (Replace name bytes false ∷ past) n = named_keeps (same_name n name) (LeftOf past n) (Swapped bytes) (reads past n) (Some bytes) (left_as_read past n) (inr refl)
-  left_as_read (Remove name ∷ past) n = named_keeps (same_name n name) (LeftOf past n) Gone (reads past n) None (left_as_read past n) (inr refl)
+  left_as_read (Append name bytes ∷ past) n =
+      named_keeps (same_name n name) (LeftOf past n) Grown (reads past n) (appended bytes (reads past n))
+      (left_as_read past n) (grown_by bytes (reads past n))
+  left_as_read (Sync name ∷ past) n = (
+    left_as_read past n,
+    on_true_any (same_name n name) (Begins (reads past n) (reads past n))
+        (begins (reads past n)),
+  )
+  left_as_read (Cut name len ∷ past) n =
+      named_keeps (same_name n name) (LeftOf past n) (CutBack len) (reads past n) (cut_to len (reads past n))
+      (left_as_read past n) (cut_back len (reads past n))
+  left_as_read (Replace name bytes true ∷ past) n =
+      named_keeps (same_name n name) (LeftOf past n) (λ before after. after ≡ Some bytes) (reads past n) (Some bytes)
+      (left_as_read past n) refl
+  left_as_read (Replace name bytes false ∷ past) n =
+      named_keeps (same_name n name) (LeftOf past n) (Swapped bytes) (reads past n) (Some bytes) (left_as_read past n)
+      (inr refl)
+  left_as_read (Remove name ∷ past) n =
+      named_keeps (same_name n name) (LeftOf past n) Gone (reads past n) None (left_as_read past n) (inr refl)
   left_as_read (Crash ∷ past) n = left_safe past n
 
   -- what the crash of this disk leaves is one of the images
   pub left_safe : (past : List Step) (n : FileName) → LeftOf past n (safe past n)
   left_safe [] n = refl
-  left_safe (Append name bytes ∷ past) n = named_keeps (same_name n name) (LeftOf past n) Grown (safe past n) (Some (bytes_in (safe past n))) (left_safe past n) (safe_grown (safe past n))
-  left_safe (Sync name ∷ past) n = sync_keeps (same_name n name) (LeftOf past n) (reads past n) (safe past n) (left_as_read past n) (left_safe past n)
-  left_safe (Cut name len ∷ past) n = named_keeps (same_name n name) (LeftOf past n) (CutBack len) (safe past n) (cut_to len (safe past n)) (left_safe past n) (cut_back len (safe past n))
-  left_safe (Replace name bytes true ∷ past) n = named_keeps (same_name n name) (LeftOf past n) (λ before after. after ≡ Some bytes) (safe past n) (Some bytes) (left_safe past n) refl
-  left_safe (Replace name bytes false ∷ past) n = named_keeps (same_name n name) (LeftOf past n) (Swapped bytes) (safe past n) (Some bytes) (left_safe past n) (inr refl)
-  left_safe (Remove name ∷ past) n = named_keeps (same_name n name) (LeftOf past n) Gone (safe past n) None (left_safe past n) (inr refl)
+  left_safe (Append name bytes ∷ past) n =
+      named_keeps (same_name n name) (LeftOf past n) Grown (safe past n) (Some (bytes_in (safe past n)))
+      (left_safe past n) (safe_grown (safe past n))
+  left_safe (Sync name ∷ past) n =
+      sync_keeps (same_name n name) (LeftOf past n) (reads past n) (safe past n) (left_as_read past n)
+      (left_safe past n)
+  left_safe (Cut name len ∷ past) n =
+      named_keeps (same_name n name) (LeftOf past n) (CutBack len) (safe past n) (cut_to len (safe past n))
+      (left_safe past n) (cut_back len (safe past n))
+  left_safe (Replace name bytes true ∷ past) n =
+      named_keeps (same_name n name) (LeftOf past n) (λ before after. after ≡ Some bytes) (safe past n) (Some bytes)
+      (left_safe past n) refl
+  left_safe (Replace name bytes false ∷ past) n =
+      named_keeps (same_name n name) (LeftOf past n) (Swapped bytes) (safe past n) (Some bytes) (left_safe past n)
+      (inr refl)
+  left_safe (Remove name ∷ past) n =
+      named_keeps (same_name n name) (LeftOf past n) Gone (safe past n) None (left_safe past n) (inr refl)
   left_safe (Crash ∷ past) n = left_safe past n
 
 -- as it reads it is one of its images

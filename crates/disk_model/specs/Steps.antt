@@ -78,7 +78,8 @@ abbrev pub safe : List Step → Files
 safe past n = (stand_after past n).safe
 
 -- what one file goes through where it is the one that is named
-abbrev pub Named : FileName → FileName → (Option (List ℕ) → Type 0) → (Option (List ℕ) → Option (List ℕ) → Type 0) → Option (List ℕ) → Type 0
+abbrev pub Named : FileName → FileName → (Option (List ℕ) → Type 0) → (Option (List ℕ) → Option (List ℕ) → Type 0)
+    → Option (List ℕ) → Type 0
 Named n name P R o = MatchBool (same_name n name) ((p : Option (List ℕ)) × (P p × R p o)) (P o)
 
 -- what a crash may leave of one file after a step, where before it that had P and read so

@@ -43,7 +43,8 @@ fn count_same(old: &[u8], new: &[u8]) -> usize
 /// The new file, as long as a head at least, as a patch that has so many bytes behind the head of the old one.
 fn patch_with(alloc: Global, same: usize, new: &[u8]) -> Result<Patch, AllocError>
     requires { 32 + same ≤ length new.now }
-    ensures { IfOk result (λ patch. (old : List ℕ) → take same (drop 32 old) ≡ take same (drop 32 new.now) → patched patch old ≡ new.now) }
+    ensures { IfOk result (λ patch. (old : List ℕ) → take same (drop 32 old) ≡ take same (drop 32 new.now)
+        → patched patch old ≡ new.now) }
 {
     let mut fresh = Vec::from_slice(alloc, &new[..HEAD])?;
     fresh.extend_from_slice(&new[HEAD + same..])?;

@@ -24,7 +24,8 @@ pub record Coheres {D : Type 0} (log : Log D) : Type 0 where
   -- no entry of the line starts past the end
   pub line_within : cut_end log.line (log.end + 1) ≡ log.line
   -- a cut to an offset ends with the last batch that ends at or below it
-  pub cuts : (n : ℕ) → log.local_start ≤ n → cut_point n log.closed log.active ≡ end_from log.local_start (up_to n log.batches)
+  pub cuts : (n : ℕ) → log.local_start ≤ n
+      → cut_point n log.closed log.active ≡ end_from log.local_start (up_to n log.batches)
   -- its segments hold the batches
   pub segments : Hold log.local_start (log.closed ++ log.active ∷ []) log.batches
   -- the first closed segment begins where the log does, and ends where a batch does

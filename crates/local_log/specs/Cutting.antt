@@ -30,7 +30,8 @@ open_by end (segment ∷ segments) active = if nat_le (end_of segment) end then 
 -- the segments behind that one: they are removed
 abbrev pub behind : ℕ → List Grown → Grown → List Grown
 behind end [] active = []
-behind end (segment ∷ segments) active = if nat_le (end_of segment) end then behind end segments active else segments ++ active ∷ []
+behind end (segment ∷ segments) active =
+    if nat_le (end_of segment) end then behind end segments active else segments ++ active ∷ []
 
 -- where the log ends that is cut to an offset
 abbrev pub cut_point : ℕ → List Grown → Grown → ℕ
@@ -150,6 +151,7 @@ pub record Trimmed (names : List FileName) (base len : ℕ) (d c : Files) : Type
 pub record Trims (names : List FileName) (base len : ℕ) (fate : Fate) (old new : Content) : Type 0 where
   pub tells : new.tells ≡ old.tells
   pub since : LeavesOnly old new (λ c. (d : Files) × Image old d × Trimmed names base len d c)
-  pub others : IsTrue old.tells → (n : FileName) → n ≢ file.Log base → (new.files n ≡ old.files n) ⊎ (In n names × (new.files n ≡ None))
+  pub others : IsTrue old.tells → (n : FileName) → n ≢ file.Log base
+      → (new.files n ≡ old.files n) ⊎ (In n names × (new.files n ≡ None))
   pub gone : fate ≡ Went → IsTrue old.tells → (n : FileName) → In n names → new.files n ≡ None
   pub cut : fate ≡ Went → IsTrue old.tells → new.files (file.Log base) ≡ cut_to len (old.files (file.Log base))

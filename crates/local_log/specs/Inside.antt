@@ -18,7 +18,8 @@ use Rattle.local_log.specs.Log.{Log, AreSettings, IsStable}
 use Rattle.local_log.specs.Listing.{AreSegmentsOf, AreListed}
 
 -- the disk has the log: its images the stable log, and its files all of it
-pub record HasLog (d : Content) (incarnation local_start : ℕ) (closed : List Grown) (active : Grown) (line : List (ℕ × ℕ)) (stable : ℕ) : Type 0 where
+pub record HasLog (d : Content) (incarnation local_start : ℕ) (closed : List Grown) (active : Grown)
+    (line : List (ℕ × ℕ)) (stable : ℕ) : Type 0 where
   -- what each image's manifest says, and what it is read as
   pub listed : Manifest
   pub opened : Opened
@@ -37,7 +38,8 @@ pub record HasLog (d : Content) (incarnation local_start : ℕ) (closed : List G
   pub stored : IsTrue d.tells → Each (IsStored d.files line) (closed ++ active ∷ [])
   pub exact : IsTrue d.tells → length (bytes_of d.files active) ≡ size_of active
   -- no other segment's file
-  pub clear : IsTrue d.tells → (b : ℕ) → Each (λ (g : Grown). b ≢ g.base) (closed ++ active ∷ []) → d.files (file.Log b) ≡ None
+  pub clear : IsTrue d.tells → (b : ℕ) → Each (λ (g : Grown). b ≢ g.base) (closed ++ active ∷ [])
+      → d.files (file.Log b) ≡ None
 
 module _ {D : Type 0} (content : D → Content) where
   abbrev pub log_in : Inside D → Log D
@@ -63,6 +65,7 @@ module _ {D : Type 0} (content : D → Content) where
     pub line : IsLine log.line
     pub line_within : Each (λ (entry : ℕ × ℕ). entry.1 ≤ end_of log.active) log.line
     pub stable_within : log.stable ≤ end_of log.active
-    pub has : log.broken ≡ false → HasLog (content log.disk) log.incarnation log.local_start log.closed.items log.active log.line log.stable
+    pub has : log.broken ≡ false
+        → HasLog (content log.disk) log.incarnation log.local_start log.closed.items log.active log.line log.stable
     -- a broken log can be opened again too
     pub reopens : Reopens (content log.disk)

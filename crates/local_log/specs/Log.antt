@@ -37,7 +37,8 @@ pub record AreSettings (settings : Settings) : Type 0 where
   pub interval_high : settings.index_interval ≤ 16777216
 
 -- what opens so is a log up to an end; an entry of the line that starts at the end may be another
-pub record IsUpTo (incarnation local_start end : ℕ) (all : List (List ℕ)) (line : List (ℕ × ℕ)) (o : Opened) : Type 0 where
+pub record IsUpTo (incarnation local_start end : ℕ) (all : List (List ℕ)) (line : List (ℕ × ℕ))
+    (o : Opened) : Type 0 where
   pub incarnation_is : o.incarnation ≡ incarnation
   pub local_start_is : o.local_start ≡ local_start
   pub batches_are : o.batches ≡ up_to end all

@@ -136,7 +136,8 @@ module _ {D : Type 0} where
   -- a log that was just opened
   pub record IsOpenLog (settings : Settings) (log : Log D) : Type 0 where
     pub settings_are : log.settings ≡ settings
-    pub intervals : Each (λ (segment : Grown). segment.interval ≡ settings.index_interval) (log.closed ++ log.active ∷ [])
+    pub intervals : Each (λ (segment : Grown). segment.interval ≡ settings.index_interval)
+        (log.closed ++ log.active ∷ [])
     pub stable : log.stable ≡ log.end
     pub broken : log.broken ≡ false
 

@@ -17,7 +17,8 @@ use Rattle.local_log.specs.declared.refusal.OpenRefusal.{OpenRefusal}
 use Rattle.local_log.specs.declared.refusal.OpenRefusal.TheVariants.{DiskFault, Damaged, LastIncarnation, NoMemory}
 
 -- batches that may stand in a segment are the front of bytes
-pub record Fronts (line : List (ℕ × ℕ)) (base : ℕ) (bytes : List ℕ) (batches : List (List ℕ)) (rest : List ℕ) : Type 0 where
+pub record Fronts (line : List (ℕ × ℕ)) (base : ℕ) (bytes : List ℕ) (batches : List (List ℕ))
+    (rest : List ℕ) : Type 0 where
   pub parts : bytes ≡ joined batches ++ rest
   pub placed : Each (IsPlaced line base) batches
   pub consecutive : IsConsecutive base batches
@@ -36,7 +37,8 @@ pub record HasNoBatchAt (line : List (ℕ × ℕ)) (e : Extent) (bytes : List �
   pub fronts : Fronts line e.base (take e.len bytes) batches rest
   pub place : at ≡ length (joined batches)
   pub short : at < e.len
-  pub nothing : (batch more : List ℕ) → rest ≡ batch ++ more → IsPlaced line e.base batch → IsConsecutive e.base (batches ++ batch ∷ []) → ⊥
+  pub nothing : (batch more : List ℕ) → rest ≡ batch ++ more → IsPlaced line e.base batch
+      → IsConsecutive e.base (batches ++ batch ∷ []) → ⊥
 
 -- why bytes aren't read as a segment
 abbrev pub ParseFails : List (ℕ × ℕ) → Extent → List ℕ → OpenRefusal → Type 0

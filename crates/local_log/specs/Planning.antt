@@ -35,7 +35,8 @@ abbrev pub PlansFrom : Option (List ℕ) → Plan → Type 0
 PlansFrom None plan = (plan.present ≡ plan.next.items) × (plan.manifest ≡ first_manifest)
 PlansFrom (Some bytes) plan =
     (plan.present ≡ bytes)
-    × ((n : ℕ) × (manifest_in bytes ≡ Ok (record plan.manifest { incarnation = n })) × (plan.manifest.incarnation ≡ n + 1))
+    × ((n : ℕ) × (manifest_in bytes ≡ Ok (record plan.manifest { incarnation = n }))
+    × (plan.manifest.incarnation ≡ n + 1))
 
 -- a plan of an opening
 pub record IsPlan (held : Option (List ℕ)) (plan : Plan) : Type 0 where
@@ -70,7 +71,8 @@ StudyFails handed LastIncarnation = IsLastOf handed
 StudyFails handed NoMemory = Unit {0}
 
 -- segments were read from their files, one after another
-pub record AreRead (d : Content) (line : List (ℕ × ℕ)) (interval start : ℕ) (extents : List Extent) (segments : List Grown) : Type 0 where
+pub record AreRead (d : Content) (line : List (ℕ × ℕ)) (interval start : ℕ) (extents : List Extent)
+    (segments : List Grown) : Type 0 where
   pub are : map extent_of segments ≡ extents
   pub chained : AreChained start segments
   pub laid : Each IsLaidOut segments
@@ -111,7 +113,8 @@ pub record IsOpened (d d' : Content) (interval : ℕ) (parts : Parts) : Type 0 w
   pub fits : parts.incarnation < 2 ^ 32
   pub line : IsLine parts.line
   pub line_within : Each (λ (entry : ℕ × ℕ). entry.1 ≤ end_of parts.active) parts.line
-  pub has : HasLog d' parts.incarnation parts.local_start parts.closed.items parts.active parts.line (end_of parts.active)
+  pub has : HasLog d' parts.incarnation parts.local_start parts.closed.items parts.active parts.line
+      (end_of parts.active)
   pub lists : IsTrue d.tells → Lists d.files (parts.closed.items ++ parts.active ∷ [])
   pub was : IsTrue d.tells → (o : Opened) × Opens d.files o × (whole_of d'.files parts ≡ raised o)
   pub durable : (c : Files) → Image d' c → Opens c (whole_of d'.files parts)

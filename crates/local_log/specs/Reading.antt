@@ -93,7 +93,8 @@ pub record HasStray (line : List (ℕ × ℕ)) (base size : ℕ) (bytes : List �
 
 -- bytes are no segment of this base from this place on, or end there, before the segment does
 pub record HasNoSegment (line : List (ℕ × ℕ)) (base size : ℕ) (bytes : List ℕ) (at : ℕ) : Type 0 where
-  pub bad : IsBadPlace base (take size bytes) at ⊎ (((at ≡ length bytes) × (at < size)) ⊎ HasStray line base size bytes at)
+  pub bad : IsBadPlace base (take size bytes) at
+      ⊎ (((at ≡ length bytes) × (at < size)) ⊎ HasStray line base size bytes at)
 
 -- why bytes aren't read as a segment
 abbrev pub FrontFails : List (ℕ × ℕ) → ℕ → ℕ → List ℕ → ReadRefusal → Type 0
@@ -152,7 +153,8 @@ module _ {D : Type 0} where
   abbrev pub IsClosedFrom : Log D → ℕ → List ℕ → Option Whole → Type 0
   IsClosedFrom log offset handed None = first_past offset log.closed ≡ None
   IsClosedFrom log offset handed (Some whole) =
-      (segment : Grown) × (first_past offset log.closed ≡ Some segment) × IsFront log.line segment.base (size_of segment) handed whole
+      (segment : Grown) × (first_past offset log.closed ≡ Some segment)
+      × IsFront log.line segment.base (size_of segment) handed whole
 
   -- why it isn't read
   abbrev pub ClosedFails : Log D → ℕ → List ℕ → ReadRefusal → Type 0

@@ -58,7 +58,8 @@ first_size run = 12 + field_at w32 8 run
 module _ {D : Type 0} where
   -- the log rolls before this run
   abbrev pub is_due : Log D → List ℕ → Bool
-  is_due log run = rolls_before log.settings.segment_bytes log.active.base (size_of log.active) (first_size run) (last_of run)
+  is_due log run =
+      rolls_before log.settings.segment_bytes log.active.base (size_of log.active) (first_size run) (last_of run)
 
   -- a new segment is open, and the one before it closed
   abbrev pub rolled : Log D → Log D

@@ -39,7 +39,8 @@ abbrev pub grown_by : Grown → List (List ℕ) → Grown
 grown_by segment batches = record segment { batches = segment.batches ++ placed_from (size_of segment) batches }
 
 -- the front of a run is in the segment, and the line is that of the front
-pub record IsGathering (old : Grown) (line : List (ℕ × ℕ)) (run : List ℕ) (most at : ℕ) (segment : Grown) (newer : Option (List (ℕ × ℕ))) : Type 0 where
+pub record IsGathering (old : Grown) (line : List (ℕ × ℕ)) (run : List ℕ) (most at : ℕ) (segment : Grown)
+    (newer : Option (List (ℕ × ℕ))) : Type 0 where
   pub is : IsRun (end_of old) line run
   pub front : List (List ℕ)
   pub rest : List (List ℕ)
@@ -50,7 +51,8 @@ pub record IsGathering (old : Grown) (line : List (ℕ × ℕ)) (run : List ℕ)
   pub line_is : line_or line newer ≡ lined line front
 
 -- as many batches of a run as stand in a segment are in it
-pub record IsTakenIn (old new : Grown) (line : List (ℕ × ℕ)) (run : List ℕ) (most : ℕ) (taken : ℕ × Option (List (ℕ × ℕ))) : Type 0 where
+pub record IsTakenIn (old new : Grown) (line : List (ℕ × ℕ)) (run : List ℕ) (most : ℕ)
+    (taken : ℕ × Option (List (ℕ × ℕ))) : Type 0 where
   pub is : IsRun (end_of old) line run
   pub segment_is : new ≡ grown_by old (taking most old.base (size_of old) is.batches)
   pub len_is : taken.0 ≡ length (joined (taking most old.base (size_of old) is.batches))

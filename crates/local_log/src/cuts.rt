@@ -33,7 +33,8 @@ impl<D: Disk> LocalLog<D> {
         ensures ok { OnOk result (Becomes D.content (cut_at self.old end) self.new) }
         ensures told { IsTrue (D.content self.old.disk).tells → self.old.local_start ≤ end
             → OnOk result (IsLeftUpTo self.old end self.new) }
-        ensures durable { OnOk result ((c : Files) → Image (D.content self.new.disk) c → Opens c (all_of (cut_at self.old end))) }
+        ensures durable { OnOk result ((c : Files) → Image (D.content self.new.disk) c
+            → Opens c (all_of (cut_at self.old end))) }
 
         // A crash at any moment of the call leaves the stable log of before, or the cut one.
         ensures any_moment { LeavesOnly (D.content self.old.disk) (D.content self.new.disk)
@@ -44,13 +45,17 @@ impl<D: Disk> LocalLog<D> {
 
         ensures others { OnErr result (IsErrOf result fault.NoMemory ⊎ IsErrOf result fault.Failed) }
         ensures no_memory { IsErrOf result fault.NoMemory → Becomes D.content self.old self.new }
-        ensures no_image { IsErrOf result fault.NoMemory → (c : Files) → Image (D.content self.new.disk) c → Image (D.content self.old.disk) c }
+        ensures no_image { IsErrOf result fault.NoMemory → (c : Files) → Image (D.content self.new.disk) c
+            → Image (D.content self.old.disk) c }
         ensures broken { IsErrOf result fault.Failed → self.new.broken ≡ true }
         ensures tells { (D.content self.new.disk).tells ≡ (D.content self.old.disk).tells }
         ensures control { Lasts (D.control self.old.disk) (D.control self.new.disk) }
-        ensures cause { IsErrOf result fault.Failed → Rose (D.control self.old.disk).faults (D.control self.new.disk).faults }
-        ensures quiet { (IsErrOf result fault.Failed → ⊥) → (D.control self.new.disk).faults ≡ (D.control self.old.disk).faults }
-        ensures once { IsErrOf result fault.Failed → (D.control self.new.disk).faults ≡ counted (D.control self.old.disk).faults 1 }
+        ensures cause { IsErrOf result fault.Failed
+            → Rose (D.control self.old.disk).faults (D.control self.new.disk).faults }
+        ensures quiet { (IsErrOf result fault.Failed → ⊥)
+            → (D.control self.new.disk).faults ≡ (D.control self.old.disk).faults }
+        ensures once { IsErrOf result fault.Failed
+            → (D.control self.new.disk).faults ≡ counted (D.control self.old.disk).faults 1 }
     {
         if end < self.local_start {
             self.cut_before(end)
@@ -73,13 +78,17 @@ impl<D: Disk> LocalLog<D> {
             (OpensAsOr (D.content self.old.disk) (all_of (restarted self.old end (cut_end self.old.line end)))) }
         ensures others { OnErr result (IsErrOf result fault.NoMemory ⊎ IsErrOf result fault.Failed) }
         ensures no_memory { IsErrOf result fault.NoMemory → Becomes D.content self.old self.new }
-        ensures no_image { IsErrOf result fault.NoMemory → (c : Files) → Image (D.content self.new.disk) c → Image (D.content self.old.disk) c }
+        ensures no_image { IsErrOf result fault.NoMemory → (c : Files) → Image (D.content self.new.disk) c
+            → Image (D.content self.old.disk) c }
         ensures broken { IsErrOf result fault.Failed → self.new.broken ≡ true }
         ensures tells { (D.content self.new.disk).tells ≡ (D.content self.old.disk).tells }
         ensures control { Lasts (D.control self.old.disk) (D.control self.new.disk) }
-        ensures cause { IsErrOf result fault.Failed → Rose (D.control self.old.disk).faults (D.control self.new.disk).faults }
-        ensures quiet { (IsErrOf result fault.Failed → ⊥) → (D.control self.new.disk).faults ≡ (D.control self.old.disk).faults }
-        ensures once { IsErrOf result fault.Failed → (D.control self.new.disk).faults ≡ counted (D.control self.old.disk).faults 1 }
+        ensures cause { IsErrOf result fault.Failed
+            → Rose (D.control self.old.disk).faults (D.control self.new.disk).faults }
+        ensures quiet { (IsErrOf result fault.Failed → ⊥)
+            → (D.control self.new.disk).faults ≡ (D.control self.old.disk).faults }
+        ensures once { IsErrOf result fault.Failed
+            → (D.control self.new.disk).faults ≡ counted (D.control self.old.disk).faults 1 }
     {
         self.stands();
         let mut line = self.line.copy(self.alloc)?;
@@ -92,7 +101,8 @@ impl<D: Disk> LocalLog<D> {
         requires unbroken { self.old.broken ≡ false }
         requires from { self.old.local_start ≤ end }
         requires within { end ≤ self.old.end }
-        ensures ok { OnOk result (Becomes D.content (cut self.old (cut_point end self.old.closed self.old.active)) self.new) }
+        ensures ok { OnOk result (Becomes D.content
+            (cut self.old (cut_point end self.old.closed self.old.active)) self.new) }
         ensures told { IsTrue (D.content self.old.disk).tells → OnOk result (IsLeftUpTo self.old end self.new) }
         ensures durable { OnOk result ((c : Files) → Image (D.content self.new.disk) c
             → Opens c (all_of (cut self.old (cut_point end self.old.closed self.old.active)))) }
@@ -100,16 +110,21 @@ impl<D: Disk> LocalLog<D> {
             (OpensEither self.old (cut self.old (cut_point end self.old.closed self.old.active))) }
         // Each of these images opens as an image of before does, or as the cut log.
         ensures opens { LeavesOnly (D.content self.old.disk) (D.content self.new.disk)
-            (OpensAsOr (D.content self.old.disk) (all_of (cut self.old (cut_point end self.old.closed self.old.active)))) }
+            (OpensAsOr (D.content self.old.disk)
+            (all_of (cut self.old (cut_point end self.old.closed self.old.active)))) }
         ensures others { OnErr result (IsErrOf result fault.NoMemory ⊎ IsErrOf result fault.Failed) }
         ensures no_memory { IsErrOf result fault.NoMemory → Becomes D.content self.old self.new }
-        ensures no_image { IsErrOf result fault.NoMemory → (c : Files) → Image (D.content self.new.disk) c → Image (D.content self.old.disk) c }
+        ensures no_image { IsErrOf result fault.NoMemory → (c : Files) → Image (D.content self.new.disk) c
+            → Image (D.content self.old.disk) c }
         ensures broken { IsErrOf result fault.Failed → self.new.broken ≡ true }
         ensures tells { (D.content self.new.disk).tells ≡ (D.content self.old.disk).tells }
         ensures control { Lasts (D.control self.old.disk) (D.control self.new.disk) }
-        ensures cause { IsErrOf result fault.Failed → Rose (D.control self.old.disk).faults (D.control self.new.disk).faults }
-        ensures quiet { (IsErrOf result fault.Failed → ⊥) → (D.control self.new.disk).faults ≡ (D.control self.old.disk).faults }
-        ensures once { IsErrOf result fault.Failed → (D.control self.new.disk).faults ≡ counted (D.control self.old.disk).faults 1 }
+        ensures cause { IsErrOf result fault.Failed
+            → Rose (D.control self.old.disk).faults (D.control self.new.disk).faults }
+        ensures quiet { (IsErrOf result fault.Failed → ⊥)
+            → (D.control self.new.disk).faults ≡ (D.control self.old.disk).faults }
+        ensures once { IsErrOf result fault.Failed
+            → (D.control self.new.disk).faults ≡ counted (D.control self.old.disk).faults 1 }
     {
         let point = cut_point(&self.closed, &self.active, end);
         self.cut_within(point)
@@ -137,23 +152,29 @@ impl<D: Disk> LocalLog<D> {
         requires exact { cut_point end self.old.closed self.old.active ≡ end }
         requires room { 1 ≤ D.spare self.old.disk }
         requires bytes { bytes.now ≡ manifest_bytes (manifest_of self.old.incarnation self.old.local_start
-            (closed_by end self.old.closed) (front_to end (open_by end self.old.closed self.old.active)) (cut_end self.old.line end)) }
+            (closed_by end self.old.closed) (front_to end (open_by end self.old.closed self.old.active))
+            (cut_end self.old.line end)) }
         ensures ok { OnOk result (Becomes D.content (settled self.old end) self.new) }
-        ensures durable { OnOk result ((c : Files) → Image (D.content self.new.disk) c → Opens c (opened_to self.old end)) }
+        ensures durable { OnOk result ((c : Files) → Image (D.content self.new.disk) c
+            → Opens c (opened_to self.old end)) }
         ensures any_moment { LeavesOnly (D.content self.old.disk) (D.content self.new.disk) (Cutting self.old end) }
         // Each of these images opens as an image of before does, or as the cut log.
         ensures opens { LeavesOnly (D.content self.old.disk) (D.content self.new.disk)
             (OpensAsOr (D.content self.old.disk) (opened_to self.old end)) }
         ensures others { OnErr result (IsErrOf result fault.NoMemory ⊎ IsErrOf result fault.Failed) }
         ensures no_memory { IsErrOf result fault.NoMemory → Becomes D.content self.old self.new }
-        ensures no_image { IsErrOf result fault.NoMemory → (c : Files) → Image (D.content self.new.disk) c → Image (D.content self.old.disk) c }
+        ensures no_image { IsErrOf result fault.NoMemory → (c : Files) → Image (D.content self.new.disk) c
+            → Image (D.content self.old.disk) c }
         ensures broken { IsErrOf result fault.Failed → Breaks D.content self.old self.new }
         ensures room { OnOk result (D.spare self.new.disk + 1 ≡ D.spare self.old.disk) }
         ensures tells { (D.content self.new.disk).tells ≡ (D.content self.old.disk).tells }
         ensures control { Lasts (D.control self.old.disk) (D.control self.new.disk) }
-        ensures cause { IsErrOf result fault.Failed → Rose (D.control self.old.disk).faults (D.control self.new.disk).faults }
-        ensures quiet { (IsErrOf result fault.Failed → ⊥) → (D.control self.new.disk).faults ≡ (D.control self.old.disk).faults }
-        ensures once { IsErrOf result fault.Failed → (D.control self.new.disk).faults ≡ counted (D.control self.old.disk).faults 1 }
+        ensures cause { IsErrOf result fault.Failed
+            → Rose (D.control self.old.disk).faults (D.control self.new.disk).faults }
+        ensures quiet { (IsErrOf result fault.Failed → ⊥)
+            → (D.control self.new.disk).faults ≡ (D.control self.old.disk).faults }
+        ensures once { IsErrOf result fault.Failed
+            → (D.control self.new.disk).faults ≡ counted (D.control self.old.disk).faults 1 }
     {
         let last = open_front(&self.closed, &self.active, end);
         match publish(&mut self.disk, FileName::Log(last.base), bytes) {
@@ -174,7 +195,8 @@ impl<D: Disk> LocalLog<D> {
         requires exact { cut_point end self.old.closed self.old.active ≡ end }
         requires room { length self.old.closed + 1 ≤ D.spare self.old.disk }
         ensures ok { OnOk result (Becomes D.content (shortened self.old end) self.new) }
-        ensures any_moment { LeavesOnly (D.content self.old.disk) (D.content self.new.disk) (OpensAs (D.content self.old.disk)) }
+        ensures any_moment { LeavesOnly (D.content self.old.disk) (D.content self.new.disk)
+            (OpensAs (D.content self.old.disk)) }
         ensures broken { OnErr result (Breaks D.content self.old self.new) }
         ensures tells { (D.content self.new.disk).tells ≡ (D.content self.old.disk).tells }
         ensures control { Lasts (D.control self.old.disk) (D.control self.new.disk) }
@@ -203,22 +225,28 @@ impl<D: Disk> LocalLog<D> {
         requires exact { cut_point end self.old.closed self.old.active ≡ end }
         requires room { length self.old.closed + 2 ≤ D.spare self.old.disk }
         requires bytes { bytes.now ≡ manifest_bytes (manifest_of self.old.incarnation self.old.local_start
-            (closed_by end self.old.closed) (front_to end (open_by end self.old.closed self.old.active)) (cut_end self.old.line end)) }
+            (closed_by end self.old.closed) (front_to end (open_by end self.old.closed self.old.active))
+            (cut_end self.old.line end)) }
         ensures ok { OnOk result (Becomes D.content (cut self.old end) self.new) }
-        ensures durable { OnOk result ((c : Files) → Image (D.content self.new.disk) c → Opens c (opened_to self.old end)) }
+        ensures durable { OnOk result ((c : Files) → Image (D.content self.new.disk) c
+            → Opens c (opened_to self.old end)) }
         ensures any_moment { LeavesOnly (D.content self.old.disk) (D.content self.new.disk) (Cutting self.old end) }
         // Each of these images opens as an image of before does, or as the cut log.
         ensures opens { LeavesOnly (D.content self.old.disk) (D.content self.new.disk)
             (OpensAsOr (D.content self.old.disk) (opened_to self.old end)) }
         ensures others { OnErr result (IsErrOf result fault.NoMemory ⊎ IsErrOf result fault.Failed) }
         ensures no_memory { IsErrOf result fault.NoMemory → Becomes D.content self.old self.new }
-        ensures no_image { IsErrOf result fault.NoMemory → (c : Files) → Image (D.content self.new.disk) c → Image (D.content self.old.disk) c }
+        ensures no_image { IsErrOf result fault.NoMemory → (c : Files) → Image (D.content self.new.disk) c
+            → Image (D.content self.old.disk) c }
         ensures broken { IsErrOf result fault.Failed → self.new.broken ≡ true }
         ensures tells { (D.content self.new.disk).tells ≡ (D.content self.old.disk).tells }
         ensures control { Lasts (D.control self.old.disk) (D.control self.new.disk) }
-        ensures cause { IsErrOf result fault.Failed → Rose (D.control self.old.disk).faults (D.control self.new.disk).faults }
-        ensures quiet { (IsErrOf result fault.Failed → ⊥) → (D.control self.new.disk).faults ≡ (D.control self.old.disk).faults }
-        ensures once { IsErrOf result fault.Failed → (D.control self.new.disk).faults ≡ counted (D.control self.old.disk).faults 1 }
+        ensures cause { IsErrOf result fault.Failed
+            → Rose (D.control self.old.disk).faults (D.control self.new.disk).faults }
+        ensures quiet { (IsErrOf result fault.Failed → ⊥)
+            → (D.control self.new.disk).faults ≡ (D.control self.old.disk).faults }
+        ensures once { IsErrOf result fault.Failed
+            → (D.control self.new.disk).faults ≡ counted (D.control self.old.disk).faults 1 }
     {
         self.settle(bytes, end)?;
         Ok(self.shed(end)?)
@@ -231,20 +259,25 @@ impl<D: Disk> LocalLog<D> {
         requires within { end ≤ self.old.end }
         requires exact { cut_point end self.old.closed self.old.active ≡ end }
         ensures ok { OnOk result (Becomes D.content (cut self.old end) self.new) }
-        ensures durable { OnOk result ((c : Files) → Image (D.content self.new.disk) c → Opens c (opened_to self.old end)) }
+        ensures durable { OnOk result ((c : Files) → Image (D.content self.new.disk) c
+            → Opens c (opened_to self.old end)) }
         ensures any_moment { LeavesOnly (D.content self.old.disk) (D.content self.new.disk) (Cutting self.old end) }
         // Each of these images opens as an image of before does, or as the cut log.
         ensures opens { LeavesOnly (D.content self.old.disk) (D.content self.new.disk)
             (OpensAsOr (D.content self.old.disk) (opened_to self.old end)) }
         ensures others { OnErr result (IsErrOf result fault.NoMemory ⊎ IsErrOf result fault.Failed) }
         ensures no_memory { IsErrOf result fault.NoMemory → Becomes D.content self.old self.new }
-        ensures no_image { IsErrOf result fault.NoMemory → (c : Files) → Image (D.content self.new.disk) c → Image (D.content self.old.disk) c }
+        ensures no_image { IsErrOf result fault.NoMemory → (c : Files) → Image (D.content self.new.disk) c
+            → Image (D.content self.old.disk) c }
         ensures broken { IsErrOf result fault.Failed → self.new.broken ≡ true }
         ensures tells { (D.content self.new.disk).tells ≡ (D.content self.old.disk).tells }
         ensures control { Lasts (D.control self.old.disk) (D.control self.new.disk) }
-        ensures cause { IsErrOf result fault.Failed → Rose (D.control self.old.disk).faults (D.control self.new.disk).faults }
-        ensures quiet { (IsErrOf result fault.Failed → ⊥) → (D.control self.new.disk).faults ≡ (D.control self.old.disk).faults }
-        ensures once { IsErrOf result fault.Failed → (D.control self.new.disk).faults ≡ counted (D.control self.old.disk).faults 1 }
+        ensures cause { IsErrOf result fault.Failed
+            → Rose (D.control self.old.disk).faults (D.control self.new.disk).faults }
+        ensures quiet { (IsErrOf result fault.Failed → ⊥)
+            → (D.control self.new.disk).faults ≡ (D.control self.old.disk).faults }
+        ensures once { IsErrOf result fault.Failed
+            → (D.control self.new.disk).faults ≡ counted (D.control self.old.disk).faults 1 }
     {
         self.stands();
         let bytes = self.listing_cut(end)?;

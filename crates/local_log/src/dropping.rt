@@ -31,7 +31,8 @@ impl<D: Disk> LocalLog<D> {
         requires first { IsFirstStable self.old.stable self.old.closed }
         ensures answer { IfOk result (λ answer. SpansFirst self.old.closed answer) }
         ensures ok { OnOk result (Becomes D.content (dropped self.old) self.new) }
-        ensures durable { OnOk result ((c : Files) → Image (D.content self.new.disk) c → Opens c (stable_log (dropped self.old))) }
+        ensures durable { OnOk result ((c : Files) → Image (D.content self.new.disk) c
+            → Opens c (stable_log (dropped self.old))) }
 
         // A crash at any moment of the call leaves the stable log of before, or the one without the segment.
         ensures any_moment { LeavesOnly (D.content self.old.disk) (D.content self.new.disk) (OpensDropped self.old) }
@@ -41,13 +42,17 @@ impl<D: Disk> LocalLog<D> {
 
         ensures others { OnErr result (IsErrOf result fault.NoMemory ⊎ IsErrOf result fault.Failed) }
         ensures no_memory { IsErrOf result fault.NoMemory → Becomes D.content self.old self.new }
-        ensures no_image { IsErrOf result fault.NoMemory → (c : Files) → Image (D.content self.new.disk) c → Image (D.content self.old.disk) c }
+        ensures no_image { IsErrOf result fault.NoMemory → (c : Files) → Image (D.content self.new.disk) c
+            → Image (D.content self.old.disk) c }
         ensures broken { IsErrOf result fault.Failed → self.new.broken ≡ true }
         ensures tells { (D.content self.new.disk).tells ≡ (D.content self.old.disk).tells }
         ensures control { Lasts (D.control self.old.disk) (D.control self.new.disk) }
-        ensures cause { IsErrOf result fault.Failed → Rose (D.control self.old.disk).faults (D.control self.new.disk).faults }
-        ensures quiet { (IsErrOf result fault.Failed → ⊥) → (D.control self.new.disk).faults ≡ (D.control self.old.disk).faults }
-        ensures once { IsErrOf result fault.Failed → (D.control self.new.disk).faults ≡ counted (D.control self.old.disk).faults 1 }
+        ensures cause { IsErrOf result fault.Failed
+            → Rose (D.control self.old.disk).faults (D.control self.new.disk).faults }
+        ensures quiet { (IsErrOf result fault.Failed → ⊥)
+            → (D.control self.new.disk).faults ≡ (D.control self.old.disk).faults }
+        ensures once { IsErrOf result fault.Failed
+            → (D.control self.new.disk).faults ≡ counted (D.control self.old.disk).faults 1 }
     {
         self.stands();
         let bytes = self.listing_behind()?;
@@ -92,20 +97,25 @@ impl<D: Disk> LocalLog<D> {
             (cut_end self.old.line (self.old.stable + 1))) }
         ensures answer { IfOk result (λ answer. SpansFirst self.old.closed answer) }
         ensures ok { OnOk result (Becomes D.content (dropped self.old) self.new) }
-        ensures durable { OnOk result ((c : Files) → Image (D.content self.new.disk) c → Opens c (stable_log (dropped self.old))) }
+        ensures durable { OnOk result ((c : Files) → Image (D.content self.new.disk) c
+            → Opens c (stable_log (dropped self.old))) }
         ensures any_moment { LeavesOnly (D.content self.old.disk) (D.content self.new.disk) (OpensDropped self.old) }
         // Each of these images opens as an image of before does, or as the log without the segment.
         ensures opens { LeavesOnly (D.content self.old.disk) (D.content self.new.disk)
             (OpensAsOr (D.content self.old.disk) (stable_log (dropped self.old))) }
         ensures others { OnErr result (IsErrOf result fault.NoMemory ⊎ IsErrOf result fault.Failed) }
         ensures no_memory { IsErrOf result fault.NoMemory → Becomes D.content self.old self.new }
-        ensures no_image { IsErrOf result fault.NoMemory → (c : Files) → Image (D.content self.new.disk) c → Image (D.content self.old.disk) c }
+        ensures no_image { IsErrOf result fault.NoMemory → (c : Files) → Image (D.content self.new.disk) c
+            → Image (D.content self.old.disk) c }
         ensures broken { IsErrOf result fault.Failed → self.new.broken ≡ true }
         ensures tells { (D.content self.new.disk).tells ≡ (D.content self.old.disk).tells }
         ensures control { Lasts (D.control self.old.disk) (D.control self.new.disk) }
-        ensures cause { IsErrOf result fault.Failed → Rose (D.control self.old.disk).faults (D.control self.new.disk).faults }
-        ensures quiet { (IsErrOf result fault.Failed → ⊥) → (D.control self.new.disk).faults ≡ (D.control self.old.disk).faults }
-        ensures once { IsErrOf result fault.Failed → (D.control self.new.disk).faults ≡ counted (D.control self.old.disk).faults 1 }
+        ensures cause { IsErrOf result fault.Failed
+            → Rose (D.control self.old.disk).faults (D.control self.new.disk).faults }
+        ensures quiet { (IsErrOf result fault.Failed → ⊥)
+            → (D.control self.new.disk).faults ≡ (D.control self.old.disk).faults }
+        ensures once { IsErrOf result fault.Failed
+            → (D.control self.new.disk).faults ≡ counted (D.control self.old.disk).faults 1 }
     {
         let first = &self.closed[0];
         let base = first.base();

@@ -88,16 +88,21 @@ impl<D: Disk> LocalLog<D> {
         ensures durable { IfOk result (λ log. (c : Files) → Image (D.content log.disk) c → Opens c first_log) }
 
         // A crash at any moment of the call leaves what it might have left before, or the new log.
-        ensures any_moment { IfOk result (λ log. LeavesOnly (D.content disk) (D.content log.disk) (Creating (D.content disk))) }
-        ensures any_moment_err { IfErr result (λ e. LeavesOnly (D.content disk) (D.content e.0) (Creating (D.content disk))) }
+        ensures any_moment { IfOk result
+            (λ log. LeavesOnly (D.content disk) (D.content log.disk) (Creating (D.content disk))) }
+        ensures any_moment_err { IfErr result
+            (λ e. LeavesOnly (D.content disk) (D.content e.0) (Creating (D.content disk))) }
         ensures again { IfErr result (λ e. Reopens (D.content disk) → Reopens (D.content e.0)) }
 
         ensures control { IfOk result (λ log. Lasts (D.control disk) (D.control log.disk)) }
         ensures control_err { IfErr result (λ e. Lasts (D.control disk) (D.control e.0)) }
-        ensures cause { IfErr result (λ e. e.1 ≡ create.DiskFault → Rose (D.control disk).faults (D.control e.0).faults) }
+        ensures cause { IfErr result (λ e. e.1 ≡ create.DiskFault
+            → Rose (D.control disk).faults (D.control e.0).faults) }
         ensures quiet { IfOk result (λ log. (D.control log.disk).faults ≡ (D.control disk).faults) }
-        ensures quiet_err { IfErr result (λ e. (e.1 ≡ create.DiskFault → ⊥) → (D.control e.0).faults ≡ (D.control disk).faults) }
-        ensures once { IfErr result (λ e. e.1 ≡ create.DiskFault → (D.control e.0).faults ≡ counted (D.control disk).faults 1) }
+        ensures quiet_err { IfErr result (λ e. (e.1 ≡ create.DiskFault → ⊥)
+            → (D.control e.0).faults ≡ (D.control disk).faults) }
+        ensures once { IfErr result (λ e. e.1 ≡ create.DiskFault
+            → (D.control e.0).faults ≡ counted (D.control disk).faults 1) }
     {
         let mut disk = disk;
         let active = Growing::new(alloc, 0, settings.index_interval);
@@ -161,10 +166,13 @@ impl<D: Disk> LocalLog<D> {
         ensures unchanged { IfErr result (λ e. IsOfManifest e.1 → Keeps (D.content disk) (D.content e.0)) }
         ensures control { IfOk result (λ log. Lasts (D.control disk) (D.control log.disk)) }
         ensures control_err { IfErr result (λ e. Lasts (D.control disk) (D.control e.0)) }
-        ensures cause { IfErr result (λ e. e.1 ≡ opening.DiskFault → Rose (D.control disk).faults (D.control e.0).faults) }
+        ensures cause { IfErr result (λ e. e.1 ≡ opening.DiskFault
+            → Rose (D.control disk).faults (D.control e.0).faults) }
         ensures quiet { IfOk result (λ log. (D.control log.disk).faults ≡ (D.control disk).faults) }
-        ensures quiet_err { IfErr result (λ e. (e.1 ≡ opening.DiskFault → ⊥) → (D.control e.0).faults ≡ (D.control disk).faults) }
-        ensures once { IfErr result (λ e. e.1 ≡ opening.DiskFault → (D.control e.0).faults ≡ counted (D.control disk).faults 1) }
+        ensures quiet_err { IfErr result (λ e. (e.1 ≡ opening.DiskFault → ⊥)
+            → (D.control e.0).faults ≡ (D.control disk).faults) }
+        ensures once { IfErr result (λ e. e.1 ≡ opening.DiskFault
+            → (D.control e.0).faults ≡ counted (D.control disk).faults 1) }
     {
         let mut disk = disk;
         match open_log(alloc, &mut disk, settings.index_interval) {
@@ -234,7 +242,8 @@ impl<D: Disk> LocalLog<D> {
         ensures any_moment { LeavesOnly (D.content self.old.disk) (D.content self.new.disk)
             (OpensStable self.old) }
         // Each of these images opens as an image of before does.
-        ensures opens { LeavesOnly (D.content self.old.disk) (D.content self.new.disk) (OpensAs (D.content self.old.disk)) }
+        ensures opens { LeavesOnly (D.content self.old.disk) (D.content self.new.disk)
+            (OpensAs (D.content self.old.disk)) }
 
         // Each cause, where no earlier one holds.
         ensures last_offset { IsErrOf result append.LastOffset ↔ (2 ^ 62 ≤ last_of run.now) }
@@ -242,13 +251,18 @@ impl<D: Disk> LocalLog<D> {
             ↔ (last_of run.now < 2 ^ 62) × IsTrue (is_due self.old run.now) × (4095 ≤ length self.old.closed) }
         ensures others { OnErr result ((IsErrOf result append.LastOffset ⊎ IsErrOf result append.TooManySegments)
             ⊎ (IsErrOf result append.NoMemory ⊎ IsErrOf result append.DiskFault)) }
-        ensures unchanged { (IsErrOf result append.LastOffset ⊎ IsErrOf result append.TooManySegments) → self.new ≡ self.old }
+        ensures unchanged { (IsErrOf result append.LastOffset ⊎ IsErrOf result append.TooManySegments)
+            → self.new ≡ self.old }
         ensures no_memory { IsErrOf result append.NoMemory → Becomes D.content self.old self.new }
-        ensures broken { IsErrOf result append.DiskFault → Becomes D.content (record self.old { broken = true }) self.new }
+        ensures broken { IsErrOf result append.DiskFault
+            → Becomes D.content (record self.old { broken = true }) self.new }
         ensures control { Lasts (D.control self.old.disk) (D.control self.new.disk) }
-        ensures cause { IsErrOf result append.DiskFault → Rose (D.control self.old.disk).faults (D.control self.new.disk).faults }
-        ensures quiet { (IsErrOf result append.DiskFault → ⊥) → (D.control self.new.disk).faults ≡ (D.control self.old.disk).faults }
-        ensures once { IsErrOf result append.DiskFault → (D.control self.new.disk).faults ≡ counted (D.control self.old.disk).faults 1 }
+        ensures cause { IsErrOf result append.DiskFault
+            → Rose (D.control self.old.disk).faults (D.control self.new.disk).faults }
+        ensures quiet { (IsErrOf result append.DiskFault → ⊥)
+            → (D.control self.new.disk).faults ≡ (D.control self.old.disk).faults }
+        ensures once { IsErrOf result append.DiskFault
+            → (D.control self.new.disk).faults ≡ counted (D.control self.old.disk).faults 1 }
     {
         let most = self.settings.segment_bytes;
         let base = self.active.base();
@@ -280,14 +294,18 @@ impl<D: Disk> LocalLog<D> {
         ensures any_moment { LeavesOnly (D.content self.old.disk) (D.content self.new.disk)
             (OpensStable self.old) }
         // Each of these images opens as an image of before does.
-        ensures opens { LeavesOnly (D.content self.old.disk) (D.content self.new.disk) (OpensAs (D.content self.old.disk)) }
+        ensures opens { LeavesOnly (D.content self.old.disk) (D.content self.new.disk)
+            (OpensAs (D.content self.old.disk)) }
 
         ensures no_memory { IsErrOf result fault.NoMemory → Becomes D.content self.old self.new }
         ensures broken { IsErrOf result fault.Failed → Becomes D.content (record self.old { broken = true }) self.new }
         ensures control { Lasts (D.control self.old.disk) (D.control self.new.disk) }
-        ensures cause { IsErrOf result fault.Failed → Rose (D.control self.old.disk).faults (D.control self.new.disk).faults }
-        ensures quiet { (IsErrOf result fault.Failed → ⊥) → (D.control self.new.disk).faults ≡ (D.control self.old.disk).faults }
-        ensures once { IsErrOf result fault.Failed → (D.control self.new.disk).faults ≡ counted (D.control self.old.disk).faults 1 }
+        ensures cause { IsErrOf result fault.Failed
+            → Rose (D.control self.old.disk).faults (D.control self.new.disk).faults }
+        ensures quiet { (IsErrOf result fault.Failed → ⊥)
+            → (D.control self.new.disk).faults ≡ (D.control self.old.disk).faults }
+        ensures once { IsErrOf result fault.Failed
+            → (D.control self.new.disk).faults ≡ counted (D.control self.old.disk).faults 1 }
     {
         let end = self.active.end();
         let most = self.settings.segment_bytes;
@@ -319,14 +337,18 @@ impl<D: Disk> LocalLog<D> {
         ensures any_moment { LeavesOnly (D.content self.old.disk) (D.content self.new.disk)
             (OpensStable self.old) }
         // Each of these images opens as an image of before does.
-        ensures opens { LeavesOnly (D.content self.old.disk) (D.content self.new.disk) (OpensAs (D.content self.old.disk)) }
+        ensures opens { LeavesOnly (D.content self.old.disk) (D.content self.new.disk)
+            (OpensAs (D.content self.old.disk)) }
 
         ensures no_memory { IsErrOf result fault.NoMemory → Becomes D.content self.old self.new }
         ensures broken { IsErrOf result fault.Failed → Becomes D.content (record self.old { broken = true }) self.new }
         ensures control { Lasts (D.control self.old.disk) (D.control self.new.disk) }
-        ensures cause { IsErrOf result fault.Failed → Rose (D.control self.old.disk).faults (D.control self.new.disk).faults }
-        ensures quiet { (IsErrOf result fault.Failed → ⊥) → (D.control self.new.disk).faults ≡ (D.control self.old.disk).faults }
-        ensures once { IsErrOf result fault.Failed → (D.control self.new.disk).faults ≡ counted (D.control self.old.disk).faults 1 }
+        ensures cause { IsErrOf result fault.Failed
+            → Rose (D.control self.old.disk).faults (D.control self.new.disk).faults }
+        ensures quiet { (IsErrOf result fault.Failed → ⊥)
+            → (D.control self.new.disk).faults ≡ (D.control self.old.disk).faults }
+        ensures once { IsErrOf result fault.Failed
+            → (D.control self.new.disk).faults ≡ counted (D.control self.old.disk).faults 1 }
     {
         self.closed.reserve(1)?;
         self.disk.reserve(1)?;
@@ -364,20 +386,27 @@ impl<D: Disk> LocalLog<D> {
         ensures any_moment { LeavesOnly (D.content self.old.disk) (D.content self.new.disk)
             (OpensStable self.old) }
         // Each of these images opens as an image of before does.
-        ensures opens { LeavesOnly (D.content self.old.disk) (D.content self.new.disk) (OpensAs (D.content self.old.disk)) }
+        ensures opens { LeavesOnly (D.content self.old.disk) (D.content self.new.disk)
+            (OpensAs (D.content self.old.disk)) }
 
         // Each cause, where no earlier one holds.
         ensures empty { IsErrOf result roll.EmptySegment ↔ (size_of self.old.active ≡ 0) }
-        ensures many { IsErrOf result roll.TooManySegments ↔ (0 < size_of self.old.active) × (4095 ≤ length self.old.closed) }
+        ensures many { IsErrOf result roll.TooManySegments
+            ↔ (0 < size_of self.old.active) × (4095 ≤ length self.old.closed) }
         ensures others { OnErr result ((IsErrOf result roll.EmptySegment ⊎ IsErrOf result roll.TooManySegments)
             ⊎ (IsErrOf result roll.NoMemory ⊎ IsErrOf result roll.DiskFault)) }
-        ensures unchanged { (IsErrOf result roll.EmptySegment ⊎ IsErrOf result roll.TooManySegments) → self.new ≡ self.old }
+        ensures unchanged { (IsErrOf result roll.EmptySegment ⊎ IsErrOf result roll.TooManySegments)
+            → self.new ≡ self.old }
         ensures no_memory { IsErrOf result roll.NoMemory → Becomes D.content self.old self.new }
-        ensures broken { IsErrOf result roll.DiskFault → Becomes D.content (record self.old { broken = true }) self.new }
+        ensures broken { IsErrOf result roll.DiskFault
+            → Becomes D.content (record self.old { broken = true }) self.new }
         ensures control { Lasts (D.control self.old.disk) (D.control self.new.disk) }
-        ensures cause { IsErrOf result roll.DiskFault → Rose (D.control self.old.disk).faults (D.control self.new.disk).faults }
-        ensures quiet { (IsErrOf result roll.DiskFault → ⊥) → (D.control self.new.disk).faults ≡ (D.control self.old.disk).faults }
-        ensures once { IsErrOf result roll.DiskFault → (D.control self.new.disk).faults ≡ counted (D.control self.old.disk).faults 1 }
+        ensures cause { IsErrOf result roll.DiskFault
+            → Rose (D.control self.old.disk).faults (D.control self.new.disk).faults }
+        ensures quiet { (IsErrOf result roll.DiskFault → ⊥)
+            → (D.control self.new.disk).faults ≡ (D.control self.old.disk).faults }
+        ensures once { IsErrOf result roll.DiskFault
+            → (D.control self.new.disk).faults ≡ counted (D.control self.old.disk).faults 1 }
     {
         if self.active.size() == 0 {
             return Err(RollRefusal::EmptySegment);
@@ -408,7 +437,8 @@ impl<D: Disk> LocalLog<D> {
         ensures end { IfOk result (λ end. end ≡ self.old.end) }
         ensures ok { OnOk result (Becomes D.content (committed self.old self.old.line) self.new) }
         ensures others { OnErr result (IsErrOf result fault.NoMemory ⊎ IsErrOf result fault.Failed) }
-        ensures durable { OnOk result ((c : Files) → Image (D.content self.new.disk) c → Opens c (stable_log self.new)) }
+        ensures durable { OnOk result ((c : Files) → Image (D.content self.new.disk) c
+            → Opens c (stable_log self.new)) }
 
         // A crash at any moment of the call leaves the stable log of before, or all of the log.
         ensures any_moment { LeavesOnly (D.content self.old.disk) (D.content self.new.disk)
@@ -418,12 +448,16 @@ impl<D: Disk> LocalLog<D> {
             (OpensAsOr (D.content self.old.disk) (stable_log (committed self.old self.old.line))) }
 
         ensures no_memory { IsErrOf result fault.NoMemory → Becomes D.content self.old self.new }
-        ensures no_image { IsErrOf result fault.NoMemory → (c : Files) → Image (D.content self.new.disk) c → Image (D.content self.old.disk) c }
+        ensures no_image { IsErrOf result fault.NoMemory → (c : Files) → Image (D.content self.new.disk) c
+            → Image (D.content self.old.disk) c }
         ensures broken { IsErrOf result fault.Failed → Becomes D.content (record self.old { broken = true }) self.new }
         ensures control { Lasts (D.control self.old.disk) (D.control self.new.disk) }
-        ensures cause { IsErrOf result fault.Failed → Rose (D.control self.old.disk).faults (D.control self.new.disk).faults }
-        ensures quiet { (IsErrOf result fault.Failed → ⊥) → (D.control self.new.disk).faults ≡ (D.control self.old.disk).faults }
-        ensures once { IsErrOf result fault.Failed → (D.control self.new.disk).faults ≡ counted (D.control self.old.disk).faults 1 }
+        ensures cause { IsErrOf result fault.Failed
+            → Rose (D.control self.old.disk).faults (D.control self.new.disk).faults }
+        ensures quiet { (IsErrOf result fault.Failed → ⊥)
+            → (D.control self.new.disk).faults ≡ (D.control self.old.disk).faults }
+        ensures once { IsErrOf result fault.Failed
+            → (D.control self.new.disk).faults ≡ counted (D.control self.old.disk).faults 1 }
     {
         let line = self.line.copy(self.alloc)?;
         self.commit(line)
@@ -435,24 +469,31 @@ impl<D: Disk> LocalLog<D> {
         requires fits { epoch < 2 ^ 31 }
         requires above { ForSome (last_epoch self.old.line) (λ last. last < epoch) }
         ensures end { IfOk result (λ end. end ≡ self.old.end) }
-        ensures ok { OnOk result (Becomes D.content (committed self.old (assign self.old.line epoch self.old.end)) self.new) }
+        ensures ok { OnOk result (Becomes D.content
+            (committed self.old (assign self.old.line epoch self.old.end)) self.new) }
         ensures others { OnErr result (IsErrOf result fault.NoMemory ⊎ IsErrOf result fault.Failed) }
-        ensures durable { OnOk result ((c : Files) → Image (D.content self.new.disk) c → Opens c (stable_log self.new)) }
+        ensures durable { OnOk result ((c : Files) → Image (D.content self.new.disk) c
+            → Opens c (stable_log self.new)) }
 
         // A crash at any moment of the call leaves the stable log of before, or all of the log with the epoch.
         ensures any_moment { LeavesOnly (D.content self.old.disk) (D.content self.new.disk)
             (Committing self.old (assign self.old.line epoch self.old.end)) }
         // Each of these images opens as an image of before does, or as all of the log with the epoch.
         ensures opens { LeavesOnly (D.content self.old.disk) (D.content self.new.disk)
-            (OpensAsOr (D.content self.old.disk) (stable_log (committed self.old (assign self.old.line epoch self.old.end)))) }
+            (OpensAsOr (D.content self.old.disk)
+            (stable_log (committed self.old (assign self.old.line epoch self.old.end)))) }
 
         ensures no_memory { IsErrOf result fault.NoMemory → Becomes D.content self.old self.new }
-        ensures no_image { IsErrOf result fault.NoMemory → (c : Files) → Image (D.content self.new.disk) c → Image (D.content self.old.disk) c }
+        ensures no_image { IsErrOf result fault.NoMemory → (c : Files) → Image (D.content self.new.disk) c
+            → Image (D.content self.old.disk) c }
         ensures broken { IsErrOf result fault.Failed → Becomes D.content (record self.old { broken = true }) self.new }
         ensures control { Lasts (D.control self.old.disk) (D.control self.new.disk) }
-        ensures cause { IsErrOf result fault.Failed → Rose (D.control self.old.disk).faults (D.control self.new.disk).faults }
-        ensures quiet { (IsErrOf result fault.Failed → ⊥) → (D.control self.new.disk).faults ≡ (D.control self.old.disk).faults }
-        ensures once { IsErrOf result fault.Failed → (D.control self.new.disk).faults ≡ counted (D.control self.old.disk).faults 1 }
+        ensures cause { IsErrOf result fault.Failed
+            → Rose (D.control self.old.disk).faults (D.control self.new.disk).faults }
+        ensures quiet { (IsErrOf result fault.Failed → ⊥)
+            → (D.control self.new.disk).faults ≡ (D.control self.old.disk).faults }
+        ensures once { IsErrOf result fault.Failed
+            → (D.control self.new.disk).faults ≡ counted (D.control self.old.disk).faults 1 }
     {
         let mut line = self.line.copy(self.alloc)?;
         line.assign(epoch, self.active.end())?;
@@ -468,7 +509,8 @@ impl<D: Disk> LocalLog<D> {
         ensures end { IfOk result (λ end. end ≡ self.old.end) }
         ensures ok { OnOk result (Becomes D.content (committed self.old line) self.new) }
         ensures others { OnErr result (IsErrOf result fault.NoMemory ⊎ IsErrOf result fault.Failed) }
-        ensures durable { OnOk result ((c : Files) → Image (D.content self.new.disk) c → Opens c (stable_log self.new)) }
+        ensures durable { OnOk result ((c : Files) → Image (D.content self.new.disk) c
+            → Opens c (stable_log self.new)) }
 
         // A crash at any moment of the call leaves the stable log of before, or all of the log with this line.
         ensures any_moment { LeavesOnly (D.content self.old.disk) (D.content self.new.disk)
@@ -478,12 +520,16 @@ impl<D: Disk> LocalLog<D> {
             (OpensAsOr (D.content self.old.disk) (stable_log (committed self.old line))) }
 
         ensures no_memory { IsErrOf result fault.NoMemory → Becomes D.content self.old self.new }
-        ensures no_image { IsErrOf result fault.NoMemory → (c : Files) → Image (D.content self.new.disk) c → Image (D.content self.old.disk) c }
+        ensures no_image { IsErrOf result fault.NoMemory → (c : Files) → Image (D.content self.new.disk) c
+            → Image (D.content self.old.disk) c }
         ensures broken { IsErrOf result fault.Failed → Becomes D.content (record self.old { broken = true }) self.new }
         ensures control { Lasts (D.control self.old.disk) (D.control self.new.disk) }
-        ensures cause { IsErrOf result fault.Failed → Rose (D.control self.old.disk).faults (D.control self.new.disk).faults }
-        ensures quiet { (IsErrOf result fault.Failed → ⊥) → (D.control self.new.disk).faults ≡ (D.control self.old.disk).faults }
-        ensures once { IsErrOf result fault.Failed → (D.control self.new.disk).faults ≡ counted (D.control self.old.disk).faults 1 }
+        ensures cause { IsErrOf result fault.Failed
+            → Rose (D.control self.old.disk).faults (D.control self.new.disk).faults }
+        ensures quiet { (IsErrOf result fault.Failed → ⊥)
+            → (D.control self.new.disk).faults ≡ (D.control self.old.disk).faults }
+        ensures once { IsErrOf result fault.Failed
+            → (D.control self.new.disk).faults ≡ counted (D.control self.old.disk).faults 1 }
     {
         self.disk.reserve(1)?;
         let bytes = listing(

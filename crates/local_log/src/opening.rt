@@ -68,7 +68,8 @@ pub(crate) fn open_log<D: Disk>(
     ensures place { IfErr result (λ e. IsTrue (D.content disk.old).tells → OpenFailsIn (D.content disk.old).files e) }
     ensures sound { IfErr result (λ e. IsTrue (D.content disk.old).tells
         → (o : Opened) → Opens (D.content disk.old).files o → IsSoundCause e) }
-    ensures last { IsErrOf result LastIncarnation → IsTrue (D.content disk.old).tells → HoldsLast (D.content disk.old).files }
+    ensures last { IsErrOf result LastIncarnation → IsTrue (D.content disk.old).tells
+        → HoldsLast (D.content disk.old).files }
     ensures control { Lasts (D.control disk.old) (D.control disk.new) }
     ensures cause { IsErrOf result DiskFault → Rose (D.control disk.old).faults (D.control disk.new).faults }
     ensures quiet { (IsErrOf result DiskFault → ⊥) → (D.control disk.new).faults ≡ (D.control disk.old).faults }
@@ -95,7 +96,8 @@ fn study<D: Disk>(alloc: Global, disk: &mut D) -> Result<(Plan, Row<FileName>), 
     ensures place { IfErr result (λ e. IsTrue (D.content disk.old).tells → OpenFailsIn (D.content disk.old).files e) }
     ensures sound { IfErr result (λ e. IsTrue (D.content disk.old).tells
         → (o : Opened) → Opens (D.content disk.old).files o → IsSoundCause e) }
-    ensures last { IsErrOf result LastIncarnation → IsTrue (D.content disk.old).tells → HoldsLast (D.content disk.old).files }
+    ensures last { IsErrOf result LastIncarnation → IsTrue (D.content disk.old).tells
+        → HoldsLast (D.content disk.old).files }
     ensures control { Lasts (D.control disk.old) (D.control disk.new) }
     ensures cause { IsErrOf result DiskFault → Rose (D.control disk.old).faults (D.control disk.new).faults }
     ensures quiet { (IsErrOf result DiskFault → ⊥) → (D.control disk.new).faults ≡ (D.control disk.old).faults }
@@ -115,7 +117,8 @@ fn plan_on<D: Disk>(alloc: Global, disk: &mut D) -> Result<Plan, OpenRefusal>
     ensures place { IfErr result (λ e. IsTrue (D.content disk.old).tells → OpenFailsIn (D.content disk.old).files e) }
     ensures sound { IfErr result (λ e. IsTrue (D.content disk.old).tells
         → (o : Opened) → Opens (D.content disk.old).files o → IsSoundCause e) }
-    ensures last { IsErrOf result LastIncarnation → IsTrue (D.content disk.old).tells → HoldsLast (D.content disk.old).files }
+    ensures last { IsErrOf result LastIncarnation → IsTrue (D.content disk.old).tells
+        → HoldsLast (D.content disk.old).files }
     ensures control { Lasts (D.control disk.old) (D.control disk.new) }
     ensures cause { IsErrOf result DiskFault → Rose (D.control disk.old).faults (D.control disk.new).faults }
     ensures quiet { (IsErrOf result DiskFault → ⊥) → (D.control disk.new).faults ≡ (D.control disk.old).faults }
@@ -215,10 +218,12 @@ fn read_segments<D: Disk>(
 ) -> Result<Vec<Growing>, OpenRefusal>
     requires { IsManifest manifest.now }
     ensures content { Keeps (D.content disk.old) (D.content disk.new) }
-    ensures read { IfOk result (λ segments. AreRead (D.content disk.old) manifest.now.line interval manifest.now.local_start
+    ensures read { IfOk result
+        (λ segments. AreRead (D.content disk.old) manifest.now.line interval manifest.now.local_start
         manifest.now.segments segments.items) }
     ensures err { IfErr result (λ e. ReadFails manifest.now (D.control disk.new).handed e) }
-    ensures place { IfErr result (λ e. IsTrue (D.content disk.old).tells → ReadFailsIn (D.content disk.old).files manifest.now e) }
+    ensures place { IfErr result (λ e. IsTrue (D.content disk.old).tells
+        → ReadFailsIn (D.content disk.old).files manifest.now e) }
     ensures sound { IfErr result (λ e. IsTrue (D.content disk.old).tells → (batches : List (List ℕ))
         → Segments (D.content disk.old).files manifest.now.line manifest.now.local_start manifest.now.segments batches
         → IsSoundCause e) }

@@ -48,7 +48,8 @@ impl<D: Disk> LocalLog<D> {
         requires below { offset < mark }
         ensures log { Becomes D.content self.old self.new }
         ensures keeps { Keeps (D.content self.old.disk) (D.content self.new.disk) }
-        ensures run { IfOk result (λ run. IsTrue (D.content self.old.disk).tells → IsRunOf self.old offset limit mark run) }
+        ensures run { IfOk result (λ run. IsTrue (D.content self.old.disk).tells
+            → IsRunOf self.old offset limit mark run) }
         ensures base { IfOk result (λ run. run.base ≡ (segment_at self.old offset).base) }
         ensures bytes { IfOk result (λ run. IsCut self.old.line (D.control self.new.disk).handed offset limit mark
             (piece_of self.old offset) run) }
@@ -62,13 +63,17 @@ impl<D: Disk> LocalLog<D> {
         // Each cause. A mark that is no batch's end is told first, and nothing is read then.
         ensures err { IfErr result (λ e. RunFails self.old offset limit mark (D.control self.new.disk).handed e) }
         ensures missed { is_edge (segment_at self.old mark) mark ≡ false → self.new ≡ self.old }
-        ensures whole { IfErr result (λ e. IsTrue (D.content self.old.disk).tells → IsEdge self.old mark → IsOfDevice e) }
+        ensures whole { IfErr result (λ e. IsTrue (D.content self.old.disk).tells → IsEdge self.old mark
+            → IsOfDevice e) }
         ensures ran { is_edge (segment_at self.old mark) mark ≡ true
             → ReadOnce result (D.control self.old.disk) (D.control self.new.disk) }
         ensures control { Lasts (D.control self.old.disk) (D.control self.new.disk) }
-        ensures cause { IsErrOf result DiskFault → Rose (D.control self.old.disk).faults (D.control self.new.disk).faults }
-        ensures quiet { (IsErrOf result DiskFault → ⊥) → (D.control self.new.disk).faults ≡ (D.control self.old.disk).faults }
-        ensures once { IsErrOf result DiskFault → (D.control self.new.disk).faults ≡ counted (D.control self.old.disk).faults 1 }
+        ensures cause { IsErrOf result DiskFault
+            → Rose (D.control self.old.disk).faults (D.control self.new.disk).faults }
+        ensures quiet { (IsErrOf result DiskFault → ⊥)
+            → (D.control self.new.disk).faults ≡ (D.control self.old.disk).faults }
+        ensures once { IsErrOf result DiskFault
+            → (D.control self.new.disk).faults ≡ counted (D.control self.old.disk).faults 1 }
     {
         let marked = segment_at(self.local_start, self.closed.as_slice(), &self.active, mark);
         let (end, at) = marked.place_of(mark);
@@ -95,7 +100,8 @@ impl<D: Disk> LocalLog<D> {
         requires { self.old.broken ≡ false }
         ensures log { Becomes D.content self.old self.new }
         ensures keeps { Keeps (D.content self.old.disk) (D.content self.new.disk) }
-        ensures segment { IfOk result (λ segment. IsClosedFrom self.old offset (D.control self.new.disk).handed segment) }
+        ensures segment { IfOk result
+            (λ segment. IsClosedFrom self.old offset (D.control self.new.disk).handed segment) }
         ensures part { IfOk result (λ segment. IsTrue (D.content self.old.disk).tells
             → IfSome segment (λ segment. IsPartOf self.old segment)) }
 
@@ -109,9 +115,12 @@ impl<D: Disk> LocalLog<D> {
         ensures ran { first_past offset self.old.closed ≢ None
             → ReadOnce result (D.control self.old.disk) (D.control self.new.disk) }
         ensures control { Lasts (D.control self.old.disk) (D.control self.new.disk) }
-        ensures cause { IsErrOf result DiskFault → Rose (D.control self.old.disk).faults (D.control self.new.disk).faults }
-        ensures quiet { (IsErrOf result DiskFault → ⊥) → (D.control self.new.disk).faults ≡ (D.control self.old.disk).faults }
-        ensures once { IsErrOf result DiskFault → (D.control self.new.disk).faults ≡ counted (D.control self.old.disk).faults 1 }
+        ensures cause { IsErrOf result DiskFault
+            → Rose (D.control self.old.disk).faults (D.control self.new.disk).faults }
+        ensures quiet { (IsErrOf result DiskFault → ⊥)
+            → (D.control self.new.disk).faults ≡ (D.control self.old.disk).faults }
+        ensures once { IsErrOf result DiskFault
+            → (D.control self.new.disk).faults ≡ counted (D.control self.old.disk).faults 1 }
     {
         let Some(segment) = first_past(
             self.local_start,
@@ -155,9 +164,12 @@ impl<D: Disk> LocalLog<D> {
             (OpensStable self.old) }
         ensures ran { Ran Read (fate_of result) (D.control self.old.disk) (D.control self.new.disk) }
         ensures control { Lasts (D.control self.old.disk) (D.control self.new.disk) }
-        ensures cause { IsErrOf result fault.Failed → Rose (D.control self.old.disk).faults (D.control self.new.disk).faults }
-        ensures quiet { (IsErrOf result fault.Failed → ⊥) → (D.control self.new.disk).faults ≡ (D.control self.old.disk).faults }
-        ensures once { IsErrOf result fault.Failed → (D.control self.new.disk).faults ≡ counted (D.control self.old.disk).faults 1 }
+        ensures cause { IsErrOf result fault.Failed
+            → Rose (D.control self.old.disk).faults (D.control self.new.disk).faults }
+        ensures quiet { (IsErrOf result fault.Failed → ⊥)
+            → (D.control self.new.disk).faults ≡ (D.control self.old.disk).faults }
+        ensures once { IsErrOf result fault.Failed
+            → (D.control self.new.disk).faults ≡ counted (D.control self.old.disk).faults 1 }
     {
         self.disk.read_part(FileName::Log(base), from as u64, most)
     }
@@ -216,7 +228,8 @@ fn run_in(
     requires inside { offset < piece.end }
     ensures base { IfOk result (λ run. run.base ≡ piece.base) }
     ensures ok { IfOk result (λ run. IsCut line.now (bytes_in file) offset limit mark piece.end run) }
-    ensures err { IfErr result (λ e. CutFails line.now piece.base piece.from (bytes_in file) offset limit mark piece.end e) }
+    ensures err { IfErr result
+        (λ e. CutFails line.now piece.base piece.from (bytes_in file) offset limit mark piece.end e) }
 {
     let from = piece.from as u64;
     let Some(bytes) = file else {

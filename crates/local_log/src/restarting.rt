@@ -62,13 +62,17 @@ impl<D: Disk> LocalLog<D> {
 
         ensures others { OnErr result (IsErrOf result fault.NoMemory ⊎ IsErrOf result fault.Failed) }
         ensures no_memory { IsErrOf result fault.NoMemory → Becomes D.content self.old self.new }
-        ensures no_image { IsErrOf result fault.NoMemory → (c : Files) → Image (D.content self.new.disk) c → Image (D.content self.old.disk) c }
+        ensures no_image { IsErrOf result fault.NoMemory → (c : Files) → Image (D.content self.new.disk) c
+            → Image (D.content self.old.disk) c }
         ensures broken { IsErrOf result fault.Failed → self.new.broken ≡ true }
         ensures tells { (D.content self.new.disk).tells ≡ (D.content self.old.disk).tells }
         ensures control { Lasts (D.control self.old.disk) (D.control self.new.disk) }
-        ensures cause { IsErrOf result fault.Failed → Rose (D.control self.old.disk).faults (D.control self.new.disk).faults }
-        ensures quiet { (IsErrOf result fault.Failed → ⊥) → (D.control self.new.disk).faults ≡ (D.control self.old.disk).faults }
-        ensures once { IsErrOf result fault.Failed → (D.control self.new.disk).faults ≡ counted (D.control self.old.disk).faults 1 }
+        ensures cause { IsErrOf result fault.Failed
+            → Rose (D.control self.old.disk).faults (D.control self.new.disk).faults }
+        ensures quiet { (IsErrOf result fault.Failed → ⊥)
+            → (D.control self.new.disk).faults ≡ (D.control self.old.disk).faults }
+        ensures once { IsErrOf result fault.Failed
+            → (D.control self.new.disk).faults ≡ counted (D.control self.old.disk).faults 1 }
     {
         self.stands();
         let active = Growing::new(self.alloc, start, self.settings.index_interval);
@@ -97,13 +101,17 @@ impl<D: Disk> LocalLog<D> {
             (OpensAsOr (D.content self.old.disk) (all_of (restarted self.old active.base line))) }
         ensures others { OnErr result (IsErrOf result fault.NoMemory ⊎ IsErrOf result fault.Failed) }
         ensures no_memory { IsErrOf result fault.NoMemory → Becomes D.content self.old self.new }
-        ensures no_image { IsErrOf result fault.NoMemory → (c : Files) → Image (D.content self.new.disk) c → Image (D.content self.old.disk) c }
+        ensures no_image { IsErrOf result fault.NoMemory → (c : Files) → Image (D.content self.new.disk) c
+            → Image (D.content self.old.disk) c }
         ensures broken { IsErrOf result fault.Failed → self.new.broken ≡ true }
         ensures tells { (D.content self.new.disk).tells ≡ (D.content self.old.disk).tells }
         ensures control { Lasts (D.control self.old.disk) (D.control self.new.disk) }
-        ensures cause { IsErrOf result fault.Failed → Rose (D.control self.old.disk).faults (D.control self.new.disk).faults }
-        ensures quiet { (IsErrOf result fault.Failed → ⊥) → (D.control self.new.disk).faults ≡ (D.control self.old.disk).faults }
-        ensures once { IsErrOf result fault.Failed → (D.control self.new.disk).faults ≡ counted (D.control self.old.disk).faults 1 }
+        ensures cause { IsErrOf result fault.Failed
+            → Rose (D.control self.old.disk).faults (D.control self.new.disk).faults }
+        ensures quiet { (IsErrOf result fault.Failed → ⊥)
+            → (D.control self.new.disk).faults ≡ (D.control self.old.disk).faults }
+        ensures once { IsErrOf result fault.Failed
+            → (D.control self.new.disk).faults ≡ counted (D.control self.old.disk).faults 1 }
     {
         match renew(&mut self.disk, bytes, &self.closed, &self.active) {
             Ok(()) => {

@@ -110,7 +110,8 @@ pub(crate) fn listing_to(
 ) -> Result<Vec<u8>, AllocError>
     requires opened { 1 ≤ incarnation }
     requires laid { Each IsLaidOut closed.now }
-    requires segments { AreSegmentsOf local_start (closed_by end closed.now) (front_to end (open_by end closed.now active.now)) }
+    requires segments { AreSegmentsOf local_start (closed_by end closed.now)
+        (front_to end (open_by end closed.now active.now)) }
     requires line { IsLine line.now }
     ensures { IfOk result (λ bytes. bytes.items
         ≡ manifest_bytes (manifest_of incarnation local_start (closed_by end closed.now)
@@ -147,7 +148,8 @@ pub(crate) fn remove_segments<D: Disk>(
     active: &Growing,
 ) -> Result<(), Failed>
     requires { length closed.now + 1 ≤ D.spare disk.old }
-    ensures content { RemovesAll (names_of (closed.now ++ active.now ∷ [])) (failing result) (D.content disk.old) (D.content disk.new) }
+    ensures content { RemovesAll (names_of (closed.now ++ active.now ∷ [])) (failing result) (D.content disk.old)
+        (D.content disk.new) }
     ensures control { Runs (failing result) (D.control disk.old) (D.control disk.new) }
     ensures room { OnOk result (D.spare disk.new + length closed.now + 1 ≡ D.spare disk.old) }
 {
@@ -163,7 +165,8 @@ fn remove_behind<D: Disk>(
     end: u64,
 ) -> Result<(), Failed>
     requires { length closed.now ≤ D.spare disk.old }
-    ensures content { RemovesAll (names_of (behind end closed.now active.now)) (failing result) (D.content disk.old) (D.content disk.new) }
+    ensures content { RemovesAll (names_of (behind end closed.now active.now)) (failing result) (D.content disk.old)
+        (D.content disk.new) }
     ensures control { Runs (failing result) (D.control disk.old) (D.control disk.new) }
     ensures room { OnOk result (D.spare disk.old ≤ D.spare disk.new + length closed.now) }
 {
@@ -183,9 +186,11 @@ pub(crate) fn trim<D: Disk>(
     end: u64,
 ) -> Result<(), Failed>
     requires room { length closed.now + 1 ≤ D.spare disk.old }
-    requires apart { In (file.Log (open_by end closed.now active.now).base) (names_of (behind end closed.now active.now)) → ⊥ }
+    requires apart { In (file.Log (open_by end closed.now active.now).base)
+        (names_of (behind end closed.now active.now)) → ⊥ }
     ensures content { Trims (names_of (behind end closed.now active.now)) (open_by end closed.now active.now).base
-        (size_of (front_to end (open_by end closed.now active.now))) (failing result) (D.content disk.old) (D.content disk.new) }
+        (size_of (front_to end (open_by end closed.now active.now))) (failing result) (D.content disk.old)
+        (D.content disk.new) }
     ensures control { Runs (failing result) (D.control disk.old) (D.control disk.new) }
 {
     let last = open_front(closed, active, end);
