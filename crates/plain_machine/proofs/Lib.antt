@@ -1,4 +1,3 @@
-pub mod Changing
 pub mod Fields
 pub mod Splits
 pub mod Joined

@@ -16,10 +16,12 @@
 --
 -- 49 = 61 - 12 is the batch_length of a head alone, and 1,048,564 = 1,048,576 - 12 that of the largest batch.
 -- Unsigned, a negative batch_length is above 1,048,564, and a negative records_count above 2,147,483,647.
-use Rattle.std.specs.Prelude.{◌≡◌, ◌<◌, ◌≤◌, ℕ, zero, suc, ◌+◌, ◌-◌, ◌/◌, ◌%◌, ◌^◌, ◌==◌, nat_lt, Bool, false, not, if◌then◌else◌, ℤ, pos, negsuc, List, [], ◌∷◌, length, drop, map, slice_index, Option, Some, None, Result, Ok, Err}
+use Rattle.std.specs.Prelude.{◌≡◌, ◌<◌, ◌≤◌, ℕ, zero, suc, ◌+◌, ◌-◌, ◌/◌, ◌%◌, ◌^◌, ◌==◌, nat_lt, Bool, false, not, if◌then◌else◌, ℤ, pos, negsuc, List, [], ◌∷◌, length, drop, map, slice_index, Option, Some, None, Result, Ok, Err, IsOk}
+use Rattle.std.specs.List.{AllByRecursion}
 use Rattle.std.specs.Int.{w16, w32, w64, cast_unsigned, int_wrapping_add}
 use Rattle.batch_prims.specs.Crc.{crc32c}
 use Rattle.log_terms.specs.Batch.{field_at, last_offset_delta_of}
+use Rattle.log_terms.specs.Log.{joined}
 use Rattle.record_batch.specs.declared.head.Head.{Head}
 use Rattle.record_batch.specs.declared.rec.Rec.{Rec}
 use Rattle.record_batch.specs.declared.refusal.HeadRefusal.{HeadRefusal}
@@ -160,3 +162,9 @@ pub record IsBatchOf (bytes : List ℕ) (batch : Batch) : Type 0 where
   pub size : length bytes ≡ 12 + field_at w32 8 bytes
   pub count : length batch.recs ≡ last_offset_delta_of bytes + 1
   pub few : last_offset_delta_of bytes < 2 ^ 31
+
+-- bytes that are batches, one behind another, each of which passes its check
+pub record AreChecked (bytes : List ℕ) : Type 0 where
+  pub batches : List (List ℕ)
+  pub are : bytes ≡ joined batches
+  pub checked : AllByRecursion (λ (batch : List ℕ). IsOk (checked batch)) batches

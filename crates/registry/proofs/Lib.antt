@@ -1,4 +1,4 @@
-mod Changing
+pub mod Changing
 pub mod Eight
 mod Viewing
 mod Keeping

@@ -1,7 +1,7 @@
 use Rattle.std.proofs.Common.{◌≡◌, ◌+◌, ◌∙◌, sym, ap, length, List, ℕ, slice_get, slice_set, arith}
 use Rattle.plain_log.specs.declared.state.Broker.{Broker}
 use Rattle.cold_state.specs.Cold.{cold_broker}
-use Rattle.plain_machine.proofs.Changing.{changed, changed_more, changed_all, length-changed}
+use Rattle.registry.proofs.Changing.{changed, changed_more, changed_all, length-changed}
 use Rattle.plain_machine.proofs.cooling.take_all_down.Goals as goal
 
 pub loop-b-preserved : goal.loop-b-preserved

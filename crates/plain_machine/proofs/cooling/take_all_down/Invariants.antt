@@ -1,5 +1,5 @@
 use Rattle.std.proofs.Common.{◌≡◌, length}
-use Rattle.plain_machine.proofs.Changing.{changed}
+use Rattle.registry.proofs.Changing.{changed}
 use Rattle.cold_state.specs.Cold.{cold_broker}
 use Rattle.plain_machine.proofs.cooling.take_all_down.Given as goal
 
