@@ -10,7 +10,7 @@ use Rattle.std.specs.Prelude.{◌≡◌, ◌⊎◌, List, [], ◌∷◌, ◌++�
 use Rattle.std.specs.declared.result.Result.{Result}
 use Rattle.tier_base.specs.declared.fault.Trouble.{Trouble}
 use Rattle.tier_base.specs.declared.fault.Trouble.TheVariants.{Failed, NoMemory}
-use Rattle.tier_base.specs.Device.{Control, RanQuietly, Went, Fault, Dry, Lasts, fate_of}
+use Rattle.tier_base.specs.Device.{Control, RanQuietly, Went, Fault, Dry, Lasts}
 use Rattle.segment_meta.specs.declared.note.Note.{Note}
 use Rattle.meta_log.specs.declared.call.MetaCall.TheVariants.{Read}
 use Rattle.meta_log.specs.Call.{call_code}
@@ -58,7 +58,9 @@ Reads (Err NoMemory) old new = Lasts old new
 
 -- that call ended as the refresh did, or it went and there was no memory for the notes that it gave
 abbrev pub ReadsOnce : {T : Type 0} → Result T Trouble → Control call_code → Control call_code → Type 0
-ReadsOnce result old new = RanQuietly Read (fate_of result) old new ⊎ ((fate_of result ≡ Dry) × RanQuietly Read Went old new)
+ReadsOnce (Ok x) old new = RanQuietly Read Went old new
+ReadsOnce (Err Failed) old new = RanQuietly Read Fault old new
+ReadsOnce (Err NoMemory) old new = RanQuietly Read Dry old new ⊎ RanQuietly Read Went old new
 
 -- what became of a log, and of a view before and after it was read
 module _ {M : Type 0} (notes : M → Content) (calls : M → Control call_code) where
@@ -79,5 +81,6 @@ module _ {M : Type 0} (notes : M → Content) (calls : M → Control call_code) 
   pub record Halted (before after : Seen) (old new : M) : Type 0 where
     pub view : Advances (notes old) before after
     pub control : Lasts (calls old) (calls new)
+    pub once : RanQuietly Read Dry (calls old) (calls new) ⊎ RanQuietly Read Went (calls old) (calls new)
     pub content : Keeps (notes old) (notes new)
     pub moved : (after ≡ before) ⊎ (IsTrue (notes old).tells → LeavesTold (notes new))
