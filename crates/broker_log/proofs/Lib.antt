@@ -4,6 +4,7 @@ pub mod Breaking
 pub mod Placing
 pub mod Cuts
 pub mod Runs
+pub mod ReadBefore
 pub mod Returning
 pub mod Drops
 pub mod Restarts

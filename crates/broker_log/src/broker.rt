@@ -13,6 +13,7 @@ ghost use Rattle.local_log.specs.Reading.{RunFails, IsOfDevice, ReadOnce, first_
 ghost use Rattle.local_log.specs.declared.refusal.CreateRefusal.TheVariants as create;
 ghost use Rattle.std.specs.Option.{ForSome};
 ghost use Rattle.log_terms.specs.Batch.{last_of};
+ghost use Rattle.record_batch.specs.Check.{AreChecked};
 ghost use Rattle.epoch_line.specs.Line.{last_epoch, assign, cut_end};
 ghost use Rattle.local_log.specs.Stored.{size_of};
 ghost use Rattle.local_log.specs.Run.{IsRun, is_due};
@@ -205,6 +206,19 @@ impl<D: Disk> BrokerLog<D> {
             unreachable!()
         };
         log.takes(run)
+    }
+
+    /// Whether the log may take bytes as a run, of batches that were checked before: neither their checksums nor their
+    /// records are read again.
+    pub fn takes_checked(&self, run: &[u8]) -> bool
+        requires up { IsTrue (is_up self.now) }
+        requires checked { AreChecked run.now }
+        ensures { WhileUp self.now (λ log. IsTrue result ↔ IsRun log.end log.line run.now) }
+    {
+        let Place::Up(log) = &self.place else {
+            unreachable!()
+        };
+        log.takes_checked(run)
     }
 
     /// The disk.

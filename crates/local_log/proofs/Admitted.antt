@@ -50,7 +50,7 @@ first_taken end epoch bytes some a = go a.batches a.bytes_are a.are a.consecutiv
       rest = record { batches = bs; bytes_are = refl; are = are.1; consecutive = c.1; epochs = e.2 };
     }
 
-by_recursion : (bs : List (List ℕ)) → Each (λ (b : List ℕ). IsOk (checked b)) bs → AllByRecursion (λ (b : List ℕ). IsOk (checked b)) bs
+pub by_recursion : (bs : List (List ℕ)) → Each (λ (b : List ℕ). IsOk (checked b)) bs → AllByRecursion (λ (b : List ℕ). IsOk (checked b)) bs
 by_recursion [] h = tt
 by_recursion (b ∷ bs) h = (h.0, by_recursion bs h.1)
 

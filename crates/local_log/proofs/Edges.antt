@@ -20,7 +20,7 @@ use Rattle.local_log.specs.Listing.{IsLaidOut}
 use Rattle.local_log.specs.Reading.{first_past, begin_of, is_edge, piece_end}
 use Rattle.local_log.proofs.Pieces.{stored_batches, stored_end, end_placed}
 
-and_both : (a b : Bool) → (a && b) ≡ true → (a ≡ true) × (b ≡ true)
+pub and_both : (a b : Bool) → (a && b) ≡ true → (a ≡ true) × (b ≡ true)
 and_both true true e = (refl, refl)
 and_both true false e = absurd (cc (e))
 and_both false b e = absurd (cc (e))

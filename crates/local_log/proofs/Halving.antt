@@ -23,7 +23,7 @@ ends-adjacent first (g ∷ h ∷ gs) a (suc k) d chained laid lt = ends-adjacent
 pub ends-rise : (first : ℕ) (gs : List Grown) (a : Grown) → AreChained first (gs ++ a ∷ []) → Each IsLaidOut gs → IsNonDecreasingBy end_of gs
 ends-rise first gs a chained laid = IsNonDecreasingBy-from_all_adjacent end_of gs (λ k d l. rw add-one (ends-adjacent first gs a k d chained laid (omega (arith, l))))
 
-rest-point : (p : Grown → Bool) (x : Grown) (xs : List Grown) (i : ℕ) → IsPartitionPoint (λ y. p y ≡ true) (λ y. p y ≡ false) (x ∷ xs) (suc i) → IsPartitionPoint (λ y. p y ≡ true) (λ y. p y ≡ false) xs i
+pub rest-point : {X : Type 0} (p : X → Bool) (x : X) (xs : List X) (i : ℕ) → IsPartitionPoint (λ y. p y ≡ true) (λ y. p y ≡ false) (x ∷ xs) (suc i) → IsPartitionPoint (λ y. p y ≡ true) (λ y. p y ≡ false) xs i
 rest-point p x xs i h = (λ k d low high. h.0 (suc k) d (omega arith) (omega (arith, high)), λ k d low high. h.1 (suc k) d (omega (arith, low)) (omega (arith, high)))
 
 pub count_ending : (end : ℕ) (gs : List Grown) (i : ℕ) → i ≤ length gs → IsPartitionPoint (λ y. nat_le (end_of y) end ≡ true) (λ y. nat_le (end_of y) end ≡ false) gs i → i ≡ length (closed_by end gs)

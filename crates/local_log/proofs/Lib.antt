@@ -37,9 +37,11 @@ pub mod Behind
 pub mod Shortened
 pub mod Shedding
 pub mod PieceStarts
+pub mod PieceEnds
 pub mod Cohering
 pub mod Retold
 pub mod Halving
 pub mod Admitted
+pub mod CheckedBefore
 pub mod Settled
 pub mod OneWay

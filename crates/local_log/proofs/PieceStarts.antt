@@ -20,7 +20,7 @@ use Rattle.local_log.proofs.Edges.{piece_ends, holder, holder_each, holder_same}
 use Rattle.local_log.proofs.RunsTold.{edge_told}
 
 -- the entries of a line behind one start past it
-rising_below : (entry : ℕ × ℕ) (line : List (ℕ × ℕ)) → IsLine (entry ∷ line) → Each (λ (e : ℕ × ℕ). entry.1 < e.1) line
+pub rising_below : (entry : ℕ × ℕ) (line : List (ℕ × ℕ)) → IsLine (entry ∷ line) → Each (λ (e : ℕ × ℕ). entry.1 < e.1) line
 rising_below entry [] h = tt
 rising_below entry (next ∷ line) h =
     let less : entry.1 < next.1 = h.2.1 in

@@ -2,11 +2,12 @@
 --
 -- A spot is a place in the bytes with what is asked of the batch there: where it must begin, a base and so many offsets
 -- further on, and the epoch that its own must not be below.
-use Rattle.std.specs.Prelude.{◌≡◌, ◌↔◌, ℕ, ◌+◌, ◌^◌, ◌≤◌, ◌<◌, List, length, drop, IsOk}
+use Rattle.std.specs.Prelude.{◌≡◌, ◌↔◌, ℕ, ◌+◌, ◌^◌, ◌≤◌, ◌<◌, List, length, drop, unwrap_or, IsOk}
 use Rattle.std.specs.Int.{w32, w64, cast_unsigned}
 use Rattle.log_terms.specs.Log.{joined, IsConsecutive}
 use Rattle.record_batch.specs.declared.head.Head.{Head}
 use Rattle.record_batch.specs.Check.{checked}
+use Rattle.epoch_line.specs.Line.{last_epoch}
 use Rattle.segment_file.specs.Walk.{size_in}
 use Rattle.segment_file.specs.Segment.{EpochsRise}
 use Rattle.log_steps.specs.Fronts.{Each}
@@ -23,6 +24,10 @@ pub record AreTaken (end epoch : ℕ) (bytes : List ℕ) : Type 0 where
 -- so are those from a spot on
 abbrev pub AreFrom : List ℕ → Spot → Type 0
 AreFrom run spot = AreTaken (spot.base + spot.more) spot.epoch (drop spot.at run)
+
+-- the spot at the front of bytes that are to go behind a log of this end and line
+abbrev pub spot_behind : ℕ → List (ℕ × ℕ) → Spot
+spot_behind end line = record { at = 0; base = end; more = 0; epoch = unwrap_or (last_epoch line) 0 }
 
 -- a batch of this head meets what a spot asks
 pub record Meets (spot : Spot) (head : Head) : Type 0 where

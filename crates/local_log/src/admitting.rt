@@ -1,11 +1,14 @@
 //! Whether bytes are a run that a log may take: each batch passes every test, and goes on where the one before it ends.
+//! Of batches that were checked before, the heads alone are read.
 
-ghost use Rattle.std.specs.Prelude.{◌≡◌, ◌↔◌, ◌+◌, ◌<◌, ◌≤◌, ◌^◌, None, length, IsTrue, IfSome};
+ghost use Rattle.std.specs.Prelude.{◌≡◌, ◌↔◌, ◌+◌, ◌<◌, ◌≤◌, ◌^◌, None, length, drop, IsTrue, IfSome};
+ghost use Rattle.record_batch.specs.Check.{AreChecked};
 ghost use Rattle.segment_file.specs.Walk.{size_in};
 ghost use Rattle.local_log.specs.Run.{IsRun};
-ghost use Rattle.local_log.specs.Admitting.{AreFrom, Meets, GoesOn, spot_after};
+ghost use Rattle.local_log.specs.Admitting.{AreFrom, Meets, GoesOn, spot_behind, spot_after};
 
 use crate::log::LocalLog;
+use crate::run::head_at;
 use disk_model::Disk;
 use record_batch::Head;
 use segment_file::{Found, walk};
@@ -28,13 +31,28 @@ impl<D: Disk> LocalLog<D> {
     pub fn takes(&self, run: &[u8]) -> bool
         ensures { IsTrue result ↔ IsRun self.now.end self.now.line run.now }
     {
-        let spot = Spot {
+        run.len() > 0 && are_from(run, self.first_spot())
+    }
+
+    /// Whether the log may take bytes as a run, of batches that were checked before: neither their checksums nor their
+    /// records are read again.
+    pub fn takes_checked(&self, run: &[u8]) -> bool
+        requires { AreChecked run.now }
+        ensures { IsTrue result ↔ IsRun self.now.end self.now.line run.now }
+    {
+        run.len() > 0 && checked_are_from(run, self.first_spot())
+    }
+
+    /// The spot at the front of a run for this log.
+    fn first_spot(&self) -> Spot
+        ensures { result ≡ spot_behind self.now.end self.now.line }
+    {
+        Spot {
             at: 0,
             base: self.active.end(),
             more: 0,
             epoch: self.line.last_epoch().unwrap_or(0),
-        };
-        run.len() > 0 && are_from(run, spot)
+        }
     }
 }
 
@@ -62,6 +80,38 @@ fn next_spot(run: &[u8], spot: Spot) -> Option<Spot>
     let Found::Batch(head) = walk(run, spot.at) else {
         return None;
     };
+    if meets(spot, &head) {
+        Some(spot_after(spot.at, &head))
+    } else {
+        None
+    }
+}
+
+/// Whether bytes are batches that may be taken, from a spot on, where they are batches that were checked.
+fn checked_are_from(run: &[u8], first: Spot) -> bool
+    requires inside { first.at ≤ length run.now }
+    requires checked { AreChecked (drop first.at run.now) }
+    ensures { IsTrue result ↔ AreFrom run.now first }
+{
+    let mut spot = first;
+    while spot.at < run.len() {
+        let Some(next) = next_checked(run, spot) else {
+            return false;
+        };
+        spot = next;
+    }
+    true
+}
+
+/// The spot behind the checked batch that stands at one, where that batch meets what is asked there.
+fn next_checked(run: &[u8], spot: Spot) -> Option<Spot>
+    requires inside { spot.at < length run.now }
+    requires checked { AreChecked (drop spot.at run.now) }
+    ensures some { IfSome result (λ next. GoesOn run.now spot next) }
+    ensures rest { IfSome result (λ next. AreChecked (drop next.at run.now)) }
+    ensures none { result ≡ None → AreFrom run.now spot → ⊥ }
+{
+    let head = head_at(run, spot.at);
     if meets(spot, &head) {
         Some(spot_after(spot.at, &head))
     } else {

@@ -5,7 +5,8 @@
 ghost use Rattle.std.specs.Prelude.{◌≡◌, ◌<◌, ◌≤◌, ◌+◌, ◌-◌, ◌^◌, min, length, option_map, unwrap_or};
 ghost use Rattle.segment_file.specs.Growing.{BeginsSearch};
 ghost use Rattle.segment_file.specs.Reach.{reach_at};
-ghost use Rattle.local_log.specs.Listing.{AreSegmentsOf};
+ghost use Rattle.epoch_line.specs.Line.{IsLine};
+ghost use Rattle.local_log.specs.Listing.{AreSegmentsOf, IsLaidOut};
 ghost use Rattle.local_log.specs.Reading.{first_past, is_edge, piece_end, position_of};
 
 use crate::seeking::count_ended;
@@ -62,16 +63,34 @@ pub(crate) fn is_edge(segment: &Growing, offset: u64) -> bool
     segment.place_of(offset).0 == offset
 }
 
-/// Where the piece ends that holds an offset of a segment.
+/// Where the piece ends that holds an offset of a segment. The entries up to the offset are passed over by halving.
 fn piece_end(line: &[(u32, u64)], segment: &Growing, offset: u64) -> u64
+    requires line { IsLine line.now }
+    requires laid { IsLaidOut segment.now }
     ensures { result ≡ piece_end line.now segment.now offset }
 {
+    let started = line.partition_point(|entry| entry.1 <= offset);
+    let (_, rest) = line.split_at(started);
+    first_edge(rest, segment, offset)
+}
+
+/// The first start past an offset that is an edge of a segment, or where the segment ends. It is the first of the
+/// line's starts past the offset, wherever each epoch starts where a batch does.
+fn first_edge(line: &[(u32, u64)], segment: &Growing, offset: u64) -> u64
+    requires line { IsLine line.now }
+    requires laid { IsLaidOut segment.now }
+    ensures { result ≡ piece_end line.now segment.now offset }
+{
+    let end = segment.end();
     for (_, start) in line {
+        if *start >= end {
+            return end;
+        }
         if offset < *start && is_edge(segment, *start) {
             return *start;
         }
     }
-    segment.end()
+    end
 }
 
 /// The piece that holds an offset of a segment, and what is read of it for the run there, up to a mark.
@@ -82,6 +101,8 @@ pub(crate) fn piece_at(
     limit: u64,
     mark: u64,
 ) -> Piece
+    requires line { IsLine line.now }
+    requires laid { IsLaidOut segment.now }
     ensures base { result.base ≡ segment.now.base }
     ensures from { result.from ≡ position_of segment.now offset }
     ensures search { BeginsSearch segment.now.base segment.now.batches offset result.from }

@@ -1,14 +1,16 @@
-use Rattle.std.proofs.Common.{◌≡◌, ◌∙◌, ◌+◌, ◌≤◌, ℕ, false, List, sym, ap, subst, arith, eq-eqb, IsTrue, min, option_map}
+use Rattle.std.proofs.Common.{◌≡◌, ◌∙◌, ◌+◌, ◌≤◌, ℕ, false, List, [], ◌∷◌, sym, ap, subst, arith, eq-eqb, IsTrue, min, option_map}
 use Rattle.std.specs.Prelude.{unwrap_or}
 use Rattle.tier_base.specs.declared.plain.FileName.TheVariants as file
 use Rattle.tier_base.specs.Told.{bytes_in}
 use Rattle.disk_model.specs.Content.{Lawful, part_of}
 use Rattle.segment_file.specs.Growing.{Grown}
 use Rattle.segment_file.specs.Reach.{reach_at}
+use Rattle.log_steps.proofs.Lists.{each_join}
 use Rattle.local_log.specs.Log.{Log}
+use Rattle.local_log.specs.Listing.{IsLaidOut}
 use Rattle.local_log.specs.Reading.{first_past, begin_of, position_of, piece_end, IsEdge, IsCut, IsRunOf, CutFails}
 use Rattle.local_log.proofs.Having.{start_since}
-use Rattle.local_log.proofs.Edges.{holder}
+use Rattle.local_log.proofs.Edges.{holder, holder_each}
 use Rattle.local_log.proofs.RunsTold.{ok_more, err_more, part_bytes, piece_past, edge_told, fails_told, run_told}
 use Rattle.local_log.proofs.log.LocalLog.read_run.Goals as goal
 
@@ -34,6 +36,14 @@ returns-then-end-mark-clause-whole g c there edge =
     let is = edge_told content s c.self.invariant unbroken t c.args.mark (omega (arith, start, c.requires.below)) in
     let same : c.place_of-end.result.0 ≡ c.args.mark = c.place_of-end.ensures.offset ∙ ap (λ (x : Grown). begin_of x c.args.mark) marked_is ∙ sym is ∙ on in
     absurd (c.if-end-mark.true same)
+
+pub piece_at-piece-requires-clause-laid : goal.piece_at-piece-requires-clause-laid
+piece_at-piece-requires-clause-laid g c =
+    let s = c.self.inside in
+    let are = c.self.invariant.segments in
+    let seg_is : c.segment_at-segment.result.now ≡ holder c.args.offset s.closed.items s.active =
+    c.segment_at-segment.ensures ∙ ap (λ (l : List Grown). unwrap_or (first_past c.args.offset l) s.active) c.as_slice-2.ensures.value in
+    subst IsLaidOut (sym seg_is) (holder_each IsLaidOut c.args.offset s.closed.items s.active (each_join IsLaidOut s.closed.items (s.active ∷ []) are.laid (are.active_laid, tt)))
 
 pub run_in-requires-clause-inside : goal.run_in-requires-clause-inside
 run_in-requires-clause-inside g c =
