@@ -1,7 +1,8 @@
 //! Commands of a follower: it joins where its log meets the leader's, and copies from there on.
 //!
-//! A follow reads a run of the leader's log at its first turn, and puts of it at the end of its own log at the second what
-//! stands in one segment, where nothing has come between.
+//! A follow reads a run of the leader's log at its first turn, and puts of it at the end of its own log at the second
+//! what stands in one segment, where nothing has come between. The batches are checked once, when they are read: that
+//! they were is kept with them between the turns, and the second turn reads their heads alone.
 
 ghost use Rattle.std.specs.Prelude.{◌≡◌, ◌<◌, ◌≤◌, true, false, length, IfOk, OnErr, IsSomeAnd, IsTrue, ◌↔◌, option_copied};
 ghost use Rattle.partition_turns.specs.Held.{AtNode, CanStop, StaysHeld, the_leader, is_up};
@@ -10,7 +11,6 @@ ghost use Rattle.partition_turns.specs.TurnsOfFollowers.{IsMeet, MayCut, CutRow,
 use crate::held::{Held, Node};
 use crate::roles::{followed, joined};
 use broker_log::{AppendRefusal, ReadRefusal};
-use bytes::Bytes;
 use disk_model::Disk;
 use epoch_line::Line;
 use partition_seen::{Begun, LocalStart, Taken, Turned};
@@ -80,7 +80,7 @@ impl<D: Disk> Held<D> {
                 role: Role::Joined(epoch),
                 end,
                 start,
-                batches: Taken::new(Bytes::new()),
+                batches: Taken::none(),
                 wanted: LocalStart::new(wanted),
                 line,
             })),
@@ -231,7 +231,7 @@ impl<D: Disk> Held<D> {
         let end = node.end();
         if begun.end != end
             || joined(node.role).is_none()
-            || !node.log.takes(begun.batches.as_slice())
+            || !node.log.takes_checked(begun.batches.as_slice())
         {
             return Ok(Answer::Passed(end));
         }

@@ -13,7 +13,6 @@ ghost use Rattle.partition_turns.specs.TurnsOfLog.{Notes};
 ghost use Rattle.partition_turns.specs.Sound.{HeldSound};
 
 use broker_log::BrokerLog;
-use bytes::Bytes;
 use disk_model::Disk;
 use epoch_line::Line;
 use partition_seen::{Begun, LocalStart, Taken, Turned};
@@ -126,7 +125,7 @@ impl<D: Disk> Held<D> {
             role: node.role,
             end: node.end(),
             start: self.registry.start,
-            batches: Taken::new(Bytes::new()),
+            batches: Taken::none(),
             wanted: LocalStart::new(0),
             line: Line::new(alloc),
         }

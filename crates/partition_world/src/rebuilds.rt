@@ -15,7 +15,6 @@ ghost use Rattle.partition_world.specs.Turns.{OwnOnRow, JoinSecondRow, StaysOr};
 
 use crate::seat::{Outcome, rebuild_outcome};
 use crate::tier::Tier;
-use bytes::Bytes;
 use disk_model::Disk;
 use epoch_line::Line;
 use meta_log::MetaLog;
@@ -64,7 +63,7 @@ fn with_line(alloc: Global, noted: &Begun, line: &Line) -> Result<Begun, AllocEr
         role: noted.role,
         end: noted.end,
         start: noted.start,
-        batches: Taken::new(Bytes::new()),
+        batches: Taken::none(),
         wanted: LocalStart::new(noted.wanted.offset()),
         line,
     })

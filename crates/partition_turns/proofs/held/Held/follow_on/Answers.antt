@@ -24,7 +24,7 @@ returns-clause-row g c =
     )
     (c.if-begun-end.false ∙ c.end-end.ensures)
     (subst (λ (o : Option ℕ). IsSome o) c.joined.ensures (c.is_none.ensures ∙ ap not c.if-is_none.false))
-    (taken_run x c.takes.result c.as_slice.result.now _ c.takes.ensures c.if-not-takes.false c.as_slice.ensures.all)
+    (taken_run x c.takes_checked.result c.as_slice.result.now _ c.takes_checked.ensures c.if-not-takes_checked.false c.as_slice.ensures.all)
     c.as_slice-2.ensures.all
     (of_node h b x (λ y. ExtendRow content control h b y run answer c.extend.new.self) c.get-node.ensures at)))
     c.extend.ensures.row

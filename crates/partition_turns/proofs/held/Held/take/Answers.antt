@@ -1,5 +1,6 @@
 use Rattle.std.proofs.Common.{◌∙◌, ap, refl, subst, ℕ, Err}
 use Rattle.broker_log.specs.Turns.{Misreads}
+use Rattle.broker_log.proofs.ReadBefore.{reads_checked}
 use Rattle.partition_turns.specs.TurnsOfFollowers.{MayTake}
 use Rattle.partition_turns.proofs.Putting.{of_node}
 use Rattle.partition_turns.proofs.Staying.{at_node, stays_at}
@@ -23,3 +24,7 @@ returns-in-Err-Damaged-clause-row g c =
       quiet = (c.read_run.ensures.control, c.read_run.ensures.quiet (never (e.is ∙ ap Err e.field-0-is) (λ no. cc)));
       after = refl;
     })
+
+pub new-requires : goal.new-requires
+new-requires g c =
+    reads_checked g.D.Disk.content g.D.Disk.control c.args.noted.end c.args.limit c.args.bound c.in-Ok.run' c.at_mut-node.result.now.log c.read_run.new.self c.in-Ok.ensures.ok
