@@ -9,8 +9,9 @@ use Rattle.log_steps.specs.Opens.{Opened, Opens}
 use Rattle.log_steps.specs.Reopens.{Reopens}
 use Rattle.local_log.specs.Log.{Log, committed, stable_log}
 use Rattle.local_log.specs.Cutting.{OpensAs, OpensAsOr}
-use Rattle.broker_log.specs.Seen.{Seen, Back, Up, Down, back_of, returning, returns, ComesBack, IsBack, IsKept, ShowsOpen}
+use Rattle.broker_log.specs.Seen.{Seen, Back, Up, Down, OpensBetween, back_of, returning, returns, ComesBack, IsBack, IsKept, ShowsOpen}
 use Rattle.broker_log.specs.Turns.{Breaks, BreaksUnsaved, Stops, loosened, torn}
+use Rattle.broker_log.proofs.Between.{between_as, between_same}
 use Rattle.broker_log.proofs.Showing.{image_as}
 use Rattle.broker_log.proofs.Local.{opened_as, local_low, local_ends, up_local, back_stands, kept_stands}
 
@@ -62,6 +63,7 @@ most is = omega (arith, is)
 -- a log that is closed comes back as it is
 pub stops_by : {D : Type 0} (content : D → Content) (log : Log D) → Reopens (content log.disk) → Stops content (Up log) (Down log.settings log.disk)
 stops_by content log again = record {
+  between = between_same (content log.disk);
   down = refl;
   settings = refl;
   seen = λ s h. (s, record { told = h.told; kept = kept_stands content log s h; images = λ c now. (log.incarnation, most h.incarnation_is, inl (h.images c now)); again = again }, refl);
@@ -71,8 +73,9 @@ module _ {D : Type 0} (content : D → Content) (old new : Log D) where
   pub breaks_by : (after : Seen → Seen) → (content new.disk).tells ≡ (content old.disk).tells → Reopens (content new.disk)
       → ((s : Seen) → ShowsOpen content old s → IsKept (after s))
       → ((s : Seen) → ShowsOpen content old s → (c : Files) → Image (content new.disk) c → (i : ℕ) × ((after s).incarnation ≤ i) × ComesBack i (after s) c)
-      → Breaks content (Up old) (Down old.settings new.disk) after
-  breaks_by after tells again kept images = record {
+      → OpensBetween (content old.disk) (content new.disk) → Breaks content (Up old) (Down old.settings new.disk) after
+  breaks_by after tells again kept images between = record {
+    between = between;
     down = refl;
     settings = refl;
     seen = λ s h. (after s, record { told = tells ∙ h.told; kept = kept s h; images = images s h; again = again }, refl);
@@ -96,15 +99,17 @@ module _ {D : Type 0} (content : D → Content) (old new : Log D) where
           breaks_by _ tells again
           (λ s h. loosened_kept s (back_of s) (kept_stands content old s h) (back_stands content old s h))
           (λ s h c now. (let was = image_as (content old.disk) (content new.disk) laws opens c now in (old.incarnation, most h.incarnation_is, inl (was.2 (returns old.incarnation s) (h.images was.0 was.1)))))
+          (between_as (content old.disk) (content new.disk) opens)
 
       -- all of the log was to be stable
       pub breaks_settling : (f : List (ℕ × ℕ) → ℕ → List (ℕ × ℕ)) → (IsTrue (content old.disk).tells → cut_end (f old.line old.end) (old.end + 1) ≡ f old.line old.end)
           → (content new.disk).tells ≡ (content old.disk).tells → LeavesOnly (content old.disk) (content new.disk) (OpensAsOr (content old.disk) (stable_log (committed old (f old.line old.end))))
-          → Breaks content (Up old) (Down old.settings new.disk) (λ s. loosened s (end_of s.batches, f s.line (end_of s.batches), s.local))
-      breaks_settling f within tells opens =
+          → OpensBetween (content old.disk) (content new.disk) → Breaks content (Up old) (Down old.settings new.disk) (λ s. loosened s (end_of s.batches, f s.line (end_of s.batches), s.local))
+      breaks_settling f within tells opens between =
           breaks_by _ tells again
           (λ s h. loosened_kept s (end_of s.batches, f s.line (end_of s.batches), s.local) (kept_stands content old s h) (record { begins = local_ends content old s h; within = local_low content old s h }))
           (λ s h c now. (old.incarnation, most h.incarnation_is, image_or (stable_log (committed old (f old.line old.end))) opens s h (returning old.incarnation s (end_of s.batches, f s.line (end_of s.batches), s.local)) (made s h) c now))
+          between
         where
           made : (s : Seen) → ShowsOpen content old s → stable_log (committed old (f old.line old.end)) ≡ returning old.incarnation s (end_of s.batches, f s.line (end_of s.batches), s.local)
           made s h =

@@ -11,7 +11,7 @@ use Rattle.local_log.specs.Log.{Log, Becomes}
 use Rattle.local_log.specs.Coheres.{Coheres}
 use Rattle.local_log.specs.Cutting.{cut, cut_at, cut_point, restarted, all_of, OpensAsOr}
 use Rattle.local_log.proofs.Pieces.{up_to_all}
-use Rattle.broker_log.specs.Seen.{Seen, Up, Down, layout_of, IsBack, returning, ShowsOpen}
+use Rattle.broker_log.specs.Seen.{Seen, Up, Down, OpensBetween, layout_of, IsBack, returning, ShowsOpen}
 use Rattle.broker_log.specs.Turns.{Cuts, BreaksIf, MayCut, IsEndUpTo, cut_to, cut_back, cut_end_at, torn}
 use Rattle.broker_log.proofs.Breaking.{most, torn_back, torn_most, torn_kept, image_or}
 use Rattle.broker_log.proofs.Local.{opened_as, from_rest, begins_at, up_whole, up_end, kept_stands}
@@ -137,8 +137,9 @@ module _ {D : Type 0} (content : D → Content) (old : Log D) (end : ℕ) (coher
   module _ (new : Log D) where
     -- the cut may be done
     pub cut_breaks : (content new.disk).tells ≡ (content old.disk).tells → Lawful (content new.disk) → Reopens (content new.disk) → LeavesOnly (content old.disk) (content new.disk) (OpensAsOr (content old.disk) (all_of (cut_at old end)))
-        → (cut_at old end).incarnation ≡ old.incarnation → BreaksIf content (Up old) (Down old.settings new.disk) (MayCut end) (λ s. torn s (cut_back s end))
-    cut_breaks tells laws again opens inc = record {
+        → (cut_at old end).incarnation ≡ old.incarnation → OpensBetween (content old.disk) (content new.disk) → BreaksIf content (Up old) (Down old.settings new.disk) (MayCut end) (λ s. torn s (cut_back s end))
+    cut_breaks tells laws again opens inc between = record {
+      between = between;
       down = refl;
       settings = refl;
       seen = λ s h may. (
@@ -162,7 +163,7 @@ module _ {D : Type 0} (content : D → Content) (old : Log D) (end : ℕ) (coher
     -- the cut is done
     module _ (unbroken : old.broken ≡ false) (b : Becomes content (cut_at old end) new) (durable : (c : Files) → Image (content new.disk) c → Opens c (all_of (cut_at old end)))
         (same : (cut_at old end).disk ≡ old.disk) (again : (cut_at old end).incarnation ≡ old.incarnation) (whole : (cut_at old end).broken ≡ old.broken)
-        (coheres' : new.broken ≡ false → IsTrue (content new.disk).tells → Coheres new) where
+        (coheres' : new.broken ≡ false → IsTrue (content new.disk).tells → Coheres new) (between : OpensBetween (content old.disk) (content new.disk)) where
       t : IsCutTo old (cut_at old end) end (cut_end_at old end)
       t = cut_told old end
 
@@ -215,6 +216,7 @@ module _ {D : Type 0} (content : D → Content) (old : Log D) (end : ℕ) (coher
 
       pub cuts_by : Cuts content (Up old) (Up new) end new.end
       cuts_by = record {
+        between = between;
         end_is = refl;
         stable_is = ap Some (stable_now ∙ sym end_now);
         line_is = ap Some (line_now ∙ ap (cut_end old.line) (sym end_now));

@@ -12,7 +12,7 @@ use Rattle.local_log.specs.Coheres.{Coheres}
 use Rattle.local_log.specs.Cutting.{OpensAsOr}
 use Rattle.local_log.specs.Dropping.{start_behind, IsFirstStable, SpansFirst, dropped as dropped_log}
 use Rattle.local_log.specs.Stored.{end_of as end_of_segment}
-use Rattle.broker_log.specs.Seen.{Seen, Up, Down, layout_of, returning, ShowsOpen}
+use Rattle.broker_log.specs.Seen.{Seen, Up, Down, OpensBetween, layout_of, returning, ShowsOpen}
 use Rattle.broker_log.specs.Turns.{Drops, DropBreaks, dropped, kept_line}
 use Rattle.broker_log.proofs.Breaking.{most, loosened_kept, image_or}
 use Rattle.broker_log.proofs.Local.{opened_as, from_up, parts_at, from_local, up_whole, kept_stands}
@@ -80,8 +80,9 @@ module _ {D : Type 0} (content : D → Content) (old : Log D) (some : IsFirstSta
 
   -- the write failed
   pub drop_breaks : (new : Log D) → (content new.disk).tells ≡ (content old.disk).tells → Lawful (content new.disk) → Reopens (content new.disk) → LeavesOnly (content old.disk) (content new.disk) (OpensAsOr (content old.disk) (stable_log (dropped_log old)))
-      → DropBreaks content (Up old) (Down old.settings new.disk)
-  drop_breaks new tells laws again opens = record {
+      → OpensBetween (content old.disk) (content new.disk) → DropBreaks content (Up old) (Down old.settings new.disk)
+  drop_breaks new tells laws again opens between = record {
+    between = between;
     down = refl;
     settings = refl;
     seen = λ s h. (
@@ -106,9 +107,10 @@ module _ {D : Type 0} (content : D → Content) (old : Log D) (some : IsFirstSta
   -- the segment is gone
   pub drops_by : (new : Log D) → old.broken ≡ false → (answer : ℕ × ℕ) → SpansFirst old.closed answer → Becomes content (dropped_log old) new
       → ((c : Files) → Image (content new.disk) c → Opens c (stable_log (dropped_log old)))
-      → (new.broken ≡ false → IsTrue (content new.disk).tells → Coheres new) → Drops content (Up old) (Up new) answer
-  drops_by new unbroken answer spans b durable whole =
+      → (new.broken ≡ false → IsTrue (content new.disk).tells → Coheres new) → OpensBetween (content old.disk) (content new.disk) → Drops content (Up old) (Up new) answer
+  drops_by new unbroken answer spans b durable whole between =
       record {
+        between = between;
         spans = spans;
         local_is = ap Some (local ∙ sym last);
         end_is = ap (λ (l : Log D). Some l.end) b.fields;

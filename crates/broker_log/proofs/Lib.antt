@@ -8,3 +8,4 @@ pub mod ReadBefore
 pub mod Returning
 pub mod Drops
 pub mod Restarts
+pub mod Between

@@ -9,7 +9,7 @@ use Rattle.log_steps.specs.Reopens.{Reopens}
 use Rattle.local_log.specs.Log.{Log, Becomes}
 use Rattle.local_log.specs.Coheres.{Coheres}
 use Rattle.local_log.specs.Cutting.{restarted as restarted_log, all_of, OpensAsOr}
-use Rattle.broker_log.specs.Seen.{Seen, Back, Up, Down, layout_of, IsBack, returning, ShowsOpen}
+use Rattle.broker_log.specs.Seen.{Seen, Back, Up, Down, OpensBetween, layout_of, IsBack, returning, ShowsOpen}
 use Rattle.broker_log.specs.Turns.{LeadsTo, Restarts, RestartBreaks, restarted, unbuilt}
 use Rattle.broker_log.proofs.Breaking.{most, image_or}
 use Rattle.broker_log.proofs.Local.{opened_as, from_end, up_up, local_ends}
@@ -21,8 +21,9 @@ module _ {D : Type 0} (content : D → Content) (old : Log D) (n : ℕ) (line : 
       opened_as (all_of (restarted_log old n line)) old.incarnation n (from_offset n (up_to n whole)) line refl refl (sym (from_end n whole w.consecutive w.ends)) refl
 
   pub restarts_by : (new : Log D) → old.broken ≡ false → Becomes content (restarted_log old n line) new → ((c : Files) → Image (content new.disk) c → Opens c (all_of (restarted_log old n line)))
-      → (new.broken ≡ false → IsTrue (content new.disk).tells → Coheres new) → Restarts content (Up old) (Up new) n line
-  restarts_by new unbroken b durable coheres = record {
+      → (new.broken ≡ false → IsTrue (content new.disk).tells → Coheres new) → OpensBetween (content old.disk) (content new.disk) → Restarts content (Up old) (Up new) n line
+  restarts_by new unbroken b durable coheres between = record {
+    between = between;
     end_is = ap (λ (l : Log D). Some l.end) b.fields;
     stable_is = ap (λ (l : Log D). Some l.stable) b.fields;
     local_is = ap (λ (l : Log D). Some l.local_start) b.fields;
@@ -58,8 +59,9 @@ module _ {D : Type 0} (content : D → Content) (old : Log D) (n : ℕ) (line : 
       (up_to s.local whole, up_to_prefix s.local whole, ap end_of here ∙ at)
 
   pub restart_breaks : (new : Log D) → (content new.disk).tells ≡ (content old.disk).tells → Lawful (content new.disk) → Reopens (content new.disk)
-      → LeavesOnly (content old.disk) (content new.disk) (OpensAsOr (content old.disk) (all_of (restarted_log old n line))) → RestartBreaks content (Up old) (Down old.settings new.disk) n line
-  restart_breaks new tells laws again opens = record {
+      → LeavesOnly (content old.disk) (content new.disk) (OpensAsOr (content old.disk) (all_of (restarted_log old n line))) → OpensBetween (content old.disk) (content new.disk) → RestartBreaks content (Up old) (Down old.settings new.disk) n line
+  restart_breaks new tells laws again opens between = record {
+    between = between;
     down = refl;
     settings = refl;
     seen = λ s h whole w same.

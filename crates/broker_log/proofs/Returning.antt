@@ -20,6 +20,7 @@ use Rattle.local_log.specs.declared.refusal.OpenRefusal.TheVariants.{Damaged}
 use Rattle.local_log.specs.Refusing.{IsSoundCause}
 use Rattle.local_log.specs.declared.refusal.OpenRefusal.{OpenRefusal}
 use Rattle.broker_log.specs.Turns.{opened, OpensAt, Opens as ComesAt, LeadsTo, read_behind, Unopened}
+use Rattle.broker_log.proofs.Between.{between_opening}
 use Rattle.broker_log.proofs.Local.{opened_as, parts_at, up_up, from_rest}
 use Rattle.log_terms.proofs.Logs.{end_append, consecutive_prefix, prefix_end, up_to_prefix, up_to_end}
 use Rattle.local_log.proofs.OneWay.{opens_once}
@@ -165,7 +166,7 @@ module _ {D : Type 0} (content : D → Content) (settings : Settings) (disk : D)
 
     -- so is the log
     pub stays_by_closing : Stays content (Down settings disk) (Down settings disk')
-    stays_by_closing = record { up = refl; end = refl; stable = refl; line = refl; local = refl; layout = refl; settings = refl; seen = stays_closed }
+    stays_by_closing = record { up = refl; end = refl; stable = refl; line = refl; local = refl; layout = refl; settings = refl; seen = stays_closed; between = between_opening (content disk) (content disk') laws leaves }
 
     -- what was handed has no reading, so nothing was seen of the log
     pub unopened : (control : D → Control call_code) (why : OpenRefusal) (name : FileName) (at : ℕ) → why ≡ Damaged name at → OpenFails (control disk').handed why

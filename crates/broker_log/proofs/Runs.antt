@@ -23,6 +23,7 @@ use Rattle.local_log.specs.declared.refusal.ReadRefusal.TheVariants.{Damaged}
 use Rattle.local_log.specs.Reading.{segment_at, IsRunOf, IsEdge, IsCut, RunFails, IsOfDevice, ReadOnce, piece_of, passes}
 use Rattle.broker_log.specs.Seen.{Seen, Up, Stays, ShowsOpen}
 use Rattle.broker_log.specs.Turns.{IsRunIn, IsSegmentOf, Reads, Misreads, StopIs}
+use Rattle.broker_log.proofs.Between.{between_kept}
 use Rattle.broker_log.proofs.Showing.{stays_by}
 use Rattle.broker_log.proofs.Local.{from_local, up_end}
 use Rattle.segment_file.specs.Closed.{Whole}
@@ -120,7 +121,7 @@ err_told P Q (Err e) cause p q is = let same : e ≡ cause = cc is in (subst P s
 module _ {D : Type 0} (content : D → Content) (old new : Log D) (b : Becomes content old new) (keeps : Keeps (content old.disk) (content new.disk)) where
   -- a log that was read is as it was
   pub reading_stays : Stays content (Up old) (Up new)
-  reading_stays = stays_by content old new b (λ c now. (c, keeps.images c now, λ o is. is))
+  reading_stays = stays_by content old new b (λ c now. (c, keeps.images c now, λ o is. is)) (between_kept (content old.disk) (content new.disk) keeps)
 
   module _ (control : D → Control call_code) (offset limit mark : ℕ) (from : old.local_start ≤ offset) (below : offset < mark) where
     -- the run that was read
@@ -142,3 +143,14 @@ module _ {D : Type 0} (content : D → Content) (old new : Log D) (b : Becomes c
       cause = fails;
       unmarked = λ s h ends. whole h.told (edge_at content old s h mark (omega (arith, from, below)) ends);
     }
+
+-- a log whose disk was armed
+pub armed_stays : {D : Type 0} (content : D → Content) (old new : Log D) → new ≡ record old { disk = new.disk } → Keeps (content old.disk) (content new.disk) → Stays content (Up old) (Up new)
+armed_stays {D = D} content old new is k =
+    reading_stays content old new
+    (record {
+      fields = is ∙ ap (λ (b : List (List ℕ)). (let l : Log D = record old { disk = new.disk; batches = b } in l)) (sym (ap (λ (l : Log D). l.batches) is));
+      tells = k.tells;
+      batches = λ t. ap (λ (l : Log D). l.batches) is;
+    })
+    k

@@ -19,8 +19,9 @@ use Rattle.log_steps.specs.Opens.{Opens}
 use Rattle.local_log.specs.Log.{Log, Becomes, committed, stable_log}
 use Rattle.local_log.specs.Coheres.{Coheres, Hold}
 use Rattle.local_log.specs.Cutting.{OpensAs}
-use Rattle.broker_log.specs.Seen.{Seen, Up, Stays, layout_of, returns, ShowsOpen}
+use Rattle.broker_log.specs.Seen.{Seen, Up, Stays, OpensBetween, layout_of, returns, ShowsOpen}
 use Rattle.broker_log.specs.Turns.{Appends, Settles, Rolls, settled, with_batches, first_in}
+use Rattle.broker_log.proofs.Between.{between_as}
 use Rattle.broker_log.proofs.Local.{opened_as, local_low, up_local}
 
 -- an epoch that starts at the end is within it
@@ -46,8 +47,9 @@ hold_same old new start closed active batches hold = rw (start, closed, active, 
 
 module _ {D : Type 0} (content : D → Content) (old new : Log D) where
   -- the log is the same, and so is what each image opens as
-  pub stays_by : Becomes content old new → ((c : Files) → Image (content new.disk) c → OpensAs (content old.disk) c) → Stays content (Up old) (Up new)
-  stays_by b opens = record {
+  pub stays_by : Becomes content old new → ((c : Files) → Image (content new.disk) c → OpensAs (content old.disk) c) → OpensBetween (content old.disk) (content new.disk) → Stays content (Up old) (Up new)
+  stays_by b opens between = record {
+    between = between;
     up = refl;
     end = ap (λ (l : Log D). Some l.end) b.fields;
     stable = ap (λ (l : Log D). Some l.stable) b.fields;
@@ -81,8 +83,9 @@ module _ {D : Type 0} (content : D → Content) (old new : Log D) where
 
   -- a new segment is begun
   pub rolls_by : Becomes content (rolled old) new → ((c : Files) → Image (content new.disk) c → OpensAs (content old.disk) c)
-      → (new.broken ≡ false → IsTrue (content new.disk).tells → Coheres new) → Rolls content (Up old) (Up new)
-  rolls_by b opens coheres = record {
+      → (new.broken ≡ false → IsTrue (content new.disk).tells → Coheres new) → OpensBetween (content old.disk) (content new.disk) → Rolls content (Up old) (Up new)
+  rolls_by b opens coheres between = record {
+    between = between;
     layout = ap (λ (l : Log D). Some (layout_of l)) b.fields;
     up = refl;
     end = ap (λ (l : Log D). Some l.end) b.fields;
@@ -114,9 +117,10 @@ module _ {D : Type 0} (content : D → Content) (old new : Log D) where
 
   -- all of the log is stable
   pub settles_by : (f : List (ℕ × ℕ) → ℕ → List (ℕ × ℕ)) → (old.broken ≡ false) → (IsTrue (content old.disk).tells → cut_end (f old.line old.end) (old.end + 1) ≡ f old.line old.end)
-      → Becomes content (committed old (f old.line old.end)) new → ((c : Files) → Image (content new.disk) c → Opens c (stable_log new)) → Settles content (Up old) (Up new) f old.end
-  settles_by f unbroken within b durable =
+      → Becomes content (committed old (f old.line old.end)) new → ((c : Files) → Image (content new.disk) c → Opens c (stable_log new)) → OpensBetween (content old.disk) (content new.disk) → Settles content (Up old) (Up new) f old.end
+  settles_by f unbroken within b durable between =
       record {
+        between = between;
         base_is = refl;
         end_is = ap Some end;
         stable_is = ap Some stable;
@@ -257,6 +261,7 @@ module _ {D : Type 0} (content : D → Content) where
 
     pub appends_to : base ≡ open_for old run → Appends content (Up old) (Up new) run answer
     appends_to opened = record {
+      between = between_as (content old.disk) (content new.disk) opens;
       front = front;
       rest = rest;
       some = some;

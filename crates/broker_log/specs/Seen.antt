@@ -8,6 +8,7 @@
 --   Shows content kept s      the log, or its disk, is seen so
 --   Goes content old new R    a call makes this of what is seen
 --   Stays content old new     a call leaves what is seen, and the plain facts
+--   LeavesBetween .. old new  whatever a crash in the course of a call leaves is opened as before the call or as after it
 --
 -- Of a disk that doesn't tell nothing is seen. A log that is up also has its end, its stable end and its line, and its
 -- layout: how it stands in segments, whose batches it has. Its settings last as long as the broker.
@@ -16,7 +17,7 @@ use Rattle.tier_base.specs.declared.plain.Settings.{Settings}
 use Rattle.tier_base.specs.Device.{Control, Lasts}
 use Rattle.tier_base.specs.Counts.{counted, Rose}
 use Rattle.disk_model.specs.Call.{call_code}
-use Rattle.disk_model.specs.Content.{Content, Files, Image}
+use Rattle.disk_model.specs.Content.{Content, Files, Image, LeavesOnly}
 use Rattle.log_terms.specs.Log.{IsConsecutive, EndsAt, up_to, from_offset, end_of}
 use Rattle.segment_file.specs.Growing.{Grown}
 use Rattle.log_steps.specs.Opens.{Opened, Opens}
@@ -232,6 +233,20 @@ module _ {D : Type 0} where
   abbrev pub Quiet : (D → Control call_code) → Kept D → Kept D → Type 0
   Quiet control old new = Lasting control old new × NoFault control old new
 
+-- the files open as an image of the disk does, perhaps under a later incarnation
+abbrev pub OpensLater : Content → Files → Type 0
+OpensLater d c = (x : Files) × Image d x
+    × ((o : Opened) → Opens x o → (i : ℕ) × (o.incarnation ≤ i) × Opens c (record o { incarnation = i }))
+
+-- Of a disk that tells, from which a log could be opened after any crash before: a crash at any moment between leaves files
+-- that open as an image of before does, or as one of now.
+abbrev pub OpensBetween : Content → Content → Type 0
+OpensBetween d d' = IsTrue d.tells → Reopens d → LeavesOnly d d' (λ c. OpensLater d c ⊎ OpensLater d' c)
+
+-- of the disk of a log
+abbrev pub LeavesBetween : {D : Type 0} → (D → Content) → Kept D → Kept D → Type 0
+LeavesBetween content old new = OnDisk old (λ d. OnDisk new (λ d'. OpensBetween (content d) (content d')))
+
 -- a call leaves the log as it was
 pub record Stays {D : Type 0} (content : D → Content) (old new : Kept D) : Type 0 where
   pub up : is_up new ≡ is_up old
@@ -242,3 +257,4 @@ pub record Stays {D : Type 0} (content : D → Content) (old new : Kept D) : Typ
   pub layout : layout_in new ≡ layout_in old
   pub settings : settings_in new ≡ settings_in old
   pub seen : Goes content old new (λ s s'. s' ≡ s)
+  pub between : LeavesBetween content old new

@@ -26,7 +26,7 @@ use Rattle.log_steps.specs.Opens.{Opened, Opens as OpenAs}
 use Rattle.local_log.specs.Run.{lined, taking, open_for, rolled, with_batches as gaining}
 use Rattle.local_log.specs.Stored.{size_of}
 use Rattle.local_log.specs.Log.{Log}
-use Rattle.broker_log.specs.Seen.{Back, Seen, Kept, Layout, back_of, Shows, Goes, GoesIf, Stays, WhileUp, OnDisk, end_in, stable_in, line_in, local_in, closed_in, layout_of, layout_in, settings_in, is_up}
+use Rattle.broker_log.specs.Seen.{Back, Seen, Kept, Layout, back_of, Shows, Goes, GoesIf, Stays, LeavesBetween, WhileUp, OnDisk, end_in, stable_in, line_in, local_in, closed_in, layout_of, layout_in, settings_in, is_up}
 
 -- the log with batches more
 abbrev pub with_batches : Seen → List (List ℕ) → Seen
@@ -115,6 +115,7 @@ pub record Breaks {D : Type 0} (content : D → Content) (old new : Kept D) (aft
   pub down : is_up new ≡ false
   pub settings : settings_in new ≡ settings_in old
   pub seen : Goes content old new (λ s s'. s' ≡ after s)
+  pub between : LeavesBetween content old new
 
 -- a write failed, and the broker is down; where that is so, this is seen of it
 pub record BreaksIf {D : Type 0} (content : D → Content) (old new : Kept D) (P : Seen → Type 0)
@@ -122,6 +123,7 @@ pub record BreaksIf {D : Type 0} (content : D → Content) (old new : Kept D) (P
   pub down : is_up new ≡ false
   pub settings : settings_in new ≡ settings_in old
   pub seen : GoesIf content old new P (λ s s'. s' ≡ after s)
+  pub between : LeavesBetween content old new
 
 -- a write of what isn't stable yet failed
 abbrev pub BreaksUnsaved : {D : Type 0} → (D → Content) → Kept D → Kept D → Type 0
@@ -152,6 +154,7 @@ pub record Appends {D : Type 0} (content : D → Content) (old new : Kept D) (ru
   pub line_is : WhileUp old (λ log. line_in new ≡ Some (lined log.line front))
   pub layout : WhileUp old (λ log. layout_in new ≡ Some (layout_of (gaining (open_for log run) front)))
   pub seen : Goes content old new (λ s s'. s' ≡ with_batches s front)
+  pub between : LeavesBetween content old new
 
 -- all of the log is stable, with this line, and this is its end
 pub record Settles {D : Type 0} (content : D → Content) (old new : Kept D) (line : List (ℕ × ℕ) → ℕ → List (ℕ × ℕ))
@@ -162,6 +165,7 @@ pub record Settles {D : Type 0} (content : D → Content) (old new : Kept D) (li
   pub line_is : WhileUp old (λ log. line_in new ≡ Some (line log.line log.end))
   pub layout : layout_in new ≡ layout_in old
   pub seen : Goes content old new (λ s s'. s' ≡ settled s (line s.line (end_of s.batches)))
+  pub between : LeavesBetween content old new
 
 -- the open segment is closed, and the next begins at the log's end
 pub record Rolls {D : Type 0} (content : D → Content) (old new : Kept D) : Type 0 where
@@ -171,6 +175,7 @@ pub record Rolls {D : Type 0} (content : D → Content) (old new : Kept D) : Typ
   pub stable : stable_in new ≡ stable_in old
   pub line : line_in new ≡ line_in old
   pub seen : Goes content old new (λ s s'. s' ≡ s)
+  pub between : LeavesBetween content old new
 
 -- the empty log of a disk
 abbrev pub first_seen : Seen
@@ -207,6 +212,7 @@ pub record Cuts {D : Type 0} (content : D → Content) (old new : Kept D) (end n
   pub point : WhileUp old (λ log. now ≡ cut_end_at log end)
   pub layout : WhileUp old (λ log. layout_in new ≡ Some (layout_of (cut_log log end)))
   pub seen : GoesIf content old new (MayCut end) (λ s s'. (s' ≡ cut_to s end) × (now ≡ end_of (up_to end s.batches)))
+  pub between : LeavesBetween content old new
 
 -- the first closed segment is gone, with these offsets
 pub record Drops {D : Type 0} (content : D → Content) (old new : Kept D) (answer : ℕ × ℕ) : Type 0 where
@@ -221,6 +227,7 @@ pub record Drops {D : Type 0} (content : D → Content) (old new : Kept D) (answ
       → (answer.0 ≡ s.local) × EndsAt (answer.1 + 1) s.batches × (answer.1 + 1 ≤ s.stable)
       × (s.local ≤ answer.1 + 1)
   pub seen : Goes content old new (λ s s'. s' ≡ dropped s (answer.1 + 1))
+  pub between : LeavesBetween content old new
 
 -- a write failed that was to drop the first closed segment: the local log begins there, or where that segment ends
 pub record DropBreaks {D : Type 0} (content : D → Content) (old new : Kept D) : Type 0 where
@@ -229,6 +236,7 @@ pub record DropBreaks {D : Type 0} (content : D → Content) (old new : Kept D) 
   pub seen : (s : Seen) → Shows content old s → (start : ℕ) × EndsAt start s.batches × (start ≤ s.stable)
       × Shows content new (loosened s (s.stable, kept_line s, start)) × (start ≡ start_behind s.local (closed_in old))
       × (s.local ≤ start)
+  pub between : LeavesBetween content old new
 
 -- these batches lead up to an offset
 pub record LeadsTo (whole : List (List ℕ)) (n : ℕ) : Type 0 where
@@ -244,6 +252,7 @@ pub record Restarts {D : Type 0} (content : D → Content) (old new : Kept D) (n
   pub layout : WhileUp old (λ log. layout_in new ≡ Some (layout_of (restarted_log log n line)))
   pub seen : (s : Seen) → Shows content old s → (whole : List (List ℕ)) → LeadsTo whole n
       → Shows content new (restarted s whole line n)
+  pub between : LeavesBetween content old new
 
 -- a write failed that was to do so: of batches that have what was stable, that or all comes back
 pub record RestartBreaks {D : Type 0} (content : D → Content) (old new : Kept D) (n : ℕ)
@@ -253,6 +262,7 @@ pub record RestartBreaks {D : Type 0} (content : D → Content) (old new : Kept 
   pub seen : (s : Seen) → Shows content old s → (whole : List (List ℕ)) → LeadsTo whole n
       → up_to s.stable whole ≡ up_to s.stable s.batches
       → Shows content new (unbuilt s whole line n)
+  pub between : LeavesBetween content old new
 
 -- a closed segment's batches, which pass every test, stand in the log, from its base to its last offset
 pub record IsSegmentOf (s : Seen) (whole : Closed) : Type 0 where
@@ -335,6 +345,7 @@ pub record Stops {D : Type 0} (content : D → Content) (old new : Kept D) : Typ
   pub down : is_up new ≡ false
   pub settings : settings_in new ≡ settings_in old
   pub seen : Goes content old new (λ s s'. s' ≡ s)
+  pub between : LeavesBetween content old new
 
 -- the log that was read, behind these batches, under the next incarnation
 abbrev pub read_behind : Opened → List (List ℕ) → Seen
@@ -365,3 +376,4 @@ pub record ComesUp {D : Type 0} (content : D → Content) (old new : Kept D) (en
       × ((below : List (List ℕ)) → LeadsTo below o.local_start → Shows content new (read_behind o below)))
   -- one incarnation on, at least
   pub seen : Goes content old new (λ s s'. Opens end s s' × (s.incarnation < s'.incarnation))
+  pub between : LeavesBetween content old new

@@ -28,7 +28,7 @@ use Rattle.log_steps.proofs.Standing.{both_agree}
 use Rattle.local_log.specs.Stored.{bytes_of, batches_of, all_batches, end_of, extent_of, IsStored}
 use Rattle.local_log.specs.Listing.{IsLaidOut, AreSegmentsOf, AreListed, front_to, manifest_of}
 use Rattle.local_log.specs.Inside.{HasLog}
-use Rattle.local_log.specs.Cutting.{closed_by, open_by, behind, cut_point, names_of, OpensAsOr}
+use Rattle.local_log.specs.Cutting.{closed_by, open_by, behind, cut_point, names_of, OpensAsOr, LeavesBeforeOrNow}
 use Rattle.local_log.specs.Renewing.{Renews}
 use Rattle.local_log.specs.Dropping.{first_of, rest_of, start_behind, IsFirstStable, SpansFirst}
 use Rattle.local_log.proofs.Pieces.{stored_batches, stored_segments, stored_end, stored_same, consecutive_segments, all_each}
@@ -42,7 +42,7 @@ use Rattle.local_log.proofs.Having.{OpensUpTo}
 use Rattle.local_log.proofs.Shortened.{stored_below, short_stored, short_batches}
 use Rattle.local_log.proofs.Settled.{listed_agrees, listed_cut}
 use Rattle.local_log.proofs.Shedding.{in_or_out, each_mapped}
-use Rattle.local_log.proofs.Renewed.{not_named, renew_since, renew_as, renew_reopens, renew_dry, renew_kept, renew_read, renew_fronts, renew_files, renew_opens}
+use Rattle.local_log.proofs.Renewed.{not_named, renew_since, renew_as, renew_either, renew_reopens, renew_dry, renew_kept, renew_read, renew_fronts, renew_files, renew_opens}
 
 -- batches from where the first of them begins
 from_all : (n : ℕ) (xs : List (List ℕ)) → IsConsecutive n xs → from_offset n xs ≡ xs
@@ -117,6 +117,7 @@ front_are start stable (x ∷ xs) active some are within =
 pub record Drops (d d' : Content) (incarnation start : ℕ) (closed : List Grown) (active : Grown) (line : List (ℕ × ℕ)) (stable : ℕ) (fate : Fate) : Type 0 where
   pub since : LeavesOnly d d' (λ c. OpensUpTo incarnation start stable (all_batches d.files (closed ++ active ∷ [])) line c ⊎ Opens c (opened_behind d.files incarnation start closed active line stable))
   pub opens_as : LeavesOnly d d' (OpensAsOr d (opened_behind d.files incarnation start closed active line stable))
+  pub either : LeavesBeforeOrNow d d'
   pub reopens : Reopens d'
   pub dry : fate ≡ Dry → HasLog d' incarnation start closed active line stable
   pub has : fate ≡ Went → HasLog d' incarnation (start_behind start closed) (rest_of closed) active line stable
@@ -346,6 +347,7 @@ module _ (d : Content) (laws : Lawful d) (incarnation start : ℕ) (first : Grow
   drops_some = record {
     since = renew_since d laws incarnation start (first ∷ rest) active line stable has next o rules read lists (first ∷ []) (apart short short_high) d' laws' fate change;
     opens_as = renew_as d laws incarnation start (first ∷ rest) active line stable has next o rules read lists (first ∷ []) (apart short short_high) d' laws' fate change;
+    either = renew_either d laws incarnation start (first ∷ rest) active line stable has next o rules read lists (first ∷ []) (apart short short_high) d' laws' fate change;
     reopens = renew_reopens d laws incarnation start (first ∷ rest) active line stable has next o rules read lists (first ∷ []) (apart short short_high) d' laws' fate change;
     dry = renew_dry d laws incarnation start (first ∷ rest) active line stable has next o rules read lists (first ∷ []) (apart short short_high) d' laws' fate change;
     has = drop_has;

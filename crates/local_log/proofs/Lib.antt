@@ -45,3 +45,4 @@ pub mod Admitted
 pub mod CheckedBefore
 pub mod Settled
 pub mod OneWay
+pub mod Sides

@@ -26,9 +26,11 @@ use Rattle.log_steps.proofs.Standing.{agrees_then, same_kept}
 use Rattle.log_steps.proofs.Reading.{opens_as, reopens_two}
 use Rattle.local_log.specs.Stored.{all_batches, extent_of}
 use Rattle.local_log.specs.Inside.{HasLog}
-use Rattle.local_log.specs.Cutting.{names_of, Without, RemovesAll, OpensAsOr}
+use Rattle.local_log.specs.Cutting.{names_of, Without, RemovesAll, OpensAs, OpensAsOr, OpensBeforeOrNow, LeavesBeforeOrNow}
 use Rattle.local_log.specs.Renewing.{HasNew, Renewed, Renews}
 use Rattle.local_log.proofs.Having.{OpensUpTo, reading, listed_as, has_same}
+use Rattle.local_log.proofs.OneWay.{opens_once}
+use Rattle.local_log.proofs.Sides.{either_opens}
 use Rattle.local_log.proofs.Settled.{agrees_none}
 
 pub err_fate : {T : Type 0} (r : Result T Trouble) (e : Trouble) → IsErrAnd r (λ x. x ≡ e) → fate_of r ≡ fate_of_trouble e
@@ -80,6 +82,7 @@ module _ (bytes : List ℕ) (gs : List Grown) (d m : Content) (M : Bool → Type
     files = λ went. absurd (not went);
     gone = λ went. absurd (not went);
     phase = inl (λ c now. (let x = change.images c now in record { image = x.0; was = x.1; others = x.2.others; manifest = x.2.there }));
+    between = inl (goes_on d d m (λ c. Image d c ⊎ Image m c) (started d (λ c. Image d c ⊎ Image m c) (λ c now. inl now)) change.time (λ c now. inr now));
   }
 
   module _ (d' : Content) (laws' : Lawful d') (fate : Fate) (sure : (c : Files) → Image m c → c file.Manifest ≡ Some bytes) (step : RemovesAll (names_of gs) fate m d') where
@@ -114,6 +117,7 @@ module _ (bytes : List ℕ) (gs : List Grown) (d m : Content) (M : Bool → Type
       files = λ is t n ne. ⊎_elim (λ same. inl (same ∙ (change.files t).2.others n ne)) (λ none. inr none) (step.files (told t) n);
       gone = λ is t n named. step.gone (went is) (told t) n named;
       phase = inr new_now;
+      between = inr new_now;
     }
 
 module _ (d : Content) (laws : Lawful d) (incarnation local_start : ℕ) (closed : List Grown) (active : Grown) (line : List (ℕ × ℕ)) (stable : ℕ) (has : HasLog d incarnation local_start closed active line stable)
@@ -214,6 +218,28 @@ module _ (d : Content) (laws : Lawful d) (incarnation local_start : ℕ) (closed
 
   pub renew_files : IsTrue d.tells → Each (Agrees d'.files d.files) next.segments
   renew_files = renew_read next.segments safe lists
+
+  -- where each image has the new manifest, what opens so opens as one of them
+  as_now : ((c : Files) → Image d' c → c file.Manifest ≡ Some bytes) → (c : Files) → IsTrue d.tells → Opens c o → OpensAs d' c
+  as_now sure c t opens =
+      let now = laws'.reads (subst IsTrue (sym change.tells) t) in
+      let is = opens_as d'.files d.files bytes next o (sure d'.files now) reads (renew_fronts d'.files now) (read t) in
+      (d'.files, now, λ p by. subst (Opens c) (opens_once d'.files o p is by) opens)
+
+  pub renew_either : LeavesBeforeOrNow d d'
+  renew_either = ⊎_elim (either_opens d d') then change.between
+    where
+      then : ((c : Files) → Image d' c → c file.Manifest ≡ Some bytes) → LeavesBeforeOrNow d d'
+      then sure =
+          leaves_weaker d d' (Renewed bytes (names_of gs) d) (OpensBeforeOrNow d d')
+          (λ c h. (
+          let i = renew_image c h in
+          ⊎_elim
+          (λ old. inl (listed_as d laws incarnation local_start closed active line stable has c i.0 old.0 old.1))
+          (λ new. inr (as_now sure c i.0 (opens_as c d.files bytes next o new.0 reads new.1 (read i.0))))
+          i.1
+          ))
+          change.since
 
   pub renew_reopens : Reopens d'
   renew_reopens = ⊎_elim first then change.phase

@@ -17,13 +17,13 @@ use Rattle.log_steps.proofs.Rewritten.{log_no_manifest}
 use Rattle.local_log.specs.Stored.{all_batches}
 use Rattle.local_log.specs.Listing.{AreSegmentsOf, manifest_of}
 use Rattle.local_log.specs.Inside.{HasLog}
-use Rattle.local_log.specs.Cutting.{names_of, OpensAsOr}
+use Rattle.local_log.specs.Cutting.{names_of, OpensAsOr, LeavesBeforeOrNow}
 use Rattle.local_log.specs.Renewing.{Renews}
 use Rattle.local_log.proofs.Having.{OpensUpTo}
 use Rattle.local_log.proofs.Listed.{rules_of}
 use Rattle.local_log.proofs.Lines.{cut_within}
 use Rattle.local_log.proofs.Settled.{agrees_none}
-use Rattle.local_log.proofs.Renewed.{renew_since, renew_as, renew_reopens, renew_dry, renew_opens}
+use Rattle.local_log.proofs.Renewed.{renew_since, renew_as, renew_either, renew_reopens, renew_dry, renew_opens}
 use Rattle.local_log.proofs.Shedding.{in_or_out}
 
 -- an empty segment
@@ -72,6 +72,9 @@ module _ (d : Content) (laws : Lawful d) (incarnation local_start : ℕ) (closed
 
   pub restart_as : LeavesOnly d d' (OpensAsOr d now_open)
   restart_as = renew_as d laws incarnation local_start closed active line stable has next now_open next_reads (λ t. read_empty d.files) (λ c a b. next_agrees c d.files) segments (inl refl, tt) d' laws' fate change
+
+  pub restart_either : LeavesBeforeOrNow d d'
+  restart_either = renew_either d laws incarnation local_start closed active line stable has next now_open next_reads (λ t. read_empty d.files) (λ c a b. next_agrees c d.files) segments (inl refl, tt) d' laws' fate change
 
   pub restart_reopens : Reopens d'
   restart_reopens = renew_reopens d laws incarnation local_start closed active line stable has next now_open next_reads (λ t. read_empty d.files) (λ c a b. next_agrees c d.files) segments (inl refl, tt) d' laws' fate change

@@ -131,6 +131,14 @@ OpensAs old c = (d : Files) × Image old d × ((o : Opened) → Opens d o → Op
 abbrev pub OpensAsOr : Content → Opened → Files → Type 0
 OpensAsOr old o c = OpensAs old c ⊎ Opens c o
 
+-- it opens as an image of before does, or as one of now
+abbrev pub OpensBeforeOrNow : Content → Content → Files → Type 0
+OpensBeforeOrNow old new c = OpensAs old c ⊎ OpensAs new c
+
+-- whatever a crash at any moment between leaves opens so
+abbrev pub LeavesBeforeOrNow : Content → Content → Type 0
+LeavesBeforeOrNow old new = LeavesOnly old new (OpensBeforeOrNow old new)
+
 -- files of these names may be gone
 abbrev pub Without : List FileName → Files → Files → Type 0
 Without names d c = (n : FileName) → (c n ≡ d n) ⊎ (In n names × (c n ≡ None))

@@ -5,6 +5,7 @@ use Rattle.tier_base.specs.declared.plain.FileName.TheVariants as file
 use Rattle.tier_base.specs.Device.{Fate, Went, Dry}
 use Rattle.tier_base.specs.Told.{In}
 use Rattle.disk_model.specs.Content.{Content, Files, Image, LeavesOnly}
+use Rattle.log_steps.specs.Publishes.{LeavesEither}
 use Rattle.log_steps.specs.Rewrites.{Rewritten}
 
 -- the new manifest, and the files of an image, of which those of these names may be gone
@@ -31,3 +32,5 @@ pub record Renews (bytes : List ℕ) (names : List FileName) (fate : Fate) (old 
   -- no file was removed, or each image has the new manifest
   pub phase : ((c : Files) → Image new c → Rewritten bytes old c)
       ⊎ ((c : Files) → Image new c → c file.Manifest ≡ Some bytes)
+  -- at no moment there was more than before or now, or each image has the new manifest
+  pub between : LeavesEither old new ⊎ ((c : Files) → Image new c → c file.Manifest ≡ Some bytes)

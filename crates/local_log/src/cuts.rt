@@ -15,7 +15,7 @@ ghost use Rattle.log_manifest.specs.Spelling.{manifest_bytes};
 ghost use Rattle.log_steps.specs.Opens.{Opens};
 ghost use Rattle.local_log.specs.Listing.{front_to, manifest_of};
 ghost use Rattle.local_log.specs.Log.{Becomes};
-ghost use Rattle.local_log.specs.Cutting.{closed_by, open_by, cut_point, shortened, settled, cut, restarted, cut_at, IsLeftUpTo, all_of, opened_to, Cutting, OpensEither, Breaks, OpensAs, OpensAsOr};
+ghost use Rattle.local_log.specs.Cutting.{closed_by, open_by, cut_point, shortened, settled, cut, restarted, cut_at, IsLeftUpTo, all_of, opened_to, Cutting, OpensEither, Breaks, OpensAs, OpensAsOr, LeavesBeforeOrNow};
 
 use crate::log::{LocalLog, refused};
 use crate::trimming::{cut_point, cut_segments, listing_to, open_front, trim};
@@ -42,6 +42,8 @@ impl<D: Disk> LocalLog<D> {
         // Each of these images opens as an image of before does, or as the cut log.
         ensures opens { LeavesOnly (D.content self.old.disk) (D.content self.new.disk)
             (OpensAsOr (D.content self.old.disk) (all_of (cut_at self.old end))) }
+        // So it opens as before the call, or as after it, whatever the answer is.
+        ensures either { LeavesBeforeOrNow (D.content self.old.disk) (D.content self.new.disk) }
 
         ensures others { OnErr result (IsErrOf result fault.NoMemory ⊎ IsErrOf result fault.Failed) }
         ensures no_memory { IsErrOf result fault.NoMemory → Becomes D.content self.old self.new }
@@ -76,6 +78,8 @@ impl<D: Disk> LocalLog<D> {
         // Each of these images opens as an image of before does, or as the empty log.
         ensures opens { LeavesOnly (D.content self.old.disk) (D.content self.new.disk)
             (OpensAsOr (D.content self.old.disk) (all_of (restarted self.old end (cut_end self.old.line end)))) }
+        // So it opens as before the call, or as after it, whatever the answer is.
+        ensures either { LeavesBeforeOrNow (D.content self.old.disk) (D.content self.new.disk) }
         ensures others { OnErr result (IsErrOf result fault.NoMemory ⊎ IsErrOf result fault.Failed) }
         ensures no_memory { IsErrOf result fault.NoMemory → Becomes D.content self.old self.new }
         ensures no_image { IsErrOf result fault.NoMemory → (c : Files) → Image (D.content self.new.disk) c
@@ -112,6 +116,8 @@ impl<D: Disk> LocalLog<D> {
         ensures opens { LeavesOnly (D.content self.old.disk) (D.content self.new.disk)
             (OpensAsOr (D.content self.old.disk)
             (all_of (cut self.old (cut_point end self.old.closed self.old.active)))) }
+        // So it opens as before the call, or as after it, whatever the answer is.
+        ensures either { LeavesBeforeOrNow (D.content self.old.disk) (D.content self.new.disk) }
         ensures others { OnErr result (IsErrOf result fault.NoMemory ⊎ IsErrOf result fault.Failed) }
         ensures no_memory { IsErrOf result fault.NoMemory → Becomes D.content self.old self.new }
         ensures no_image { IsErrOf result fault.NoMemory → (c : Files) → Image (D.content self.new.disk) c
@@ -161,6 +167,8 @@ impl<D: Disk> LocalLog<D> {
         // Each of these images opens as an image of before does, or as the cut log.
         ensures opens { LeavesOnly (D.content self.old.disk) (D.content self.new.disk)
             (OpensAsOr (D.content self.old.disk) (opened_to self.old end)) }
+        // So it opens as before the call, or as after it, whatever the answer is.
+        ensures either { LeavesBeforeOrNow (D.content self.old.disk) (D.content self.new.disk) }
         ensures others { OnErr result (IsErrOf result fault.NoMemory ⊎ IsErrOf result fault.Failed) }
         ensures no_memory { IsErrOf result fault.NoMemory → Becomes D.content self.old self.new }
         ensures no_image { IsErrOf result fault.NoMemory → (c : Files) → Image (D.content self.new.disk) c
@@ -234,6 +242,8 @@ impl<D: Disk> LocalLog<D> {
         // Each of these images opens as an image of before does, or as the cut log.
         ensures opens { LeavesOnly (D.content self.old.disk) (D.content self.new.disk)
             (OpensAsOr (D.content self.old.disk) (opened_to self.old end)) }
+        // So it opens as before the call, or as after it, whatever the answer is.
+        ensures either { LeavesBeforeOrNow (D.content self.old.disk) (D.content self.new.disk) }
         ensures others { OnErr result (IsErrOf result fault.NoMemory ⊎ IsErrOf result fault.Failed) }
         ensures no_memory { IsErrOf result fault.NoMemory → Becomes D.content self.old self.new }
         ensures no_image { IsErrOf result fault.NoMemory → (c : Files) → Image (D.content self.new.disk) c
@@ -265,6 +275,8 @@ impl<D: Disk> LocalLog<D> {
         // Each of these images opens as an image of before does, or as the cut log.
         ensures opens { LeavesOnly (D.content self.old.disk) (D.content self.new.disk)
             (OpensAsOr (D.content self.old.disk) (opened_to self.old end)) }
+        // So it opens as before the call, or as after it, whatever the answer is.
+        ensures either { LeavesBeforeOrNow (D.content self.old.disk) (D.content self.new.disk) }
         ensures others { OnErr result (IsErrOf result fault.NoMemory ⊎ IsErrOf result fault.Failed) }
         ensures no_memory { IsErrOf result fault.NoMemory → Becomes D.content self.old self.new }
         ensures no_image { IsErrOf result fault.NoMemory → (c : Files) → Image (D.content self.new.disk) c

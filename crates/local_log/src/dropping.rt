@@ -13,7 +13,7 @@ ghost use Rattle.log_manifest.specs.Spelling.{manifest_bytes};
 ghost use Rattle.log_steps.specs.Opens.{Opens};
 ghost use Rattle.local_log.specs.Listing.{front_to, manifest_of};
 ghost use Rattle.local_log.specs.Log.{Becomes, stable_log};
-ghost use Rattle.local_log.specs.Cutting.{closed_by, open_by, OpensAsOr};
+ghost use Rattle.local_log.specs.Cutting.{closed_by, open_by, OpensAsOr, LeavesBeforeOrNow};
 ghost use Rattle.local_log.specs.Dropping.{rest_of, start_behind, IsFirstStable, SpansFirst, dropped, OpensDropped};
 
 use crate::log::{LocalLog, refused};
@@ -39,6 +39,8 @@ impl<D: Disk> LocalLog<D> {
         // Each of these images opens as an image of before does, or as the log without the segment.
         ensures opens { LeavesOnly (D.content self.old.disk) (D.content self.new.disk)
             (OpensAsOr (D.content self.old.disk) (stable_log (dropped self.old))) }
+        // So it opens as before the call, or as after it, whatever the answer is.
+        ensures either { LeavesBeforeOrNow (D.content self.old.disk) (D.content self.new.disk) }
 
         ensures others { OnErr result (IsErrOf result fault.NoMemory ⊎ IsErrOf result fault.Failed) }
         ensures no_memory { IsErrOf result fault.NoMemory → Becomes D.content self.old self.new }
@@ -103,6 +105,8 @@ impl<D: Disk> LocalLog<D> {
         // Each of these images opens as an image of before does, or as the log without the segment.
         ensures opens { LeavesOnly (D.content self.old.disk) (D.content self.new.disk)
             (OpensAsOr (D.content self.old.disk) (stable_log (dropped self.old))) }
+        // So it opens as before the call, or as after it, whatever the answer is.
+        ensures either { LeavesBeforeOrNow (D.content self.old.disk) (D.content self.new.disk) }
         ensures others { OnErr result (IsErrOf result fault.NoMemory ⊎ IsErrOf result fault.Failed) }
         ensures no_memory { IsErrOf result fault.NoMemory → Becomes D.content self.old self.new }
         ensures no_image { IsErrOf result fault.NoMemory → (c : Files) → Image (D.content self.new.disk) c

@@ -24,7 +24,7 @@ ghost use Rattle.local_log.specs.Stored.{size_of};
 ghost use Rattle.local_log.specs.Run.{IsRun, is_due, rolled, IsAppended, IsAppendedTo};
 ghost use Rattle.local_log.specs.Taking.{line_or};
 ghost use Rattle.local_log.specs.Coheres.{Coheres};
-ghost use Rattle.local_log.specs.Cutting.{OpensAs, OpensAsOr};
+ghost use Rattle.local_log.specs.Cutting.{OpensAs, OpensAsOr, LeavesBeforeOrNow};
 ghost use Rattle.local_log.specs.Refusing.{IsSoundCause, IsOfManifest};
 ghost use Rattle.local_log.specs.Opening.{IsOpenLog, IsOf, Lists, HoldsLast, OpenFails, OpenFailsIn};
 ghost use Rattle.local_log.specs.Cutting.{whole_log};
@@ -446,6 +446,8 @@ impl<D: Disk> LocalLog<D> {
         // Each of these images opens as an image of before does, or as all of the log.
         ensures opens { LeavesOnly (D.content self.old.disk) (D.content self.new.disk)
             (OpensAsOr (D.content self.old.disk) (stable_log (committed self.old self.old.line))) }
+        // So it opens as before the call, or as after it, whatever the answer is.
+        ensures either { LeavesBeforeOrNow (D.content self.old.disk) (D.content self.new.disk) }
 
         ensures no_memory { IsErrOf result fault.NoMemory → Becomes D.content self.old self.new }
         ensures no_image { IsErrOf result fault.NoMemory → (c : Files) → Image (D.content self.new.disk) c
@@ -482,6 +484,8 @@ impl<D: Disk> LocalLog<D> {
         ensures opens { LeavesOnly (D.content self.old.disk) (D.content self.new.disk)
             (OpensAsOr (D.content self.old.disk)
             (stable_log (committed self.old (assign self.old.line epoch self.old.end)))) }
+        // So it opens as before the call, or as after it, whatever the answer is.
+        ensures either { LeavesBeforeOrNow (D.content self.old.disk) (D.content self.new.disk) }
 
         ensures no_memory { IsErrOf result fault.NoMemory → Becomes D.content self.old self.new }
         ensures no_image { IsErrOf result fault.NoMemory → (c : Files) → Image (D.content self.new.disk) c
@@ -518,6 +522,8 @@ impl<D: Disk> LocalLog<D> {
         // Each of these images opens as an image of before does, or as all of the log with this line.
         ensures opens { LeavesOnly (D.content self.old.disk) (D.content self.new.disk)
             (OpensAsOr (D.content self.old.disk) (stable_log (committed self.old line))) }
+        // So it opens as before the call, or as after it, whatever the answer is.
+        ensures either { LeavesBeforeOrNow (D.content self.old.disk) (D.content self.new.disk) }
 
         ensures no_memory { IsErrOf result fault.NoMemory → Becomes D.content self.old self.new }
         ensures no_image { IsErrOf result fault.NoMemory → (c : Files) → Image (D.content self.new.disk) c

@@ -15,7 +15,7 @@ ghost use Rattle.log_steps.specs.Opens.{Opens};
 ghost use Rattle.log_steps.specs.Runs.{Runs};
 ghost use Rattle.local_log.specs.Listing.{manifest_of};
 ghost use Rattle.local_log.specs.Log.{Becomes};
-ghost use Rattle.local_log.specs.Cutting.{names_of, restarted, all_of, OpensEither, OpensAsOr};
+ghost use Rattle.local_log.specs.Cutting.{names_of, restarted, all_of, OpensEither, OpensAsOr, LeavesBeforeOrNow};
 ghost use Rattle.local_log.specs.Renewing.{Renews};
 
 use crate::listing::listing;
@@ -59,6 +59,8 @@ impl<D: Disk> LocalLog<D> {
         // Each of these images opens as an image of before does, or as the empty log.
         ensures opens { LeavesOnly (D.content self.old.disk) (D.content self.new.disk)
             (OpensAsOr (D.content self.old.disk) (all_of (restarted self.old start line))) }
+        // So it opens as before the call, or as after it, whatever the answer is.
+        ensures either { LeavesBeforeOrNow (D.content self.old.disk) (D.content self.new.disk) }
 
         ensures others { OnErr result (IsErrOf result fault.NoMemory ⊎ IsErrOf result fault.Failed) }
         ensures no_memory { IsErrOf result fault.NoMemory → Becomes D.content self.old self.new }
@@ -99,6 +101,8 @@ impl<D: Disk> LocalLog<D> {
         // Each of these images opens as an image of before does, or as the empty log.
         ensures opens { LeavesOnly (D.content self.old.disk) (D.content self.new.disk)
             (OpensAsOr (D.content self.old.disk) (all_of (restarted self.old active.base line))) }
+        // So it opens as before the call, or as after it, whatever the answer is.
+        ensures either { LeavesBeforeOrNow (D.content self.old.disk) (D.content self.new.disk) }
         ensures others { OnErr result (IsErrOf result fault.NoMemory ⊎ IsErrOf result fault.Failed) }
         ensures no_memory { IsErrOf result fault.NoMemory → Becomes D.content self.old self.new }
         ensures no_image { IsErrOf result fault.NoMemory → (c : Files) → Image (D.content self.new.disk) c

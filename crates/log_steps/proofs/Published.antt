@@ -1,5 +1,5 @@
 -- A sync and then a new manifest.
-use Rattle.std.proofs.Common.{◌≡◌, ◌≢◌, ℕ, Bool, true, false, cond, List, Option, Some, refl, sym, ◌∙◌, subst, inl, inr, ⊎_elim, IsTrue}
+use Rattle.std.proofs.Common.{◌≡◌, ◌≢◌, ◌⊎◌, ℕ, Bool, true, false, cond, List, Option, Some, refl, sym, ◌∙◌, subst, inl, inr, ⊎_elim, IsTrue}
 use Rattle.std.proofs.lemmas.Bool.{true≢false}
 use Rattle.tier_base.specs.declared.plain.FileName.{FileName}
 use Rattle.tier_base.specs.declared.plain.FileName.TheVariants.{Manifest}
@@ -7,9 +7,9 @@ use Rattle.tier_base.specs.Device.{Control, MayBeDone, Fate, Went, Fault, Dry}
 use Rattle.disk_model.specs.declared.call.DiskCall.{DiskCall}
 use Rattle.disk_model.specs.Call.{call_code}
 use Rattle.tier_base.specs.Told.{OnlyAt, replaced}
-use Rattle.disk_model.specs.Content.{Content, Files, Image, Changes, Keeps, LeavesOnly, Begins, Swapped}
+use Rattle.disk_model.specs.Content.{Content, Files, Image, Changes, Keeps, LeavesOnly, Begins, Swapped, Elapses}
 use Rattle.disk_model.proofs.Names.{cases_name}
-use Rattle.log_steps.specs.Publishes.{Between, Publishes}
+use Rattle.log_steps.specs.Publishes.{Between, Publishes, LeavesEither}
 use Rattle.log_steps.proofs.Moments.{started, goes_on}
 
 -- a call that wasn't done left the files
@@ -73,3 +73,14 @@ module _ (name : FileName) (ne : name ≢ Manifest) (bytes : List ℕ) (d d1 d2 
     whole = λ went c now. begins_new c now;
     settled = inr begins_new;
   }
+
+-- a sync that makes no image, and then a call that may
+pub either_synced : (d d1 : Content) → Keeps d d1 → LeavesEither d d1
+either_synced d d1 k = goes_on d d d1 (λ c. Image d c ⊎ Image d1 c) (started d (λ c. Image d c ⊎ Image d1 c) (λ c now. inl now)) k.time (λ c now. inr now)
+
+pub either_replaced : (d d1 d2 : Content) → Keeps d d1 → Elapses d1 d2 → LeavesEither d d2
+either_replaced d d1 d2 k time =
+    goes_on d d1 d2 (λ c. Image d c ⊎ Image d2 c)
+    (goes_on d d d1 (λ c. Image d c ⊎ Image d2 c) (started d (λ c. Image d c ⊎ Image d2 c) (λ c now. inl now)) k.time (λ c now. inl (k.images c now)))
+    time
+    (λ c now. inr now)

@@ -31,3 +31,7 @@ pub record Publishes (name : FileName) (bytes : List ℕ) (fate : Fate) (old new
   -- no image is new, or the synced file is whole in each
   pub settled : ((c : Files) → Image new c → IsLike old c)
       ⊎ ((c : Files) → Image new c → Begins (old.files name) (c name))
+
+-- a crash at any moment between leaves what it might have left before, or what it may leave now
+abbrev pub LeavesEither : Content → Content → Type 0
+LeavesEither old new = LeavesOnly old new (λ c. Image old c ⊎ Image new c)

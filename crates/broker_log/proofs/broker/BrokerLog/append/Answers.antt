@@ -4,6 +4,7 @@ use Rattle.broker_log.specs.Seen.{Up}
 use Rattle.broker_log.proofs.Placing.{ok_open, dry_open, ok_both, whole_by, well_up, place_well}
 use Rattle.broker_log.proofs.Showing.{appends_by, appended_whole, stays_by, image_as}
 use Rattle.broker_log.proofs.Breaking.{breaks_unsaved}
+use Rattle.broker_log.proofs.Between.{between_as}
 use Rattle.broker_log.proofs.broker.BrokerLog.append.Goals as goal
 
 pub invariant_of-self : goal.invariant_of-self
@@ -42,7 +43,7 @@ returns-clause-no_memory g c =
     let now_is : c.args.self.now ≡ Up o = sym c.self.view_is ∙ c.taken-log.ensures in
     λ dry.
     let clear = dry_open r c.is_append_fault.result c.is_append_fault.ensures dry (λ e. cc e) in
-    rw (now_is, c.placed.ensures.up clear) (stays_by content o n (c.append-outcome.ensures.no_memory dry) (image_as (content o.disk) (content n.disk) (g.met.D.Disk.lawful n.disk) c.append-outcome.ensures.opens))
+    rw (now_is, c.placed.ensures.up clear) (stays_by content o n (c.append-outcome.ensures.no_memory dry) (image_as (content o.disk) (content n.disk) (g.met.D.Disk.lawful n.disk) c.append-outcome.ensures.opens) (between_as (content o.disk) (content n.disk) c.append-outcome.ensures.opens))
 
 pub returns-clause-fault : goal.returns-clause-fault
 returns-clause-fault g c =

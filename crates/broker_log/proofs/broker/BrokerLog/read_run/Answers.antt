@@ -2,6 +2,7 @@ use Rattle.std.proofs.Common.{◌≡◌, ◌∙◌, ◌≤◌, sym, subst}
 use Rattle.broker_log.specs.Seen.{Kept, Up, WhileUp}
 use Rattle.broker_log.proofs.Placing.{well_up}
 use Rattle.broker_log.proofs.Runs.{ok_four, ran_ok, err_told, reads_by, misreads_by}
+use Rattle.broker_log.proofs.Runs.{reading_stays}
 use Rattle.broker_log.proofs.broker.BrokerLog.read_run.Goals as goal
 
 pub returns-clause-ok : goal.returns-clause-ok
@@ -28,3 +29,10 @@ returns-clause-damaged g c =
     λ name at is.
     let told = err_told _ _ c.read_run-outcome.result _ e.err e.whole is in
     rw now_is (misreads_by content o n e.log e.keeps g.D.Disk.control c.args.offset c.args.limit c.args.mark from c.requires.below name at told.0 told.1)
+
+pub returns-clause-stays : goal.returns-clause-stays
+returns-clause-stays g c =
+    let o = c.taken-log.result in
+    let n = c.read_run-outcome.new.self in
+    let now_is : c.args.self.now ≡ Up o = sym c.self.view_is ∙ c.taken-log.ensures in
+    rw now_is (reading_stays g.D.Disk.content o n c.read_run-outcome.ensures.log c.read_run-outcome.ensures.keeps)

@@ -5,6 +5,7 @@ use Rattle.broker_log.specs.Seen.{Up}
 use Rattle.broker_log.proofs.Placing.{on_open, dry_open, on_told, rolls_where}
 use Rattle.broker_log.proofs.Showing.{stays_by, rolls_by, image_as}
 use Rattle.broker_log.proofs.Breaking.{breaks_unsaved}
+use Rattle.broker_log.proofs.Between.{between_as}
 use Rattle.broker_log.proofs.broker.BrokerLog.roll.Goals as goal
 
 pub returns-clause-ok : goal.returns-clause-ok
@@ -16,7 +17,7 @@ returns-clause-ok g c =
     let now_is : c.args.self.now ≡ Up o = sym c.self.view_is ∙ c.taken-log.ensures in
     on_open _ r c.is_roll_fault.result c.is_roll_fault.ensures (λ clear.
     rw (now_is, c.placed.ensures.up clear) (on_told _ _ r
-    (λ b. rolls_by content o n b (image_as (content o.disk) (content n.disk) (g.met.D.Disk.lawful n.disk) c.roll-outcome.ensures.opens) (c.placed.ensures.coheres clear))
+    (λ b. rolls_by content o n b (image_as (content o.disk) (content n.disk) (g.met.D.Disk.lawful n.disk) c.roll-outcome.ensures.opens) (c.placed.ensures.coheres clear) (between_as (content o.disk) (content n.disk) c.roll-outcome.ensures.opens))
     c.roll-outcome.ensures.ok))
 
 pub returns-clause-no_memory : goal.returns-clause-no_memory
@@ -28,7 +29,7 @@ returns-clause-no_memory g c =
     let now_is : c.args.self.now ≡ Up o = sym c.self.view_is ∙ c.taken-log.ensures in
     λ dry.
     let clear = dry_open r c.is_roll_fault.result c.is_roll_fault.ensures dry (λ e. cc e) in
-    rw (now_is, c.placed.ensures.up clear) (stays_by content o n (c.roll-outcome.ensures.no_memory dry) (image_as (content o.disk) (content n.disk) (g.met.D.Disk.lawful n.disk) c.roll-outcome.ensures.opens))
+    rw (now_is, c.placed.ensures.up clear) (stays_by content o n (c.roll-outcome.ensures.no_memory dry) (image_as (content o.disk) (content n.disk) (g.met.D.Disk.lawful n.disk) c.roll-outcome.ensures.opens) (between_as (content o.disk) (content n.disk) c.roll-outcome.ensures.opens))
 
 pub returns-clause-fault : goal.returns-clause-fault
 returns-clause-fault g c =

@@ -12,7 +12,7 @@ use Rattle.local_log.specs.Inside.{HasLog}
 use Rattle.local_log.specs.Cutting.{names_of}
 use Rattle.local_log.specs.Renewing.{Renews}
 use Rattle.local_log.proofs.Refused.{not_broken}
-use Rattle.local_log.proofs.Restarted.{fresh, fresh_are, restart_since, restart_as, restart_reopens, restart_dry, restart_opens, restart_has}
+use Rattle.local_log.proofs.Restarted.{fresh, fresh_are, restart_since, restart_as, restart_either, restart_reopens, restart_dry, restart_opens, restart_has}
 use Rattle.local_log.proofs.log.LocalLog.begin_at.Goals as goal
 
 pub invariant_of-self : goal.invariant_of-self
@@ -187,3 +187,43 @@ returns-in-Err-clause-opens g c =
 
 pub returns-in-Err-clause-tells : goal.returns-in-Err-clause-tells
 returns-in-Err-clause-tells g c = rw (← c.self.view_is) c.renew.ensures.content.tells
+
+pub returns-in-Ok-clause-either : goal.returns-in-Ok-clause-either
+returns-in-Ok-clause-either g c =
+    let s = c.self.inside in
+    let L = c.args.line in
+    let a = c.args.active in
+    let d = g.D.Disk.content s.disk in
+    let d' = g.D.Disk.content c.renew.new.disk in
+    let laws : Lawful d = g.met.D.Disk.lawful s.disk in
+    let laws' : Lawful d' = g.met.D.Disk.lawful c.renew.new.disk in
+    let unbroken : s.broken ≡ false = ap (λ (l : Log g.row.D.Denot). l.broken) c.self.view_is ∙ c.requires.unbroken in
+    let has = c.self.invariant.has unbroken in
+    let interval_is = subst (λ (l : Log g.row.D.Denot). a ≡ record { base = a.base; interval = l.settings.index_interval; batches = [] }) (sym c.self.view_is) c.requires.fresh in
+    let bytes_are : c.args.bytes.now ≡ manifest_bytes (manifest_of s.incarnation a.base [] (fresh a.base s.settings.index_interval) L) =
+    subst (λ (l : Log g.row.D.Denot). c.args.bytes.now ≡ manifest_bytes (manifest_of l.incarnation a.base [] a L)) (sym c.self.view_is) c.requires.bytes
+    ∙ ap (λ (x : Grown). manifest_bytes (manifest_of s.incarnation a.base [] x L)) interval_is in
+    let named = subst (λ (gs : List Grown). Renews c.args.bytes.now (names_of (gs ++ s.active ∷ [])) (fate_of c.renew.result) d d') c.deref.ensures.value c.renew.ensures.content in
+    let change = subst (λ (b : List ℕ). Renews b (names_of (s.closed.items ++ s.active ∷ [])) (fate_of c.renew.result) d d') bytes_are named in
+    let line_is : IsLine L = c.requires.line in
+    rw (← c.self.view_is) (restart_either d laws s.incarnation s.local_start s.closed.items s.active s.line s.stable has c.self.invariant.opened c.self.invariant.fits a.base s.settings.index_interval c.requires.low L line_is c.requires.within d' laws' (fate_of c.renew.result) change)
+
+pub returns-in-Err-clause-either : goal.returns-in-Err-clause-either
+returns-in-Err-clause-either g c =
+    let s = c.self.inside in
+    let L = c.args.line in
+    let a = c.args.active in
+    let d = g.D.Disk.content s.disk in
+    let d' = g.D.Disk.content c.renew.new.disk in
+    let laws : Lawful d = g.met.D.Disk.lawful s.disk in
+    let laws' : Lawful d' = g.met.D.Disk.lawful c.renew.new.disk in
+    let unbroken : s.broken ≡ false = ap (λ (l : Log g.row.D.Denot). l.broken) c.self.view_is ∙ c.requires.unbroken in
+    let has = c.self.invariant.has unbroken in
+    let interval_is = subst (λ (l : Log g.row.D.Denot). a ≡ record { base = a.base; interval = l.settings.index_interval; batches = [] }) (sym c.self.view_is) c.requires.fresh in
+    let bytes_are : c.args.bytes.now ≡ manifest_bytes (manifest_of s.incarnation a.base [] (fresh a.base s.settings.index_interval) L) =
+    subst (λ (l : Log g.row.D.Denot). c.args.bytes.now ≡ manifest_bytes (manifest_of l.incarnation a.base [] a L)) (sym c.self.view_is) c.requires.bytes
+    ∙ ap (λ (x : Grown). manifest_bytes (manifest_of s.incarnation a.base [] x L)) interval_is in
+    let named = subst (λ (gs : List Grown). Renews c.args.bytes.now (names_of (gs ++ s.active ∷ [])) (fate_of c.renew.result) d d') c.deref.ensures.value c.renew.ensures.content in
+    let change = subst (λ (b : List ℕ). Renews b (names_of (s.closed.items ++ s.active ∷ [])) (fate_of c.renew.result) d d') bytes_are named in
+    let line_is : IsLine L = c.requires.line in
+    rw (← c.self.view_is) (restart_either d laws s.incarnation s.local_start s.closed.items s.active s.line s.stable has c.self.invariant.opened c.self.invariant.fits a.base s.settings.index_interval c.requires.low L line_is c.requires.within d' laws' (fate_of c.renew.result) change)

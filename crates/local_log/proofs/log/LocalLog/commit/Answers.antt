@@ -15,6 +15,7 @@ use Rattle.local_log.specs.Stored.{end_of}
 use Rattle.local_log.proofs.Refused.{not_broken, breaks}
 use Rattle.local_log.proofs.Committed.{room_has, room_since, room_reopens, commit_since, commit_as, commit_tells, commit_batches, commit_has, commit_dry, commit_reopens, commit_opens}
 use Rattle.local_log.proofs.Retold.{kept_or}
+use Rattle.local_log.proofs.Sides.{kept_either, either_published}
 use Rattle.local_log.proofs.log.LocalLog.commit.Goals as goal
 
 pub invariant_of-self : goal.invariant_of-self
@@ -297,3 +298,33 @@ returns-in-Err-clause-broken g c =
       tells = commit_tells d m laws laws-m s.incarnation s.local_start s.closed.items s.active s.line s.stable has c.reserve.ensures.content d' laws' c.self.invariant.segments c.self.invariant.opened c.self.invariant.fits c.args.line c.self.invariant.line c.requires.line same_line (fate_of c.publish.result) change;
       batches = commit_batches d m laws laws-m s.incarnation s.local_start s.closed.items s.active s.line s.stable has c.reserve.ensures.content d' laws' c.self.invariant.segments c.self.invariant.opened c.self.invariant.fits c.args.line c.self.invariant.line c.requires.line same_line (fate_of c.publish.result) change;
     })
+
+pub returns-in_err-reserve-clause-either : goal.returns-in_err-reserve-clause-either
+returns-in_err-reserve-clause-either g c =
+    let s = c.self.inside in
+    let d = g.D.Disk.content s.disk in
+    let m = g.D.Disk.content c.reserve.new.self in
+    rw (← c.self.view_is) (kept_either d m c.reserve.ensures.content)
+
+pub returns-in_err-bytes-clause-either : goal.returns-in_err-bytes-clause-either
+returns-in_err-bytes-clause-either g c =
+    let s = c.self.inside in
+    let d = g.D.Disk.content s.disk in
+    let m = g.D.Disk.content c.reserve.new.self in
+    rw (← c.self.view_is) (kept_either d m c.reserve.ensures.content)
+
+pub returns-in-Ok-clause-either : goal.returns-in-Ok-clause-either
+returns-in-Ok-clause-either g c =
+    let s = c.self.inside in
+    let d = g.D.Disk.content s.disk in
+    let m = g.D.Disk.content c.reserve.new.self in
+    let d' = g.D.Disk.content c.publish.new.disk in
+    rw (← c.self.view_is) (either_published d m d' (g.met.D.Disk.lawful c.reserve.new.self) c.reserve.ensures.content c.publish.ensures.either)
+
+pub returns-in-Err-clause-either : goal.returns-in-Err-clause-either
+returns-in-Err-clause-either g c =
+    let s = c.self.inside in
+    let d = g.D.Disk.content s.disk in
+    let m = g.D.Disk.content c.reserve.new.self in
+    let d' = g.D.Disk.content c.publish.new.disk in
+    rw (← c.self.view_is) (either_published d m d' (g.met.D.Disk.lawful c.reserve.new.self) c.reserve.ensures.content c.publish.ensures.either)

@@ -5,6 +5,7 @@ use Rattle.log_steps.proofs.Moments.{leaves_then}
 use Rattle.local_log.specs.Log.{Log}
 use Rattle.local_log.specs.Cutting.{Cutting, OpensAsOr, opened_to}
 use Rattle.local_log.proofs.Retold.{kept_moments, kept_opens, or_last}
+use Rattle.local_log.proofs.Sides.{either_kept}
 use Rattle.local_log.proofs.log.LocalLog.cut_within.Goals as goal
 
 pub returns-clause-any_moment : goal.returns-clause-any_moment
@@ -27,3 +28,9 @@ returns-clause-opens g c =
     let same = ap (λ (l : Log g.row.D.Denot). opened_to l c.args.end) c.make_room.ensures.same in
     subst (λ (p : Opened). LeavesOnly (content o.disk) (content n.disk) (OpensAsOr (content o.disk) p)) same
     (or_last (content o.disk) (content m.disk) (content n.disk) (opened_to m c.args.end) (g.met.D.Disk.lawful m.disk) (kept_opens (content o.disk) (content m.disk) c.make_room.ensures.keeps) c.cut_listed.ensures.opens)
+
+pub returns-clause-either : goal.returns-clause-either
+returns-clause-either g c =
+    let content = g.D.Disk.content in
+    let m = c.make_room.new.self in
+    either_kept (content c.args.self.now.disk) (content m.disk) (content c.cut_listed.new.self.disk) (g.met.D.Disk.lawful m.disk) c.make_room.ensures.keeps c.cut_listed.ensures.either

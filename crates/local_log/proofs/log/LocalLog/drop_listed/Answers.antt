@@ -220,3 +220,39 @@ returns-in-Err-clause-opens g c =
 
 pub returns-in-Err-clause-tells : goal.returns-in-Err-clause-tells
 returns-in-Err-clause-tells g c = rw (← c.self.view_is) c.renew.ensures.content.tells
+
+pub returns-in-Ok-clause-either : goal.returns-in-Ok-clause-either
+returns-in-Ok-clause-either g c =
+    let s = c.self.inside in
+    let one = c.index-first.result.now in
+    let d = g.D.Disk.content s.disk in
+    let d' = g.D.Disk.content c.renew.new.disk in
+    let laws : Lawful d = g.met.D.Disk.lawful s.disk in
+    let laws' : Lawful d' = g.met.D.Disk.lawful c.renew.new.disk in
+    let unbroken : s.broken ≡ false = ap (λ (l : Log g.row.D.Denot). l.broken) c.self.view_is ∙ c.requires.unbroken in
+    let has = c.self.invariant.has unbroken in
+    let some : IsFirstStable s.stable s.closed.items = subst (λ (l : Log g.row.D.Denot). IsFirstStable l.stable l.closed) (sym c.self.view_is) c.requires.first in
+    let bytes_are : c.args.bytes.now ≡ manifest_bytes (manifest_behind s.incarnation s.local_start s.closed.items s.active s.line s.stable) =
+    subst (λ (l : Log g.row.D.Denot). c.args.bytes.now ≡ manifest_bytes (manifest_behind l.incarnation l.local_start l.closed l.active l.line l.stable)) (sym c.self.view_is) c.requires.bytes in
+    let named = subst (λ (gs : List Grown). Renews c.args.bytes.now (names_of gs) (fate_of c.renew.result) d d') (first_at s.stable s.closed.items one some c.index-first.ensures) c.renew.ensures.content in
+    let change = subst (λ (b : List ℕ). Renews b (names_of (first_of s.closed.items)) (fate_of c.renew.result) d d') bytes_are named in
+    let h = drops d laws s.incarnation s.local_start s.closed.items s.active s.line s.stable has c.self.invariant.segments c.self.invariant.line some c.self.invariant.stable_within c.self.invariant.opened c.self.invariant.fits d' laws' (fate_of c.renew.result) change in
+    rw (← c.self.view_is) h.either
+
+pub returns-in-Err-clause-either : goal.returns-in-Err-clause-either
+returns-in-Err-clause-either g c =
+    let s = c.self.inside in
+    let one = c.index-first.result.now in
+    let d = g.D.Disk.content s.disk in
+    let d' = g.D.Disk.content c.renew.new.disk in
+    let laws : Lawful d = g.met.D.Disk.lawful s.disk in
+    let laws' : Lawful d' = g.met.D.Disk.lawful c.renew.new.disk in
+    let unbroken : s.broken ≡ false = ap (λ (l : Log g.row.D.Denot). l.broken) c.self.view_is ∙ c.requires.unbroken in
+    let has = c.self.invariant.has unbroken in
+    let some : IsFirstStable s.stable s.closed.items = subst (λ (l : Log g.row.D.Denot). IsFirstStable l.stable l.closed) (sym c.self.view_is) c.requires.first in
+    let bytes_are : c.args.bytes.now ≡ manifest_bytes (manifest_behind s.incarnation s.local_start s.closed.items s.active s.line s.stable) =
+    subst (λ (l : Log g.row.D.Denot). c.args.bytes.now ≡ manifest_bytes (manifest_behind l.incarnation l.local_start l.closed l.active l.line l.stable)) (sym c.self.view_is) c.requires.bytes in
+    let named = subst (λ (gs : List Grown). Renews c.args.bytes.now (names_of gs) (fate_of c.renew.result) d d') (first_at s.stable s.closed.items one some c.index-first.ensures) c.renew.ensures.content in
+    let change = subst (λ (b : List ℕ). Renews b (names_of (first_of s.closed.items)) (fate_of c.renew.result) d d') bytes_are named in
+    let h = drops d laws s.incarnation s.local_start s.closed.items s.active s.line s.stable has c.self.invariant.segments c.self.invariant.line some c.self.invariant.stable_within c.self.invariant.opened c.self.invariant.fits d' laws' (fate_of c.renew.result) change in
+    rw (← c.self.view_is) h.either

@@ -7,6 +7,7 @@ use Rattle.local_log.specs.Log.{Log}
 use Rattle.local_log.specs.Stored.{end_of}
 use Rattle.local_log.proofs.Having.{start_since}
 use Rattle.local_log.proofs.Retold.{start_or}
+use Rattle.local_log.proofs.Sides.{start_either}
 use Rattle.local_log.proofs.log.LocalLog.flush.Goals as goal
 
 pub returns-in_err-line-clause-any_moment : goal.returns-in_err-line-clause-any_moment
@@ -32,3 +33,6 @@ commit-requires-clause-within g c =
     let end_is : end_of s.active ≡ c.args.self.now.end = ap (λ (l : Log g.row.D.Denot). l.end) c.self.view_is in
     subst (λ (n : ℕ). Each (λ (e : ℕ × ℕ). e.1 ≤ n) c.in_ok-line.line) end_is
     (subst (λ (l : List (ℕ × ℕ)). Each (λ (e : ℕ × ℕ). e.1 ≤ end_of s.active) l) (sym c.in_ok-line.ensures) c.self.invariant.line_within)
+
+pub returns-in_err-line-clause-either : goal.returns-in_err-line-clause-either
+returns-in_err-line-clause-either g c = rw (← c.self.view_is) (start_either (g.D.Disk.content c.self.inside.disk))

@@ -9,6 +9,7 @@ use Rattle.local_log.specs.Stored.{end_of}
 use Rattle.local_log.proofs.Having.{start_since}
 use Rattle.local_log.proofs.Lines.{cut_assign, within_assign}
 use Rattle.local_log.proofs.Retold.{start_or}
+use Rattle.local_log.proofs.Sides.{start_either}
 use Rattle.local_log.proofs.log.LocalLog.lead.Goals as goal
 
 pub returns-in_err-line-clause-any_moment : goal.returns-in_err-line-clause-any_moment
@@ -76,3 +77,9 @@ commit-requires-clause-within g c =
     ∙ ap (λ (l : List (ℕ × ℕ)). assign l c.args.epoch c.end.result) (c.in_ok-line.ensures ∙ line_is)
     ∙ ap (λ (n : ℕ). assign now.line c.args.epoch n) (c.end.ensures ∙ end_is) in
     subst (λ (l : List (ℕ × ℕ)). Each (λ (e : ℕ × ℕ). e.1 ≤ now.end) l) (sym assigned) (within_assign now.line c.args.epoch now.end)
+
+pub returns-in_err-line-clause-either : goal.returns-in_err-line-clause-either
+returns-in_err-line-clause-either g c = rw (← c.self.view_is) (start_either (g.D.Disk.content c.self.inside.disk))
+
+pub returns-in_err-assign-clause-either : goal.returns-in_err-assign-clause-either
+returns-in_err-assign-clause-either g c = rw (← c.self.view_is) (start_either (g.D.Disk.content c.self.inside.disk))

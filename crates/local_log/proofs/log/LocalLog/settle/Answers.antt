@@ -13,6 +13,7 @@ use Rattle.local_log.specs.Listing.{manifest_of, front_to}
 use Rattle.local_log.specs.Cutting.{closed_by, open_by, cut_point}
 use Rattle.local_log.proofs.Refused.{not_broken}
 use Rattle.local_log.proofs.Settled.{settle_since, settle_as, settle_reopens, settle_dry, settle_batches, settled_opens, settled_has}
+use Rattle.local_log.proofs.Sides.{either_opens}
 use Rattle.local_log.proofs.log.LocalLog.settle.Goals as goal
 
 pub invariant_of-self : goal.invariant_of-self
@@ -202,3 +203,9 @@ returns-in-Err-clause-opens g c =
 
 pub returns-in-Err-clause-tells : goal.returns-in-Err-clause-tells
 returns-in-Err-clause-tells g c = rw (← c.self.view_is) c.publish.ensures.content.tells
+
+pub returns-in-Ok-clause-either : goal.returns-in-Ok-clause-either
+returns-in-Ok-clause-either g c = rw (← c.self.view_is) (either_opens (g.D.Disk.content c.self.inside.disk) (g.D.Disk.content c.publish.new.disk) c.publish.ensures.either)
+
+pub returns-in-Err-clause-either : goal.returns-in-Err-clause-either
+returns-in-Err-clause-either g c = rw (← c.self.view_is) (either_opens (g.D.Disk.content c.self.inside.disk) (g.D.Disk.content c.publish.new.disk) c.publish.ensures.either)
