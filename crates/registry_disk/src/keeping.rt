@@ -1,10 +1,10 @@
 //! Reading the registry's file, and putting a new one in its place.
 
-ghost use Rattle.std.specs.Prelude.{◌≡◌, ◌≢◌, ◌≤◌, length, Err, OnOk, IsErrOf};
+ghost use Rattle.std.specs.Prelude.{◌≡◌, ◌≢◌, ◌≤◌, ◌⊎◌, length, Err, OnOk, IsErrOf};
 ghost use Rattle.tier_base.specs.Counts.{Rose, counted};
 ghost use Rattle.tier_base.specs.Device.{Lasts};
 ghost use Rattle.tier_base.specs.declared.fault.Trouble.TheVariants.{Failed, NoMemory};
-ghost use Rattle.disk_model.specs.Content.{Keeps};
+ghost use Rattle.disk_model.specs.Content.{Image, Keeps, LeavesOnly};
 ghost use Rattle.registry_disk.specs.declared.refusal.FindRefusal.TheVariants.{Fault};
 ghost use Rattle.registry_disk.specs.Keeping.{KeepsFile, Finds, Replaces, Refrains};
 
@@ -45,6 +45,9 @@ pub fn keep_registry<D: Disk>(
     ensures kept { OnOk result (KeepsFile (D.content disk.new) registry.now) }
     ensures content { Replaces registry.now (D.content disk.old) (D.content disk.new) }
     ensures dry { IsErrOf result NoMemory → Refrains (D.content disk.old) (D.content disk.new) }
+    // At any moment of the call a power cut leaves what it might have left before, or what it may leave now.
+    ensures since { LeavesOnly (D.content disk.old) (D.content disk.new)
+        (λ c. Image (D.content disk.old) c ⊎ Image (D.content disk.new) c) }
     ensures control { Lasts (D.control disk.old) (D.control disk.new) }
     ensures handed { (D.control disk.new).handed ≡ (D.control disk.old).handed }
     ensures fault { IsErrOf result Failed → Rose (D.control disk.old).faults (D.control disk.new).faults }
