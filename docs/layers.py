@@ -90,13 +90,10 @@ def folded(words, width):
 def picture(layers, old):
     """The layers, the lowest at the foot."""
     left = max(len(title) for title, _ in layers)
-    right = 94 - left
-    bar = "+" + "-" * (left + 2) + "+" + "-" * (right + 2) + "+"
-    rows = [bar]
+    rows = []
     for title, names in reversed(layers):
-        for at, row in enumerate(folded(names, right)):
-            rows.append(f"| {title if at == 0 else '':<{left}} | {row:<{right}} |")
-        rows.append(bar)
+        for at, row in enumerate(folded(names, 96 - left)):
+            rows.append(f"{title if at == 0 else '':<{left}}  {row}")
     return "\n".join(["```text"] + rows + ["```"])
 
 
