@@ -1,0 +1,10 @@
+use Rattle.std.proofs.Common.{◌≡◌, ◌++◌, length}
+use Rattle.sparse_index.specs.Bytes.{bytes_of}
+use Rattle.sparse_index.specs.Times.{moment_bytes}
+use Rattle.dump_lines.proofs.index_lines.times_in.Given as goal
+
+abbrev pub invariant-loop-rest : goal.invariant-loop-rest
+invariant-loop-rest l = l.bytes ≡ bytes_of moment_bytes l.entries.items ++ l.rest
+
+abbrev pub decreases-loop-rest : goal.decreases-loop-rest
+decreases-loop-rest l = length l.rest
