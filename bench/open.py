@@ -7,8 +7,8 @@ The directory has one partition with one broker, whose log has SEGMENTS segments
 batches of at most 64 KiB. It is made in a temporary folder (TMPDIR names another one). PROGRAM is ./tiered by default.
 CHECKSUM is bench/crc.sh's program (crates/crc_speed/out/crc_speed by default).
 
-- Pace: the seconds of a run whose one command is `up`, the least of five, less those of the same run over an empty log;
-  beside them the seconds that reading the same files takes, and those of the checksum of as many bytes in memory.
+- Pace: the processor seconds of a run whose one command is `up`, the least of three, less those of the same run over an empty
+  log; beside them those that reading the same files takes, and the seconds of the checksum of as many bytes in memory.
 - Memory: the peak of that run, less that of the same run over an empty log.
 - Calls: the system calls of each command that follows, as a difference of two runs (needs strace). Calls on the registry's
   files are counted apart.
@@ -26,7 +26,7 @@ sys.path.insert(0, os.path.dirname(os.path.abspath(__file__)))
 from sim_script import batch  # noqa: E402
 
 TOP = os.path.join(os.path.dirname(os.path.abspath(__file__)), "..")
-ROUNDS = 5
+ROUNDS = 3
 # What is run after `up`, `elect` and `learn`: so many times each command.
 TIMES = 20
 
@@ -62,22 +62,20 @@ def write_log(folder, segments, size):
 
 
 def run(words, script):
-    """Seconds, peak memory in KiB and the trace of a run."""
+    """Processor seconds, peak memory in KiB and the trace of a run."""
     with tempfile.TemporaryFile() as source, tempfile.TemporaryFile() as trace:
         source.write(script.encode())
         source.seek(0)
-        began = time.perf_counter()
         child = subprocess.Popen(words, stdin=source, stdout=trace)
         _, status, used = os.wait4(child.pid, 0)
-        seconds = time.perf_counter() - began
         if status:
             sys.exit(f"{' '.join(words)} ends with status {os.waitstatus_to_exitcode(status)}")
         trace.seek(0)
-        return seconds, used.ru_maxrss, trace.read().decode()
+        return used.ru_utime + used.ru_stime, used.ru_maxrss, trace.read().decode()
 
 
 def opening(program, folder, end):
-    """The least seconds and the peak memory of a run that opens the log."""
+    """The least processor seconds and the peak memory of a run that opens the log."""
     seconds, memory = [], []
     for _ in range(ROUNDS):
         took, peak, trace = run([program, "run", folder], "0 0 0 up\n")
@@ -89,16 +87,16 @@ def opening(program, folder, end):
 
 
 def reading(folder):
-    """The least seconds that reading all segments takes, and their bytes."""
+    """The least processor seconds that reading all segments takes, and their bytes."""
     log = os.path.join(folder, "p0", "b0")
     names = sorted(name for name in os.listdir(log) if name.endswith(".log"))
     seconds, size = [], 0
     for _ in range(ROUNDS):
-        began, size = time.perf_counter(), 0
+        began, size = time.process_time(), 0
         for name in names:
             with open(os.path.join(log, name), "rb", buffering=0) as f:
                 size += len(f.read())
-        seconds.append(time.perf_counter() - began)
+        seconds.append(time.process_time() - began)
     return min(seconds), size
 
 
