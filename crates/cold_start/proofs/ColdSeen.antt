@@ -20,8 +20,9 @@ use Rattle.partition_seen.specs.Whole.{Whole}
 use Rattle.partition_seen.specs.Central.{LineStands, LeaderStands, LinesStand, SeatStands, IsCentral, noted_at}
 use Rattle.partition_tier.specs.Sites.{Side, fresh_side, next_of, sites_of, site_of}
 use Rattle.tier_safe.specs.Scene.{Site}
-use Rattle.cold_start.specs.Cold.{cold_broker, cold_of, cold_site, cold_node, cold_held, cold_whole, cold_sides}
-use Rattle.cold_start.proofs.ColdLaw.{made, cold_safe}
+use Rattle.cold_state.specs.Cold.{cold_broker, cold_of}
+use Rattle.cold_start.specs.Cold.{cold_site, cold_node, cold_held, cold_whole, cold_sides}
+use Rattle.cold_state.proofs.ColdStates.{made, cold_safe}
 
 pub cold_brokers : (nodes : List Node) → map cold_broker (map broker_of nodes) ≡ map broker_of (map cold_node nodes)
 cold_brokers [] = refl

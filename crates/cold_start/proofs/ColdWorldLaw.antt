@@ -33,7 +33,8 @@ use Rattle.partition_world.specs.Fresh.{fresh_seat, fresh_side}
 use Rattle.partition_world.specs.Left.{IsCentralLeft, resolved, whole_with}
 use Rattle.partition_world.specs.Whole.{Whole, seen_as}
 use Rattle.partition_world.proofs.WorldFresh.{all_fresh}
-use Rattle.cold_start.specs.Cold.{cold_of, cold_site, cold_node, cold_held, cold_whole, cold_sides, cold_scene}
+use Rattle.cold_state.specs.Cold.{cold_of}
+use Rattle.cold_start.specs.Cold.{cold_site, cold_node, cold_held, cold_whole, cold_sides, cold_scene}
 use Rattle.cold_start.specs.Laws.{IsFree}
 use Rattle.cold_start.specs.ColdWorld.{IsCutDisk, IsCutStore, IsCutLog, LeavesDisk, LeaveDisks, cold_dev, reopened, plain_in}
 use Rattle.cold_start.proofs.ColdLaw.{cold_tier}

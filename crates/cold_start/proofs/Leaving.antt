@@ -20,7 +20,7 @@ use Rattle.partition_world.specs.Cold.{StandCold}
 use Rattle.partition_world.specs.Left.{IsCentralLeft, resolved, whole_with}
 use Rattle.partition_world.specs.Whole.{Whole}
 use Rattle.partition_world.specs.declared.tier.Tier.{Tier}
-use Rattle.cold_start.specs.Cold.{cold_of}
+use Rattle.cold_state.specs.Cold.{cold_of}
 use Rattle.cold_start.specs.ColdWorld.{IsCutDisk, IsCutStore, IsCutLog, LeavesDisk, LeaveDisks, AreCut, plain_in}
 use Rattle.cold_start.specs.Stands.{StandsFor, LeavesCold, LeavesOneOf}
 use Rattle.cold_start.specs.Stepping.{SameDevices, logs_of}

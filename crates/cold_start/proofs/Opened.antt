@@ -24,7 +24,7 @@ use Rattle.partition_world.specs.Cold.{StandCold, AreCold}
 use Rattle.partition_world.specs.Fresh.{IsFresh, IsSeenEmpty}
 use Rattle.partition_world.specs.Left.{IsCentralLeft}
 use Rattle.partition_world.specs.Whole.{Whole}
-use Rattle.cold_start.specs.Cold.{cold_of}
+use Rattle.cold_state.specs.Cold.{cold_of}
 use Rattle.cold_start.specs.ColdWorld.{IsCutLog, plain_in}
 use Rattle.cold_start.specs.Stands.{StandsFor, IsBlank}
 use Rattle.cold_start.specs.FileLaws.{FileLaws}

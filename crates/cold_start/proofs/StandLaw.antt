@@ -36,9 +36,11 @@ use Rattle.partition_world.specs.Reaches.{Reaches}
 use Rattle.partition_world.proofs.ColdLaw.{reopened_runs}
 use Rattle.partition_world.specs.Left.{IsCentralLeft, resolved, whole_with}
 use Rattle.partition_world.specs.Whole.{Whole}
-use Rattle.cold_start.specs.Cold.{cold_of, cold_broker, cold_site, cold_node, cold_held, cold_scene, cold_sides}
+use Rattle.cold_state.specs.Cold.{cold_of, cold_broker}
+use Rattle.cold_start.specs.Cold.{cold_site, cold_node, cold_held, cold_scene, cold_sides}
 use Rattle.cold_start.specs.ColdWorld.{IsCutDisk, IsCutStore, IsCutLog, LeavesDisk, LeaveDisks, AreCut, plain_in}
-use Rattle.cold_start.proofs.ColdLaw.{cold_safe, cold_tier}
+use Rattle.cold_start.proofs.ColdLaw.{cold_tier}
+use Rattle.cold_state.proofs.ColdStates.{cold_safe}
 use Rattle.cold_start.proofs.ColdSeen.{cold_brokers, cold_lines, cold_sites}
 use Rattle.cold_start.proofs.ColdWorldLaw.{closed_shown, log_shown, same_plain}
 

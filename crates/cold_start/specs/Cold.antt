@@ -1,4 +1,4 @@
--- What a power cut of everything leaves of a plain state, and of a tier as it is seen.
+-- What a power cut of everything leaves of a partition and its tier, beside the plain state that cold_state says.
 use Rattle.std.specs.Prelude.{ℤ, false, List, [], length, map, replicate}
 use Rattle.tier_base.specs.Roll.{Rolled}
 use Rattle.plain_log.specs.declared.command.ActorList.{ActorList}
@@ -7,19 +7,9 @@ use Rattle.partition_seen.specs.Seen.{Node, Held}
 use Rattle.partition_seen.specs.Fresh.{fresh_seat}
 use Rattle.partition_seen.specs.Whole.{Whole}
 use Rattle.partition_tier.specs.Sites.{Side, fresh_side}
-use Rattle.plain_log.specs.declared.state.Broker.{Broker}
 use Rattle.plain_log.specs.declared.state.Role.TheVariants.{Idle}
-use Rattle.plain_log.specs.declared.state.State.{State}
 use Rattle.remote_view.specs.Fold.{view_of}
 use Rattle.tier_safe.specs.Scene.{Site, Work, Scene}
-
--- a broker that is down and has never stopped
-abbrev pub cold_broker : Broker → Broker
-cold_broker x = record x { up = false; stops = 0; role = Idle; known = 0 }
-
--- all brokers are, and no command has begun
-abbrev pub cold_of : State → State
-cold_of p = record p { brokers = map cold_broker p.brokers; actors = [] }
 
 -- a broker's side that is down and knows nothing of the tier
 abbrev pub cold_site : Site → Site

@@ -31,7 +31,7 @@ use Rattle.partition_world.specs.Laws.{IsRunFrom}
 use Rattle.partition_world.specs.Reaches.{Reaches}
 use Rattle.partition_world.specs.Left.{IsCentralLeft}
 use Rattle.partition_world.specs.Whole.{Whole}
-use Rattle.cold_start.specs.Cold.{cold_of}
+use Rattle.cold_state.specs.Cold.{cold_of}
 
 -- a disk after a power cut: it has no images but those that it had
 pub record IsCutDisk (old new : Content) : Type 0 where

@@ -15,20 +15,16 @@ use Rattle.partition_seen.specs.Whole.{Whole}
 use Rattle.partition_seen.specs.Central.{IsCentral}
 use Rattle.partition_tier.specs.Sites.{Side, sites_of}
 use Rattle.plain_log.specs.declared.state.State.{State}
-use Rattle.plain_log.specs.Safe.{PlainSafe}
 use Rattle.tier_safe.specs.Scene.{Work, Free, Scene}
 use Rattle.tier_safe.specs.Safe.{TierSafe}
-use Rattle.cold_start.specs.Cold.{cold_of, cold_scene, cold_site, cold_node, cold_whole, cold_sides}
-
--- the safety rules hold in what is left
-abbrev pub ColdStateIsSafe : Type 0
-ColdStateIsSafe = (p : State) → PlainSafe p → PlainSafe (cold_of p)
+use Rattle.cold_state.specs.Cold.{cold_of}
+use Rattle.cold_start.specs.Cold.{cold_scene, cold_site, cold_node, cold_whole, cold_sides}
 
 -- nothing is on the desk
 abbrev pub IsFree : List Work → Type 0
 IsFree desk = (a : ℕ) (work : Work) → slice_get desk a ≡ Some work → work ≡ Free
 
--- and so do those of the tier
+-- the tier's safety rules hold in what is left, beside the plain state that is left
 abbrev pub ColdTierIsSafe : Type 0
 ColdTierIsSafe = (c : Scene) (p : State) (desk : List Work) → IsFree desk → TierSafe c p → TierSafe (cold_scene c desk) (cold_of p)
 

@@ -13,7 +13,7 @@ ghost use Rattle.partition_turns.specs.Cold.{DisksReopen};
 ghost use Rattle.partition_world.specs.Later.{IsLater};
 ghost use Rattle.partition_world.specs.Left.{IsCentralLeft};
 ghost use Rattle.partition_world.specs.Turn.{Steps};
-ghost use Rattle.cold_start.specs.Cold.{cold_of};
+ghost use Rattle.cold_state.specs.Cold.{cold_of};
 ghost use Rattle.cold_start.specs.Opening.{refusal_of_registry};
 ghost use Rattle.cold_start.specs.ColdWorld.{plain_in};
 ghost use Rattle.cold_start.specs.Stands.{StandsFor, LeavesCold, LeavesOneOf};

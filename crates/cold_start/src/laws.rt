@@ -4,7 +4,7 @@
 ghost use Rattle.cold_start.specs.ColdWorld.{PowerCutKeepsCentral, PowerCutLeavesCold, PowerCutKeepsCold, RunsGoOn, ClosedAreLeft};
 ghost use Rattle.cold_start.specs.Cuts.{CrashedDiskIsCut, KeptDiskIsCut, KeptLogIsCut, ReopenedLogIsCut};
 ghost use Rattle.cold_start.specs.FileLaws.{FileLaws};
-ghost use Rattle.cold_start.specs.Laws.{ColdStateIsSafe, ColdTierIsSafe, ColdIsCentral, ColdSidesAreSeen, RegistriesKeepRules};
+ghost use Rattle.cold_start.specs.Laws.{ColdTierIsSafe, ColdIsCentral, ColdSidesAreSeen, RegistriesKeepRules};
 ghost use Rattle.cold_start.specs.Stepping.{StepsChangeOne};
 ghost use Rattle.cold_start.specs.SweptWorld.{SweepKeepsCentral, KeptStoreIsCut};
 
@@ -16,12 +16,7 @@ use registry::{
 };
 use registry_file::a_written_view_is_read_again;
 
-/// The safety rules hold in what a power cut of everything leaves of a plain state.
-pub fn a_cold_state_is_safe()
-    ensures { ColdStateIsSafe }
-{}
-
-/// The tier that a power cut leaves beside it keeps its rules.
+/// The tier that a power cut leaves beside a plain state keeps its rules.
 pub fn a_cold_tier_is_safe()
     ensures { ColdTierIsSafe }
 {}

@@ -12,9 +12,9 @@ mod running;
 
 pub use cold::Cold;
 pub use laws::{
-    a_cold_partition_is_central, a_cold_state_is_safe, a_cold_tier_is_safe, a_crashed_disk_is_cut,
-    a_kept_disk_is_cut, a_kept_log_is_cut, a_kept_store_is_cut, a_power_cut_keeps_central,
-    a_power_cut_keeps_cold, a_power_cut_leaves_cold, a_reopened_log_is_cut, a_run_goes_on,
+    a_cold_partition_is_central, a_cold_tier_is_safe, a_crashed_disk_is_cut, a_kept_disk_is_cut,
+    a_kept_log_is_cut, a_kept_store_is_cut, a_power_cut_keeps_central, a_power_cut_keeps_cold,
+    a_power_cut_leaves_cold, a_reopened_log_is_cut, a_run_goes_on,
     a_step_changes_the_registry_or_a_device, a_sweep_keeps_central, closed_disks_are_left,
     cold_sides_are_seen, registries_keep_the_rules,
 };

@@ -22,7 +22,7 @@ ghost use Rattle.plain_log.specs.declared.state.State.{State};
 ghost use Rattle.partition_turns.specs.Fresh.{AreFreshDisks, DisksTell, OneFailed};
 ghost use Rattle.partition_world.specs.Fresh.{IsNew};
 ghost use Rattle.partition_world.specs.Left.{IsCentralLeft};
-ghost use Rattle.cold_start.specs.Cold.{cold_of};
+ghost use Rattle.cold_state.specs.Cold.{cold_of};
 ghost use Rattle.cold_start.specs.Opening.{IsGone, AreUnarmed, AllLast, Starts, Continues, IsOpened, HasCause, ComesBack, GivesBack, refusal_of_world, refusal_of_device};
 ghost use Rattle.cold_start.specs.Stands.{StandsFor, IsBlank, LeavesCold};
 

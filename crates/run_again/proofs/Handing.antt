@@ -19,7 +19,7 @@ use Rattle.device_yard.specs.declared.came.Came.{Came}
 use Rattle.device_yard.specs.Held.{Held, HandsDisk, HandsStore, HandsLog, HoldsDisk}
 use Rattle.partition_world.specs.declared.tier.Devices.{Devices}
 use Rattle.script_lang.specs.declared.script.PartScript.{PartScript}
-use Rattle.cold_start.specs.Cold.{cold_of}
+use Rattle.cold_state.specs.Cold.{cold_of}
 use Rattle.cold_start.specs.ColdWorld.{IsCutDisk, AreCut}
 use Rattle.cold_start.specs.Stands.{StandsFor}
 use Rattle.cold_start.specs.Opening.{AllLast, IsOpened}

@@ -17,7 +17,7 @@ use Rattle.device_yard.specs.declared.came.Came.{Came}
 use Rattle.device_yard.specs.Held.{Held}
 use Rattle.partition_world.specs.declared.tier.Devices.{Devices}
 use Rattle.script_lang.specs.declared.script.PartScript.{PartScript}
-use Rattle.cold_start.specs.Cold.{cold_of}
+use Rattle.cold_state.specs.Cold.{cold_of}
 use Rattle.cold_start.specs.Stands.{StandsFor}
 use Rattle.yard_run.specs.Handed.{HandsDevices}
 use Rattle.yard_run.specs.Reading.{file_in}

@@ -27,7 +27,7 @@ use Rattle.partition_world.specs.Turn.{IsAtEnd}
 use Rattle.partition_world.specs.Left.{IsCentralLeft}
 use Rattle.partition_world.specs.Fresh.{IsNew}
 use Rattle.partition_world.proofs.LeftLaw.{left_is_central}
-use Rattle.cold_start.specs.Cold.{cold_of}
+use Rattle.cold_state.specs.Cold.{cold_of}
 use Rattle.cold_start.specs.ColdWorld.{plain_in}
 use Rattle.cold_start.specs.Opening.{IsOpened, HasCause, ComesBack}
 use Rattle.cold_start.specs.Stepping.{Halts}

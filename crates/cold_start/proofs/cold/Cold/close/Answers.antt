@@ -3,7 +3,7 @@ use Rattle.std.specs.Prelude.{IsTrue}
 use Rattle.plain_log.specs.declared.state.State.{State}
 use Rattle.partition_turns.specs.Cold.{DisksReopen}
 use Rattle.partition_world.specs.Left.{IsCentralLeft}
-use Rattle.cold_start.specs.Cold.{cold_of}
+use Rattle.cold_state.specs.Cold.{cold_of}
 use Rattle.cold_start.specs.ColdWorld.{plain_in}
 use Rattle.cold_start.specs.Running.{Running}
 use Rattle.cold_start.specs.Stands.{StandsFor}
