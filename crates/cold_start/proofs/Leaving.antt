@@ -26,7 +26,7 @@ use Rattle.cold_start.specs.Stands.{StandsFor, LeavesCold, LeavesOneOf}
 use Rattle.cold_start.specs.Stepping.{SameDevices, logs_of}
 use Rattle.cold_start.specs.FileLaws.{FileLaws}
 use Rattle.cold_start.proofs.Registries.{registries_ruled}
-use Rattle.cold_start.proofs.StandLaw.{leaves_cold, closed_left}
+use Rattle.cold_start.proofs.StandLaw.{AreShownAs, left_as, shown_cold, closed_left}
 
 -- the spelling of a registry that keeps the rules reads as it
 pub spelled : (laws : FileLaws) (r : Registry) (files : Files) → IsRegistry r → files RegistryName ≡ Some (registry_bytes r) → HasFile files r
@@ -66,17 +66,24 @@ module _ {D S M : Type 0} (laws : FileLaws) (disk : DiskGhosts D) (store : Store
   ruled opening w c some few =
       registries_ruled disk store (resolved meta) opening (whole_with w (meta.content w.tier.meta).notes) (c (meta.content w.tier.meta).notes (inl refl)) some few
 
-  -- devices that are left of a world, and a disk with the file of its registry
-  pub stands_by : (opening : State) (w : Whole D S M) (c : IsCentralLeft disk store meta opening w) (disks : List D) (s : S) (m : M) (r : D) → LeaveDisks disk.content w.held.nodes disks
+  -- devices whose logs are seen as those of a world, and a disk with the file of its registry
+  pub shown_stands : (opening : State) (w : Whole D S M) (c : IsCentralLeft disk store meta opening w) (disks : List D) (s : S) (m : M) (r : D) → AreShownAs disk.content w.held.nodes disks
       → IsCutStore (store.content w.tier.store) (store.content s) → IsCutLog (meta.content w.tier.meta) (meta.content m) → IsTrue (disk.content r).tells → (disk.content r).files RegistryName ≡ Some (registry_bytes w.held.registry)
       → 1 ≤ length w.held.registry.replicas → length w.held.registry.replicas ≤ 8 → StandsFor disk store meta w.partition disks s m r (cold_of (plain_in disk store meta opening w c))
-  stands_by opening w c disks s m r cut kept noted told file some few =
+  shown_stands opening w c disks s m r cut kept noted told file some few =
       let same = plain_registry opening w c in
       record {
         file_tells = told;
         file = subst (λ (k : Registry). HasFile (disk.content r).files k) (sym same) (spelled laws w.held.registry (disk.content r).files (ruled opening w c some few) file);
-        stand = λ l at. subst (λ (k : Registry). StandCold disk store meta w.partition k disks s m (cold_of (plain_in disk store meta opening w c)) l) (sym same) (leaves_cold disk store meta opening w disks s m c cut kept noted l at);
+        stand = λ l at. subst (λ (k : Registry). StandCold disk store meta w.partition k disks s m (cold_of (plain_in disk store meta opening w c)) l) (sym same) (shown_cold disk store meta opening w disks s m c cut kept noted l at);
       }
+
+  -- devices that are left of a world, and such a disk
+  pub stands_by : (opening : State) (w : Whole D S M) (c : IsCentralLeft disk store meta opening w) (disks : List D) (s : S) (m : M) (r : D) → LeaveDisks disk.content w.held.nodes disks
+      → IsCutStore (store.content w.tier.store) (store.content s) → IsCutLog (meta.content w.tier.meta) (meta.content m) → IsTrue (disk.content r).tells → (disk.content r).files RegistryName ≡ Some (registry_bytes w.held.registry)
+      → 1 ≤ length w.held.registry.replicas → length w.held.registry.replicas ≤ 8 → StandsFor disk store meta w.partition disks s m r (cold_of (plain_in disk store meta opening w c))
+  stands_by opening w c disks s m r cut kept noted told file some few =
+      shown_stands opening w c disks s m r (left_as disk.content w.held.nodes disks cut) kept noted told file some few
 
   module _ (lawful : (d : D) → Lawful (disk.content d)) where
     -- what a disk reads as after a power cut is an image that it had before

@@ -12,3 +12,8 @@ pub mod RegistrySteps
 pub mod StandLaw
 pub mod Stepping
 pub mod SweptWorldLaw
+mod Since
+mod LogRows
+mod LogSteps
+mod During
+pub mod Through

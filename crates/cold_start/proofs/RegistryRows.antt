@@ -120,7 +120,7 @@ module _ {D : Type 0} where
   raise_leaves h epoch wanted answer h' w = held_leaves h (after_raise h.registry epoch wanted answer) h' (raise_many h.registry epoch wanted answer) w
 
   -- a node with another log doesn't come in the place of one
-  logs_put : (xs : List (Node D)) (b : ℕ) (x y : Node D) → slice_get xs b ≡ Some x → y.log ≡ x.log → logs_of (slice_set xs b y) ≡ logs_of xs
+  pub logs_put : (xs : List (Node D)) (b : ℕ) (x y : Node D) → slice_get xs b ≡ Some x → y.log ≡ x.log → logs_of (slice_set xs b y) ≡ logs_of xs
   logs_put [] b x y at same = refl
   logs_put (z ∷ xs) zero x y at same =
       let one : z ≡ x = cc (at) in

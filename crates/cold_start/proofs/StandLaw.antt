@@ -11,7 +11,7 @@ use Rattle.segment_meta.specs.declared.note.Note.{Note}
 use Rattle.meta_log.specs.declared.log.MetaLog.{Ghosts as MetaGhosts}
 use Rattle.meta_log.specs.Content.{Left}
 use Rattle.log_steps.specs.Reopens.{Reopens}
-use Rattle.broker_log.specs.Seen.{Kept, Up, Down, Away, Seen, OnDisk, is_up}
+use Rattle.broker_log.specs.Seen.{Kept, Up, Down, Away, Seen, Shows, ShowsClosed, OnDisk, is_up}
 use Rattle.plain_log.specs.declared.state.Broker.{Broker}
 use Rattle.plain_log.specs.declared.state.State.{State}
 use Rattle.partition_seen.specs.Seen as seen
@@ -46,24 +46,40 @@ use Rattle.cold_start.proofs.ColdWorldLaw.{closed_shown, log_shown, same_plain}
 
 module _ {D : Type 0} (content : D → Content) where
   -- the logs on disks that a power cut leaves
-  record Back (disks : List D) (ys : List seen.Node) : Type 0 where
-    logs : List Seen
-    shows : ShowDisks content disks logs
-    same : map node_back logs ≡ map cold_node ys
+  pub record Back (disks : List D) (ys : List seen.Node) : Type 0 where
+    pub logs : List Seen
+    pub shows : ShowDisks content disks logs
+    pub same : map node_back logs ≡ map cold_node ys
 
-  back : (xs : List (Node D)) (ys : List seen.Node) (disks : List D) → LeaveDisks content xs disks → ShowNodes content xs ys → Back disks ys
-  back [] [] [] cut h = record { logs = []; shows = tt; same = refl }
-  back (x ∷ xs) (y ∷ ys) (d ∷ disks) cut (shows, rest) =
-      let more = back xs ys disks cut.1 rest in
+  -- a closed log is seen as this one was, whatever that is
+  abbrev pub IsShownAs : Kept D → D → Type 0
+  IsShownAs k d = (s : Seen) → Shows content k s → ShowsClosed content d s
+
+  abbrev pub AreShownAs : List (Node D) → List D → Type 0
+  AreShownAs [] [] = Unit {0}
+  AreShownAs (x ∷ xs) (d ∷ disks) = IsShownAs x.log d × AreShownAs xs disks
+  AreShownAs [] (d ∷ disks) = ⊥
+  AreShownAs (x ∷ xs) [] = ⊥
+
+  pub back_as : (xs : List (Node D)) (ys : List seen.Node) (disks : List D) → AreShownAs xs disks → ShowNodes content xs ys → Back disks ys
+  back_as [] [] [] cut h = record { logs = []; shows = tt; same = refl }
+  back_as (x ∷ xs) (y ∷ ys) (d ∷ disks) cut (shows, rest) =
+      let more = back_as xs ys disks cut.1 rest in
       record {
         logs = shows.0 ∷ more.logs;
-        shows = (log_shown content (record { segment_bytes = 0; index_interval = 0 }) x.log d shows.0 cut.0 shows.1, more.shows);
+        shows = (cut.0 shows.0 shows.1, more.shows);
         same = ap (λ (k : seen.Node). k ∷ map node_back more.logs) (ap cold_node (sym shows.2)) ∙ ap (λ (l : List seen.Node). cold_node y ∷ l) more.same;
       }
-  back [] (y ∷ ys) disks cut h = absurd h
-  back (x ∷ xs) [] disks cut h = absurd h
-  back [] [] (d ∷ disks) cut h = absurd cut
-  back (x ∷ xs) (y ∷ ys) [] cut h = absurd cut
+  back_as [] (y ∷ ys) disks cut h = absurd h
+  back_as (x ∷ xs) [] disks cut h = absurd h
+  back_as [] [] (d ∷ disks) cut h = absurd cut
+  back_as (x ∷ xs) (y ∷ ys) [] cut h = absurd cut
+
+  pub left_as : (xs : List (Node D)) (disks : List D) → LeaveDisks content xs disks → AreShownAs xs disks
+  left_as [] [] cut = tt
+  left_as (x ∷ xs) (d ∷ disks) cut = (λ k h. log_shown content (record { segment_bytes = 0; index_interval = 0 }) x.log d k cut.0 h, left_as xs disks cut.1)
+  left_as [] (d ∷ disks) cut = absurd cut
+  left_as (x ∷ xs) [] cut = absurd cut
 
 -- as many sides as brokers are seen, or more
 sides_anew : (nodes : List seen.Node) (sides : List SideSeen) → length (sites_of nodes sides) ≡ length nodes → sites_of (map cold_node nodes) (cold_sides sides) ≡ sites_of (map cold_node nodes) (replicate (length nodes) fresh_seen)
@@ -78,10 +94,10 @@ long f [] = refl
 long f (x ∷ xs) = ap suc (long f xs)
 
 module _ {D S M : Type 0} (disk : DiskGhosts D) (store : StoreGhosts S) (meta : MetaGhosts M) where
-  module _ (opening : State) (w : Whole D S M) (disks : List D) (s : S) (m : M) (l : List Note) (cut : LeaveDisks disk.content w.held.nodes disks) (kept : IsCutStore (store.content w.tier.store) (store.content s))
+  module _ (opening : State) (w : Whole D S M) (disks : List D) (s : S) (m : M) (l : List Note) (cut : AreShownAs disk.content w.held.nodes disks) (kept : IsCutStore (store.content w.tier.store) (store.content s))
       (told : IsCutLog (meta.content w.tier.meta) (meta.content m)) (k : IsCentral disk store (resolved meta) opening (whole_with w l)) where
     b : Back disk.content disks k.partition.nodes
-    b = back disk.content w.held.nodes k.partition.nodes disks cut k.shows.nodes
+    b = back_as disk.content w.held.nodes k.partition.nodes disks cut k.shows.nodes
 
     registry_is : k.partition.registry ≡ w.held.registry
     registry_is = k.shows.registry
@@ -121,14 +137,19 @@ module _ {D S M : Type 0} (disk : DiskGhosts D) (store : StoreGhosts S) (meta : 
       tier = subst (λ (c : Scene). TierSafe c (cold_of k.central.plain)) scene_is (cold_tier k.scene k.central.plain [] (λ a work at. absurd cc) k.tier);
     }
 
-  pub leaves_cold : (opening : State) (w : Whole D S M) (disks : List D) (s : S) (m : M) (c : IsCentralLeft disk store meta opening w) → LeaveDisks disk.content w.held.nodes disks
+  pub shown_cold : (opening : State) (w : Whole D S M) (disks : List D) (s : S) (m : M) (c : IsCentralLeft disk store meta opening w) → AreShownAs disk.content w.held.nodes disks
       → IsCutStore (store.content w.tier.store) (store.content s) → IsCutLog (meta.content w.tier.meta) (meta.content m) → (l : List Note) → Left (meta.content m) l
       → StandCold disk store meta w.partition w.held.registry disks s m (cold_of (plain_in disk store meta opening w c)) l
-  leaves_cold opening w disks s m c cut kept told l left =
+  shown_cold opening w disks s m c cut kept told l left =
       let now = c (meta.content w.tier.meta).notes (inl refl) in
       let k = c l (told.left l left) in
       subst (λ (p : State). StandCold disk store meta w.partition w.held.registry disks s m (cold_of p) l) (same_plain disk store meta opening w l (meta.content w.tier.meta).notes k now)
       (stand_cut opening w disks s m l cut kept told k)
+
+  pub leaves_cold : (opening : State) (w : Whole D S M) (disks : List D) (s : S) (m : M) (c : IsCentralLeft disk store meta opening w) → LeaveDisks disk.content w.held.nodes disks
+      → IsCutStore (store.content w.tier.store) (store.content s) → IsCutLog (meta.content w.tier.meta) (meta.content m) → (l : List Note) → Left (meta.content m) l
+      → StandCold disk store meta w.partition w.held.registry disks s m (cold_of (plain_in disk store meta opening w c)) l
+  leaves_cold opening w disks s m c cut kept told l left = shown_cold opening w disks s m c (left_as disk.content w.held.nodes disks cut) kept told l left
 
   -- a further power cut
   shown_cut : (disks nows : List D) (logs : List Seen) → AreCut disk.content disks nows → ShowDisks disk.content disks logs → ShowDisks disk.content nows logs

@@ -8,3 +8,4 @@ pub mod Stands
 pub mod Opening
 pub mod Stepping
 pub mod FileLaws
+pub mod Moments

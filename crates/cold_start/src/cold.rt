@@ -16,10 +16,11 @@ ghost use Rattle.partition_world.specs.Turn.{Steps};
 ghost use Rattle.cold_state.specs.Cold.{cold_of};
 ghost use Rattle.cold_start.specs.Opening.{refusal_of_registry};
 ghost use Rattle.cold_start.specs.ColdWorld.{plain_in};
+ghost use Rattle.cold_start.specs.Moments.{LeavesDuring};
 ghost use Rattle.cold_start.specs.Stands.{StandsFor, LeavesCold, LeavesOneOf};
 ghost use Rattle.cold_start.specs.Stepping.{Ends};
 
-use crate::laws::{a_step_changes_the_registry_or_a_device, file_laws};
+use crate::laws::{a_step_changes_the_registry_or_a_device, a_step_works_on_one_device, file_laws};
 use crate::refusal::ColdRefusal;
 use disk_model::Disk;
 use meta_log::MetaLog;
@@ -113,9 +114,15 @@ impl<D: Disk, S: Store, M: MetaLog> Cold<D, S, M> {
             → LeavesCold D.Disk S.Store M.MetaLog opening self.new.world self.new.reg) }
         ensures either { OnErr result (IsTrue (D.content self.new.reg).tells → (opening : State)
             → LeavesOneOf D.Disk S.Store M.MetaLog opening self.old.world self.new.world self.new.reg) }
+
+        // So does what a power cut leaves at any moment since the step began, whatever moment each device's files are of.
+        ensures during { IsTrue (D.content self.old.reg).tells → (opening : State)
+            → LeavesDuring D.Disk S.Store M.MetaLog opening self.old.world self.old.reg self.new.world self.new.reg }
     {
         file_laws();
         a_step_changes_the_registry_or_a_device::<D, S, M>();
+        a_step_works_on_one_device::<D, S, M>();
+        self.world.reopens();
         let before = self.world.registry().get();
         let stepped = self.world.step(alloc, actor);
         if is_of(self.world.registry(), &before) {

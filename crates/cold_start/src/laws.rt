@@ -5,6 +5,7 @@ ghost use Rattle.cold_start.specs.ColdWorld.{PowerCutKeepsCentral, PowerCutLeave
 ghost use Rattle.cold_start.specs.Cuts.{CrashedDiskIsCut, KeptDiskIsCut, KeptLogIsCut, ReopenedLogIsCut};
 ghost use Rattle.cold_start.specs.FileLaws.{FileLaws};
 ghost use Rattle.cold_start.specs.Laws.{ColdTierIsSafe, ColdIsCentral, ColdSidesAreSeen, RegistriesKeepRules};
+ghost use Rattle.cold_start.specs.Moments.{StepsWorkOnOne};
 ghost use Rattle.cold_start.specs.Stepping.{StepsChangeOne};
 ghost use Rattle.cold_start.specs.SweptWorld.{SweepKeepsCentral, KeptStoreIsCut};
 
@@ -89,6 +90,11 @@ pub fn closed_disks_are_left<D: Disk>()
 /// A step changes the registry or a device, and not both.
 pub fn a_step_changes_the_registry_or_a_device<D: Disk, S: Store, M: MetaLog>()
     ensures { StepsChangeOne D.Disk S.Store M.MetaLog }
+{}
+
+/// A step works on one device at most.
+pub fn a_step_works_on_one_device<D: Disk, S: Store, M: MetaLog>()
+    ensures { StepsWorkOnOne D.Disk S.Store M.MetaLog }
 {}
 
 /// The registry of a world of at most 8 brokers that has the central fact keeps the rules of its file.

@@ -6,6 +6,7 @@ ghost use Rattle.partition_seen.specs.declared.seat.Stepped.TheVariants.{NoMemor
 ghost use Rattle.partition_world.specs.Later.{IsLater};
 ghost use Rattle.partition_world.specs.Reaches.{GoesTimes, GoesUntil, Paces, Reaches};
 ghost use Rattle.partition_world.specs.Turn.{Steps};
+ghost use Rattle.cold_start.specs.Moments.{RunsThrough};
 ghost use Rattle.cold_start.specs.Stepping.{Halts};
 
 use crate::cold::Cold;
@@ -32,6 +33,7 @@ fn turn<D: Disk, S: Store, M: MetaLog>(
     ensures err { IfErr result (λ why. Halts D.Disk S.Store M.MetaLog cold.old cold.new why) }
     ensures control { Lasts (D.control cold.old.reg) (D.control cold.new.reg) }
     ensures tells { (D.content cold.new.reg).tells ≡ (D.content cold.old.reg).tells }
+    ensures during { RunsThrough D.Disk S.Store M.MetaLog cold.old cold.new }
 {
     match cold.step(alloc, actor) {
         Ok(Stepped::NoMemory) => Err(ColdRefusal::NoMemory),
@@ -54,6 +56,7 @@ fn run_until<D: Disk, S: Store, M: MetaLog>(
     ensures err { IfErr result (λ why. Halts D.Disk S.Store M.MetaLog cold.old cold.new why) }
     ensures control { Lasts (D.control cold.old.reg) (D.control cold.new.reg) }
     ensures tells { (D.content cold.new.reg).tells ≡ (D.content cold.old.reg).tells }
+    ensures during { RunsThrough D.Disk S.Store M.MetaLog cold.old cold.new }
 {
     while !cold.world().has_answered(actor, number) {
         match turn(alloc, cold, actor) {
@@ -78,6 +81,7 @@ fn run_times<D: Disk, S: Store, M: MetaLog>(
     ensures err { IfErr result (λ why. Halts D.Disk S.Store M.MetaLog cold.old cold.new why) }
     ensures control { Lasts (D.control cold.old.reg) (D.control cold.new.reg) }
     ensures tells { (D.content cold.new.reg).tells ≡ (D.content cold.old.reg).tells }
+    ensures during { RunsThrough D.Disk S.Store M.MetaLog cold.old cold.new }
 {
     for _i in 0..turns {
         let stepped = match turn(alloc, cold, actor) {
@@ -105,6 +109,7 @@ fn run_pace<D: Disk, S: Store, M: MetaLog>(
     ensures err { IfErr result (λ why. Halts D.Disk S.Store M.MetaLog cold.old cold.new why) }
     ensures control { Lasts (D.control cold.old.reg) (D.control cold.new.reg) }
     ensures tells { (D.content cold.new.reg).tells ≡ (D.content cold.old.reg).tells }
+    ensures during { RunsThrough D.Disk S.Store M.MetaLog cold.old cold.new }
 {
     match pace {
         Pace::Until { actor, number } => run_until(alloc, cold, actor, number),
@@ -126,6 +131,9 @@ pub fn run_cold<D: Disk, S: Store, M: MetaLog>(
     ensures err { IfErr result (λ why. Halts D.Disk S.Store M.MetaLog cold.old cold.new why) }
     ensures control { Lasts (D.control cold.old.reg) (D.control cold.new.reg) }
     ensures tells { (D.content cold.new.reg).tells ≡ (D.content cold.old.reg).tells }
+
+    // A power cut at any moment of the run comes in the course of a step, and leaves the state before or after that one.
+    ensures during { RunsThrough D.Disk S.Store M.MetaLog cold.old cold.new }
 {
     for pace in schedule {
         match run_pace(alloc, cold, *pace) {

@@ -4,6 +4,7 @@ use Rattle.tier_base.proofs.Lasting.{lasts_then}
 use Rattle.partition_world.proofs.Chains.{reaches_next, reaches_end}
 use Rattle.partition_world.proofs.LaterLaw.{later_more}
 use Rattle.cold_start.proofs.Stepping.{halts_more}
+use Rattle.cold_start.proofs.Through.{through_more}
 use Rattle.cold_start.proofs.running.run_cold.Goals as goal
 
 pub returns-in-Err-clause-err : goal.returns-in-Err-clause-err
@@ -17,6 +18,7 @@ loop-pace-preserved g c = record {
   going = c.in-Ok.ensures.going;
   control = lasts_then (g.D.Disk.control c.args.cold.now.reg) (g.D.Disk.control c.loop-pace.cold.reg) (g.D.Disk.control c.run_pace.new.cold.reg) c.loop-pace.invariant.control c.in-Ok.ensures.control;
   tells = c.in-Ok.ensures.tells ∙ c.loop-pace.invariant.tells;
+  through = through_more g.D.Disk g.S.Store g.M.MetaLog c.args.cold.now c.loop-pace.cold c.run_pace.new.cold c.loop-pace.invariant.through c.in-Ok.ensures.during;
 }
 
 pub returns-clause-reaches : goal.returns-clause-reaches
@@ -24,3 +26,6 @@ returns-clause-reaches g c = reaches_end g.D.Disk g.S.Store g.M.MetaLog c.args.c
 
 pub returns-in-Err-clause-later : goal.returns-in-Err-clause-later
 returns-in-Err-clause-later g c = later_more g.D.Disk g.S.Store g.M.MetaLog c.args.cold.now.world c.loop-pace.cold.world c.run_pace.new.cold.world c.loop-pace.invariant.later c.in-Err.ensures.later
+
+pub returns-in-Err-clause-during : goal.returns-in-Err-clause-during
+returns-in-Err-clause-during g c = through_more g.D.Disk g.S.Store g.M.MetaLog c.args.cold.now c.loop-pace.cold c.run_pace.new.cold c.loop-pace.invariant.through c.in-Err.ensures.during

@@ -2,6 +2,7 @@ use Rattle.std.proofs.Common.{◌≡◌, false, take}
 use Rattle.tier_base.specs.Device.{Lasts}
 use Rattle.partition_world.specs.Later.{IsLater}
 use Rattle.partition_world.proofs.Chains.{LeadsTo}
+use Rattle.cold_start.specs.Moments.{RunsThrough}
 use Rattle.cold_start.proofs.running.run_cold.Given as goal
 
 abbrev pub invariant-loop-pace : goal.invariant-loop-pace
@@ -11,4 +12,5 @@ invariant-loop-pace g l = record {
   going : l.cold.ended ≡ false;
   control : Lasts (g.D.Disk.control l.initial.cold.reg) (g.D.Disk.control l.cold.reg);
   tells : (g.D.Disk.content l.cold.reg).tells ≡ (g.D.Disk.content l.initial.cold.reg).tells;
+  through : RunsThrough g.D.Disk g.S.Store g.M.MetaLog l.initial.cold l.cold;
 }

@@ -5,6 +5,7 @@ use Rattle.partition_world.specs.Turn.{Steps}
 use Rattle.partition_world.proofs.Chains.{step_goes, times_more, times_all, times_end}
 use Rattle.partition_world.proofs.LaterLaw.{later_more}
 use Rattle.cold_start.proofs.Stepping.{halts_more}
+use Rattle.cold_start.proofs.Through.{through_more}
 use Rattle.cold_start.proofs.running.run_times.Goals as goal
 
 pub returns-in-Err-clause-err : goal.returns-in-Err-clause-err
@@ -23,6 +24,7 @@ loop-i-preserved g c = record {
   going = c.in-Ok.ensures.going;
   control = lasts_then (g.D.Disk.control c.args.cold.now.reg) (g.D.Disk.control c.loop-i.cold.reg) (g.D.Disk.control c.turn.new.cold.reg) c.loop-i.invariant.control c.in-Ok.ensures.control;
   tells = c.in-Ok.ensures.tells ∙ c.loop-i.invariant.tells;
+  through = through_more g.D.Disk g.S.Store g.M.MetaLog c.args.cold.now c.loop-i.cold c.turn.new.cold c.loop-i.invariant.through c.in-Ok.ensures.during;
 }
 
 pub returns-clause-reaches : goal.returns-clause-reaches
@@ -30,3 +32,9 @@ returns-clause-reaches g c = times_all g.D.Disk g.S.Store g.M.MetaLog c.args.col
 
 pub returns-in-Err-clause-later : goal.returns-in-Err-clause-later
 returns-in-Err-clause-later g c = later_more g.D.Disk g.S.Store g.M.MetaLog c.args.cold.now.world c.loop-i.cold.world c.turn.new.cold.world c.loop-i.invariant.later c.in-Err.ensures.later
+
+pub returns-in-Err-clause-during : goal.returns-in-Err-clause-during
+returns-in-Err-clause-during g c = through_more g.D.Disk g.S.Store g.M.MetaLog c.args.cold.now c.loop-i.cold c.turn.new.cold c.loop-i.invariant.through c.in-Err.ensures.during
+
+pub returns-in-Nothing-clause-during : goal.returns-in-Nothing-clause-during
+returns-in-Nothing-clause-during g c = through_more g.D.Disk g.S.Store g.M.MetaLog c.args.cold.now c.loop-i.cold c.turn.new.cold c.loop-i.invariant.through c.in-Ok.ensures.during

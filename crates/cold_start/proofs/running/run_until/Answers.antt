@@ -5,6 +5,7 @@ use Rattle.partition_world.specs.Whole.{Whole}
 use Rattle.partition_world.proofs.Chains.{step_goes, step_turns, until_more, until_all}
 use Rattle.partition_world.proofs.LaterLaw.{later_more, step_left}
 use Rattle.cold_start.proofs.Stepping.{halts_more}
+use Rattle.cold_start.proofs.Through.{through_more}
 use Rattle.cold_start.proofs.running.run_until.Goals as goal
 
 pub loop-alloc-smaller : goal.loop-alloc-smaller
@@ -25,6 +26,7 @@ loop-alloc-preserved g c =
       going = c.in-Ok.ensures.going;
       control = lasts_then (g.D.Disk.control c.args.cold.now.reg) (g.D.Disk.control c.loop-alloc.cold.reg) (g.D.Disk.control c.turn.new.cold.reg) c.loop-alloc.invariant.control c.in-Ok.ensures.control;
       tells = c.in-Ok.ensures.tells ∙ c.loop-alloc.invariant.tells;
+      through = through_more g.D.Disk g.S.Store g.M.MetaLog c.args.cold.now c.loop-alloc.cold c.turn.new.cold c.loop-alloc.invariant.through c.in-Ok.ensures.during;
     }
 
 pub returns-in-Err-clause-err : goal.returns-in-Err-clause-err
@@ -37,3 +39,6 @@ returns-clause-reaches g c =
 
 pub returns-in-Err-clause-later : goal.returns-in-Err-clause-later
 returns-in-Err-clause-later g c = later_more g.D.Disk g.S.Store g.M.MetaLog c.args.cold.now.world c.loop-alloc.cold.world c.turn.new.cold.world c.loop-alloc.invariant.later c.in-Err.ensures.later
+
+pub returns-in-Err-clause-during : goal.returns-in-Err-clause-during
+returns-in-Err-clause-during g c = through_more g.D.Disk g.S.Store g.M.MetaLog c.args.cold.now c.loop-alloc.cold c.turn.new.cold c.loop-alloc.invariant.through c.in-Err.ensures.during

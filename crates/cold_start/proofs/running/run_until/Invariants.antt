@@ -3,6 +3,7 @@ use Rattle.tier_base.specs.Device.{Lasts}
 use Rattle.partition_world.specs.Later.{IsLater}
 use Rattle.partition_world.proofs.Advancing.{turns_left}
 use Rattle.partition_world.proofs.Chains.{LeadsOn}
+use Rattle.cold_start.specs.Moments.{RunsThrough}
 use Rattle.cold_start.proofs.running.run_until.Given as goal
 
 abbrev pub invariant-loop-alloc : goal.invariant-loop-alloc
@@ -12,6 +13,7 @@ invariant-loop-alloc g l = record {
   going : l.cold.ended ≡ false;
   control : Lasts (g.D.Disk.control l.initial.cold.reg) (g.D.Disk.control l.cold.reg);
   tells : (g.D.Disk.content l.cold.reg).tells ≡ (g.D.Disk.content l.initial.cold.reg).tells;
+  through : RunsThrough g.D.Disk g.S.Store g.M.MetaLog l.initial.cold l.cold;
 }
 
 abbrev pub decreases-loop-alloc : goal.decreases-loop-alloc
