@@ -83,7 +83,7 @@ module _ {M : Type 0} (meta : MetaGhosts M) where
   -- memory was wanting
   pub halted_with : (before after : Seen) (old new : M) (k : Halted meta.content meta.control before after old new) → Tells old → (l' : List Note)
       → Left (meta.content new) l' → Before old (λ l. Halted (resolved meta).content (resolved meta).control before after (old, l) (new, l'))
-  halted_with before after old new k tells l' left = (l', k.content.left l' left, record { view = view k.moved; control = k.control; content = record { tells = k.content.tells; notes = refl; left = λ x at. at }; moved = inr (λ t x at. told_with new l' x at) })
+  halted_with before after old new k tells l' left = (l', k.content.left l' left, record { view = view k.moved; control = k.control; once = k.once; content = record { tells = k.content.tells; notes = refl; left = λ x at. at }; moved = inr (λ t x at. told_with new l' x at) })
     where
       view : (after ≡ before) ⊎ (IsTrue (meta.content old).tells → (l : List Note) → Left (meta.content new) l → l ≡ (meta.content new).notes)
           → Advances ((resolved meta).content (old, l')) before after
