@@ -48,7 +48,7 @@ module _ {D : Type 0} (content : D → Content) (control : D → Control call_co
   fetch_refined h a b x s offset limit (Run tier size stop bytes) h' v k w =
       let g = w.4 in
       let r = g.reads.run s v.shows k.known in
-      rests content control h a b x s h' _ v (g.kept, g.reads.stays, g.quiet.0, g.after) (
+      rests content control h a b x s h' _ v (g.kept, g.reads.stays, g.quiet, g.after) (
         w.0,
         w.1,
         is_local h a b x s offset v w.0 w.2,

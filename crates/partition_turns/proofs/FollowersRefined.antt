@@ -388,7 +388,7 @@ module _ {D : Type 0} (content : D → Content) (control : D → Control call_co
       let are = each_all (λ (batch : List ℕ). IsOk (checked batch)) r.run r.are in
       let same : r.run ≡ g.batches = taken_shown g q.out.bytes r.run q.batches r.bytes are in
       let over : end_of_log s.batches < end_of_log l.log_seen.batches = (let low = y.2.0 in omega (arith, low, own, end)) in
-      rests content control h a h.registry.leader.0 y.0 l.log_seen h' _ l.sees (q.kept, q.reads.stays, q.quiet.0, q.after) (
+      rests content control h a h.registry.leader.0 y.0 l.log_seen h' _ l.sees (q.kept, q.reads.stays, q.quiet, q.after) (
         w.0,
         current_shown h a (joined_role x.role) v.held w.1,
         some_at (λ (z : seen.Node). (end_of_log s.batches < end_of_log z.log.batches) × (z.local ≤ end_of_log s.batches) × seen_rows.Takes a (node_of x s) z limit g) (seen_held.the_leader a) (node_of y.0 l.log_seen) l.is (

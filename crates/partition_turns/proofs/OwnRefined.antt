@@ -174,7 +174,7 @@ module _ {D : Type 0} (content : D → Content) (control : D → Control call_co
       (w.0, (k.0, t.0.incarnation, k.1, t.2.1, k.2.1, refl))
   up_refined h a b x s DiskFault h' v w = fails content control h a b x s h' _ v w.1 (w.0, refl)
   up_refined h a b x s (Damaged (File name) at) h' v w = absurd (w.1.1.unseen s v.shows)
-  up_refined h a b x s LastIncarnation h' v w = rests content control h a b x s h' _ v (w.1.0, w.1.1.stays, w.1.2.0, w.1.3) (w.0, refl)
+  up_refined h a b x s LastIncarnation h' v w = rests content control h a b x s h' _ v (w.1.0, w.1.1.stays, w.1.2, w.1.3) (w.0, refl)
   up_refined h a b x s other h' v w = elim w [ ]
 
   -- what was noted of a broker

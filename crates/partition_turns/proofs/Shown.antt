@@ -196,7 +196,7 @@ module _ {D : Type 0} (content : D → Content) (control : D → Control call_co
 
   -- a read failed, and nothing that is seen has changed
   pub fails : (h : Held D) (a : seen.Held) (b : ℕ) (x : Node D) (s : log.Seen) (h' : Held D) (R : seen.Held → Type 0) → Sees content h a b x s → Fails content control h b x h' → R a → Refines content h' R
-  fails h a b x s h' R v r row = rests h a b x s h' R v (r.0, r.1, r.2, r.4) row
+  fails h a b x s h' R v r row = looks h a b x s h' R v r.0 r.1.up (r.1.seen s v.shows) r.4 row
 
   -- a write failed, and the broker has stopped
   pub breaks : (h : Held D) (a : seen.Held) (b : ℕ) (x : Node D) (s : log.Seen) (makes : log.Seen → log.Seen) (h' : Held D) (R : seen.Held → Type 0) (y : seen.Node) → Sees content h a b x s → Breaks content control h b x makes h'
@@ -210,11 +210,17 @@ module _ {D : Type 0} (content : D → Content) (control : D → Control call_co
       → (k : BreaksBy content control h b x B h') → Shows content k.kept s' → y ≡ node_of (record (stopped x) { log = k.kept }) s' → R (seen_held.put_node a b y) → Refines content h' R
   breaks_to h a b x s s' B h' R y v k shows same row = puts h a b x s h' R (record (stopped x) { log = k.kept }) s' y v shows same k.after row
 
+  -- a log was read, and is as it was
+  pub held_looks : (h : Held D) (a : seen.Held) (b : ℕ) (x : Node D) (kept : Kept D) (h' : Held D) → ShowsHeld content h a → slice_get h.nodes b ≡ Some x → Stays content x.log kept
+      → h' ≡ put_node h b (record x { log = kept }) → ShowsHeld content h' a
+  held_looks h a b x kept h' held at stays is =
+      let v = sees_at h a b x held at in
+      let r = looks h a b x v.0 h' (λ b. b ≡ a) v.1 kept stays.up (stays.seen v.0 v.1.shows) is refl in
+      subst (ShowsHeld content h') r.row r.held
+
   -- nothing that is seen has changed
   pub held_stays : (h : Held D) (a : seen.Held) (h' : Held D) → ShowsHeld content h a → StaysHeld content control h h' → ShowsHeld content h' a
   held_stays h a h' held (inl is) = subst (λ (k : Held D). ShowsHeld content k a) (sym is) held
   held_stays h a h' held (inr k) =
       let x = some_of (λ x. Rests content control h k.0 x h') (slice_get h.nodes k.0) k.1 in
-      let v = sees_at h a k.0 x.0 held x.1 in
-      let r = rests h a k.0 x.0 v.0 h' (λ b. b ≡ a) v.1 x.2 refl in
-      subst (ShowsHeld content h') r.row r.held
+      held_looks h a k.0 x.0 x.2.0 h' held x.1 x.2.1 x.2.3

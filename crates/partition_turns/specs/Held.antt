@@ -2,17 +2,19 @@
 --
 -- The rows over disks say what a turn does to the logs by the words of a broker's log; where the disks tell, it is a row of
 -- the partition as it is seen. The disks' plans last over every turn, and so does their calm.
-use Rattle.std.specs.Prelude.{◌≡◌, ℕ, ◌+◌, ◌-◌, ◌^◌, ◌<◌, ◌≤◌, ◌&&◌, ◌⊎◌, Bool, List, [], ◌∷◌, length, Option, unwrap_or, slice_get, slice_set, IsSomeAnd, IsTrue}
+use Rattle.std.specs.Prelude.{◌≡◌, ℕ, ◌+◌, ◌-◌, ◌^◌, ◌<◌, ◌≤◌, ◌&&◌, ◌⊎◌, Bool, true, List, [], ◌∷◌, length, Option, unwrap_or, slice_get, slice_set, IsSomeAnd, IsTrue}
 use Rattle.std.specs.Option.{option_and_then}
-use Rattle.tier_base.specs.Device.{Control}
+use Rattle.tier_base.specs.Device.{Control, Went, Ran}
 use Rattle.tier_base.specs.declared.plain.FileName.{FileName}
 use Rattle.disk_model.specs.Call.{call_code}
+use Rattle.disk_model.specs.declared.call.DiskCall.TheVariants.{Read}
 use Rattle.disk_model.specs.Content.{Content}
 use Rattle.local_log.specs.Run.{is_due}
+use Rattle.local_log.specs.Reading.{segment_at, is_edge}
 use Rattle.registry.specs.Calls.{when}
 use Rattle.plain_log.specs.declared.state.Role.TheVariants.{Idle}
 use Rattle.plain_log.specs.State.{leads_in}
-use Rattle.broker_log.specs.Seen.{Kept, Shows, Stays, WhileUp, Lasting, OneFault, Quiet, is_up as is_open, end_in, stable_in, line_in, local_in}
+use Rattle.broker_log.specs.Seen.{Kept, Shows, Stays, WhileUp, OnDisk, Lasting, OneFault, Quiet, is_up as is_open, end_in, stable_in, line_in, local_in}
 use Rattle.broker_log.specs.Turns.{Misreads}
 use Rattle.broker_log.specs.Seen as log
 use Rattle.broker_log.specs.Turns as turns
@@ -94,10 +96,16 @@ module _ {D : Type 0} (content : D → Content) where
     pub nodes : ShowNodes h.nodes a.nodes
     pub clock : a.clock ≡ h.clock
 
+module _ {D : Type 0} (control : D → Control call_code) where
+  -- where a batch of the log ends at the mark, its disk was read once in this call, and handed something
+  abbrev pub HasRead : Kept D → Kept D → ℕ → Type 0
+  HasRead old kept mark = WhileUp old (λ log. is_edge (segment_at log mark) mark ≡ true
+      → OnDisk old (λ d. OnDisk kept (λ e. Ran Read Went (control d) (control e))))
+
 module _ {D : Type 0} (content : D → Content) (control : D → Control call_code) where
-  -- a broker's log is as it was, whatever its disk was asked
+  -- a broker's log is as it was, whatever its disk was asked, and no call of the disk failed
   abbrev pub Rests : Held D → ℕ → Node D → Held D → Type 0
-  Rests h b x h' = (kept : Kept D) × Stays content x.log kept × Lasting control x.log kept × (h' ≡ put_node h b (record x { log = kept }))
+  Rests h b x h' = (kept : Kept D) × Stays content x.log kept × Quiet control x.log kept × (h' ≡ put_node h b (record x { log = kept }))
 
   -- a broker's disk failed in a read, and the log is as it was
   abbrev pub Fails : Held D → ℕ → Node D → Held D → Type 0
@@ -108,10 +116,11 @@ module _ {D : Type 0} (content : D → Content) (control : D → Control call_co
   pub record FindsDamage (h : Held D) (b : ℕ) (x : Node D) (offset limit mark : ℕ) (name : FileName) (at : ℕ) (h' : Held D) : Type 0 where
     pub kept : Kept D
     pub misreads : Misreads content control x.log kept offset limit mark name at
+    pub ran : HasRead control x.log kept mark
     pub quiet : Quiet control x.log kept
     pub after : h' ≡ put_node h b (record x { log = kept })
 
-  -- nothing that is seen has changed
+  -- nothing that is seen has changed, and no call of a disk failed
   abbrev pub StaysHeld : Held D → Held D → Type 0
   StaysHeld h h' = (h' ≡ h) ⊎ ((b : ℕ) × AtNode h b (λ x. Rests h b x h'))
 

@@ -23,8 +23,8 @@ use Rattle.partition_seen.specs.RowsOfTiers as seen_tiers
 use Rattle.partition_seen.proofs.BoolTests.{some_of}
 use Rattle.broker_log.specs.Seen.{incarnation_in}
 use Rattle.partition_turns.specs.declared.held.Node.{Node}
-use Rattle.partition_turns.specs.Held.{node_of, put_node, ShowsHeld, Rests}
-use Rattle.partition_turns.proofs.Shown.{some_at, held_stays}
+use Rattle.partition_turns.specs.Held.{node_of, put_node, ShowsHeld}
+use Rattle.partition_turns.proofs.Shown.{some_at, held_looks}
 use Rattle.tier_safe.specs.Scene.{Scene, Site, Work as WorkSeen, Free, Copies as CopiesSeen}
 use Rattle.tier_safe.specs.May.{IsChanged}
 use Rattle.tier_safe.specs.Turns.{Shows, copy_work}
@@ -76,12 +76,8 @@ module _ {D S M : Type 0} (disk : DiskGhosts D) (store : StoreGhosts S) (meta : 
     -- a log that was read
     held_read : (x' : Node D) → ReadsLog disk z.x x' → w'.held ≡ put_node w.held t.order.broker.0 x' → ShowsHeld disk.content w'.held c.partition
     held_read x' r same =
-        held_stays disk.content disk.control w.held c.partition w'.held c.shows
-        (inr (
-          t.order.broker.0,
-          some_at (λ (x : Node D). Rests disk.content disk.control w.held t.order.broker.0 x w'.held) (slice_get w.held.nodes t.order.broker.0) z.x z.at
-              (r.kept, r.stays, r.lasts, same ∙ ap (put_node w.held t.order.broker.0) r.after),
-        ))
+        held_looks disk.content disk.control w.held c.partition t.order.broker.0 z.x r.kept w'.held c.shows z.at r.stays
+        (same ∙ ap (put_node w.held t.order.broker.0) r.after)
 
     leads : t.seat.work ≡ Idle → (o : Outcome) → outcome ≡ o → LeadersFirstRow meta w.held w.tier t.order.broker.0 z.x z.side o w'.tier → w'.held ≡ w.held → IsCentral disk store meta opening w'
     leads idle o is row same =

@@ -313,7 +313,7 @@ module _ {D S M : Type 0} (disk : DiskGhosts D) (store : StoreGhosts S) (meta : 
       reads : (to : TimeTurn) → RunRow disk.content disk.control x.log asked (passed_over asked.ts cursor (closed_in x.log)) to w.kept
           → Leaving (Once disk.control h b h') h t (date_outcome to) h' t'
       reads (dating.Ends DiskFault) row = (once_put disk.control h b x y h' at row.2 w.after, stores, metas)
-      reads (dating.Ends (Damaged (File name) place)) row = (quiet_put disk.control h b x y h' at row.1.1 w.after, stores, metas)
+      reads (dating.Ends (Damaged (File name) place)) row = (quiet_put disk.control h b x y h' at row.quiet.1 w.after, stores, metas)
       reads to row =
           quiet (date_outcome to) (searched_clear asked (passed_over asked.ts cursor (closed_in x.log)) row.out.bytes to row.searched)
           (quiet_put disk.control h b x y h' at row.quiet.1 w.after)

@@ -41,8 +41,8 @@ use Rattle.partition_seen.proofs.Standing.{broker_at, map_get}
 use Rattle.partition_tier.specs.Sites.{greatest}
 use Rattle.partition_tier.specs.Turns.{may_raise}
 use Rattle.partition_turns.specs.declared.held.Node.{Node}
-use Rattle.partition_turns.specs.Held.{local_of, line_of, node_of, put_node, Rests, StaysHeld, ShowsHeld}
-use Rattle.partition_turns.proofs.Shown.{some_at, end_shown, line_shown, local_shown, held_stays}
+use Rattle.partition_turns.specs.Held.{local_of, line_of, node_of, put_node, ShowsHeld}
+use Rattle.partition_turns.proofs.Shown.{end_shown, line_shown, local_shown, held_looks, held_stays}
 use Rattle.tier_dates.specs.Passed.{HasPassed, IsDatedTo, read_from}
 use Rattle.tier_dates.specs.Searching.{search_of, search_work, IsAtSearch}
 use Rattle.tier_dates.proofs.Dates.{start_has_passed, passed_has_none}
@@ -260,18 +260,15 @@ module _ {D S M : Type 0} (disk : DiskGhosts D) (store : StoreGhosts S) (meta : 
       -- a turn in the local log
 
       own_held : (turn : TimeTurn) → SearchesOwn disk w.held t.order.broker.0 z.x asked at turn w'.held → ShowsHeld disk.content w'.held c.partition
-      own_held turn r = held_stays disk.content disk.control w.held c.partition w'.held c.shows (by (own_rests disk.content disk.control z.x.log r.kept asked at turn r.row))
+      own_held turn r = by (own_rests disk.content disk.control z.x.log r.kept asked at turn r.row)
         where
-          by : (r.kept ≡ z.x.log) ⊎ (log.Stays disk.content z.x.log r.kept × log.Lasting disk.control z.x.log r.kept) → StaysHeld disk.content disk.control w.held w'.held
+          by : (r.kept ≡ z.x.log) ⊎ log.Stays disk.content z.x.log r.kept → ShowsHeld disk.content w'.held c.partition
           by (inl same) =
-              inl (r.after ∙ (ap (λ (k : log.Kept D). put_node w.held t.order.broker.0 (record z.x { log = k })) same
-              ∙ ap (λ (u : List (Node D)). record w.held { nodes = u }) (set_same w.held.nodes t.order.broker.0 z.x z.at)))
-          by (inr k) =
-              inr (
-                t.order.broker.0,
-                some_at (λ (x : Node D). Rests disk.content disk.control w.held t.order.broker.0 x w'.held) (slice_get w.held.nodes t.order.broker.0) z.x z.at
-                    (r.kept, k.0, k.1, r.after),
-              )
+              held_stays disk.content disk.control w.held c.partition w'.held c.shows
+              (inl (r.after ∙ (ap (λ (k : log.Kept D). put_node w.held t.order.broker.0 (record z.x { log = k })) same
+              ∙ ap (λ (u : List (Node D)). record w.held { nodes = u }) (set_same w.held.nodes t.order.broker.0 z.x z.at))))
+          by (inr stays) =
+              held_looks disk.content disk.control w.held c.partition t.order.broker.0 z.x r.kept w'.held c.shows z.at stays r.after
 
       comes : (turn : TimeTurn) → KeepsLead z.x g → SearchesOwn disk w.held t.order.broker.0 z.x asked at turn w'.held → OwnComes asked z.s.batches turn
       comes turn k r =

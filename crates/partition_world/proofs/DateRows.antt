@@ -6,7 +6,7 @@ use Rattle.std.proofs.Math.Nat.{max-eq_right}
 use Rattle.disk_model.specs.declared.disk.Disk.{Ghosts as DiskGhosts}
 use Rattle.object_store.specs.declared.store.Store.{Ghosts as StoreGhosts}
 use Rattle.meta_log.specs.declared.log.MetaLog.{Ghosts as MetaGhosts}
-use Rattle.broker_log.specs.Seen.{Kept, line_in, Stays, Lasting}
+use Rattle.broker_log.specs.Seen.{Kept, line_in, Stays, Quiet}
 use Rattle.time_find.specs.declared.turn.Asked.{Asked}
 use Rattle.time_find.specs.declared.turn.Next.{Next}
 use Rattle.time_find.specs.declared.turn.Next.TheVariants.{Seek}
@@ -32,16 +32,16 @@ set_at start cursor next set = by (nat_lt cursor start) refl
         let same : max start cursor ≡ cursor = max-eq_right low in
         subst (λ (n : ℕ). IsSet n next) (sym same) set
 
--- a broker's log that was read is as it was
+-- a broker's log that was read is as it was, where no call failed
 pub log_stays : {D : Type 0} (disk : DiskGhosts D) (h : Held D) (b : ℕ) (x : Node D) (kept : Kept D) → slice_get h.nodes b ≡ Some x
-    → Stays disk.content x.log kept → Lasting disk.control x.log kept
+    → Stays disk.content x.log kept → Quiet disk.control x.log kept
     → StaysHeld disk.content disk.control h (put_node h b (record x { log = kept }))
-log_stays {D} disk h b x kept at stays lasts =
+log_stays {D} disk h b x kept at stays quiet =
     let after = put_node h b (record x { log = kept }) in
     inr (
       b,
       subst (λ (o : Option (Node D)). IsSomeAnd o (λ y. Rests disk.content disk.control h b y after)) (sym at)
-          (kept, stays, lasts, refl),
+          (kept, stays, quiet, refl),
     )
 
 module _ {D S M : Type 0} (disk : DiskGhosts D) (store : StoreGhosts S) (meta : MetaGhosts M) (h : Held D) (t : Tier S M) (b : ℕ)

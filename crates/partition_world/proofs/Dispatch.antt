@@ -32,7 +32,7 @@ use Rattle.partition_world.specs.declared.tier.Tier.{Tier}
 use Rattle.partition_world.specs.declared.seat.Outcome.{Outcome}
 use Rattle.partition_world.specs.declared.seat.Outcome.TheVariants.{Answers}
 use Rattle.partition_world.specs.Tier.{AtSide}
-use Rattle.partition_world.specs.TurnsOfCopy.{ReadsLog}
+use Rattle.partition_world.specs.TurnsOfCopy.{ReadsQuietly}
 use Rattle.partition_world.specs.TurnsOfDate.{DateOnRow}
 use Rattle.partition_world.specs.Turns.{OwnRow, BeginRow, NotedRow}
 
@@ -102,11 +102,11 @@ module _ {D S M : Type 0} (disk : DiskGhosts D) (store : StoreGhosts S) (meta : 
       → IfOk r (λ outcome. AtNode h b (λ x. AtSide t b (λ side. NotedRow disk store meta p config h t b x side g command outcome h' t')))
   date_at p config h t b g command which ts r h' t' is at row = rw (is, at) row
 
-  read_rests : (h : Held D) (b : ℕ) (x y : Node D) (h' : Held D) → ReadsLog disk x y → h' ≡ put_node h b y → Rests disk.content disk.control h b x h'
-  read_rests h b x y h' r is = (r.kept, r.stays, r.lasts, is ∙ ap (λ (k : Node D). put_node h b k) r.after)
+  read_rests : (h : Held D) (b : ℕ) (x y : Node D) (h' : Held D) → ReadsQuietly disk x y → h' ≡ put_node h b y → Rests disk.content disk.control h b x h'
+  read_rests h b x y h' r is = (r.reads.kept, r.reads.stays, (r.reads.lasts, r.quiet), is ∙ ap (λ (k : Node D). put_node h b k) r.reads.after)
 
-  -- where a broker's log alone was read, nothing that is seen has changed
-  pub read_stays : (h : Held D) (t : Tier S M) (b : ℕ) (h' : Held D) (t' : Tier S M) → AtNode h b (λ x. (y : Node D) × ReadsLog disk x y × (h' ≡ put_node h b y)) → t' ≡ t
+  -- where a broker's log alone was read, nothing that is seen has changed, and no call failed
+  pub read_stays : (h : Held D) (t : Tier S M) (b : ℕ) (h' : Held D) (t' : Tier S M) → AtNode h b (λ x. (y : Node D) × ReadsQuietly disk x y × (h' ≡ put_node h b y)) → t' ≡ t
       → StaysHeld disk.content disk.control h h' × (t' ≡ t)
   read_stays h t b h' t' r same =
-      (inr (b, some_more (λ x. (y : Node D) × ReadsLog disk x y × (h' ≡ put_node h b y)) (λ x. Rests disk.content disk.control h b x h') (slice_get h.nodes b) (λ x k. read_rests h b x k.0 h' k.1 k.2) r), same)
+      (inr (b, some_more (λ x. (y : Node D) × ReadsQuietly disk x y × (h' ≡ put_node h b y)) (λ x. Rests disk.content disk.control h b x h') (slice_get h.nodes b) (λ x k. read_rests h b x k.0 h' k.1 k.2) r), same)

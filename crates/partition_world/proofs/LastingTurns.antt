@@ -278,7 +278,7 @@ module _ {D S M : Type 0} (disk : DiskGhosts D) (store : StoreGhosts S) (meta : 
       reads : (to : TimeTurn) → RunRow disk.content disk.control x.log asked (passed_over asked.ts cursor (closed_in x.log)) to w.kept
           → Leaving (DiskFails disk.control b h h') h b t (date_outcome to) h' t'
       reads (dating.Ends DiskFault) row = (lasting row.1, (fails_put disk.control h b x y h' at row.1 (one_faulted disk.control x.log w.kept row.1 row.2) w.after).1)
-      reads (dating.Ends (Damaged (File name) place)) row = (lasting row.1.0, tt)
+      reads (dating.Ends (Damaged (File name) place)) row = (lasting row.quiet.0, tt)
       reads to row = (
         lasting row.quiet.0,
         searched_told (DiskFails disk.control b h h') (DiskFails disk.control b h h') (StoreRose store t.store t'.store)

@@ -31,6 +31,7 @@ pub mod CountingDeletions
 pub mod CountingSearches
 pub mod CountingDates
 pub mod CountingTurns
+pub mod CountingWants
 pub mod CalmLaw
 pub mod Chains
 pub mod FreshLaw

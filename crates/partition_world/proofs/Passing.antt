@@ -18,7 +18,7 @@ use Rattle.segment_file.specs.Index.{placed_from}
 use Rattle.segment_file.specs.Growing.{Grown, end_after, latest_from, latest_ts}
 use Rattle.local_log.specs.Coheres.{Hold}
 use Rattle.local_log.specs.Stored.{end_of as segment_end}
-use Rattle.broker_log.specs.Seen.{Kept, Up, Down, Away, Seen, Shows, Stays, Lasting, closed_in, is_up}
+use Rattle.broker_log.specs.Seen.{Kept, Up, Down, Away, Seen, Shows, Stays, closed_in, is_up}
 use Rattle.broker_log.specs.Turns.{IsRunIn}
 use Rattle.plain_log.specs.declared.answer.Answer.{Answer}
 use Rattle.plain_log.specs.declared.answer.Answer.TheVariants.{DiskFault, Damaged, Offset}
@@ -217,7 +217,7 @@ module _ {D : Type 0} (content : D → Content) (control : D → Control call_co
       goes = λ to later e. absurd (cc (e));
       ends = λ answer e. (let is : DiskFault ≡ answer = cc (e) in inl (sym is));
     }
-    read_comes at (Ends (Damaged (File name) place)) low h row = absurd (row.0.unmarked s shows known)
+    read_comes at (Ends (Damaged (File name) place)) low h row = absurd (row.misreads.unmarked s shows known)
     read_comes at turn low h row = searched at turn low h row
 
     pub own_comes : (cursor : ℕ) (turn : TimeTurn) → asked.start ≤ cursor → HasPassed asked.ts asked.start s.batches cursor → OwnRow content control old asked cursor turn new
@@ -230,16 +230,16 @@ module _ {D : Type 0} (content : D → Content) (control : D → Control call_co
         read_comes (passed_over asked.ts cursor (closed_in old)) turn (omega (arith, low, up_to))
         (closed_passed content old s asked.ts asked.start cursor up shows h) row
 
-  -- what a turn leaves of the log
-  run_rests : (old new : Kept D) (asked : Asked) (at : ℕ) (turn : TimeTurn) → SearchesRun content control old asked at turn new → Stays content old new × Lasting control old new
-  run_rests old new asked at turn r = (r.reads.stays, r.quiet.0)
+  -- a turn leaves the log as it was
+  run_rests : (old new : Kept D) (asked : Asked) (at : ℕ) (turn : TimeTurn) → SearchesRun content control old asked at turn new → Stays content old new
+  run_rests old new asked at turn r = r.reads.stays
 
-  read_rests : (old new : Kept D) (asked : Asked) (at : ℕ) (turn : TimeTurn) → ReadRow content control old asked at turn new → Stays content old new × Lasting control old new
-  read_rests old new asked at (Ends DiskFault) row = (row.0, row.1)
-  read_rests old new asked at (Ends (Damaged (File name) place)) row = (row.0.stays, row.1.0)
+  read_rests : (old new : Kept D) (asked : Asked) (at : ℕ) (turn : TimeTurn) → ReadRow content control old asked at turn new → Stays content old new
+  read_rests old new asked at (Ends DiskFault) row = row.0
+  read_rests old new asked at (Ends (Damaged (File name) place)) row = row.misreads.stays
   read_rests old new asked at turn row = run_rests old new asked at turn row
 
   pub own_rests : (old new : Kept D) (asked : Asked) (cursor : ℕ) (turn : TimeTurn) → OwnRow content control old asked cursor turn new
-      → (new ≡ old) ⊎ (Stays content old new × Lasting control old new)
+      → (new ≡ old) ⊎ Stays content old new
   own_rests old new asked cursor turn (inl (far, is, same)) = inl same
   own_rests old new asked cursor turn (inr (near, row)) = inr (read_rests old new asked (passed_over asked.ts cursor (closed_in old)) turn row)

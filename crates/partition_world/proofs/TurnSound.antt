@@ -92,7 +92,7 @@ module _ {D : Type 0} (disk : DiskGhosts D) where
   search_stays : (old : KeptLog D) (asked : Asked) (at : ℕ) (turn : TimeTurn) (new : KeptLog D)
       → SearchReadRow disk.content disk.control old asked at turn new → Stays disk.content old new
   search_stays old asked at (dating.Ends DiskFault) new w = w.0
-  search_stays old asked at (dating.Ends (Damaged (File name) place)) new w = w.0.stays
+  search_stays old asked at (dating.Ends (Damaged (File name) place)) new w = w.misreads.stays
   search_stays old asked at turn new w = w.reads.stays
 
   search_alike : (x : Node D) (asked : Asked) (cursor : ℕ) (turn : TimeTurn) (kept : KeptLog D)

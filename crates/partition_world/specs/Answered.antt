@@ -1,15 +1,15 @@
--- A fault of a device that a turn meets is what its command is answered.
+-- A fault of a device that a turn meets is what its command is answered. One that finds no memory meets none of a disk or the store.
 use Rattle.std.specs.Prelude.{◌≡◌, ℕ, Bool, false}
 use Rattle.disk_model.specs.declared.disk.Disk.{Ghosts as DiskGhosts}
 use Rattle.object_store.specs.declared.store.Store.{Ghosts as StoreGhosts}
 use Rattle.meta_log.specs.declared.log.MetaLog.{Ghosts as MetaGhosts}
 use Rattle.plain_log.specs.declared.answer.Answer.{Answer}
 use Rattle.plain_log.specs.declared.command.Order.{Order}
-use Rattle.partition_turns.specs.Disks.{HaveDisks, DisksCount}
+use Rattle.partition_turns.specs.Disks.{HaveDisks, NoneFails, DisksCount}
 use Rattle.partition_turns.specs.Faults.{is_of_disk, is_of_store, is_of_meta, after_fault}
 use Rattle.partition_world.specs.declared.seat.Outcome.{Outcome}
 use Rattle.partition_world.specs.declared.seat.Outcome.TheVariants.{Answers}
-use Rattle.partition_world.specs.Turn.{IsTurn}
+use Rattle.partition_world.specs.Turn.{IsTurn, StaysWhole}
 use Rattle.partition_world.specs.Whole.{Whole}
 
 -- a turn was answered so
@@ -31,3 +31,13 @@ module _ {D S M : Type 0} (disk : DiskGhosts D) (store : StoreGhosts S) (meta : 
   abbrev pub TurnsAnswerFaults : Type 0
   TurnsAnswerFaults = (w : Whole D S M) (a : ℕ) (outcome : Outcome) (w' : Whole D S M) (t : IsTurn disk store meta w a outcome w')
       → HaveDisks w.held.nodes → AnswersFaults t.order outcome w w'
+
+  -- no call of a disk or of the store has failed: their counts of faults are as they were
+  pub record MeetsNoFault (w w' : Whole D S M) : Type 0 where
+    pub disks : NoneFails disk.control w.held.nodes w'.held.nodes
+    pub store_counts : (store.control w'.tier.store).faults ≡ (store.control w.tier.store).faults
+
+  -- so in each turn that finds no memory, over any devices
+  abbrev pub HaltsMeetNoFault : Type 0
+  HaltsMeetNoFault = (w : Whole D S M) (a : ℕ) (w' : Whole D S M) → StaysWhole disk store meta w a w'
+      → HaveDisks w.held.nodes → MeetsNoFault w w'

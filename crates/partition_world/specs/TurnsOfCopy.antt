@@ -107,6 +107,11 @@ module _ {D : Type 0} (disk : DiskGhosts D) where
     pub lasts : Lasting disk.control x.log kept
     pub after : x' ≡ record x { log = kept }
 
+  -- and no call of its disk failed
+  pub record ReadsQuietly (x x' : Node D) : Type 0 where
+    pub reads : ReadsLog x x'
+    pub quiet : NoFault disk.control x.log reads.kept
+
   -- its disk was read once in this turn, and handed something
   abbrev pub HasRead : Node D → Kept D → Type 0
   HasRead x kept = OnDisk x.log (λ d. OnDisk kept (λ e. Ran Read Went (disk.control d) (disk.control e)))

@@ -15,7 +15,7 @@ ghost use Rattle.partition_turns.specs.declared.held.Node.{Node as Broker};
 ghost use Rattle.partition_turns.specs.Held.{AtNode, StaysHeld, is_up, line_of, put_node};
 ghost use Rattle.partition_world.specs.declared.tier.Side.{Side as Knowledge};
 ghost use Rattle.partition_world.specs.Tier.{AtSide, next_of, put_side, Halts};
-ghost use Rattle.partition_world.specs.TurnsOfCopy.{KeepsLead, copied_to, IsPackedBy, LeadersFirstRow, CopyFirstRow, ChooseRow, ReadRow, ReadsLog, CopyOnRow, tiers_of, teller_of, WantsForCopy};
+ghost use Rattle.partition_world.specs.TurnsOfCopy.{KeepsLead, copied_to, IsPackedBy, LeadersFirstRow, CopyFirstRow, ChooseRow, ReadRow, ReadsQuietly, CopyOnRow, tiers_of, teller_of, WantsForCopy};
 
 use crate::seat::{Outcome, copy_outcome};
 use crate::tier::{Side, Tier};
@@ -107,7 +107,7 @@ fn read_next<D: Disk>(
     requires next { IsSomeAnd (first_past offset (closed_in node.old.log)) (λ segment. Unit {0}) }
     ensures row { IfOk result (λ outcome. ReadRow D.Disk partition broker.0 node.old side.old offset outcome node.new side.new) }
     ensures form { IfOk result (IsPackedBy packed) }
-    ensures err { OnErr result (ReadsLog D.Disk node.old node.new) }
+    ensures err { OnErr result (ReadsQuietly D.Disk node.old node.new) }
     ensures side { OnErr result (side.new ≡ side.old) }
 {
     let Some(incarnation) = node.log.incarnation() else {
@@ -236,7 +236,7 @@ impl<S: Store, M: MetaLog> Tier<S, M> {
             (x' : Broker D) × (side' : Knowledge) × ReadRow D.Disk partition broker.0 x side copied outcome x' side'
             × (held.new ≡ put_node held.old broker.0 x') × (self.new ≡ put_side self.old broker.0 side')))) }
         ensures form { IfOk result (IsPackedBy held.old.packed) }
-        ensures err { OnErr result (AtNode held.old broker.0 (λ x. (x' : Broker D) × ReadsLog D.Disk x x'
+        ensures err { OnErr result (AtNode held.old broker.0 (λ x. (x' : Broker D) × ReadsQuietly D.Disk x x'
             × (held.new ≡ put_node held.old broker.0 x'))) }
         ensures tier { OnErr result (self.new ≡ self.old) }
     {

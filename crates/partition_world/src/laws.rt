@@ -1,7 +1,7 @@
 //! Laws of worlds. Each is the contract of a function that does nothing: calling it cites the law.
 
 ghost use Rattle.partition_world.specs.Left.{StepsKeepCentralLeft, LeftIsCentral, FreshIsCentralLeft};
-ghost use Rattle.partition_world.specs.Answered.{TurnsAnswerFaults};
+ghost use Rattle.partition_world.specs.Answered.{TurnsAnswerFaults, HaltsMeetNoFault};
 ghost use Rattle.partition_world.specs.Cold.{ReopensCentral};
 ghost use Rattle.partition_world.specs.Laws.{StepsKeepCentral, FreshIsCentral, ReachesLater, EndsAreComplete, ReachesInTurn, EndsAreAnswered, ReopenedRuns, ReachesLasting, ReachesUnfailing, FreshIsUnfailing, ReopenedIsUnfailing};
 
@@ -73,6 +73,11 @@ pub fn reaches_lasting<D: Disk, S: Store, M: MetaLog>()
 /// count has risen, whatever the devices.
 pub fn turns_answer_faults<D: Disk, S: Store, M: MetaLog>()
     ensures { TurnsAnswerFaults D.Disk S.Store M.MetaLog }
+{}
+
+/// A turn that finds no memory has met no fault of a disk or of the store, whatever the devices.
+pub fn halts_meet_no_fault<D: Disk, S: Store, M: MetaLog>()
+    ensures { HaltsMeetNoFault D.Disk S.Store M.MetaLog }
 {}
 
 /// Over devices of which no call can fail, no turn that a schedule leads through is answered a fault.

@@ -32,9 +32,9 @@ mod turning;
 mod world;
 
 pub use laws::{
-    ends_are_answered, ends_are_complete, fresh_is_central, fresh_is_unfailing, reaches_in_turn,
-    reaches_lasting, reaches_later, reaches_unfailing, reopened_is_unfailing, reopened_runs,
-    reopens_central, steps_keep_central, turns_answer_faults,
+    ends_are_answered, ends_are_complete, fresh_is_central, fresh_is_unfailing,
+    halts_meet_no_fault, reaches_in_turn, reaches_lasting, reaches_later, reaches_unfailing,
+    reopened_is_unfailing, reopened_runs, reopens_central, steps_keep_central, turns_answer_faults,
 };
 pub use partition_turns::{Held, Node, WorldRefusal};
 pub use ready::{Ready, Want};

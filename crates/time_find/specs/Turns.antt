@@ -12,13 +12,13 @@
 -- piece or a run has no batch that isn't too early, the cursor comes to its end.
 --
 -- Source: KIP-405, whose remote segments have time indexes, and Kafka's ListOffsets.
-use Rattle.std.specs.Prelude.{◌≡◌, ◌⊎◌, ℕ, ◌+◌, ◌<◌, ◌≤◌, ◌^◌, ◌-◌, max, nat_lt, if◌then◌else◌, ℤ, List, Option, Some, None, Ok, Err, IsErr}
+use Rattle.std.specs.Prelude.{◌≡◌, ◌⊎◌, ℕ, ◌+◌, ◌<◌, ◌≤◌, ◌^◌, ◌-◌, true, max, nat_lt, if◌then◌else◌, ℤ, List, Option, Some, None, Ok, Err, IsErr}
 use Rattle.std.specs.declared.result.Result.{Result}
 use Rattle.std.specs.declared.alloc.AllocError.{AllocError}
 use Rattle.tier_base.specs.declared.fault.Trouble.{Trouble}
 use Rattle.tier_base.specs.declared.fault.Trouble.TheVariants.{Failed, NoMemory}
 use Rattle.tier_base.specs.declared.plain.Part.TheVariants as part
-use Rattle.tier_base.specs.Device.{Control}
+use Rattle.tier_base.specs.Device.{Control, Went, Ran}
 use Rattle.log_terms.specs.Log.{joined, end_from}
 use Rattle.sparse_index.specs.Bytes.{bytes_of, IsUnread}
 use Rattle.sparse_index.specs.Times.{TimeTable, AreMoments, moment_bytes, below_time}
@@ -31,8 +31,11 @@ use Rattle.meta_log.specs.Call as meta_call
 use Rattle.meta_log.specs.Content as meta
 use Rattle.disk_model.specs.Call as disk_call
 use Rattle.disk_model.specs.Content as disk
+use Rattle.disk_model.specs.declared.call.DiskCall.TheVariants.{Read}
+use Rattle.tier_base.specs.declared.plain.FileName.{FileName}
+use Rattle.local_log.specs.Reading.{segment_at, is_edge}
 use Rattle.local_log.specs.declared.reading.RunOut.{RunOut}
-use Rattle.broker_log.specs.Seen.{Kept, Stays, Lasting, OneFault, Quiet, closed_in}
+use Rattle.broker_log.specs.Seen.{Kept, Stays, WhileUp, OnDisk, Lasting, OneFault, Quiet, closed_in}
 use Rattle.broker_log.specs.Turns.{Reads, Misreads}
 use Rattle.remote_view.specs.Fold.{Seen, entry_of}
 use Rattle.remote_find.specs.declared.piece.Piece.{Piece}
@@ -208,6 +211,13 @@ module _ {D : Type 0} (content : D → disk.Content) (control : D → Control di
     pub quiet : Quiet control old new
     pub searched : IsSearched asked at out.bytes turn
 
+  -- what the disk handed in this turn has no run there, and the log is as it was: where a batch ends at the known mark it was read once
+  pub record FindsDamage (old : Kept D) (asked : Asked) (at : ℕ) (name : FileName) (place : ℕ) (new : Kept D) : Type 0 where
+    pub misreads : Misreads content control old new at (2 ^ 64 - 1) asked.mark name place
+    pub ran : WhileUp old (λ log. is_edge (segment_at log asked.mark) asked.mark ≡ true
+        → OnDisk old (λ d. OnDisk new (λ e. Ran Read Went (control d) (control e))))
+    pub quiet : Quiet control old new
+
   -- the disk failed in a read, and the log is as it was
   abbrev pub Fails : Kept D → Kept D → Type 0
   Fails old new = Stays content old new × Lasting control old new × OneFault control old new
@@ -215,8 +225,7 @@ module _ {D : Type 0} (content : D → disk.Content) (control : D → Control di
   -- a search in the local log that has come to an offset
   abbrev pub ReadRow : Kept D → Asked → ℕ → TimeTurn → Kept D → Type 0
   ReadRow old asked at (Ends DiskFault) new = Fails old new
-  ReadRow old asked at (Ends (Damaged (File name) place)) new =
-      Misreads content control old new at (2 ^ 64 - 1) asked.mark name place × Quiet control old new
+  ReadRow old asked at (Ends (Damaged (File name) place)) new = FindsDamage old asked at name place new
   ReadRow old asked at turn new = SearchesRun old asked at turn new
 
   -- a turn of a search in the local log: nothing is read at or past the known mark

@@ -1,7 +1,7 @@
 //! A turn of a search in the local log.
 
 ghost use Rattle.std.specs.Prelude.{◌≡◌, ◌<◌, ◌≤◌, true, OnErr, IfOk};
-ghost use Rattle.broker_log.specs.Seen.{is_up, WhileUp, Lasting, Stays};
+ghost use Rattle.broker_log.specs.Seen.{is_up, WhileUp, Quiet, Stays};
 ghost use Rattle.time_find.specs.Turns.{GoesOn, OwnRow};
 
 use crate::passing::passed_over;
@@ -25,7 +25,7 @@ pub fn own_turn<D: Disk>(
     ensures row { IfOk result (λ turn. OwnRow D.content D.control log.old asked.now cursor turn log.new) }
     ensures goes { IfOk result (GoesOn cursor) }
     ensures stays { OnErr result (Stays D.content log.old log.new) }
-    ensures lasts { OnErr result (Lasting D.control log.old log.new) }
+    ensures quiet { OnErr result (Quiet D.control log.old log.new) }
 {
     let at = passed_over(log.closed(), cursor, asked.ts);
     if at >= asked.mark {

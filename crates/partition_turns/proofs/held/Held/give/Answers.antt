@@ -1,7 +1,7 @@
 use Rattle.std.proofs.Common.{◌∙◌, ap, refl, subst, ℕ, Err}
 use Rattle.broker_log.specs.Turns.{Reads, Misreads}
 use Rattle.partition_turns.specs.TurnsOfFetch.{MayGive}
-use Rattle.partition_turns.proofs.Staying.{at_node, stays_at}
+use Rattle.partition_turns.proofs.Staying.{at_node, stays_at, has_read}
 use Rattle.partition_turns.proofs.Writes.{never}
 use Rattle.partition_turns.proofs.Putting.{of_node}
 use Rattle.partition_turns.proofs.held.Held.give.Goals as goal
@@ -24,7 +24,8 @@ returns-in-Ok-clause-row g c =
 
 pub returns-in-Err-NoMemory-clause-err : goal.returns-in-Err-NoMemory-clause-err
 returns-in-Err-NoMemory-clause-err g c =
-    stays_at g.D.Disk.content g.D.Disk.control c.args.self.now c.args.b c.at_mut-node.result.now c.read_run.new.self _ c.at_mut-node.ensures.value c.read_run.ensures.stays c.read_run.ensures.control refl
+    stays_at g.D.Disk.content g.D.Disk.control c.args.self.now c.args.b c.at_mut-node.result.now c.read_run.new.self _ c.at_mut-node.ensures.value c.read_run.ensures.stays
+    (c.read_run.ensures.control, c.read_run.ensures.quiet (never (c.in-Err-NoMemory.is ∙ ap Err c.in-Err-NoMemory.field-0-is) (λ no. cc))) refl
 
 pub returns-in-Err-Damaged-clause-row : goal.returns-in-Err-Damaged-clause-row
 returns-in-Err-Damaged-clause-row g c =
@@ -35,6 +36,7 @@ returns-in-Err-Damaged-clause-row g c =
       kept = c.read_run.new.self;
       misreads = subst (λ (known : ℕ). Misreads g.D.Disk.content g.D.Disk.control node.log c.read_run.new.self c.args.offset c.args.limit known e.file e.at) may.1
           (c.read_run.ensures.damaged e.file e.at (e.is ∙ ap Err e.field-0-is));
+      ran = has_read g.D.Disk.control node.log c.read_run.new.self c.args.known node.known c.read_run.result e.file e.at may.1 (e.is ∙ ap Err e.field-0-is) c.read_run.ensures.ran;
       quiet = (c.read_run.ensures.control, c.read_run.ensures.quiet (never (e.is ∙ ap Err e.field-0-is) (λ no. cc)));
       after = refl;
     })

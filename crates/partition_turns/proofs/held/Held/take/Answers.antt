@@ -3,13 +3,15 @@ use Rattle.broker_log.specs.Turns.{Misreads}
 use Rattle.broker_log.proofs.ReadBefore.{reads_checked}
 use Rattle.partition_turns.specs.TurnsOfFollowers.{MayTake}
 use Rattle.partition_turns.proofs.Putting.{of_node}
-use Rattle.partition_turns.proofs.Staying.{at_node, stays_at}
+use Rattle.partition_turns.specs.Held.{end_of}
+use Rattle.partition_turns.proofs.Staying.{at_node, stays_at, has_read}
 use Rattle.partition_turns.proofs.Writes.{never}
 use Rattle.partition_turns.proofs.held.Held.take.Goals as goal
 
-pub returns-clause-err : goal.returns-clause-err
-returns-clause-err g c =
-    stays_at g.D.Disk.content g.D.Disk.control c.args.self.now c.args.leader c.at_mut-node.result.now c.read_run.new.self _ c.at_mut-node.ensures.value c.read_run.ensures.stays c.read_run.ensures.control refl
+pub returns-in-Err-NoMemory-clause-err : goal.returns-in-Err-NoMemory-clause-err
+returns-in-Err-NoMemory-clause-err g c =
+    stays_at g.D.Disk.content g.D.Disk.control c.args.self.now c.args.leader c.at_mut-node.result.now c.read_run.new.self _ c.at_mut-node.ensures.value c.read_run.ensures.stays
+    (c.read_run.ensures.control, c.read_run.ensures.quiet (never (c.in-Err-NoMemory.is ∙ ap Err c.in-Err-NoMemory.field-0-is) (λ no. cc))) refl
 
 pub returns-in-Err-Damaged-clause-row : goal.returns-in-Err-Damaged-clause-row
 returns-in-Err-Damaged-clause-row g c =
@@ -21,6 +23,7 @@ returns-in-Err-Damaged-clause-row g c =
       kept = c.read_run.new.self;
       misreads = subst (λ (bound : ℕ). Misreads g.D.Disk.content g.D.Disk.control node.log c.read_run.new.self end c.args.limit bound e.file e.at) may.1
           (c.read_run.ensures.damaged e.file e.at (e.is ∙ ap Err e.field-0-is));
+      ran = has_read g.D.Disk.control node.log c.read_run.new.self c.args.bound (end_of node) c.read_run.result e.file e.at may.1 (e.is ∙ ap Err e.field-0-is) c.read_run.ensures.ran;
       quiet = (c.read_run.ensures.control, c.read_run.ensures.quiet (never (e.is ∙ ap Err e.field-0-is) (λ no. cc)));
       after = refl;
     })

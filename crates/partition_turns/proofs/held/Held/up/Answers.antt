@@ -10,7 +10,8 @@ one is = cc is
 
 pub returns-in-Err-NoMemory-clause-err : goal.returns-in-Err-NoMemory-clause-err
 returns-in-Err-NoMemory-clause-err g c =
-    stays_at g.D.Disk.content g.D.Disk.control c.args.self.now c.args.b c.at_mut.result.now c.up.new.self _ c.at_mut.ensures.value c.in-Err-NoMemory.ensures.stays c.up.ensures.control refl
+    stays_at g.D.Disk.content g.D.Disk.control c.args.self.now c.args.b c.at_mut.result.now c.up.new.self _ c.at_mut.ensures.value c.in-Err-NoMemory.ensures.stays
+    (c.up.ensures.control, c.up.ensures.quiet (never (c.in-Err-NoMemory.is ∙ ap Err c.in-Err-NoMemory.field-0-is) (λ no. cc))) refl
 
 pub returns-in-Err-Damaged-clause-row : goal.returns-in-Err-Damaged-clause-row
 returns-in-Err-Damaged-clause-row g c =

@@ -1,0 +1,225 @@
+-- A turn that finds no memory counts no fault of a disk or of the store: its call went, or wasn't made.
+use Rattle.std.proofs.Common.{◌≡◌, inl, inr, ap, refl, ℕ, List, slice_get, Some, None, Option, Ok, Err}
+use Rattle.std.specs.Prelude.{IsSomeAnd}
+use Rattle.std.specs.declared.result.Result.{Result}
+use Rattle.std.specs.declared.alloc.AllocError.{AllocError}
+use Rattle.tier_base.specs.Device.{Ran, fate_of}
+use Rattle.tier_base.specs.declared.fault.Trouble.{Trouble}
+use Rattle.tier_base.specs.declared.fault.Trouble.TheVariants.{Failed, NoMemory}
+use Rattle.tier_base.specs.declared.object_key.ObjectKey.{ObjectKey}
+use Rattle.tier_base.specs.declared.plain.Part.TheVariants as part
+use Rattle.disk_model.specs.declared.disk.Disk.{Ghosts as DiskGhosts}
+use Rattle.object_store.specs.declared.store.Store.{Ghosts as StoreGhosts}
+use Rattle.object_store.specs.declared.call.StoreCall.TheVariants.{Get}
+use Rattle.object_store.specs.declared.placing.Spot.{Spot}
+use Rattle.meta_log.specs.declared.log.MetaLog.{Ghosts as MetaGhosts}
+use Rattle.meta_log.specs.declared.teller.Teller.{Teller}
+use Rattle.sparse_index.specs.Offsets.{OffsetTable}
+use Rattle.index_cache.specs.Cache.{Cache, found}
+use Rattle.remote_view.specs.Fold.{Seen as View, entry_of}
+use Rattle.remote_find.specs.declared.piece.Piece.{Piece}
+use Rattle.copy_task.specs.Copying.{Copied, keys}
+use Rattle.copy_task.specs.Turns.{Tiers, PutRow, CopyRow}
+use Rattle.copy_task.specs.declared.turn.Next.{Next}
+use Rattle.copy_task.specs.declared.turn.Next.TheVariants.{Start, Put, Finish, Check, Delete}
+use Rattle.tier_fetch.specs.Turns.{Tiers as Fetched, FetchRow, IndexRow, LoadRow, LogRow, Loads, Cuts, spot_in}
+use Rattle.tier_fetch.specs.declared.turn.FetchTurn.{FetchTurn}
+use Rattle.tier_fetch.specs.declared.turn.FetchTurn.TheVariants as fetch
+use Rattle.tier_fetch.specs.declared.turn.Next.{Next as Search}
+use Rattle.tier_fetch.specs.declared.turn.Next.TheVariants as fetching
+use Rattle.tier_fetch.specs.declared.turn.Span.{Span}
+use Rattle.tier_fetch.specs.declared.turn.Wanted.{Wanted}
+use Rattle.time_find.specs.declared.turn.Asked.{Asked}
+use Rattle.time_find.specs.declared.turn.Next.{Next as Dating}
+use Rattle.time_find.specs.declared.turn.Next.TheVariants as dating
+use Rattle.time_find.specs.Turns.{Times, TimesRow, Indexes, Searches, TimeRow, wanted_at}
+use Rattle.time_find.specs.Turns as dates
+use Rattle.expiry_task.specs.declared.turn.Doomed.{Doomed}
+use Rattle.expiry_task.specs.declared.turn.Next.{Next as Deletion}
+use Rattle.expiry_task.specs.declared.turn.Next.TheVariants as deletion
+use Rattle.expiry_task.specs.Turns as expiring
+use Rattle.rebuild_task.specs.declared.turn.Wanted.{Wanted as Rebuilt}
+use Rattle.rebuild_task.specs.Turns.{Takes, EpochsRow, RebuildRow}
+use Rattle.plain_log.specs.declared.answer.Answer.TheVariants.{Run}
+use Rattle.partition_turns.specs.declared.held.Node.{Node}
+use Rattle.partition_turns.specs.declared.held.Held.{Held}
+use Rattle.partition_turns.specs.Disks.{HaveDisks, NoneFails}
+use Rattle.partition_turns.specs.Held.{line_of, put_node, Rests, StaysHeld}
+use Rattle.partition_turns.proofs.CountingDisks.{Quietly, quiet_same, quiet_put}
+use Rattle.partition_seen.proofs.BoolTests.{some_of}
+use Rattle.partition_world.specs.declared.tier.Side.{Side}
+use Rattle.partition_world.specs.declared.tier.Tier.{Tier}
+use Rattle.partition_world.specs.Answered.{MeetsNoFault}
+use Rattle.partition_world.specs.Tier.{AtSide}
+use Rattle.partition_world.specs.Turn.{StaysWhole}
+use Rattle.partition_world.specs.TurnsOfCopy.{tiers_of, teller_of}
+use Rattle.partition_world.specs.TurnsOfFetch.{fetch_tiers, wanted_of}
+use Rattle.partition_world.specs.TurnsOfExpiry.{expiry_tiers}
+use Rattle.partition_world.specs.TurnsOfRebuild.{wanted_of as rebuilt_to}
+use Rattle.partition_world.specs.Whole.{Whole}
+use Rattle.partition_world.proofs.CountingCalls.{StoreStill, store_still}
+use Rattle.partition_world.proofs.Halting.{HaltsSome, StaysSome, stays_some}
+
+-- no offset index is read in vain where the fetch's turn came to something
+no_index : (cursor from : ℕ) (piece : Piece) (turn : FetchTurn) (e : AllocError) → Indexes cursor piece from (Ok turn) (Err e) → ⊥
+no_index cursor from piece (fetch.Goes (fetching.Log same span)) e w = let is = w.1 in cc (is)
+no_index cursor from piece (fetch.Goes next) e w = elim w [ ]
+no_index cursor from piece (fetch.Ends answer) e w = cc (w)
+
+-- nor a log
+no_search : (asked : Asked) (from : ℕ) (turn : FetchTurn) (e : AllocError) → Searches asked from (Ok turn) (Err e) → ⊥
+no_search asked from (fetch.Ends (Run tier size stop bytes)) e w = w
+no_search asked from (fetch.Ends answer) e w = cc (w)
+no_search asked from (fetch.Goes next) e w = w
+
+module _ {S M : Type 0} (store : StoreGhosts S) (meta : MetaGhosts M) where
+  -- one read of the store
+
+  reads_dry : (answer : Result (Option (List ℕ)) Trouble) (s s' : S) → (answer ≡ Err Failed → ⊥) → Ran Get (fate_of answer) (store.control s) (store.control s') → StoreStill store meta s s'
+  reads_dry (Err Failed) s s' no r = absurd (no refl)
+  reads_dry (Err NoMemory) s s' no r = (r.dry refl).faults
+  reads_dry (Ok given) s s' no r = r.went refl
+
+  loads_well : (wanted : Wanted) (piece : Piece) (base : ℕ) (spot : Spot) (answer : Result (Option (List ℕ)) Trouble) (e : AllocError) (cache cache' : Cache)
+      → Loads wanted piece base spot answer (Err e) cache cache' → answer ≡ Err Failed → ⊥
+  loads_well wanted piece base spot (Err Failed) e cache cache' w no = let is = w.0 in cc (is)
+  loads_well wanted piece base spot (Err NoMemory) e cache cache' w no = cc (no)
+  loads_well wanted piece base spot (Ok given) e cache cache' w no = cc (no)
+
+  load_dry : (wanted : Wanted) (piece : Piece) (view : View) (place : Option (ℕ × Spot)) (e : AllocError) (cache cache' : Cache) (s s' : S)
+      → LoadRow store.content store.control wanted piece view place (Err e) cache cache' s s' → StoreStill store meta s s'
+  load_dry wanted piece view None e cache cache' s s' w = let is = w.0 in absurd (cc (is))
+  load_dry wanted piece view (Some place) e cache cache' s s' w =
+      reads_dry w.answer s s' (loads_well wanted piece place.0 place.1 w.answer e cache cache' w.loads) w.gets.control
+
+  index_dry : (wanted : Wanted) (piece : Piece) (view : View) (e : AllocError) (index : Option OffsetTable) (cache cache' : Cache) (s s' : S)
+      → IndexRow store.content store.control wanted piece view (Err e) index cache cache' s s' → StoreStill store meta s s'
+  index_dry wanted piece view e (Some index) cache cache' s s' w = let is = w.0 in absurd (cc (is))
+  index_dry wanted piece view e None cache cache' s s' w =
+      load_dry wanted piece view (spot_in wanted.partition piece.id part.Index (entry_of piece.id view.entries)) e cache cache' s s' w
+
+  cuts_well : (wanted : Wanted) (piece : Piece) (spot : Spot) (span : Span) (answer : Result (Option (List ℕ)) Trouble) (e : AllocError)
+      → Cuts wanted piece spot span answer (Err e) → answer ≡ Err Failed → ⊥
+  cuts_well wanted piece spot span (Err Failed) e w no = cc (w)
+  cuts_well wanted piece spot span (Err NoMemory) e w no = cc (no)
+  cuts_well wanted piece spot span (Ok given) e w no = cc (no)
+
+  log_dry : (wanted : Wanted) (piece : Piece) (span : Span) (view : View) (place : Option (ℕ × Spot)) (e : AllocError) (s s' : S)
+      → LogRow store.content store.control wanted piece span view place (Err e) s s' → StoreStill store meta s s'
+  log_dry wanted piece span view None e s s' w = let is = w.0 in absurd (cc (is))
+  log_dry wanted piece span view (Some place) e s s' w =
+      reads_dry w.answer s s' (cuts_well wanted piece place.1 span w.answer e w.cuts) w.gets.control
+
+  times_well : (asked : Asked) (cursor : ℕ) (piece : Piece) (base : ℕ) (spot : Spot) (answer : Result (Option (List ℕ)) Trouble) (e : AllocError)
+      → Times asked cursor piece base spot answer (Err e) → answer ≡ Err Failed → ⊥
+  times_well asked cursor piece base spot (Err Failed) e w no = cc (w)
+  times_well asked cursor piece base spot (Err NoMemory) e w no = cc (no)
+  times_well asked cursor piece base spot (Ok given) e w no = cc (no)
+
+  times_dry : (asked : Asked) (cursor : ℕ) (piece : Piece) (view : View) (place : Option (ℕ × Spot)) (e : AllocError) (s s' : S)
+      → TimesRow store.content store.control asked cursor piece view place (Err e) s s' → StoreStill store meta s s'
+  times_dry asked cursor piece view None e s s' w = let is = w.0 in absurd (cc (is))
+  times_dry asked cursor piece view (Some place) e s s' w =
+      reads_dry w.answer s s' (times_well asked cursor piece place.0 place.1 w.answer e w.times) w.gets.control
+
+  takes_well : (wanted : ℕ) (spot : Spot) (answer : Result (Option (List ℕ)) Trouble) (e : AllocError) → Takes wanted spot answer (Err e) → answer ≡ Err Failed → ⊥
+  takes_well wanted spot (Err Failed) e w no = cc (w)
+  takes_well wanted spot (Err NoMemory) e w no = cc (no)
+  takes_well wanted spot (Ok given) e w no = cc (no)
+
+  epochs_dry : (wanted : ℕ) (view : View) (spot : Option Spot) (e : AllocError) (s s' : S) → EpochsRow store.content store.control wanted view spot (Err e) s s' → StoreStill store meta s s'
+  epochs_dry wanted view None e s s' w = let is = w.0 in absurd (cc (is))
+  epochs_dry wanted view (Some spot) e s s' w = reads_dry w.answer s s' (takes_well wanted spot w.answer e w.takes) w.gets.control
+
+  puts_dry : (copy : Copied) (n : ℕ) (key : Option ObjectKey) (e : AllocError) (s s' : S) → PutRow store.content store.control copy n key (Err e) s s' → StoreStill store meta s s'
+  puts_dry copy n None e s s' w = let is = w.0 in absurd (cc (is))
+  puts_dry copy n (Some key) e s s' (inl same) = store_still store meta s s' same
+  puts_dry copy n (Some key) e s s' (inr w) = (w.puts.control.ran.dry refl).faults
+
+  -- what a turn of a task counts that wanted memory
+
+  copy_store : (copy : Copied) (teller : Teller) (next : Next) (e : AllocError) (old new : Tiers S M)
+      → CopyRow store.content store.control meta.content meta.control copy teller next (Err e) old new → StoreStill store meta old.store new.store
+  copy_store copy teller Start e old new w = store_still store meta old.store new.store (ap (λ (t : Tiers S M). t.store) w.0)
+  copy_store copy teller (Put n) e old new w = puts_dry copy n (slice_get (keys copy) n) e old.store new.store w.1
+  copy_store copy teller Finish e old new w = store_still store meta old.store new.store (ap (λ (t : Tiers S M). t.store) w.0)
+  copy_store copy teller Check e old new w = store_still store meta old.store new.store w.0
+  copy_store copy teller (Delete n) e old new w = absurd w
+
+  fetch_store : (wanted : Wanted) (line : List (ℕ × ℕ)) (next : Search) (e : AllocError) (old new : Fetched S M)
+      → FetchRow store.content store.control meta.content meta.control wanted line next (Err e) old new → StoreStill store meta old.store new.store
+  fetch_store wanted line fetching.Refresh e old new w = store_still store meta old.store new.store (ap (λ (t : Fetched S M). t.store) w.0)
+  fetch_store wanted line (fetching.Index piece) e old new w =
+      index_dry wanted piece old.view e (found piece.id.0 old.cache.pairs) old.cache new.cache old.store new.store w.1
+  fetch_store wanted line (fetching.Log piece span) e old new w =
+      log_dry wanted piece span old.view (spot_in wanted.partition piece.id part.Log (entry_of piece.id old.view.entries)) e old.store new.store w.1
+
+  index_store : (asked : Asked) (line : List (ℕ × ℕ)) (cursor : ℕ) (piece : Piece) (from : ℕ) (turn : Result FetchTurn AllocError) (e : AllocError) (old new : Fetched S M)
+      → FetchRow store.content store.control meta.content meta.control (wanted_at asked from) line (fetching.Index piece) turn old new
+      → Indexes cursor piece from turn (Err e) → StoreStill store meta old.store new.store
+  index_store asked line cursor piece from (Ok turn) e old new row w = absurd (no_index cursor from piece turn e w)
+  index_store asked line cursor piece from (Err k) e old new row w = fetch_store (wanted_at asked from) line (fetching.Index piece) k old new row
+
+  log_store : (asked : Asked) (line : List (ℕ × ℕ)) (piece : Piece) (from : ℕ) (span : Span) (turn : Result FetchTurn AllocError) (e : AllocError) (old new : Fetched S M)
+      → FetchRow store.content store.control meta.content meta.control (wanted_at asked from) line (fetching.Log piece span) turn old new
+      → Searches asked from turn (Err e) → StoreStill store meta old.store new.store
+  log_store asked line piece from span (Ok turn) e old new row w = absurd (no_search asked from turn e w)
+  log_store asked line piece from span (Err k) e old new row w = fetch_store (wanted_at asked from) line (fetching.Log piece span) k old new row
+
+  time_store : (asked : Asked) (line : List (ℕ × ℕ)) (cursor : ℕ) (next : Dating) (e : AllocError) (old new : Fetched S M)
+      → TimeRow store.content store.control meta.content meta.control asked line cursor next (Err e) old new → StoreStill store meta old.store new.store
+  time_store asked line cursor dating.Seek e old new w = store_still store meta old.store new.store (ap (λ (t : Fetched S M). t.store) w.0)
+  time_store asked line cursor (dating.Times piece) e old new w =
+      times_dry asked cursor piece old.view (spot_in asked.partition piece.id part.TimeIndex (entry_of piece.id old.view.entries)) e old.store new.store w.1
+  time_store asked line cursor (dating.Index piece from) e old new (inl w) = let is = w.1 in absurd (cc (is))
+  time_store asked line cursor (dating.Index piece from) e old new (inr w) = index_store asked line cursor piece from w.1.0 e old new w.1.1 w.1.2
+  time_store asked line cursor (dating.Log piece from span) e old new (inl w) = let is = w.1 in absurd (cc (is))
+  time_store asked line cursor (dating.Log piece from span) e old new (inr w) = log_store asked line piece from span w.1.0 e old new w.1.1 w.1.2
+
+  expiry_store : (segment : Doomed) (teller : Teller) (next : Deletion) (e : AllocError) (old new : expiring.Tiers S M)
+      → expiring.ExpiryRow store.content store.control meta.content meta.control segment teller next (Err e) old new → StoreStill store meta old.store new.store
+  expiry_store segment teller deletion.Start e old new w = store_still store meta old.store new.store (ap (λ (t : expiring.Tiers S M). t.store) w.0)
+  expiry_store segment teller (deletion.Delete n) e old new w = absurd w
+  expiry_store segment teller deletion.Finish e old new w = store_still store meta old.store new.store (ap (λ (t : expiring.Tiers S M). t.store) w.0)
+
+module _ {D S M : Type 0} (disk : DiskGhosts D) (store : StoreGhosts S) (meta : MetaGhosts M) where
+  -- a call of the tier that wanted memory
+
+  halts_store : (h : Held D) (t : Tier S M) (b : ℕ) (x : Node D) (side : Side) (t' : Tier S M) → HaltsSome disk store meta h t b x side t' → StoreStill store meta t.store t'.store
+  halts_store h t b x side t' (inl halts) = store_still store meta t.store t'.store (ap (λ (k : Tier S M). k.store) halts.after)
+  halts_store h t b x side t' (inr (inl (copy, next, wants))) =
+      copy_store store meta copy (teller_of h b) next wants.error (tiers_of side.view t) (tiers_of wants.view t') wants.row
+  halts_store h t b x side t' (inr (inr (inl (p, offset, limit, next, wants)))) =
+      fetch_store store meta (wanted_of p x offset limit) (line_of x) next wants.error (fetch_tiers side.view side.cache t) (fetch_tiers wants.view wants.cache t') wants.row
+  halts_store h t b x side t' (inr (inr (inr (inl (segment, next, wants))))) =
+      expiry_store store meta segment (teller_of h b) next wants.error (expiry_tiers t) (expiry_tiers t') wants.row
+  halts_store h t b x side t' (inr (inr (inr (inr (inl (line, asked, cursor, next, wants)))))) =
+      time_store store meta asked line cursor next wants.error (fetch_tiers side.view side.cache t) (fetch_tiers wants.view wants.cache t') wants.row
+  halts_store h t b x side t' (inr (inr (inr (inr (inr (p, g, wants)))))) =
+      epochs_dry store meta (rebuilt_to p g).offset side.view _ wants.error t.store t'.store wants.row
+
+  -- the disks
+  held_quiet : (h h' : Held D) → StaysHeld disk.content disk.control h h' → Quietly disk.control h h'
+  held_quiet h h' (inl same) = quiet_same disk.control h h' same
+  held_quiet h h' (inr (b, at)) =
+      let x = some_of (λ x. Rests disk.content disk.control h b x h') (slice_get h.nodes b) at in
+      quiet_put disk.control h b x.0 (record x.0 { log = x.2.0 }) h' x.1 x.2.2.1 x.2.3
+
+  -- what a turn leaves that found no memory
+  stays_quiet : (h : Held D) (t : Tier S M) (b : ℕ) (h' : Held D) (t' : Tier S M) → StaysSome disk store meta h t b h' t'
+      → Quietly disk.control h h' × StoreStill store meta t.store t'.store
+  stays_quiet h t b h' t' (inl (rests, same)) = (
+    held_quiet h h' rests,
+    store_still store meta t.store t'.store (ap (λ (k : Tier S M). k.store) same),
+  )
+  stays_quiet h t b h' t' (inr (same, at)) =
+      let x = some_of (λ x. AtSide t b (λ side. HaltsSome disk store meta h t b x side t')) (slice_get h.nodes b) at in
+      let side = some_of (λ side. HaltsSome disk store meta h t b x.0 side t') (slice_get t.sides b) x.2 in
+      (quiet_same disk.control h h' same, halts_store h t b x.0 side.0 t' side.2)
+
+  -- a world's
+  pub halts_quietly : (w : Whole D S M) (a : ℕ) (w' : Whole D S M) → StaysWhole disk store meta w a w' → HaveDisks w.held.nodes → MeetsNoFault disk store meta w w'
+  halts_quietly w a w' s have =
+      let some = stays_some disk store meta w.partition w.held w.tier s.order.broker.0 s.seat.work s.order.command w'.held w'.tier s.tier in
+      let k = stays_quiet w.held w.tier s.order.broker.0 w'.held w'.tier some in
+      record { disks = k.0 have; store_counts = k.1 }
