@@ -10,6 +10,7 @@ pub mod ExpiryAdvances
 pub mod Advancing
 pub mod TurnSound
 pub mod WorldSound
+pub mod Rooms
 pub mod WorldFresh
 pub mod CentralLaw
 pub mod Resolving

@@ -1,6 +1,6 @@
 //! The desk: a seat for each list, at the list's place.
 
-ghost use Rattle.std.specs.Prelude.{◌≡◌, ◌≢◌, ◌<◌, ◌-◌, ◌++◌, ℕ, length, replicate, slice_get, slice_set, Some, None, IfSome, IfOk, IsSomeAnd, []};
+ghost use Rattle.std.specs.Prelude.{◌≡◌, ◌≢◌, ◌<◌, ◌-◌, ◌^◌, ◌++◌, ℕ, length, replicate, slice_get, slice_set, Some, None, IfSome, IfOk, IsSomeAnd, []};
 ghost use Rattle.plain_log.specs.declared.command.ActorList.{ActorList};
 ghost use Rattle.partition_world.specs.Fresh.{fresh_seat};
 ghost use Rattle.partition_seen.specs.Sound.{turns_left};
@@ -34,16 +34,16 @@ pub(crate) fn place_of(lists: &[ActorList], actor: ActorId) -> Option<usize>
     None
 }
 
-/// Counts the entries of all lists, where a machine's word can: a beginning and an answer of each order.
-pub(crate) fn count_entries(lists: &[ActorList]) -> Option<usize>
-    ensures { IfSome result (λ count. count ≡ turns_left lists.now []) }
+/// Counts the entries of all lists: a beginning and an answer of each order.
+pub(crate) fn count_entries(lists: &[ActorList]) -> usize
+    requires few { turns_left lists.now [] < 2 ^ 64 }
+    ensures { result ≡ turns_left lists.now [] }
 {
     let mut count: usize = 0;
     for list in lists {
-        let turns = list.orders.len().checked_mul(2)?;
-        count = count.checked_add(turns)?;
+        count += 2 * list.orders.len();
     }
-    Some(count)
+    count
 }
 
 /// Makes a desk where no list has begun.

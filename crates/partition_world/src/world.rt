@@ -2,10 +2,11 @@
 //!
 //! The journal's room is made for all entries at the beginning, so a turn that finds no memory has entered nothing.
 
-ghost use Rattle.std.specs.Prelude.{◌≡◌, ◌<◌, ◌+◌, ◌^◌, length, replicate, IfOk, IfErr, IsTrue, ◌↔◌};
+ghost use Rattle.std.specs.Prelude.{◌≡◌, ◌<◌, ◌+◌, ◌^◌, [], length, replicate, IfOk, IfErr, IsTrue, ◌↔◌};
 ghost use Rattle.tier_base.specs.Device.{Lasts};
 ghost use Rattle.plain_log.specs.Fresh.{fresh as fresh_plain};
 ghost use Rattle.plain_log.specs.Orders.{AreListsFor, IsConfig};
+ghost use Rattle.partition_seen.specs.Sound.{turns_left as entries_left};
 ghost use Rattle.partition_turns.specs.Fresh.{AreFreshDisks, AreCalmDisks, AreDisksOf, DisksTell, AllSeen, Refuses};
 ghost use Rattle.partition_turns.specs.declared.refusal.WorldRefusal.TheVariants as refusal;
 ghost use Rattle.partition_world.specs.Fresh.{IsFresh, IsNew, IsSeenEmpty, AreFreshBooks, fresh_side};
@@ -393,13 +394,11 @@ impl<D: Disk, S: Store, M: MetaLog> World<D, S, M> {
 
 /// Makes an empty journal with room for all entries, and a desk where no list has begun.
 fn fresh_books(alloc: Global, lists: &[ActorList]) -> Result<(Journal, Row<Seat>), AllocError>
+    requires few { entries_left lists.now [] < 2 ^ 64 }
     ensures { IfOk result (λ books. AreFreshBooks lists.now books.0 books.1) }
 {
-    let Some(count) = count_entries(lists) else {
-        return Err(AllocError);
-    };
     let mut journal = Journal::new(alloc);
-    journal.reserve(count)?;
+    journal.reserve(count_entries(lists))?;
     let desk = fresh_desk(alloc, lists.len())?;
     Ok((journal, desk))
 }

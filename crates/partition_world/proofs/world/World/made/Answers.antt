@@ -6,6 +6,7 @@ use Rattle.partition_turns.proofs.FreshDisks.{refuses_same}
 use Rattle.partition_turns.proofs.FreshSound.{fresh_sound}
 use Rattle.partition_world.specs.declared.tier.Side.{Side}
 use Rattle.partition_world.specs.Fresh.{fresh_side}
+use Rattle.partition_world.proofs.Rooms.{few_entries}
 use Rattle.partition_world.proofs.WorldFresh.{fresh_seats, fresh_works, fresh_left}
 use Rattle.partition_world.proofs.world.World.made.Goals as goal
 
@@ -14,6 +15,9 @@ returns-in_default-clause-err g c = refuses_same g.D.Disk.content g.D.Disk.contr
 
 pub returns-in_default-fresh_sides-clause-err : goal.returns-in_default-fresh_sides-clause-err
 returns-in_default-fresh_sides-clause-err g c = refuses_same g.D.Disk.content g.D.Disk.control c.args.devices.disks.items _ refl c.requires.disks
+
+pub fresh_books-requires : goal.fresh_books-requires
+fresh_books-requires g c = omega (arith, few_entries c.args.config c.args.lists c.requires.fit, ap (λ (k : List ActorList). turns_left k []) c.as_slice.ensures)
 
 pub invariant_of-result : goal.invariant_of-result
 invariant_of-result g c =

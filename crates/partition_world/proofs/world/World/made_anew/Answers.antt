@@ -5,8 +5,12 @@ use Rattle.partition_seen.proofs.FreshSound.{length_replicate}
 use Rattle.partition_turns.proofs.ColdDisks.{cold_sound}
 use Rattle.partition_world.specs.declared.tier.Side.{Side}
 use Rattle.partition_world.specs.Fresh.{fresh_side}
+use Rattle.partition_world.proofs.Rooms.{few_entries}
 use Rattle.partition_world.proofs.WorldFresh.{fresh_seats, fresh_works, fresh_left}
 use Rattle.partition_world.proofs.world.World.made_anew.Goals as goal
+
+pub fresh_books-requires : goal.fresh_books-requires
+fresh_books-requires g c = omega (arith, few_entries c.args.config c.args.lists c.requires.fit, ap (λ (k : List ActorList). turns_left k []) c.as_slice.ensures)
 
 pub invariant_of-result : goal.invariant_of-result
 invariant_of-result g c =
