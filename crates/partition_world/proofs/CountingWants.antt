@@ -1,9 +1,9 @@
--- A turn that finds no memory counts no fault of a disk or of the store: its call went, or wasn't made.
-use Rattle.std.proofs.Common.{◌≡◌, inl, inr, ap, refl, ℕ, List, slice_get, Some, None, Option, Ok, Err}
+-- A turn that finds no memory counts no fault: its call of the store or of the metadata log went, or was not made.
+use Rattle.std.proofs.Common.{◌≡◌, ◌⊎◌, inl, inr, ap, refl, ℕ, List, slice_get, Some, None, Option, Ok, Err}
 use Rattle.std.specs.Prelude.{IsSomeAnd}
 use Rattle.std.specs.declared.result.Result.{Result}
 use Rattle.std.specs.declared.alloc.AllocError.{AllocError}
-use Rattle.tier_base.specs.Device.{Ran, fate_of}
+use Rattle.tier_base.specs.Device.{Ran, RanQuietly, Dry, Went, fate_of}
 use Rattle.tier_base.specs.declared.fault.Trouble.{Trouble}
 use Rattle.tier_base.specs.declared.fault.Trouble.TheVariants.{Failed, NoMemory}
 use Rattle.tier_base.specs.declared.object_key.ObjectKey.{ObjectKey}
@@ -13,11 +13,15 @@ use Rattle.object_store.specs.declared.store.Store.{Ghosts as StoreGhosts}
 use Rattle.object_store.specs.declared.call.StoreCall.TheVariants.{Get}
 use Rattle.object_store.specs.declared.placing.Spot.{Spot}
 use Rattle.meta_log.specs.declared.log.MetaLog.{Ghosts as MetaGhosts}
+use Rattle.meta_log.specs.declared.call.MetaCall.TheVariants.{Read}
 use Rattle.meta_log.specs.declared.teller.Teller.{Teller}
+use Rattle.meta_log.specs.Calls.{Appends}
+use Rattle.segment_meta.specs.declared.note.Note.{Note}
 use Rattle.sparse_index.specs.Offsets.{OffsetTable}
 use Rattle.index_cache.specs.Cache.{Cache, found}
 use Rattle.remote_view.specs.Fold.{Seen as View, entry_of}
 use Rattle.remote_find.specs.declared.piece.Piece.{Piece}
+use Rattle.view_refresh.specs.Refreshing.{Halted}
 use Rattle.copy_task.specs.Copying.{Copied, keys}
 use Rattle.copy_task.specs.Turns.{Tiers, PutRow, CopyRow}
 use Rattle.copy_task.specs.declared.turn.Next.{Next}
@@ -57,7 +61,7 @@ use Rattle.partition_world.specs.TurnsOfFetch.{fetch_tiers, wanted_of}
 use Rattle.partition_world.specs.TurnsOfExpiry.{expiry_tiers}
 use Rattle.partition_world.specs.TurnsOfRebuild.{wanted_of as rebuilt_to}
 use Rattle.partition_world.specs.Whole.{Whole}
-use Rattle.partition_world.proofs.CountingCalls.{StoreStill, store_still}
+use Rattle.partition_world.proofs.CountingCalls.{StoreStill, MetaStill, store_still, meta_still}
 use Rattle.partition_world.proofs.Halting.{HaltsSome, StaysSome, stays_some}
 
 -- no offset index is read in vain where the fetch's turn came to something
@@ -136,6 +140,18 @@ module _ {S M : Type 0} (store : StoreGhosts S) (meta : MetaGhosts M) where
   puts_dry copy n (Some key) e s s' (inl same) = store_still store meta s s' same
   puts_dry copy n (Some key) e s s' (inr w) = (w.puts.control.ran.dry refl).faults
 
+  -- one call of the metadata log
+
+  appends_dry : (note : Note) (m m' : M) → Appends meta.content meta.control note Dry m m' → MetaStill store meta m m'
+  appends_dry note m m' a = (a.control.ran.dry refl).faults
+
+  halted_dry : (before after : View) (m m' : M) → Halted meta.content meta.control before after m m' → MetaStill store meta m m'
+  halted_dry before after m m' k = by k.once
+    where
+      by : RanQuietly Read Dry (meta.control m) (meta.control m') ⊎ RanQuietly Read Went (meta.control m) (meta.control m') → MetaStill store meta m m'
+      by (inl r) = (r.ran.dry refl).faults
+      by (inr r) = r.ran.went refl
+
   -- what a turn of a task counts that wanted memory
 
   copy_store : (copy : Copied) (teller : Teller) (next : Next) (e : AllocError) (old new : Tiers S M)
@@ -146,6 +162,16 @@ module _ {S M : Type 0} (store : StoreGhosts S) (meta : MetaGhosts M) where
   copy_store copy teller Check e old new w = store_still store meta old.store new.store w.0
   copy_store copy teller (Delete n) e old new w = absurd w
 
+  copy_meta : (copy : Copied) (teller : Teller) (next : Next) (e : AllocError) (old new : Tiers S M)
+      → CopyRow store.content store.control meta.content meta.control copy teller next (Err e) old new → MetaStill store meta old.meta new.meta
+  copy_meta copy teller Start e old new (same, inl is) = meta_still store meta old.meta new.meta is
+  copy_meta copy teller Start e old new (same, inr a) = appends_dry _ old.meta new.meta a
+  copy_meta copy teller (Put n) e old new w = meta_still store meta old.meta new.meta (ap (λ (t : Tiers S M). t.meta) w.0)
+  copy_meta copy teller Finish e old new (same, inl is) = meta_still store meta old.meta new.meta is
+  copy_meta copy teller Finish e old new (same, inr a) = appends_dry _ old.meta new.meta a
+  copy_meta copy teller Check e old new w = halted_dry old.view new.view old.meta new.meta w.1
+  copy_meta copy teller (Delete n) e old new w = absurd w
+
   fetch_store : (wanted : Wanted) (line : List (ℕ × ℕ)) (next : Search) (e : AllocError) (old new : Fetched S M)
       → FetchRow store.content store.control meta.content meta.control wanted line next (Err e) old new → StoreStill store meta old.store new.store
   fetch_store wanted line fetching.Refresh e old new w = store_still store meta old.store new.store (ap (λ (t : Fetched S M). t.store) w.0)
@@ -153,6 +179,12 @@ module _ {S M : Type 0} (store : StoreGhosts S) (meta : MetaGhosts M) where
       index_dry wanted piece old.view e (found piece.id.0 old.cache.pairs) old.cache new.cache old.store new.store w.1
   fetch_store wanted line (fetching.Log piece span) e old new w =
       log_dry wanted piece span old.view (spot_in wanted.partition piece.id part.Log (entry_of piece.id old.view.entries)) e old.store new.store w.1
+
+  fetch_meta : (wanted : Wanted) (line : List (ℕ × ℕ)) (next : Search) (e : AllocError) (old new : Fetched S M)
+      → FetchRow store.content store.control meta.content meta.control wanted line next (Err e) old new → MetaStill store meta old.meta new.meta
+  fetch_meta wanted line fetching.Refresh e old new w = halted_dry old.view new.view old.meta new.meta w.1
+  fetch_meta wanted line (fetching.Index piece) e old new w = meta_still store meta old.meta new.meta (ap (λ (t : Fetched S M). t.meta) w.0)
+  fetch_meta wanted line (fetching.Log piece span) e old new w = meta_still store meta old.meta new.meta (ap (λ (t : Fetched S M). t.meta) w.0)
 
   index_store : (asked : Asked) (line : List (ℕ × ℕ)) (cursor : ℕ) (piece : Piece) (from : ℕ) (turn : Result FetchTurn AllocError) (e : AllocError) (old new : Fetched S M)
       → FetchRow store.content store.control meta.content meta.control (wanted_at asked from) line (fetching.Index piece) turn old new
@@ -176,11 +208,38 @@ module _ {S M : Type 0} (store : StoreGhosts S) (meta : MetaGhosts M) where
   time_store asked line cursor (dating.Log piece from span) e old new (inl w) = let is = w.1 in absurd (cc (is))
   time_store asked line cursor (dating.Log piece from span) e old new (inr w) = log_store asked line piece from span w.1.0 e old new w.1.1 w.1.2
 
+  index_meta : (asked : Asked) (line : List (ℕ × ℕ)) (cursor : ℕ) (piece : Piece) (from : ℕ) (turn : Result FetchTurn AllocError) (e : AllocError) (old new : Fetched S M)
+      → FetchRow store.content store.control meta.content meta.control (wanted_at asked from) line (fetching.Index piece) turn old new
+      → Indexes cursor piece from turn (Err e) → MetaStill store meta old.meta new.meta
+  index_meta asked line cursor piece from (Ok turn) e old new row w = absurd (no_index cursor from piece turn e w)
+  index_meta asked line cursor piece from (Err k) e old new row w = fetch_meta (wanted_at asked from) line (fetching.Index piece) k old new row
+
+  log_meta : (asked : Asked) (line : List (ℕ × ℕ)) (piece : Piece) (from : ℕ) (span : Span) (turn : Result FetchTurn AllocError) (e : AllocError) (old new : Fetched S M)
+      → FetchRow store.content store.control meta.content meta.control (wanted_at asked from) line (fetching.Log piece span) turn old new
+      → Searches asked from turn (Err e) → MetaStill store meta old.meta new.meta
+  log_meta asked line piece from span (Ok turn) e old new row w = absurd (no_search asked from turn e w)
+  log_meta asked line piece from span (Err k) e old new row w = fetch_meta (wanted_at asked from) line (fetching.Log piece span) k old new row
+
+  time_meta : (asked : Asked) (line : List (ℕ × ℕ)) (cursor : ℕ) (next : Dating) (e : AllocError) (old new : Fetched S M)
+      → TimeRow store.content store.control meta.content meta.control asked line cursor next (Err e) old new → MetaStill store meta old.meta new.meta
+  time_meta asked line cursor dating.Seek e old new w = halted_dry old.view new.view old.meta new.meta w.1
+  time_meta asked line cursor (dating.Times piece) e old new w = meta_still store meta old.meta new.meta (ap (λ (t : Fetched S M). t.meta) w.0)
+  time_meta asked line cursor (dating.Index piece from) e old new (inl w) = let is = w.1 in absurd (cc (is))
+  time_meta asked line cursor (dating.Index piece from) e old new (inr w) = index_meta asked line cursor piece from w.1.0 e old new w.1.1 w.1.2
+  time_meta asked line cursor (dating.Log piece from span) e old new (inl w) = let is = w.1 in absurd (cc (is))
+  time_meta asked line cursor (dating.Log piece from span) e old new (inr w) = log_meta asked line piece from span w.1.0 e old new w.1.1 w.1.2
+
   expiry_store : (segment : Doomed) (teller : Teller) (next : Deletion) (e : AllocError) (old new : expiring.Tiers S M)
       → expiring.ExpiryRow store.content store.control meta.content meta.control segment teller next (Err e) old new → StoreStill store meta old.store new.store
   expiry_store segment teller deletion.Start e old new w = store_still store meta old.store new.store (ap (λ (t : expiring.Tiers S M). t.store) w.0)
   expiry_store segment teller (deletion.Delete n) e old new w = absurd w
   expiry_store segment teller deletion.Finish e old new w = store_still store meta old.store new.store (ap (λ (t : expiring.Tiers S M). t.store) w.0)
+
+  expiry_meta : (segment : Doomed) (teller : Teller) (next : Deletion) (e : AllocError) (old new : expiring.Tiers S M)
+      → expiring.ExpiryRow store.content store.control meta.content meta.control segment teller next (Err e) old new → MetaStill store meta old.meta new.meta
+  expiry_meta segment teller deletion.Start e old new w = appends_dry _ old.meta new.meta w.1
+  expiry_meta segment teller (deletion.Delete n) e old new w = absurd w
+  expiry_meta segment teller deletion.Finish e old new w = appends_dry _ old.meta new.meta w.1
 
 module _ {D S M : Type 0} (disk : DiskGhosts D) (store : StoreGhosts S) (meta : MetaGhosts M) where
   -- a call of the tier that wanted memory
@@ -198,6 +257,19 @@ module _ {D S M : Type 0} (disk : DiskGhosts D) (store : StoreGhosts S) (meta : 
   halts_store h t b x side t' (inr (inr (inr (inr (inr (p, g, wants)))))) =
       epochs_dry store meta (rebuilt_to p g).offset side.view _ wants.error t.store t'.store wants.row
 
+  halts_meta : (h : Held D) (t : Tier S M) (b : ℕ) (x : Node D) (side : Side) (t' : Tier S M) → HaltsSome disk store meta h t b x side t' → MetaStill store meta t.meta t'.meta
+  halts_meta h t b x side t' (inl halts) = halted_dry store meta side.view halts.view t.meta t'.meta halts.reads
+  halts_meta h t b x side t' (inr (inl (copy, next, wants))) =
+      copy_meta store meta copy (teller_of h b) next wants.error (tiers_of side.view t) (tiers_of wants.view t') wants.row
+  halts_meta h t b x side t' (inr (inr (inl (p, offset, limit, next, wants)))) =
+      fetch_meta store meta (wanted_of p x offset limit) (line_of x) next wants.error (fetch_tiers side.view side.cache t) (fetch_tiers wants.view wants.cache t') wants.row
+  halts_meta h t b x side t' (inr (inr (inr (inl (segment, next, wants))))) =
+      expiry_meta store meta segment (teller_of h b) next wants.error (expiry_tiers t) (expiry_tiers t') wants.row
+  halts_meta h t b x side t' (inr (inr (inr (inr (inl (line, asked, cursor, next, wants)))))) =
+      time_meta store meta asked line cursor next wants.error (fetch_tiers side.view side.cache t) (fetch_tiers wants.view wants.cache t') wants.row
+  halts_meta h t b x side t' (inr (inr (inr (inr (inr (p, g, wants)))))) =
+      meta_still store meta t.meta t'.meta (ap (λ (k : Tier S M). k.meta) wants.after)
+
   -- the disks
   held_quiet : (h h' : Held D) → StaysHeld disk.content disk.control h h' → Quietly disk.control h h'
   held_quiet h h' (inl same) = quiet_same disk.control h h' same
@@ -207,19 +279,20 @@ module _ {D S M : Type 0} (disk : DiskGhosts D) (store : StoreGhosts S) (meta : 
 
   -- what a turn leaves that found no memory
   stays_quiet : (h : Held D) (t : Tier S M) (b : ℕ) (h' : Held D) (t' : Tier S M) → StaysSome disk store meta h t b h' t'
-      → Quietly disk.control h h' × StoreStill store meta t.store t'.store
+      → Quietly disk.control h h' × StoreStill store meta t.store t'.store × MetaStill store meta t.meta t'.meta
   stays_quiet h t b h' t' (inl (rests, same)) = (
     held_quiet h h' rests,
     store_still store meta t.store t'.store (ap (λ (k : Tier S M). k.store) same),
+    meta_still store meta t.meta t'.meta (ap (λ (k : Tier S M). k.meta) same),
   )
   stays_quiet h t b h' t' (inr (same, at)) =
       let x = some_of (λ x. AtSide t b (λ side. HaltsSome disk store meta h t b x side t')) (slice_get h.nodes b) at in
       let side = some_of (λ side. HaltsSome disk store meta h t b x.0 side t') (slice_get t.sides b) x.2 in
-      (quiet_same disk.control h h' same, halts_store h t b x.0 side.0 t' side.2)
+      (quiet_same disk.control h h' same, halts_store h t b x.0 side.0 t' side.2, halts_meta h t b x.0 side.0 t' side.2)
 
   -- a world's
   pub halts_quietly : (w : Whole D S M) (a : ℕ) (w' : Whole D S M) → StaysWhole disk store meta w a w' → HaveDisks w.held.nodes → MeetsNoFault disk store meta w w'
   halts_quietly w a w' s have =
       let some = stays_some disk store meta w.partition w.held w.tier s.order.broker.0 s.seat.work s.order.command w'.held w'.tier s.tier in
       let k = stays_quiet w.held w.tier s.order.broker.0 w'.held w'.tier some in
-      record { disks = k.0 have; store_counts = k.1 }
+      record { disks = k.0 have; store_counts = k.1; meta_counts = k.2 }

@@ -1,4 +1,4 @@
--- A fault of a device that a turn meets is what its command is answered. One that finds no memory meets none of a disk or the store.
+-- A fault of a device that a turn meets is what its command is answered; a turn that finds no memory meets none.
 use Rattle.std.specs.Prelude.{◌≡◌, ℕ, Bool, false}
 use Rattle.disk_model.specs.declared.disk.Disk.{Ghosts as DiskGhosts}
 use Rattle.object_store.specs.declared.store.Store.{Ghosts as StoreGhosts}
@@ -32,10 +32,11 @@ module _ {D S M : Type 0} (disk : DiskGhosts D) (store : StoreGhosts S) (meta : 
   TurnsAnswerFaults = (w : Whole D S M) (a : ℕ) (outcome : Outcome) (w' : Whole D S M) (t : IsTurn disk store meta w a outcome w')
       → HaveDisks w.held.nodes → AnswersFaults t.order outcome w w'
 
-  -- no call of a disk or of the store has failed: their counts of faults are as they were
+  -- no call of a device has failed: each count of faults is as it was
   pub record MeetsNoFault (w w' : Whole D S M) : Type 0 where
     pub disks : NoneFails disk.control w.held.nodes w'.held.nodes
     pub store_counts : (store.control w'.tier.store).faults ≡ (store.control w.tier.store).faults
+    pub meta_counts : (meta.control w'.tier.meta).faults ≡ (meta.control w.tier.meta).faults
 
   -- so in each turn that finds no memory, over any devices
   abbrev pub HaltsMeetNoFault : Type 0

@@ -75,7 +75,7 @@ pub fn turns_answer_faults<D: Disk, S: Store, M: MetaLog>()
     ensures { TurnsAnswerFaults D.Disk S.Store M.MetaLog }
 {}
 
-/// A turn that finds no memory has met no fault of a disk or of the store, whatever the devices.
+/// A turn that finds no memory has met no fault: each device's count is as it was, whatever the devices.
 pub fn halts_meet_no_fault<D: Disk, S: Store, M: MetaLog>()
     ensures { HaltsMeetNoFault D.Disk S.Store M.MetaLog }
 {}
