@@ -35,11 +35,13 @@ module _ {D : Type 0} where
           ∙ ap (λ (l : List (Node D)). before ++ l) (sym (map-append (cold_node settings) disks (disk ∷ [])))
 
   -- such a broker has what its turns need
-  cold_node_sound : (settings : Settings) (disk : D) → NodeSound (cold_node settings disk)
-  cold_node_sound settings disk = record {
+  cold_node_sound : (r : Registry) (settings : Settings) (disk : D) → NodeSound r (cold_node settings disk)
+  cold_node_sound r settings disk = record {
     up = λ e is. absurd cc;
     leads = λ e is. absurd cc;
     fits = λ e is. absurd cc;
+    past = λ e is. absurd cc;
+    known = λ e is le. absurd cc;
     down = λ down. (refl, refl);
   }
 
@@ -96,14 +98,14 @@ module _ {D : Type 0} (content : D → Content) (control : D → Control call_co
   cold_count settings (d ∷ disks) [] c = absurd c
   cold_count settings (d ∷ disks) (x ∷ xs) c = ap suc (cold_count settings disks xs c.1)
 
-  nodes_sound : (settings : Settings) (disks : List D) (xs : List (Node D)) (b : ℕ) (x : Node D) → AreColdOver content control settings disks xs → slice_get xs b ≡ Some x → NodeSound x
-  nodes_sound settings [] [] b x c at = absurd cc
-  nodes_sound settings [] (y ∷ xs) b x c at = absurd c
-  nodes_sound settings (d ∷ disks) [] b x c at = absurd c
-  nodes_sound settings (d ∷ disks) (y ∷ xs) zero x c at =
+  nodes_sound : (r : Registry) (settings : Settings) (disks : List D) (xs : List (Node D)) (b : ℕ) (x : Node D) → AreColdOver content control settings disks xs → slice_get xs b ≡ Some x → NodeSound r x
+  nodes_sound r settings [] [] b x c at = absurd cc
+  nodes_sound r settings [] (y ∷ xs) b x c at = absurd c
+  nodes_sound r settings (d ∷ disks) [] b x c at = absurd c
+  nodes_sound r settings (d ∷ disks) (y ∷ xs) zero x c at =
       let same : cold_node settings c.0.now ≡ x = let is : y ≡ x = cc (at) in sym c.0.node ∙ is in
-      subst NodeSound same (cold_node_sound settings c.0.now)
-  nodes_sound settings (d ∷ disks) (y ∷ xs) (suc b) x c at = nodes_sound settings disks xs b x c.1 at
+      subst (NodeSound r) same (cold_node_sound r settings c.0.now)
+  nodes_sound r settings (d ∷ disks) (y ∷ xs) (suc b) x c at = nodes_sound r settings disks xs b x c.1 at
 
   pub cold_sound : (n : ℕ) (settings : Settings) (registry : Registry) (disks : List D) (h : Held D) → length disks ≡ n → length registry.replicas ≡ n → registry.epoch < 2 ^ 31
       → IsColdHeld content control settings registry disks h → HeldSound n h
@@ -111,7 +113,7 @@ module _ {D : Type 0} (content : D → Content) (control : D → Control call_co
     count = cold_count settings disks h.nodes c.nodes ∙ count;
     same = ap (λ (r : Registry). length r.replicas) c.registry_is ∙ same;
     epoch = subst (λ (r : Registry). r.epoch < 2 ^ 31) (sym c.registry_is) low;
-    nodes = λ b x at. nodes_sound settings disks h.nodes b x c.nodes at;
+    nodes = λ b x at. nodes_sound h.registry settings disks h.nodes b x c.nodes at;
   }
 
 module _ {D : Type 0} (content : D → Content) where

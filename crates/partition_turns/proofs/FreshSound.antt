@@ -22,35 +22,39 @@ joined_leads : (e f : ℕ) → Joined e ≡ Leads f → ⊥
 joined_leads e f is = absurd cc
 
 module _ {D : Type 0} where
-  -- a fresh node
-  node_sound : (leads : Bool) (x : Node D) → IsFreshNode leads x → NodeSound x
-  node_sound true x f =
+  -- a fresh node, whatever the registry: it knows no mark
+  node_sound : (r : Registry) (leads : Bool) (x : Node D) → IsFreshNode leads x → NodeSound r x
+  node_sound r true x f =
       let line : line_of x ≡ (0, 0) ∷ [] = ap (λ (o : Option (List (ℕ × ℕ))). unwrap_or o []) f.line_is in
       record {
         up = λ e is. f.up;
         leads = λ e is. ap last_epoch line ∙ ap (λ (n : ℕ). Some n) (leads_is 0 e (sym f.role_is ∙ is));
         fits = λ e is. (let same = leads_is 0 e (sym f.role_is ∙ is) in omega (arith, same));
+        past = λ e is. (let same = leads_is 0 e (sym f.role_is ∙ is) in omega (arith, same));
+        known = λ e is le. (let none = f.known in omega (arith, none));
         down = λ down. absurd (let up = f.up in cc);
       }
-  node_sound false x f = record {
+  node_sound r false x f = record {
     up = λ e is. f.up;
     leads = λ e is. absurd (joined_leads 0 e (sym f.role_is ∙ is));
     fits = λ e is. absurd (joined_leads 0 e (sym f.role_is ∙ is));
+    past = λ e is. absurd (joined_leads 0 e (sym f.role_is ∙ is));
+    known = λ e is le. absurd (joined_leads 0 e (sym f.role_is ∙ is));
     down = λ down. absurd (let up = f.up in cc);
   }
 
 module _ {D : Type 0} (control : D → Control call_code) where
-  nodes_sound : (leads : Bool) (disks : List D) (xs : List (Node D)) (b : ℕ) (x : Node D) → AreFreshFrom control leads disks xs → slice_get xs b ≡ Some x → NodeSound x
-  nodes_sound leads [] [] b x f at = absurd cc
-  nodes_sound leads [] (y ∷ xs) b x f at = absurd f
-  nodes_sound leads (d ∷ disks) [] b x f at = absurd f
-  nodes_sound leads (d ∷ disks) (y ∷ xs) zero x f at = let same : y ≡ x = cc in subst NodeSound same (node_sound leads y f.0.node)
-  nodes_sound leads (d ∷ disks) (y ∷ xs) (suc b) x f at = nodes_sound false disks xs b x f.1 at
+  nodes_sound : (r : Registry) (leads : Bool) (disks : List D) (xs : List (Node D)) (b : ℕ) (x : Node D) → AreFreshFrom control leads disks xs → slice_get xs b ≡ Some x → NodeSound r x
+  nodes_sound r leads [] [] b x f at = absurd cc
+  nodes_sound r leads [] (y ∷ xs) b x f at = absurd f
+  nodes_sound r leads (d ∷ disks) [] b x f at = absurd f
+  nodes_sound r leads (d ∷ disks) (y ∷ xs) zero x f at = let same : y ≡ x = cc in subst (NodeSound r) same (node_sound r leads y f.0.node)
+  nodes_sound r leads (d ∷ disks) (y ∷ xs) (suc b) x f at = nodes_sound r false disks xs b x f.1 at
 
   pub fresh_sound : (n : ℕ) (disks : List D) (h : Held D) → length disks ≡ n → IsFreshHeld control disks h → HeldSound n h
   fresh_sound n disks h count f = record {
     count = as_many control true disks h.nodes f.nodes ∙ count;
     same = ap (λ (r : Registry). length r.replicas) f.registry ∙ (length_replicate (length disks) fresh_replica ∙ count);
     epoch = subst (λ (r : Registry). r.epoch < 2 ^ 31) (sym f.registry) (omega arith);
-    nodes = λ b x at. nodes_sound true disks h.nodes b x f.nodes at;
+    nodes = λ b x at. nodes_sound h.registry true disks h.nodes b x f.nodes at;
   }

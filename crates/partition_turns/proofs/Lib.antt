@@ -4,6 +4,7 @@ pub mod Putting
 pub mod FollowedOn
 pub mod Shown
 pub mod Fronts
+pub mod Marks
 pub mod OwnRefined
 pub mod RunsShown
 pub mod FetchRefined

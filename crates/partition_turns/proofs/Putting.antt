@@ -19,6 +19,7 @@ use Rattle.plain_log.specs.declared.state.Role.{Role}
 use Rattle.plain_log.specs.declared.state.Role.TheVariants.{Idle, Leads, Follows, Joined}
 use Rattle.plain_log.specs.State.{leading}
 use Rattle.broker_log.specs.Seen.{WhileUp}
+use Rattle.registry.specs.declared.registry.Registry.{Registry}
 use Rattle.partition_turns.specs.declared.held.Node.{Node}
 use Rattle.partition_turns.specs.declared.held.Held.{Held}
 use Rattle.partition_turns.specs.Held.{AtNode, is_up, end_of, line_of, IsFull}
@@ -54,7 +55,7 @@ module _ {D : Type 0} where
   pub of_node : (h : Held D) (b : ℕ) (x : Node D) (P : Node D → Type 0) → slice_get h.nodes b ≡ Some x → AtNode h b P → P x
   of_node h b x P there at = subst (λ (o : Option (Node D)). IsSomeAnd o P) there at
 
-  pub may_put : (x : Node D) (batch : List ℕ) (base end e n : ℕ) → NodeSound x → x.role ≡ Leads e → end_of x ≡ base → IsOk (checked batch) → base_of batch ≡ base → epoch_of batch ≡ e
+  pub may_put : {r : Registry} (x : Node D) (batch : List ℕ) (base end e n : ℕ) → NodeSound r x → x.role ≡ Leads e → end_of x ≡ base → IsOk (checked batch) → base_of batch ≡ base → epoch_of batch ≡ e
       → last_offset_delta_of batch + 1 ≡ n → end ≡ base + n → end ≤ 2 ^ 62 → MayPut x batch base (end - 1) e
   may_put x batch base end e n s role at is base_is epoch_is delta ends low = record {
     up = s.up e role;

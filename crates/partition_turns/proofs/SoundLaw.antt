@@ -46,6 +46,7 @@ use Rattle.partition_turns.specs.TurnsOfFetch.{FetchRow, FetchTurn}
 use Rattle.partition_turns.specs.TurnsOfElections.{Leaves, ElectRow, UncleanRow, LearnRow, AckRow, ShrinkRow, ExpandRow, RaiseRow}
 use Rattle.partition_turns.specs.TurnsOfFollowers.{CutsNode, JoinRow, JoinOnRow, FollowRow, FollowOnRow}
 use Rattle.partition_turns.proofs.OwnRefined.{open_of}
+use Rattle.partition_turns.proofs.Marks.{MarkStays, elect_marks, unclean_marks, ack_marks, shrink_marks, expand_marks, raise_marks}
 use Rattle.partition_turns.proofs.Fronts.{whole_batch, front_one, begun_entered, entered_last}
 use Rattle.partition_turns.proofs.Shown.{up_of_end}
 
@@ -73,51 +74,73 @@ module _ {D : Type 0} where
   pub same : (n : ℕ) (h h' : Held D) → h' ≡ h → HeldSound n h → HeldSound n h'
   same n h h' e s = subst (HeldSound n) (sym e) s
 
-  put_sound : (n : ℕ) (h : Held D) (b : ℕ) (y : Node D) → HeldSound n h → NodeSound y → HeldSound n (put_node h b y)
+  put_sound : (n : ℕ) (h : Held D) (b : ℕ) (y : Node D) → HeldSound n h → NodeSound h.registry y → HeldSound n (put_node h b y)
   put_sound n h b y s k = record {
     count = length-slice_set h.nodes b y ∙ s.count;
     same = s.same;
     epoch = s.epoch;
-    nodes = each-set NodeSound h.nodes b y s.nodes k;
+    nodes = each-set (NodeSound h.registry) h.nodes b y s.nodes k;
   }
 
   -- a node has
-  pub put_is : (n : ℕ) (h : Held D) (b : ℕ) (y : Node D) (h' : Held D) → h' ≡ put_node h b y → HeldSound n h → NodeSound y → HeldSound n h'
+  pub put_is : (n : ℕ) (h : Held D) (b : ℕ) (y : Node D) (h' : Held D) → h' ≡ put_node h b y → HeldSound n h → NodeSound h.registry y → HeldSound n h'
   put_is n h b y h' e s k = subst (HeldSound n) (sym e) (put_sound n h b y s k)
 
+  -- a node as the registry has moved: its epoch is the next, or the mark hasn't fallen
+  moved_node : (old r : Registry) (x : Node D) → old.epoch ≤ r.epoch → MarkStays old r → NodeSound old x → NodeSound r x
+  moved_node old r x later stays s = record {
+    up = s.up;
+    leads = s.leads;
+    fits = s.fits;
+    past = λ e is. (let was = s.past e is in omega (arith, was, later));
+    known = λ e is le.
+        (let was = s.past e is in
+        let known = s.known e is (omega (arith, le, later)) in
+        let low = stays (omega (arith, was, le, later)) in
+        omega (arith, known, low));
+    down = s.down;
+  }
+
+  -- the epoch hasn't fallen
+  epoch_up : (old r : Registry) → Moves old r → old.epoch ≤ r.epoch
+  epoch_up old r m = elim m.epoch [ | inl k ↦ (let is = k.epoch in omega (arith, is)) | inr k ↦ (let is = k.epoch in omega (arith, is)) ]
+
   -- the registry has
-  moved_sound : (n : ℕ) (h : Held D) (r : Registry) → HeldSound n h → Moves h.registry r → HeldSound n (record h { registry = r })
-  moved_sound n h r s m = record {
+  moved_sound : (n : ℕ) (h : Held D) (r : Registry) → HeldSound n h → Moves h.registry r → MarkStays h.registry r → HeldSound n (record h { registry = r })
+  moved_sound n h r s m stays = record {
     count = s.count;
     same = m.count ∙ s.same;
     epoch = elim m.epoch [
       | inl k ↦ subst (λ (e : ℕ). e < 2 ^ 31) (sym k.epoch) s.epoch
       | inr k ↦ small r.epoch h.registry.epoch epoch_limit k.epoch k.below refl
     ];
-    nodes = s.nodes;
+    nodes = λ b x at. moved_node h.registry r x (epoch_up h.registry r m) stays (s.nodes b x at);
   }
     where
       small : (e old limit : ℕ) → e ≡ old + 1 → old < limit → limit ≡ 2147483647 → e < 2 ^ 31
       small e old limit is lt l = omega (arith, is, lt, l)
 
-  leaves_sound : (n : ℕ) (h : Held D) (after : Option Registry) (h' : Held D) → HeldSound n h → Leaves h after h' → ((r : Registry) → after ≡ Some r → Moves h.registry r) → HeldSound n h'
-  leaves_sound n h after h' s w moves = let r = some_of _ after w in subst (HeldSound n) (sym r.2) (moved_sound n h r.0 s (moves r.0 r.1))
+  leaves_sound : (n : ℕ) (h : Held D) (after : Option Registry) (h' : Held D) → HeldSound n h → Leaves h after h' → ((r : Registry) → after ≡ Some r → Moves h.registry r)
+      → ((r : Registry) → after ≡ Some r → MarkStays h.registry r) → HeldSound n h'
+  leaves_sound n h after h' s w moves marks = let r = some_of _ after w in subst (HeldSound n) (sym r.2) (moved_sound n h r.0 s (moves r.0 r.1) (marks r.0 r.1))
 
   -- a node whose log is up still, with a line that ends with the same epoch
-  line_sound : (x : Node D) (kept : Kept D) → NodeSound x → is_open kept ≡ true → ((e : ℕ) → x.role ≡ LeadsIn e → last_epoch (unwrap_or (line_in kept) []) ≡ Some e)
-      → NodeSound (record x { log = kept })
-  line_sound x kept s up line = record { up = λ e is. up; leads = line; fits = s.fits; down = λ down. up_down (is_open kept) up down }
+  line_sound : {r : Registry} (x : Node D) (kept : Kept D) → NodeSound r x → is_open kept ≡ true → ((e : ℕ) → x.role ≡ LeadsIn e → last_epoch (unwrap_or (line_in kept) []) ≡ Some e)
+      → NodeSound r (record x { log = kept })
+  line_sound x kept s up line = record { up = λ e is. up; leads = line; fits = s.fits; past = s.past; known = s.known; down = λ down. up_down (is_open kept) up down }
 
   -- a node with another log that leads no more
-  follows_sound : (x : Node D) → is_up x ≡ true → ((e : ℕ) → x.role ≡ LeadsIn e → ⊥) → NodeSound x
-  follows_sound x up never = record { up = λ e is. up; leads = λ e is. absurd (never e is); fits = λ e is. absurd (never e is); down = λ down. up_down (is_up x) up down }
+  follows_sound : {r : Registry} (x : Node D) → is_up x ≡ true → ((e : ℕ) → x.role ≡ LeadsIn e → ⊥) → NodeSound r x
+  follows_sound x up never = record { up = λ e is. up; leads = λ e is. absurd (never e is); fits = λ e is. absurd (never e is); past = λ e is. absurd (never e is); known = λ e is le. absurd (never e is); down = λ down. up_down (is_up x) up down }
 
   -- a node that has stopped
-  stopped_sound : (x : Node D) (kept : Kept D) → NodeSound (record (stopped x) { log = kept })
+  stopped_sound : {r : Registry} (x : Node D) (kept : Kept D) → NodeSound r (record (stopped x) { log = kept })
   stopped_sound x kept = record {
     up = λ e is. absurd (idle_leads Idle e refl is);
     leads = λ e is. absurd (idle_leads Idle e refl is);
     fits = λ e is. absurd (idle_leads Idle e refl is);
+    past = λ e is. absurd (idle_leads Idle e refl is);
+    known = λ e is le. absurd (idle_leads Idle e refl is);
     down = λ down. (refl, refl);
   }
 
@@ -136,6 +159,8 @@ module _ {D : Type 0} (content : D → Content) (control : D → Control call_co
         up = λ e lead. up ∙ y.up e lead;
         leads = λ e lead. ap (λ (o : Option (List (ℕ × ℕ))). last_epoch (unwrap_or o [])) line ∙ y.leads e lead;
         fits = y.fits;
+        past = y.past;
+        known = y.known;
         down = λ down. y.down (sym up ∙ down);
       })
 
@@ -237,17 +262,17 @@ module _ {D : Type 0} (content : D → Content) (control : D → Control call_co
   -- elections and what is learned of them
 
   elect_sound : (n : ℕ) (h : Held D) (b : ℕ) (x : Node D) (answer : Answer) (h' : Held D) → HeldSound n h → ElectRow h b x answer h' → HeldSound n h'
-  elect_sound n h b x LastEpoch h' s w = let t = some_of _ (slice_get h.registry.replicas b) w in leaves_sound n h _ h' s t.2 (elect_moves h.registry b t.0 (is_up x) (Err Reg.LastEpoch))
-  elect_sound n h b x NotInSync h' s w = let t = some_of _ (slice_get h.registry.replicas b) w in leaves_sound n h _ h' s t.2 (elect_moves h.registry b t.0 (is_up x) (Err Reg.NotInSync))
-  elect_sound n h b x DownBroker h' s w = let t = some_of _ (slice_get h.registry.replicas b) w in leaves_sound n h _ h' s t.2 (elect_moves h.registry b t.0 (is_up x) (Err Reg.DownBroker))
-  elect_sound n h b x (OkAt m) h' s w = let t = some_of _ (slice_get h.registry.replicas b) w in leaves_sound n h _ h' s t.2 (elect_moves h.registry b t.0 (is_up x) (Done m))
+  elect_sound n h b x LastEpoch h' s w = let t = some_of _ (slice_get h.registry.replicas b) w in leaves_sound n h _ h' s t.2 (elect_moves h.registry b t.0 (is_up x) (Err Reg.LastEpoch)) (elect_marks h.registry b t.0 (is_up x) (Err Reg.LastEpoch))
+  elect_sound n h b x NotInSync h' s w = let t = some_of _ (slice_get h.registry.replicas b) w in leaves_sound n h _ h' s t.2 (elect_moves h.registry b t.0 (is_up x) (Err Reg.NotInSync)) (elect_marks h.registry b t.0 (is_up x) (Err Reg.NotInSync))
+  elect_sound n h b x DownBroker h' s w = let t = some_of _ (slice_get h.registry.replicas b) w in leaves_sound n h _ h' s t.2 (elect_moves h.registry b t.0 (is_up x) (Err Reg.DownBroker)) (elect_marks h.registry b t.0 (is_up x) (Err Reg.DownBroker))
+  elect_sound n h b x (OkAt m) h' s w = let t = some_of _ (slice_get h.registry.replicas b) w in leaves_sound n h _ h' s t.2 (elect_moves h.registry b t.0 (is_up x) (Done m)) (elect_marks h.registry b t.0 (is_up x) (Done m))
   elect_sound n h b x other h' s w = elim w [ ]
 
   unclean_sound : (n : ℕ) (h : Held D) (b : ℕ) (x : Node D) (answer : Answer) (h' : Held D) → HeldSound n h → UncleanRow h b x answer h' → HeldSound n h'
-  unclean_sound n h b x LastEpoch h' s w = leaves_sound n h _ h' s w (unclean_moves h.registry b (is_up x) (stable_of x) (Err Reg.LastEpoch))
-  unclean_sound n h b x DownBroker h' s w = leaves_sound n h _ h' s w (unclean_moves h.registry b (is_up x) (stable_of x) (Err Reg.DownBroker))
-  unclean_sound n h b x (BehindStart end start) h' s w = leaves_sound n h _ h' s w (unclean_moves h.registry b (is_up x) (stable_of x) (Err (Reg.BehindStart end start)))
-  unclean_sound n h b x (OkAt m) h' s w = leaves_sound n h _ h' s w (unclean_moves h.registry b (is_up x) (stable_of x) (Done m))
+  unclean_sound n h b x LastEpoch h' s w = leaves_sound n h _ h' s w (unclean_moves h.registry b (is_up x) (stable_of x) (Err Reg.LastEpoch)) (unclean_marks h.registry b (is_up x) (stable_of x) (Err Reg.LastEpoch))
+  unclean_sound n h b x DownBroker h' s w = leaves_sound n h _ h' s w (unclean_moves h.registry b (is_up x) (stable_of x) (Err Reg.DownBroker)) (unclean_marks h.registry b (is_up x) (stable_of x) (Err Reg.DownBroker))
+  unclean_sound n h b x (BehindStart end start) h' s w = leaves_sound n h _ h' s w (unclean_moves h.registry b (is_up x) (stable_of x) (Err (Reg.BehindStart end start))) (unclean_marks h.registry b (is_up x) (stable_of x) (Err (Reg.BehindStart end start)))
+  unclean_sound n h b x (OkAt m) h' s w = leaves_sound n h _ h' s w (unclean_moves h.registry b (is_up x) (stable_of x) (Done m)) (unclean_marks h.registry b (is_up x) (stable_of x) (Done m))
   unclean_sound n h b x other h' s w = elim w [ ]
 
   learn_sound : (n : ℕ) (h : Held D) (b : ℕ) (x : Node D) (answer : Answer) (h' : Held D) → slice_get h.nodes b ≡ Some x → HeldSound n h → LearnRow content control h b x answer h' → HeldSound n h'
@@ -268,6 +293,8 @@ module _ {D : Type 0} (content : D → Content) (control : D → Control call_co
         up = λ f is. up;
         leads = λ f is. last ∙ ap (λ (m : ℕ). Some m) (one epoch f is);
         fits = λ f is. subst (λ (m : ℕ). m < 2 ^ 31) (one epoch f is) s.epoch;
+        past = λ f is. (let same = one epoch f is in omega (arith, same));
+        known = λ f is le. omega arith;
         down = λ down. up_down (is_open g.kept) up down;
       })
     where
@@ -282,37 +309,46 @@ module _ {D : Type 0} (content : D → Content) (control : D → Control call_co
   ack_sound n h b x (StaleEpoch e) h' at s w =
       let o = some_of _ (acking x.role) w.1 in
       let t = some_of _ (slice_get h.registry.replicas b) o.2 in
-      leaves_sound n h _ h' s t.2 (ack_moves h.registry b t.0 o.0 (stable_of x) (Err (Reg.StaleEpoch e)))
+      leaves_sound n h _ h' s t.2 (ack_moves h.registry b t.0 o.0 (stable_of x) (Err (Reg.StaleEpoch e))) (ack_marks h.registry b t.0 o.0 (stable_of x) (Err (Reg.StaleEpoch e)))
   ack_sound n h b x (OkAt mark) h' at s w =
       let o = some_of _ (acking x.role) w.1 in
       let t = some_of _ (slice_get h.registry.replicas b) o.2 in
       let r = some_of _ (after_ack h.registry b t.0 o.0 (stable_of x) (Done mark)) t.2 in
       let y = s.nodes b x at in
       let z = record x { known = min r.0.mark (end_of x) } in
-      subst (HeldSound n) (sym r.2) (moved_sound n (put_node h b z) r.0
-      (put_sound n h b z s (record { up = y.up; leads = y.leads; fits = y.fits; down = λ down. up_down (is_up x) w.0 down }))
-      (ack_moves h.registry b t.0 o.0 (stable_of x) (Done mark) r.0 r.1))
+      let moves = ack_moves h.registry b t.0 o.0 (stable_of x) (Done mark) r.0 r.1 in
+      let later = epoch_up h.registry r.0 moves in
+      subst (HeldSound n) (sym r.2) (put_sound n (record h { registry = r.0 }) b z
+      (moved_sound n h r.0 s moves (ack_marks h.registry b t.0 o.0 (stable_of x) (Done mark) r.0 r.1))
+      (record {
+        up = y.up;
+        leads = y.leads;
+        fits = y.fits;
+        past = λ e is. (let was = y.past e is in omega (arith, was, later));
+        known = λ e is le. omega arith;
+        down = λ down. up_down (is_up x) w.0 down;
+      }))
   ack_sound n h b x other h' at s w = elim w [ ]
 
   shrink_sound : (n : ℕ) (h : Held D) (b : ℕ) (answer : Answer) (h' : Held D) → HeldSound n h → ShrinkRow h b answer h' → HeldSound n h'
-  shrink_sound n h b NotInSync h' s w = let t = some_of _ (slice_get h.registry.replicas b) w in leaves_sound n h _ h' s t.2 (shrink_moves h.registry b t.0 (Err Reg.NotInSync))
-  shrink_sound n h b IsLeader h' s w = let t = some_of _ (slice_get h.registry.replicas b) w in leaves_sound n h _ h' s t.2 (shrink_moves h.registry b t.0 (Err Reg.IsLeader))
-  shrink_sound n h b Ok h' s w = let t = some_of _ (slice_get h.registry.replicas b) w in leaves_sound n h _ h' s t.2 (shrink_moves h.registry b t.0 (Done tt))
+  shrink_sound n h b NotInSync h' s w = let t = some_of _ (slice_get h.registry.replicas b) w in leaves_sound n h _ h' s t.2 (shrink_moves h.registry b t.0 (Err Reg.NotInSync)) (shrink_marks h.registry b t.0 (Err Reg.NotInSync))
+  shrink_sound n h b IsLeader h' s w = let t = some_of _ (slice_get h.registry.replicas b) w in leaves_sound n h _ h' s t.2 (shrink_moves h.registry b t.0 (Err Reg.IsLeader)) (shrink_marks h.registry b t.0 (Err Reg.IsLeader))
+  shrink_sound n h b Ok h' s w = let t = some_of _ (slice_get h.registry.replicas b) w in leaves_sound n h _ h' s t.2 (shrink_moves h.registry b t.0 (Done tt)) (shrink_marks h.registry b t.0 (Done tt))
   shrink_sound n h b other h' s w = elim w [ ]
 
   expand_sound : (n : ℕ) (h : Held D) (b : ℕ) (x : Node D) (answer : Answer) (h' : Held D) → HeldSound n h → ExpandRow h b x answer h' → HeldSound n h'
-  expand_sound n h b x DownBroker h' s w = let t = some_of _ (slice_get h.registry.replicas b) w in leaves_sound n h _ h' s t.2 (expand_moves h.registry b t.0 (is_up x) (Err Reg.DownBroker))
-  expand_sound n h b x (Behind ack mark) h' s w = let t = some_of _ (slice_get h.registry.replicas b) w in leaves_sound n h _ h' s t.2 (expand_moves h.registry b t.0 (is_up x) (Err (Reg.Behind ack mark)))
-  expand_sound n h b x Ok h' s w = let t = some_of _ (slice_get h.registry.replicas b) w in leaves_sound n h _ h' s t.2 (expand_moves h.registry b t.0 (is_up x) (Done tt))
+  expand_sound n h b x DownBroker h' s w = let t = some_of _ (slice_get h.registry.replicas b) w in leaves_sound n h _ h' s t.2 (expand_moves h.registry b t.0 (is_up x) (Err Reg.DownBroker)) (expand_marks h.registry b t.0 (is_up x) (Err Reg.DownBroker))
+  expand_sound n h b x (Behind ack mark) h' s w = let t = some_of _ (slice_get h.registry.replicas b) w in leaves_sound n h _ h' s t.2 (expand_moves h.registry b t.0 (is_up x) (Err (Reg.Behind ack mark))) (expand_marks h.registry b t.0 (is_up x) (Err (Reg.Behind ack mark)))
+  expand_sound n h b x Ok h' s w = let t = some_of _ (slice_get h.registry.replicas b) w in leaves_sound n h _ h' s t.2 (expand_moves h.registry b t.0 (is_up x) (Done tt)) (expand_marks h.registry b t.0 (is_up x) (Done tt))
   expand_sound n h b x other h' s w = elim w [ ]
 
   raise_sound : (n : ℕ) (h : Held D) (b : ℕ) (x : Node D) (wanted : ℕ) (answer : Answer) (h' : Held D) → HeldSound n h → RaiseRow h b x wanted answer h' → HeldSound n h'
   raise_sound n h b x wanted Down h' s w = same n h h' w.1 s
   raise_sound n h b x wanted NotLeader h' s w = same n h h' w.2 s
-  raise_sound n h b x wanted (StaleEpoch e) h' s w = leaves_sound n h _ h' s w.1.2 (raise_moves h.registry w.1.0 wanted (Err (Reg.StaleEpoch e)))
-  raise_sound n h b x wanted (NotAbove start) h' s w = leaves_sound n h _ h' s w.1.2 (raise_moves h.registry w.1.0 wanted (Err (Reg.NotAbove start)))
-  raise_sound n h b x wanted (AboveMark mark) h' s w = leaves_sound n h _ h' s w.1.2 (raise_moves h.registry w.1.0 wanted (Err (Reg.AboveMark mark)))
-  raise_sound n h b x wanted (OkAt start) h' s w = leaves_sound n h _ h' s w.1.2 (raise_moves h.registry w.1.0 wanted (Done start))
+  raise_sound n h b x wanted (StaleEpoch e) h' s w = leaves_sound n h _ h' s w.1.2 (raise_moves h.registry w.1.0 wanted (Err (Reg.StaleEpoch e))) (raise_marks h.registry w.1.0 wanted (Err (Reg.StaleEpoch e)))
+  raise_sound n h b x wanted (NotAbove start) h' s w = leaves_sound n h _ h' s w.1.2 (raise_moves h.registry w.1.0 wanted (Err (Reg.NotAbove start))) (raise_marks h.registry w.1.0 wanted (Err (Reg.NotAbove start)))
+  raise_sound n h b x wanted (AboveMark mark) h' s w = leaves_sound n h _ h' s w.1.2 (raise_moves h.registry w.1.0 wanted (Err (Reg.AboveMark mark))) (raise_marks h.registry w.1.0 wanted (Err (Reg.AboveMark mark)))
+  raise_sound n h b x wanted (OkAt start) h' s w = leaves_sound n h _ h' s w.1.2 (raise_moves h.registry w.1.0 wanted (Done start)) (raise_marks h.registry w.1.0 wanted (Done start))
   raise_sound n h b x wanted other h' s w = elim w [ ]
 
   -- followers

@@ -11,6 +11,7 @@ pub mod Advancing
 pub mod TurnSound
 pub mod WorldSound
 pub mod Rooms
+pub mod Rising
 pub mod WorldFresh
 pub mod CentralLaw
 pub mod Resolving

@@ -34,6 +34,7 @@ use Rattle.broker_log.specs.Seen.{Kept as KeptLog, Stays}
 use Rattle.partition_seen.specs.declared.begun.Begun.{Begun}
 use Rattle.partition_seen.specs.declared.begun.Turned.TheVariants as turned
 use Rattle.partition_seen.proofs.BoolTests.{some_of}
+use Rattle.registry.specs.declared.registry.Registry.{Registry}
 use Rattle.partition_turns.specs.declared.held.Node.{Node}
 use Rattle.partition_turns.specs.declared.held.Held.{Held}
 use Rattle.partition_turns.specs.Held.{is_up, line_of, local_of}
@@ -64,11 +65,13 @@ module _ {D : Type 0} where
     pub up : is_up x' ≡ is_up x
     pub line : line_of x' ≡ line_of x
 
-  alike_sound : (x x' : Node D) → NodeSound x → Alike x x' → NodeSound x'
+  alike_sound : {r : Registry} (x x' : Node D) → NodeSound r x → Alike x x' → NodeSound r x'
   alike_sound x x' s k = record {
     up = λ e is. k.up ∙ s.up e (sym k.role ∙ is);
     leads = λ e is. ap last_epoch k.line ∙ s.leads e (sym k.role ∙ is);
     fits = λ e is. s.fits e (sym k.role ∙ is);
+    past = λ e is. s.past e (sym k.role ∙ is);
+    known = λ e is le. (let was = s.known e (sym k.role ∙ is) le in let same = k.known in omega (arith, was, same));
     down = λ down. let d = s.down (sym k.up ∙ down) in (k.role ∙ d.0, k.known ∙ d.1);
   }
 

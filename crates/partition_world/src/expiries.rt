@@ -4,9 +4,11 @@
 //! there is none, retention may raise the log start. From the third on the expiry makes a call of a device in each. A broker
 //! that has stopped, or has another role, has lost its lead.
 
-ghost use Rattle.std.specs.Prelude.{◌≡◌, ◌<◌, true, length, IfOk, OnErr};
+ghost use Rattle.std.specs.Prelude.{◌≡◌, ◌<◌, ◌≤◌, ℕ, true, length, IfOk, IfSome, OnErr};
+ghost use Rattle.plain_log.specs.declared.state.Role.TheVariants.{Leads};
 ghost use Rattle.plain_log.specs.State.{leads};
 ghost use Rattle.partition_turns.specs.Held.{AtNode, is_up};
+ghost use Rattle.partition_turns.specs.Sound.{HeldSound};
 ghost use Rattle.partition_world.specs.Tier.{AtSide, Halts};
 ghost use Rattle.partition_world.specs.TurnsOfExpiry.{rises_to, RaiseRow, ExpireFirstRow, ExpireOnRow, DeleteOnRow, WantsForDeletion};
 
@@ -15,8 +17,8 @@ use crate::seat::{Outcome, expiry_outcome};
 use crate::tier::{Side, Tier};
 use disk_model::Disk;
 use expiry_task::{
-    Doomed, Next as Deletion, end_behind, end_from, expiry_turn, find_uncopied, raised_to,
-    rest_behind,
+    Doomed, Next as Deletion, a_log_start_rises_up_to_the_known_mark, end_behind, end_from,
+    expiry_turn, find_uncopied, raised_to, rest_behind,
 };
 use meta_log::MetaLog;
 use object_store::Store;
@@ -62,23 +64,41 @@ fn rises_to<D: Disk>(
     )
 }
 
-/// Raises the log start for a leader.
-fn raise<D: Disk>(held: &mut Held<D>, role: Role, start: u64) -> Result<Answer, AllocError>
-    requires { leads role ≡ true }
-    ensures row { IfOk result (λ answer. RaiseRow held.old role start answer held.new) }
-    ensures err { OnErr result (held.new ≡ held.old) }
+/// Where the log start comes to, which is above the log start, and at most the high watermark that the broker knows.
+fn rises_within<D: Disk>(
+    alloc: Global,
+    held: &Held<D>,
+    node: &Node<D>,
+    side: &Side,
+    keep: Keep,
+) -> Result<Option<u64>, AllocError>
+    requires { is_up node.now ≡ true }
+    ensures is { IfOk result (λ start. start ≡ rises_to held.now node.now side.now keep) }
+    ensures within { IfOk result (λ start. IfSome start (λ n. (held.now.registry.start < n) × (n ≤ node.now.known))) }
+{
+    a_log_start_rises_up_to_the_known_mark();
+    let Some(line) = node.log.line() else {
+        unreachable!()
+    };
+    let (_begins, _entries) = (line.entries(), side.view.entries());
+    rises_to(alloc, held, node, side, keep)
+}
+
+/// Raises the log start for a leader. Retention raises it above the log start, and at most to the high watermark that the leader
+/// knows, so it is refused only where another epoch has begun.
+fn raise<D: Disk>(held: &mut Held<D>, role: Role, start: u64) -> Answer
+    requires leads { leads role ≡ true }
+    requires above { held.old.registry.start < start }
+    requires within { (e : ℕ) → role ≡ Leads e → held.old.registry.epoch ≤ e → start ≤ held.old.registry.mark }
+    ensures { RaiseRow held.old role start result held.new }
 {
     let Some(epoch) = leading(role) else {
         unreachable!()
     };
     match held.registry.raise(epoch, start) {
-        Ok(start) => Ok(Answer::Raised(start)),
-        Err(RegRefusal::StaleEpoch { current }) => Ok(Answer::StaleEpoch(current as u64)),
-        // Retention raises it above the log start, and to the mark that the broker knows at most. So this
-        // comes only where that mark is above the high watermark: against `KnownSafe` of the plain log's
-        // safety, a rule that no turn is given. No row has an answer for it; want of memory is in none, and
-        // leaves all as it was.
-        Err(_) => Err(AllocError),
+        Ok(start) => Answer::Raised(start),
+        Err(RegRefusal::StaleEpoch { current }) => Answer::StaleEpoch(current as u64),
+        Err(_) => unreachable!(),
     }
 }
 
@@ -112,6 +132,7 @@ impl<S: Store, M: MetaLog> Tier<S, M> {
         requires node { b < length held.old.nodes }
         requires side { b < length self.now.sides }
         requires leads { leads noted.now.role ≡ true }
+        requires sound { HeldSound (length held.old.nodes) held.old }
         ensures row { IfOk result (λ outcome. AtNode held.old b (λ x. AtSide self.now b (λ side.
             ExpireOnRow partition held.old x side noted.now keep outcome held.new))) }
         ensures err { OnErr result (held.new ≡ held.old) }
@@ -128,11 +149,11 @@ impl<S: Store, M: MetaLog> Tier<S, M> {
                 packed: entry.packed,
             }));
         }
-        let Some(start) = rises_to(alloc, held, node, side, keep)? else {
+        let Some(start) = rises_within(alloc, held, node, side, keep)? else {
             return Ok(Outcome::Answers(Answer::Kept));
         };
         let role = node.role;
-        Ok(Outcome::Answers(raise(held, role, start)?))
+        Ok(Outcome::Answers(raise(held, role, start)))
     }
 
     /// Takes a later turn of an expiry: one of the deletion of its remote segment.

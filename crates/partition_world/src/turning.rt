@@ -140,6 +140,7 @@ impl<S: Store, M: MetaLog> Tier<S, M> {
     ) -> Result<Outcome, AllocError>
         requires node { CanStop held.old order.now.broker.0 }
         requires side { order.now.broker.0 < length self.old.sides }
+        requires sound { HeldSound (length held.old.nodes) held.old }
         requires work { IsWorkFor order.now.command (Noted noted.now) }
         ensures row { IfOk result (λ outcome. AtNode held.old order.now.broker.0 (λ x. AtSide self.old order.now.broker.0 (λ side.
             NotedRow D.Disk S.Store M.MetaLog partition config held.old self.old order.now.broker.0 x side noted.now order.now.command outcome held.new self.new))) }
