@@ -16,6 +16,8 @@ pub mod SoundLaw
 pub mod Told
 pub mod LastingDisks
 pub mod LastingRows
+pub mod StoppingRows
+pub mod Unstopped
 pub mod CountingDisks
 pub mod CountingRows
 pub mod CalmRows

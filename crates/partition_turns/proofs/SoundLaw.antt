@@ -103,7 +103,7 @@ module _ {D : Type 0} where
 
   -- the epoch hasn't fallen
   epoch_up : (old r : Registry) → Moves old r → old.epoch ≤ r.epoch
-  epoch_up old r m = elim m.epoch [ | inl k ↦ (let is = k.epoch in omega (arith, is)) | inr k ↦ (let is = k.epoch in omega (arith, is)) ]
+  epoch_up old r m = elim m.epoch [ inl k ↦ (let is = k.epoch in omega (arith, is)) | inr k ↦ (let is = k.epoch in omega (arith, is)) ]
 
   -- the registry has
   moved_sound : (n : ℕ) (h : Held D) (r : Registry) → HeldSound n h → Moves h.registry r → MarkStays h.registry r → HeldSound n (record h { registry = r })

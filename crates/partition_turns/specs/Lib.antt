@@ -5,6 +5,7 @@ pub mod TurnsOfElections
 pub mod TurnsOfFollowers
 pub mod Turns
 pub mod Sound
+pub mod Stopping
 pub mod Disks
 pub mod Faults
 pub mod Calm

@@ -106,14 +106,6 @@ impl<D: Disk> Node<D> {
 }
 
 impl<D: Disk> Held<D> {
-    /// Whether a broker can stop once more. A count of stops that stood still would let a command of before a stop go on.
-    pub fn can_stop(&self, b: usize) -> bool
-        requires { b < length self.now.nodes }
-        ensures { IsTrue result ↔ CanStop self.now b }
-    {
-        self.nodes.get(b).stops < u64::MAX
-    }
-
     /// What a seat keeps of a command of a broker that begins.
     pub fn notes(&self, alloc: Global, b: usize) -> Begun
         requires { b < length self.now.nodes }

@@ -10,6 +10,7 @@ pub mod ExpiryAdvances
 pub mod Advancing
 pub mod TurnSound
 pub mod WorldSound
+pub mod Counts
 pub mod Rooms
 pub mod Rising
 pub mod WorldFresh

@@ -133,7 +133,7 @@ module _ {D S M : Type 0} (disk : DiskGhosts D) (store : StoreGhosts S) (meta : 
       map_set seat_seen desk place after ∙ (ap (λ k. slice_set (desk_seen desk) place k) same ∙ set_same (desk_seen desk) place (seat_seen seat) (map_get seat_seen desk place seat to))
 
   -- the entries that are left after a turn
-  entries_after : (lists : List ActorList) (p : PartitionId) (config : Config) (h : Held D) (t : Tier S M) (h' : Held D) (t' : Tier S M) (desk : List Seat) (place : ℕ) (l : ActorList) (seat : Seat) (order : Order) (outcome : Outcome)
+  pub entries_after : (lists : List ActorList) (p : PartitionId) (config : Config) (h : Held D) (t : Tier S M) (h' : Held D) (t' : Tier S M) (desk : List Seat) (place : ℕ) (l : ActorList) (seat : Seat) (order : Order) (outcome : Outcome)
       → slice_get lists place ≡ Some l → slice_get desk place ≡ Some seat → seat.number < length l.orders
       → TurnRow disk store meta p config h t order.broker.0 seat.work order.command outcome h' t'
       → turns_left lists (desk_seen (slice_set desk place (seat_after seat outcome))) + told_count outcome ≤ turns_left lists (desk_seen desk)

@@ -1,5 +1,5 @@
 -- What a world keeps over any devices: what its turns need to be carried out.
-use Rattle.std.specs.Prelude.{◌≡◌, ◌≤◌, ℕ, true, List, Some, length, slice_get}
+use Rattle.std.specs.Prelude.{◌≡◌, ◌≤◌, ◌+◌, ℕ, true, List, [], ◌∷◌, Some, length, slice_get}
 use Rattle.plain_log.specs.declared.command.ActorList.{ActorList}
 use Rattle.plain_log.specs.declared.command.Command.{Command}
 use Rattle.plain_log.specs.declared.command.Command.TheVariants.{Join, Follow, Copy, Trim, Expire, Fetch, Offset}
@@ -12,6 +12,7 @@ use Rattle.partition_seen.specs.declared.begun.Begun.{Begun}
 use Rattle.partition_seen.specs.Sound.{turns_left as entries_left}
 use Rattle.partition_turns.specs.declared.held.Held.{Held}
 use Rattle.partition_turns.specs.Sound.{HeldSound}
+use Rattle.partition_turns.specs.Stopping.{HaveStopped}
 use Rattle.tier_fetch.specs.Turns.{IsFor}
 use Rattle.tier_fetch.specs.declared.turn.Next.{Next}
 use Rattle.time_find.specs.declared.turn.Next.{Next as Dating}
@@ -70,3 +71,26 @@ pub record IsSound {D : Type 0} (config : Config) (lists : List ActorList) (h : 
   pub seats : length desk ≡ length lists
   pub works : AreWorks lists desk
   pub room : entries_left lists (desk_seen desk) ≤ free
+
+-- one for a work that has begun and chosen nothing yet
+abbrev pub waits : Work → ℕ
+waits (Noted g) = 1
+waits other = 0
+
+-- how many seats have such a work
+abbrev pub waiting : List Seat → ℕ
+waiting [] = 0
+waiting (seat ∷ desk) = waits seat.work + waiting desk
+
+-- no broker has tried more copies than so many
+abbrev pub HaveTried : ℕ → List Side → Type 0
+HaveTried m sides = (b : ℕ) (side : Side) → slice_get sides b ≡ Some side → side.attempt ≤ m
+
+-- the journal has so many entries, and with those that are left never more than 64 actors with 2^32 orders of two entries each. It
+-- bounds how often a broker has stopped, since a command that stops one is answered, and how many copies one has tried, since each
+-- has begun
+pub record AreCounted {D : Type 0} (lists : List ActorList) (h : Held D) (sides : List Side) (desk : List Seat) (entered : ℕ)
+    : Type 0 where
+  pub few : entered + entries_left lists (desk_seen desk) ≤ 549755813888
+  pub stopped : HaveStopped entered h.nodes
+  pub tried : (m : ℕ) × HaveTried m sides × (m + waiting desk ≤ entered)

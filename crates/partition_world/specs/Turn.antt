@@ -8,7 +8,6 @@ use Rattle.plain_log.specs.declared.command.ActorList.{ActorList}
 use Rattle.plain_log.specs.declared.command.Order.{Order}
 use Rattle.partition_seen.specs.declared.seat.Stepped.{Stepped}
 use Rattle.partition_seen.specs.declared.seat.Stepped.TheVariants.{Ran, Done, Nothing, NoMemory}
-use Rattle.partition_turns.specs.Held.{CanStop}
 use Rattle.partition_turns.specs.Turns.{takes_memory}
 use Rattle.partition_world.specs.declared.seat.Outcome.{Outcome}
 use Rattle.partition_world.specs.declared.seat.Outcome.TheVariants.{Answers}
@@ -51,7 +50,7 @@ module _ {D S M : Type 0} (disk : DiskGhosts D) (store : StoreGhosts S) (meta : 
     pub lists : w'.lists ≡ w.lists
 
   -- there was no memory for the actor's next order: nothing that is seen has changed, but for what the turn's own calls of the tier
-  -- may leave. The command is one that takes memory, unless its broker has stopped 2^64 - 1 times, for which no run is long enough
+  -- may leave. The command is one that takes memory
   pub record StaysWhole (w : Whole D S M) (a : ℕ) (w' : Whole D S M) : Type 0 where
     pub place : ℕ
     pub list : ActorList
@@ -60,7 +59,7 @@ module _ {D S M : Type 0} (disk : DiskGhosts D) (store : StoreGhosts S) (meta : 
     pub next : IsNext w a place list seat order
     pub node : order.broker.0 < length w.held.nodes
     pub tier : StaysTier disk store meta w.partition w.held w.tier order.broker.0 seat.work order.command w'.held w'.tier
-    pub wants : CanStop w.held order.broker.0 → IsTrue (takes_memory order.command)
+    pub wants : IsTrue (takes_memory order.command)
     pub fields : w' ≡ record w { held = w'.held; tier = w'.tier }
 
   -- what a step of the actor comes to, by what it answers

@@ -105,6 +105,7 @@ fn read_next<D: Disk>(
 ) -> Result<Outcome, AllocError>
     requires up { is_up node.old ≡ true }
     requires next { IsSomeAnd (first_past offset (closed_in node.old.log)) (λ segment. Unit {0}) }
+    requires tries { side.old.attempt < 18446744073709551615 }
     ensures row { IfOk result (λ outcome. ReadRow D.Disk partition broker.0 node.old side.old offset outcome node.new side.new) }
     ensures form { IfOk result (IsPackedBy packed) }
     ensures err { OnErr result (ReadsQuietly D.Disk node.old node.new) }
@@ -119,7 +120,7 @@ fn read_next<D: Disk>(
         unreachable!()
     };
     match node.log.closed_from(offset) {
-        Ok(Some(segment)) if next < u64::MAX => {
+        Ok(Some(segment)) => {
             let interval = settings.index_interval;
             let copying = copying(alloc, node, partition, id, segment, interval, packed)?;
             side.count(incarnation);
@@ -129,8 +130,7 @@ fn read_next<D: Disk>(
         Err(ReadRefusal::Damaged { file, at }) => {
             Ok(Outcome::Answers(Answer::Damaged(Place::File(file), at)))
         }
-        // No attempt follows the last one.
-        Ok(Some(_)) | Err(ReadRefusal::NoMemory) => Err(AllocError),
+        Err(ReadRefusal::NoMemory) => Err(AllocError),
         Ok(None) => unreachable!(),
     }
 }
@@ -204,6 +204,7 @@ impl<S: Store, M: MetaLog> Tier<S, M> {
     ) -> Result<Outcome, AllocError>
         requires node { broker.0 < length held.old.nodes }
         requires side { broker.0 < length self.old.sides }
+        requires tries { AtSide self.old broker.0 (λ side. side.attempt < 18446744073709551615) }
         ensures row { IfOk result (λ outcome. AtNode held.old broker.0 (λ x. AtSide self.old broker.0 (λ side.
             ChooseRow D.Disk partition held.old self.old broker.0 x side noted.now outcome held.new self.new))) }
         ensures err { OnErr result (StaysHeld D.content D.control held.old held.new × (self.new ≡ self.old)) }
@@ -232,6 +233,7 @@ impl<S: Store, M: MetaLog> Tier<S, M> {
         requires node { AtNode held.old broker.0 (λ x. is_up x ≡ true) }
         requires next { AtNode held.old broker.0 (λ x. IsSomeAnd (first_past copied (closed_in x.log)) (λ segment. Unit {0})) }
         requires side { broker.0 < length self.old.sides }
+        requires tries { AtSide self.old broker.0 (λ side. side.attempt < 18446744073709551615) }
         ensures row { IfOk result (λ outcome. AtNode held.old broker.0 (λ x. AtSide self.old broker.0 (λ side.
             (x' : Broker D) × (side' : Knowledge) × ReadRow D.Disk partition broker.0 x side copied outcome x' side'
             × (held.new ≡ put_node held.old broker.0 x') × (self.new ≡ put_side self.old broker.0 side')))) }

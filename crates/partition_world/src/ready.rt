@@ -13,6 +13,7 @@ ghost use Rattle.partition_turns.specs.Sound.{HeldSound};
 ghost use Rattle.partition_turns.specs.Turns.{takes_memory};
 ghost use Rattle.partition_world.specs.Ready.{IsWantOf, IsWantOfCopy, Prepares};
 ghost use Rattle.partition_world.specs.Sound.{IsWorkFor};
+ghost use Rattle.partition_world.specs.Tier.{AtSide};
 ghost use Rattle.partition_world.specs.Turns.{TurnRow, StaysTier};
 
 use crate::desk::{set_seat, take_seat};
@@ -143,11 +144,13 @@ impl<S: Store, M: MetaLog> Tier<S, M> {
         requires fit { IsInRange order.now.command }
         requires place { place < length desk.old }
         requires work { IsSomeAnd (slice_get desk.old place) (λ seat. IsWorkFor order.now.command seat.work) }
+        requires stops { CanStop held.old order.now.broker.0 }
+        requires tries { AtSide self.old order.now.broker.0 (λ side. side.attempt < 18446744073709551615) }
         ensures row { IfOk result (λ outcome. IsSomeAnd (slice_get desk.old place) (λ seat. TurnRow D.Disk S.Store M.MetaLog partition
             config held.old self.old order.now.broker.0 seat.work order.now.command outcome held.new self.new)) }
         ensures err { OnErr result (IsSomeAnd (slice_get desk.old place) (λ seat. StaysTier D.Disk S.Store M.MetaLog partition
             held.old self.old order.now.broker.0 seat.work order.now.command held.new self.new)) }
-        ensures wants { OnErr result (CanStop held.old order.now.broker.0 → IsTrue (takes_memory order.now.command)) }
+        ensures wants { OnErr result (IsTrue (takes_memory order.now.command)) }
         ensures desk { desk.new ≡ desk.old }
     {
         let seat = take_seat(desk, place);

@@ -45,16 +45,15 @@ impl<S: Store, M: MetaLog> Tier<S, M> {
         requires sound { HeldSound (length held.old.nodes) held.old }
         requires fit { IsInRange order.now.command }
         requires work { IsWorkFor order.now.command work.old }
+        requires stops { CanStop held.old order.now.broker.0 }
+        requires tries { AtSide self.old order.now.broker.0 (λ side. side.attempt < 18446744073709551615) }
         ensures row { IfOk result (λ outcome. TurnRow D.Disk S.Store M.MetaLog partition config held.old self.old
             order.now.broker.0 work.old order.now.command outcome held.new self.new) }
         ensures same { work.new ≡ work.old }
         ensures err { OnErr result (StaysTier D.Disk S.Store M.MetaLog partition held.old self.old order.now.broker.0
             work.old order.now.command held.new self.new) }
-        ensures wants { OnErr result (CanStop held.old order.now.broker.0 → IsTrue (takes_memory order.now.command)) }
+        ensures wants { OnErr result (IsTrue (takes_memory order.now.command)) }
     {
-        if !held.can_stop(order.broker.0 as usize) {
-            return Err(AllocError);
-        }
         match work {
             Work::Idle => self.begin(alloc, order, known, held),
             Work::Noted(noted) => self.go_on(alloc, partition, config, order, noted, held),
@@ -142,6 +141,7 @@ impl<S: Store, M: MetaLog> Tier<S, M> {
         requires side { order.now.broker.0 < length self.old.sides }
         requires sound { HeldSound (length held.old.nodes) held.old }
         requires work { IsWorkFor order.now.command (Noted noted.now) }
+        requires tries { AtSide self.old order.now.broker.0 (λ side. side.attempt < 18446744073709551615) }
         ensures row { IfOk result (λ outcome. AtNode held.old order.now.broker.0 (λ x. AtSide self.old order.now.broker.0 (λ side.
             NotedRow D.Disk S.Store M.MetaLog partition config held.old self.old order.now.broker.0 x side noted.now order.now.command outcome held.new self.new))) }
         ensures err { OnErr result (StaysOr D.Disk held.old self.old order.now.broker.0 (λ x side.

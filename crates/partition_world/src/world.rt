@@ -58,9 +58,9 @@ pub struct World<D: Disk, S: Store, M: MetaLog> {
 }
 
 impl<D: Disk, S: Store, M: MetaLog> Model for World<D, S, M> {
-    ghost use Rattle.std.specs.Prelude.{◌≡◌, ◌≤◌, [], vec_capacity};
+    ghost use Rattle.std.specs.Prelude.{◌≡◌, ◌≤◌, [], length, vec_capacity};
     ghost use Rattle.partition_world.specs.Whole.{Whole};
-    ghost use Rattle.partition_world.specs.Sound.{IsSound};
+    ghost use Rattle.partition_world.specs.Sound.{IsSound, AreCounted};
 
     ghost Value = { Whole D S M };
 
@@ -75,7 +75,8 @@ impl<D: Disk, S: Store, M: MetaLog> Model for World<D, S, M> {
     } };
 
     ghost invariant = { λ w. IsSound w.config w.lists w.held w.tier.sides w.desk w.journal.room
-        × (w.room.items ≡ []) × (w.config.brokers ≤ vec_capacity w.room) };
+        × (w.room.items ≡ []) × (w.config.brokers ≤ vec_capacity w.room)
+        × AreCounted w.lists w.held w.tier.sides w.desk (length w.journal.items) };
 }
 
 impl<D: Disk, S: Store, M: MetaLog> World<D, S, M> {

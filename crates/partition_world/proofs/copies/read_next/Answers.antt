@@ -10,6 +10,7 @@ use Rattle.broker_log.specs.Turns.{IsSegmentOf}
 use Rattle.tier_safe.specs.Views.{IsIdOf}
 use Rattle.partition_world.specs.Tier.{next_of, counted}
 use Rattle.partition_turns.proofs.Writes.{never}
+use Rattle.partition_world.proofs.Counts.{next_low}
 use Rattle.partition_world.proofs.Dispatch.{interval_up, has_read}
 use Rattle.partition_world.proofs.copies.read_next.Goals as goal
 
@@ -35,7 +36,7 @@ returns-in_ok-copying-in-Ok-Some-clause-row g c =
         partition_is = copy.partition;
         id = subst (λ (o : Option ℕ). IsSomeAnd o (λ i. IsIdOf copied.id c.args.partition.0 c.args.broker.0 i (next_of c.args.side.now i))) c.in-Some.ensures
             (rw copy.id (subst (λ (n : ℕ). IsIdOf c.id_of-id.result c.args.partition.0 c.args.broker.0 i n) c.next-next.ensures c.id_of-id.ensures));
-        few = subst (λ (o : Option ℕ). IsSomeAnd o (λ i. next_of c.args.side.now i < 2 ^ 64 - 1)) c.in-Some.ensures (omega (arith, c.next-next.ensures, c.if-next-lt18446744073709551615.true));
+        few = subst (λ (o : Option ℕ). IsSomeAnd o (λ i. next_of c.args.side.now i < 2 ^ 64 - 1)) c.in-Some.ensures (let low = next_low c.args.side.now i in omega (arith, c.next-next.ensures, low, c.requires.tries));
         line_is = copy.line ∙ ap (λ (o : Option (List (ℕ × ℕ))). unwrap_or o []) c.closed_from.ensures.stays.line;
         interval_is = interval_up x.log copied.interval c.in-Some-settings.settings c.requires.up c.in-Some-settings.ensures copy.interval;
       },

@@ -4,10 +4,11 @@ use Rattle.partition_seen.specs.Sound.{turns_left}
 use Rattle.partition_seen.proofs.FreshSound.{length_replicate}
 use Rattle.partition_turns.proofs.FreshDisks.{refuses_same}
 use Rattle.partition_turns.proofs.FreshSound.{fresh_sound}
+use Rattle.partition_turns.proofs.Unstopped.{fresh_stops}
 use Rattle.partition_world.specs.declared.tier.Side.{Side}
 use Rattle.partition_world.specs.Fresh.{fresh_side}
 use Rattle.partition_world.proofs.Rooms.{few_entries}
-use Rattle.partition_world.proofs.WorldFresh.{fresh_seats, fresh_works, fresh_left}
+use Rattle.partition_world.proofs.WorldFresh.{fresh_seats, fresh_works, fresh_left, fresh_counted}
 use Rattle.partition_world.proofs.world.World.made.Goals as goal
 
 pub returns-in_default-clause-err : goal.returns-in_default-clause-err
@@ -36,4 +37,7 @@ invariant_of-result g c =
       },
       c.in-Ok-fresh.ensures.none,
       omega (arith, disks.0, disks.1, c.requires.count, c.fresh.ensures.room),
+      fresh_counted c.args.config c.args.lists c.in-Ok-fresh.held c.arm.new.self.sides c.in-Ok.desk (length c.in-Ok.journal.items) count c.args.config.brokers c.requires.fit
+          (fresh_stops g.D.Disk.control c.args.devices.disks.items c.in-Ok-fresh.held c.in-Ok-fresh.ensures.held)
+          (c.arm.ensures.sides ∙ c.in-Ok-fresh_sides.ensures) books.desk_is (ap (λ k. length k) books.empty),
     )

@@ -3,10 +3,11 @@ use Rattle.plain_log.specs.declared.command.ActorList.{ActorList}
 use Rattle.partition_seen.specs.Sound.{turns_left}
 use Rattle.partition_seen.proofs.FreshSound.{length_replicate}
 use Rattle.partition_turns.proofs.ColdDisks.{cold_sound}
+use Rattle.partition_turns.proofs.Unstopped.{cold_stops}
 use Rattle.partition_world.specs.declared.tier.Side.{Side}
 use Rattle.partition_world.specs.Fresh.{fresh_side}
 use Rattle.partition_world.proofs.Rooms.{few_entries}
-use Rattle.partition_world.proofs.WorldFresh.{fresh_seats, fresh_works, fresh_left}
+use Rattle.partition_world.proofs.WorldFresh.{fresh_seats, fresh_works, fresh_left, fresh_counted}
 use Rattle.partition_world.proofs.world.World.made_anew.Goals as goal
 
 pub fresh_books-requires : goal.fresh_books-requires
@@ -29,4 +30,7 @@ invariant_of-result g c =
       },
       c.in-Ok-reopen.ensures.none,
       omega (arith, disks.0, disks.1, c.requires.count, c.reopen.ensures.room),
+      fresh_counted c.args.config c.args.lists c.in-Ok-reopen.held c.arm.new.self.sides c.in-Ok.desk (length c.in-Ok.journal.items) count c.args.config.brokers c.requires.fit
+          (cold_stops g.D.Disk.content g.D.Disk.control c.args.config.settings c.args.registry c.args.devices.disks.items c.in-Ok-reopen.held c.in-Ok-reopen.ensures.held)
+          (c.arm.ensures.sides ∙ c.in-Ok-fresh_sides.ensures) books.desk_is (ap (λ k. length k) books.empty),
     )

@@ -1,9 +1,10 @@
-use Rattle.std.proofs.Common.{◌≡◌, ◌++◌, refl, arith, slice_set}
+use Rattle.std.proofs.Common.{◌≡◌, ◌++◌, refl, arith, length, slice_set}
 use Rattle.log_terms.proofs.Lists.{within}
 use Rattle.partition_seen.proofs.Lists.{some_at}
 use Rattle.partition_world.specs.Seats.{seat_after, told_of}
 use Rattle.partition_world.specs.Turns.{TurnRow, StaysTier}
 use Rattle.partition_world.proofs.Halting.{stays_some}
+use Rattle.partition_world.proofs.Counts.{may_stop, may_try, told_more, counted_after, counted_after_none}
 use Rattle.partition_world.proofs.WorldSound.{at_end, list_at, order_at, room_at, sound_after, sound_after_none, steps_of}
 use Rattle.partition_world.proofs.world.World.take_turn.Goals as goal
 
@@ -34,6 +35,20 @@ turn_at-requires-clause-place g c = within c.self.inside.desk _ c.get-seat.resul
 pub turn_at-requires-clause-work : goal.turn_at-requires-clause-work
 turn_at-requires-clause-work g c = rw c.get-seat.ensures (c.self.invariant.0.works c.in-Some.place c.get-list.result.now c.get-seat.result.now c.get-order.result.now c.get-list.ensures c.get-seat.ensures c.get-order.ensures)
 
+pub turn_at-requires-clause-stops : goal.turn_at-requires-clause-stops
+turn_at-requires-clause-stops g c =
+    let order = order_at g.D.Disk g.S.Store g.M.MetaLog c.self.inside.config c.self.inside.lists c.self.inside.held c.self.inside.tier.sides c.self.inside.desk c.self.inside.journal.room c.in-Some.place c.get-seat.result.now.number
+    c.get-list.result.now c.get-order.result.now c.self.invariant.0 c.get-list.ensures c.get-order.ensures in
+    may_stop c.self.inside.lists c.self.inside.held c.self.inside.tier.sides c.self.inside.desk (length c.self.inside.journal.items) c.get-order.result.now.broker.0 c.self.invariant.3
+    (omega (arith, order.broker, c.self.invariant.0.held.count))
+
+pub turn_at-requires-clause-tries : goal.turn_at-requires-clause-tries
+turn_at-requires-clause-tries g c =
+    let order = order_at g.D.Disk g.S.Store g.M.MetaLog c.self.inside.config c.self.inside.lists c.self.inside.held c.self.inside.tier.sides c.self.inside.desk c.self.inside.journal.room c.in-Some.place c.get-seat.result.now.number
+    c.get-list.result.now c.get-order.result.now c.self.invariant.0 c.get-list.ensures c.get-order.ensures in
+    may_try c.self.inside.lists c.self.inside.held c.self.inside.tier.sides c.self.inside.desk (length c.self.inside.journal.items) c.get-order.result.now.broker.0 c.self.invariant.3
+    (omega (arith, order.broker, c.self.invariant.0.sided))
+
 pub enter-requires-clause-place : goal.enter-requires-clause-place
 enter-requires-clause-place g c = rw c.turn_at.ensures.desk (within c.self.inside.desk _ c.get-seat.result.now c.get-seat.ensures)
 
@@ -51,12 +66,17 @@ pub invariant_of-self : goal.invariant_of-self
 invariant_of-self g c =
     let desk = some_at (λ seat. c.enter.new.desk ≡ slice_set c.self.inside.desk c.in-Some.place (seat_after seat c.in-Ok.outcome)) c.self.inside.desk c.in-Some.place c.get-seat.result.now (rw c.turn_at.ensures.desk at c.enter.ensures.desk) c.get-seat.ensures in
     let row = some_at (λ seat. TurnRow g.D.Disk g.S.Store g.M.MetaLog c.self.inside.partition c.self.inside.config c.self.inside.held c.self.inside.tier c.get-order.result.now.broker.0 seat.work c.get-order.result.now.command c.in-Ok.outcome c.turn_at.new.held c.turn_at.new.self)
-    c.self.inside.desk c.in-Some.place c.get-seat.result.now c.in-Ok.ensures.row c.get-seat.ensures in (
+    c.self.inside.desk c.in-Some.place c.get-seat.result.now c.in-Ok.ensures.row c.get-seat.ensures in
+    let entered = some_at (λ seat. c.enter.new.journal.items ≡ c.self.inside.journal.items ++ told_of c.get-list.result.now.actor seat.number c.get-order.result.now.command c.in-Ok.outcome) c.self.inside.desk c.in-Some.place c.get-seat.result.now (rw c.turn_at.ensures.desk at c.enter.ensures.entered) c.get-seat.ensures in (
       sound_after g.D.Disk g.S.Store g.M.MetaLog c.self.inside.config c.self.inside.lists c.self.inside.partition c.self.inside.held c.self.inside.tier c.turn_at.new.held c.turn_at.new.self c.self.inside.desk c.enter.new.desk c.self.inside.journal.room _ c.in-Some.place
           c.get-list.result.now c.get-seat.result.now c.get-order.result.now c.in-Ok.outcome c.self.invariant.0 c.get-list.ensures c.get-seat.ensures c.get-order.ensures (omega (arith, c.len.ensures, c.if-number-len.false))
           row desk c.enter.ensures.room,
       c.self.invariant.1,
       c.self.invariant.2,
+      counted_after g.D.Disk g.S.Store g.M.MetaLog c.self.inside.config c.self.inside.lists c.self.inside.partition c.self.inside.held c.self.inside.tier c.turn_at.new.held c.turn_at.new.self c.self.inside.desk c.enter.new.desk
+          (length c.self.inside.journal.items) (length c.enter.new.journal.items) c.in-Some.place c.get-list.result.now c.get-seat.result.now c.get-order.result.now c.in-Ok.outcome c.self.invariant.3 c.get-list.ensures c.get-seat.ensures
+          (omega (arith, c.len.ensures, c.if-number-len.false)) row desk
+          (told_more c.get-list.result.now.actor c.get-seat.result.now.number c.get-order.result.now.command c.in-Ok.outcome c.self.inside.journal.items c.enter.new.journal.items entered),
     )
 
 pub invariant_of-self-in-Err : goal.invariant_of-self-in-Err
@@ -69,6 +89,8 @@ invariant_of-self-in-Err g c =
           some,
       c.self.invariant.1,
       c.self.invariant.2,
+      counted_after_none g.D.Disk g.S.Store g.M.MetaLog c.self.inside.lists c.self.inside.held c.self.inside.tier c.get-order.result.now.broker.0 c.turn_at.new.held c.turn_at.new.self c.self.inside.desk (length c.self.inside.journal.items)
+          c.self.invariant.3 some,
     )
 
 pub returns-in-Ok : goal.returns-in-Ok
