@@ -3,7 +3,7 @@
 //! Each command has a method of its own, which makes its tests in their order. Where it finds no memory nothing that is
 //! seen has changed. A fault of a broker's disk in a write stops the broker.
 
-ghost use Rattle.std.specs.Prelude.{◌≡◌, ◌<◌, ◌≤◌, ◌+◌, ◌^◌, ◌↔◌, length, Some, None, IfOk, IfSome, OnErr, IsTrue};
+ghost use Rattle.std.specs.Prelude.{◌≡◌, ◌<◌, ◌≤◌, ◌+◌, ◌^◌, length, Some, None, IfOk, IfSome, OnErr, IsTrue};
 ghost use Rattle.epoch_line.specs.Line.{last_epoch};
 ghost use Rattle.plain_log.specs.Orders.{IsInRange};
 ghost use Rattle.partition_seen.specs.declared.begun.Turned.TheVariants.{Answers};
