@@ -62,6 +62,10 @@ up_down : {A : Type 0} (t : Bool) → t ≡ true → t ≡ false → A
 up_down true up down = absurd cc
 up_down false up down = absurd cc
 
+-- the epoch hasn't fallen
+epoch_up : (old r : Registry) → Moves old r → old.epoch ≤ r.epoch
+epoch_up old r m = elim m.epoch [ inl k ↦ (let is = k.epoch in omega (arith, is)) | inr k ↦ (let is = k.epoch in omega (arith, is)) ]
+
 module _ {D : Type 0} where
   -- the line of a log that was up
   line_while : (k kept : Kept D) (f : List (ℕ × ℕ) → ℕ → List (ℕ × ℕ)) → is_open k ≡ true → WhileUp k (λ log. line_in kept ≡ Some (f log.line log.end))
@@ -100,10 +104,6 @@ module _ {D : Type 0} where
         omega (arith, known, low));
     down = s.down;
   }
-
-  -- the epoch hasn't fallen
-  epoch_up : (old r : Registry) → Moves old r → old.epoch ≤ r.epoch
-  epoch_up old r m = elim m.epoch [ inl k ↦ (let is = k.epoch in omega (arith, is)) | inr k ↦ (let is = k.epoch in omega (arith, is)) ]
 
   -- the registry has
   moved_sound : (n : ℕ) (h : Held D) (r : Registry) → HeldSound n h → Moves h.registry r → MarkStays h.registry r → HeldSound n (record h { registry = r })

@@ -131,6 +131,12 @@ module _ {D : Type 0} (disk : DiskGhosts D) where
       omega (arith, same, low)
   next_tries p b x side offset other x' side' w = elim w [ ]
 
+set_tries : (m : ℕ) (sides : List Side) (b : ℕ) (y : Side) → HaveTried m sides → y.attempt ≤ m → HaveTried m (slice_set sides b y)
+set_tries m sides b y few le i z at = elim (get-set sides b y i z at) [
+  | inl one ↦ (let same : z.attempt ≡ y.attempt = ap (λ (k : Side). k.attempt) one.1 in omega (arith, same, le))
+  | inr other ↦ few i z other.1
+]
+
 module _ {S M : Type 0} where
   -- no side has tried more copies than it had
   abbrev pub Tries : Side → Tier S M → Tier S M → Type 0
@@ -142,12 +148,6 @@ module _ {S M : Type 0} where
 
   tries_same : (side : Side) (t t' : Tier S M) → t'.sides ≡ t.sides → Tries side t t'
   tries_same side t t' is m low few = subst (HaveTried m) (sym is) few
-
-  set_tries : (m : ℕ) (sides : List Side) (b : ℕ) (y : Side) → HaveTried m sides → y.attempt ≤ m → HaveTried m (slice_set sides b y)
-  set_tries m sides b y few le i z at = elim (get-set sides b y i z at) [
-    | inl one ↦ (let same : z.attempt ≡ y.attempt = ap (λ (k : Side). k.attempt) one.1 in omega (arith, same, le))
-    | inr other ↦ few i z other.1
-  ]
 
   put_by : (o : Outcome) (b : ℕ) (side y : Side) (t t' : Tier S M) → y.attempt ≤ side.attempt + chose o → t'.sides ≡ slice_set t.sides b y → TriesBy o side t t'
   put_by o b side y t t' le is m low few =

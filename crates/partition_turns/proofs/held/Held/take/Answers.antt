@@ -8,8 +8,8 @@ use Rattle.partition_turns.proofs.Staying.{at_node, stays_at, has_read}
 use Rattle.partition_turns.proofs.Writes.{never}
 use Rattle.partition_turns.proofs.held.Held.take.Goals as goal
 
-pub returns-in-Err-NoMemory-clause-err : goal.returns-in-Err-NoMemory-clause-err
-returns-in-Err-NoMemory-clause-err g c =
+pub returns-clause-err : goal.returns-clause-err
+returns-clause-err g c =
     stays_at g.D.Disk.content g.D.Disk.control c.args.self.now c.args.leader c.at_mut-node.result.now c.read_run.new.self _ c.at_mut-node.ensures.value c.read_run.ensures.stays
     (c.read_run.ensures.control, c.read_run.ensures.quiet (never (c.in-Err-NoMemory.is ∙ ap Err c.in-Err-NoMemory.field-0-is) (λ no. cc))) refl
 
