@@ -27,7 +27,7 @@ use Rattle.partition_turns.specs.declared.held.Held.{Held}
 use Rattle.partition_turns.specs.Stopping.{HaveStopped}
 use Rattle.partition_turns.specs.Held.{put_node, end_of, stable_of, stopped, the_leader, Fails, Rests, StaysHeld, Breaks, BreaksBy}
 use Rattle.partition_turns.specs.Turns.{ClockRow, PackRow, CopyingRow, OffsetRow, StopRow, UpRow, AnswerRow, FirstRow, LaterRow, Row}
-use Rattle.partition_turns.specs.TurnsOfLog.{Gains, AppendRow, RawRow, FlushRow, RollRow, TrimRow, TrimOnRow}
+use Rattle.partition_turns.specs.TurnsOfLog.{AppendRow, RawRow, FlushRow, RollRow, TrimRow, TrimOnRow}
 use Rattle.partition_turns.specs.TurnsOfFetch.{FetchRow, FetchTurn}
 use Rattle.partition_turns.specs.TurnsOfElections.{Leaves, ElectRow, UncleanRow, LearnRow, AckRow, ShrinkRow, ExpandRow, RaiseRow}
 use Rattle.partition_turns.specs.TurnsOfFollowers.{JoinRow, JoinOnRow, FollowRow, FollowOnRow}

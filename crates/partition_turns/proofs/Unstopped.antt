@@ -1,5 +1,5 @@
 -- Brokers that begin, or begin anew, have never stopped.
-use Rattle.std.proofs.Common.{◌≡◌, sym, ap, ℕ, zero, suc, ◌≤◌, List, [], ◌∷◌, slice_get, Some, Bool, true, false, arith}
+use Rattle.std.proofs.Common.{◌≡◌, ap, ℕ, zero, suc, ◌≤◌, List, [], ◌∷◌, slice_get, Some, Bool, true, false, arith}
 use Rattle.tier_base.specs.declared.plain.Settings.{Settings}
 use Rattle.tier_base.specs.Device.{Control}
 use Rattle.disk_model.specs.Call.{call_code}
@@ -7,7 +7,7 @@ use Rattle.disk_model.specs.Content.{Content}
 use Rattle.registry.specs.declared.registry.Registry.{Registry}
 use Rattle.partition_turns.specs.declared.held.Node.{Node}
 use Rattle.partition_turns.specs.declared.held.Held.{Held}
-use Rattle.partition_turns.specs.Cold.{cold_node, AreColdOver, IsColdHeld}
+use Rattle.partition_turns.specs.Cold.{AreColdOver, IsColdHeld}
 use Rattle.partition_turns.specs.Fresh.{AreFreshFrom, IsFreshHeld}
 use Rattle.partition_turns.specs.Stopping.{HaveStopped}
 
