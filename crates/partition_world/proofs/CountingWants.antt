@@ -80,15 +80,15 @@ module _ {S M : Type 0} (store : StoreGhosts S) (meta : MetaGhosts M) where
   -- one read of the store
 
   reads_dry : (answer : Result (Option (List ℕ)) Trouble) (s s' : S) → (answer ≡ Err Failed → ⊥) → Ran Get (fate_of answer) (store.control s) (store.control s') → StoreStill store meta s s'
-  reads_dry (Err Failed) s s' no r = absurd (no refl)
-  reads_dry (Err NoMemory) s s' no r = (r.dry refl).faults
-  reads_dry (Ok given) s s' no r = r.went refl
+  reads_dry (Err Failed) s s' bad r = absurd (bad refl)
+  reads_dry (Err NoMemory) s s' bad r = (r.dry refl).faults
+  reads_dry (Ok given) s s' bad r = r.went refl
 
   loads_well : (wanted : Wanted) (piece : Piece) (base : ℕ) (spot : Spot) (answer : Result (Option (List ℕ)) Trouble) (e : AllocError) (cache cache' : Cache)
       → Loads wanted piece base spot answer (Err e) cache cache' → answer ≡ Err Failed → ⊥
-  loads_well wanted piece base spot (Err Failed) e cache cache' w no = let is = w.0 in cc (is)
-  loads_well wanted piece base spot (Err NoMemory) e cache cache' w no = cc (no)
-  loads_well wanted piece base spot (Ok given) e cache cache' w no = cc (no)
+  loads_well wanted piece base spot (Err Failed) e cache cache' w bad = let is = w.0 in cc (is)
+  loads_well wanted piece base spot (Err NoMemory) e cache cache' w bad = cc (bad)
+  loads_well wanted piece base spot (Ok given) e cache cache' w bad = cc (bad)
 
   load_dry : (wanted : Wanted) (piece : Piece) (view : View) (place : Option (ℕ × Spot)) (e : AllocError) (cache cache' : Cache) (s s' : S)
       → LoadRow store.content store.control wanted piece view place (Err e) cache cache' s s' → StoreStill store meta s s'
@@ -104,9 +104,9 @@ module _ {S M : Type 0} (store : StoreGhosts S) (meta : MetaGhosts M) where
 
   cuts_well : (wanted : Wanted) (piece : Piece) (spot : Spot) (span : Span) (answer : Result (Option (List ℕ)) Trouble) (e : AllocError)
       → Cuts wanted piece spot span answer (Err e) → answer ≡ Err Failed → ⊥
-  cuts_well wanted piece spot span (Err Failed) e w no = cc (w)
-  cuts_well wanted piece spot span (Err NoMemory) e w no = cc (no)
-  cuts_well wanted piece spot span (Ok given) e w no = cc (no)
+  cuts_well wanted piece spot span (Err Failed) e w bad = cc (w)
+  cuts_well wanted piece spot span (Err NoMemory) e w bad = cc (bad)
+  cuts_well wanted piece spot span (Ok given) e w bad = cc (bad)
 
   log_dry : (wanted : Wanted) (piece : Piece) (span : Span) (view : View) (place : Option (ℕ × Spot)) (e : AllocError) (s s' : S)
       → LogRow store.content store.control wanted piece span view place (Err e) s s' → StoreStill store meta s s'
@@ -116,9 +116,9 @@ module _ {S M : Type 0} (store : StoreGhosts S) (meta : MetaGhosts M) where
 
   times_well : (asked : Asked) (cursor : ℕ) (piece : Piece) (base : ℕ) (spot : Spot) (answer : Result (Option (List ℕ)) Trouble) (e : AllocError)
       → Times asked cursor piece base spot answer (Err e) → answer ≡ Err Failed → ⊥
-  times_well asked cursor piece base spot (Err Failed) e w no = cc (w)
-  times_well asked cursor piece base spot (Err NoMemory) e w no = cc (no)
-  times_well asked cursor piece base spot (Ok given) e w no = cc (no)
+  times_well asked cursor piece base spot (Err Failed) e w bad = cc (w)
+  times_well asked cursor piece base spot (Err NoMemory) e w bad = cc (bad)
+  times_well asked cursor piece base spot (Ok given) e w bad = cc (bad)
 
   times_dry : (asked : Asked) (cursor : ℕ) (piece : Piece) (view : View) (place : Option (ℕ × Spot)) (e : AllocError) (s s' : S)
       → TimesRow store.content store.control asked cursor piece view place (Err e) s s' → StoreStill store meta s s'
@@ -127,9 +127,9 @@ module _ {S M : Type 0} (store : StoreGhosts S) (meta : MetaGhosts M) where
       reads_dry w.answer s s' (times_well asked cursor piece place.0 place.1 w.answer e w.times) w.gets.control
 
   takes_well : (wanted : ℕ) (spot : Spot) (answer : Result (Option (List ℕ)) Trouble) (e : AllocError) → Takes wanted spot answer (Err e) → answer ≡ Err Failed → ⊥
-  takes_well wanted spot (Err Failed) e w no = cc (w)
-  takes_well wanted spot (Err NoMemory) e w no = cc (no)
-  takes_well wanted spot (Ok given) e w no = cc (no)
+  takes_well wanted spot (Err Failed) e w bad = cc (w)
+  takes_well wanted spot (Err NoMemory) e w bad = cc (bad)
+  takes_well wanted spot (Ok given) e w bad = cc (bad)
 
   epochs_dry : (wanted : ℕ) (view : View) (spot : Option Spot) (e : AllocError) (s s' : S) → EpochsRow store.content store.control wanted view spot (Err e) s s' → StoreStill store meta s s'
   epochs_dry wanted view None e s s' w = let is = w.0 in absurd (cc (is))

@@ -212,8 +212,8 @@ waiting_set (s ∷ desk) (suc i) seat after c d at le = let h = waiting_set desk
 module _ {D S M : Type 0} (disk : DiskGhosts D) (store : StoreGhosts S) (meta : MetaGhosts M) where
   choose_to : (p : PartitionId) (h : Held D) (t : Tier S M) (b : ℕ) (x : Node D) (side : Side) (g : Begun) (outcome : Outcome) (h' : Held D) (t' : Tier S M)
       → slice_get h.nodes b ≡ Some x → ChooseRow disk p h t b x side g outcome h' t' → StopsTo outcome h h'
-  choose_to p h t b x side g outcome h' t' at (inl lost) = to_same _ h h' lost.2
-  choose_to p h t b x side g outcome h' t' at (inr (keeps, inl level)) = to_same _ h h' level.2
+  choose_to p h t b x side g outcome h' t' at (inl lost) = to_same outcome h h' lost.2
+  choose_to p h t b x side g outcome h' t' at (inr (keeps, inl level)) = to_same outcome h h' level.2
   choose_to p h t b x side g outcome h' t' at (inr (keeps, inr reads)) =
       to_put outcome h b x reads.node h' at (next_stops disk p b x side _ outcome reads.node reads.side_after reads.row) reads.held
 
@@ -231,14 +231,14 @@ module _ {D S M : Type 0} (disk : DiskGhosts D) (store : StoreGhosts S) (meta : 
 
   expires_to : (p : PartitionId) (h : Held D) (b : ℕ) (x : Node D) (side : Side) (keep : Keep) (outcome : Outcome) (h' : Held D) → slice_get h.nodes b ≡ Some x → is_up x ≡ true
       → ExpiresBy p h x side keep outcome h' → StopsTo outcome h h'
-  expires_to p h b x side keep (Dooms segment) h' at up w = to_same _ h h' w.stays
-  expires_to p h b x side keep (Answers Kept) h' at up w = to_same _ h h' w.2
+  expires_to p h b x side keep (Dooms segment) h' at up w = to_same (Dooms segment) h h' w.stays
+  expires_to p h b x side keep (Answers Kept) h' at up w = to_same (Answers Kept) h h' w.2
   expires_to p h b x side keep (Answers answer) h' at up w = raise_to h b x w.0 answer h' at up w.2
   expires_to p h b x side keep other h' at up w = elim w [ ]
 
   expire_to : (p : PartitionId) (h : Held D) (b : ℕ) (x : Node D) (side : Side) (g : Begun) (keep : Keep) (outcome : Outcome) (h' : Held D) → slice_get h.nodes b ≡ Some x
       → ExpireOnRow p h x side g keep outcome h' → StopsTo outcome h h'
-  expire_to p h b x side g keep outcome h' at (inl lost) = to_same _ h h' lost.2
+  expire_to p h b x side g keep outcome h' at (inl lost) = to_same outcome h h' lost.2
   expire_to p h b x side g keep outcome h' at (inr k) = expires_to p h b x side keep outcome h' at k.0.up k.1
 
   -- a search by timestamp reads its broker's log at most
@@ -247,7 +247,7 @@ module _ {D S M : Type 0} (disk : DiskGhosts D) (store : StoreGhosts S) (meta : 
       → SearchRow disk store meta h t b x side asked cursor next own turn h' t' → StopsTo o h h'
   search_to o h t b x side asked cursor next true turn h' t' at w =
       to_put o h b x (record x { log = w.0.kept }) h' at refl w.0.after
-  search_to o h t b x side asked cursor next false turn h' t' at w = to_same _ h h' w.1
+  search_to o h t b x side asked cursor next false turn h' t' at w = to_same o h h' w.1
 
   searches_to : (o : Outcome) (p : PartitionId) (h : Held D) (t : Tier S M) (b : ℕ) (x : Node D) (side : Side) (g : Begun) (ts : ℤ)
       (cursor : ℕ) (next : Dating) (turn : TimeTurn) (h' : Held D) (t' : Tier S M) → slice_get h.nodes b ≡ Some x
@@ -260,45 +260,45 @@ module _ {D S M : Type 0} (disk : DiskGhosts D) (store : StoreGhosts S) (meta : 
   date_to : (p : PartitionId) (h : Held D) (t : Tier S M) (b : ℕ) (x : Node D) (side : Side) (g : Begun) (ts : ℤ)
       (cursor : ℕ) (next : Dating) (outcome : Outcome) (h' : Held D) (t' : Tier S M) → slice_get h.nodes b ≡ Some x
       → DateOnRow disk store meta p h t b x side g ts cursor next outcome h' t' → StopsTo outcome h h'
-  date_to p h t b x side g ts cursor next (Answers Stopped) h' t' at w = to_same _ h h' w.1
-  date_to p h t b x side g ts cursor next (Answers NotLeader) h' t' at w = to_same _ h h' w.3
-  date_to p h t b x side g ts cursor next (Answers NoOffset) h' t' at w = to_same _ h h' w.2
+  date_to p h t b x side g ts cursor next (Answers Stopped) h' t' at w = to_same (Answers Stopped) h h' w.1
+  date_to p h t b x side g ts cursor next (Answers NotLeader) h' t' at w = to_same (Answers NotLeader) h h' w.3
+  date_to p h t b x side g ts cursor next (Answers NoOffset) h' t' at w = to_same (Answers NoOffset) h h' w.2
   date_to p h t b x side g ts cursor next (Answers answer) h' t' at w =
-      searches_to _ p h t b x side g ts cursor next (dating.Ends answer) h' t' at w
+      searches_to (Answers answer) p h t b x side g ts cursor next (dating.Ends answer) h' t' at w
   date_to p h t b x side g ts cursor next (Dated later after) h' t' at w =
-      searches_to _ p h t b x side g ts cursor next (dating.Goes later after) h' t' at w.0
+      searches_to (Dated later after) p h t b x side g ts cursor next (dating.Goes later after) h' t' at w.0
   date_to p h t b x side g ts cursor next other h' t' at w = elim w [ ]
 
   noted_to : (p : PartitionId) (config : Config) (h : Held D) (t : Tier S M) (b : ℕ) (x : Node D) (side : Side) (g : Begun) (command : Command) (outcome : Outcome) (h' : Held D) (t' : Tier S M)
       → slice_get h.nodes b ≡ Some x → NotedRow disk store meta p config h t b x side g command outcome h' t' → StopsTo outcome h h'
   noted_to p config h t b x side g Copy outcome h' t' at w = choose_to p h t b x side g outcome h' t' at w
   noted_to p config h t b x side g Join outcome h' t' at (inl (low, own)) = to_as h h' outcome (Answers own.0.0) own.0.1 (row_stops disk.content disk.control h b x (Some g) Join (turned.Answers own.0.0) h' at own.0.2)
-  noted_to p config h t b x side g Join outcome h' t' at (inr (high, row, is)) = to_same _ h h' is
+  noted_to p config h t b x side g Join outcome h' t' at (inr (high, row, is)) = to_same outcome h h' is
   noted_to p config h t b x side g Expire outcome h' t' at w = expire_to p h b x side g config.keep outcome h' at w.0
   noted_to p config h t b x side g Trim outcome h' t' at w = trim_to h b x side g config.local_keep outcome h' at w.0
-  noted_to p config h t b x side g (Fetch offset limit) outcome h' t' at w = to_same _ h h' w.1
-  noted_to p config h t b x side g (Offset LatestTiered) outcome h' t' at w = to_same _ h h' w.1
+  noted_to p config h t b x side g (Fetch offset limit) outcome h' t' at w = to_same outcome h h' w.1
+  noted_to p config h t b x side g (Offset LatestTiered) outcome h' t' at w = to_same outcome h h' w.1
   noted_to p config h t b x side g (Offset (At ts)) outcome h' t' at w =
       date_to p h t b x side g ts 0 Seek outcome h' t' at w
   noted_to p config h t b x side g other outcome h' t' at w = to_as h h' outcome (Answers w.0.0) w.0.1 (row_stops disk.content disk.control h b x (Some g) other (turned.Answers w.0.0) h' at w.0.2)
 
   begins_to : (h : Held D) (t : Tier S M) (b : ℕ) (x : Node D) (side : Side) (command : Command) (outcome : Outcome) (h' : Held D) (t' : Tier S M)
       → slice_get h.nodes b ≡ Some x → BeginRow disk store meta h t b x side command outcome h' t' → StopsTo outcome h h'
-  begins_to h t b x side Copy outcome h' t' at w = to_same _ h h' w.1
-  begins_to h t b x side Trim outcome h' t' at w = to_same _ h h' w.1
-  begins_to h t b x side Expire outcome h' t' at w = to_same _ h h' w.1
-  begins_to h t b x side (Offset LatestTiered) outcome h' t' at w = to_same _ h h' w.1
-  begins_to h t b x side (Offset (At ts)) outcome h' t' at w = to_same _ h h' w.1
+  begins_to h t b x side Copy outcome h' t' at w = to_same outcome h h' w.1
+  begins_to h t b x side Trim outcome h' t' at w = to_same outcome h h' w.1
+  begins_to h t b x side Expire outcome h' t' at w = to_same outcome h h' w.1
+  begins_to h t b x side (Offset LatestTiered) outcome h' t' at w = to_same outcome h h' w.1
+  begins_to h t b x side (Offset (At ts)) outcome h' t' at w = to_same outcome h h' w.1
   begins_to h t b x side other outcome h' t' at w = to_as h h' outcome (outcome_of w.0.0) w.0.1 (own_to w.0.0 h h' (row_stops disk.content disk.control h b x None other w.0.0 h' at w.0.2))
 
   copying_to : (h : Held D) (t : Tier S M) (b : ℕ) (x : Node D) (side : Side) (g : Begun) (copy : Copied) (next : Next) (command : Command) (outcome : Outcome) (h' : Held D) (t' : Tier S M)
       → CopyingRow store meta h t b x side g copy next command outcome h' t' → StopsTo outcome h h'
-  copying_to h t b x side g copy next Copy outcome h' t' w = to_same _ h h' w.1
+  copying_to h t b x side g copy next Copy outcome h' t' w = to_same outcome h h' w.1
   copying_to h t b x side g copy next other outcome h' t' w = elim w [ ]
 
   seeking_to : (p : PartitionId) (h : Held D) (t : Tier S M) (b : ℕ) (x : Node D) (side : Side) (g : Begun) (next : Search) (command : Command) (outcome : Outcome) (h' : Held D) (t' : Tier S M)
       → SeekingRow store meta p h t b x side g next command outcome h' t' → StopsTo outcome h h'
-  seeking_to p h t b x side g next (Fetch offset limit) outcome h' t' w = to_same _ h h' w.1
+  seeking_to p h t b x side g next (Fetch offset limit) outcome h' t' w = to_same outcome h h' w.1
   seeking_to p h t b x side g next other outcome h' t' w = elim w [ ]
 
   dating_to : (p : PartitionId) (h : Held D) (t : Tier S M) (b : ℕ) (x : Node D) (side : Side) (g : Begun) (cursor : ℕ)
@@ -310,12 +310,12 @@ module _ {D S M : Type 0} (disk : DiskGhosts D) (store : StoreGhosts S) (meta : 
 
   deleting_to : (h : Held D) (t : Tier S M) (b : ℕ) (x : Node D) (g : Begun) (segment : Doomed) (next : Deletion) (command : Command) (outcome : Outcome) (h' : Held D) (t' : Tier S M)
       → DeletingRow store meta h t b x g segment next command outcome h' t' → StopsTo outcome h h'
-  deleting_to h t b x g segment next Expire outcome h' t' w = to_same _ h h' w.1
+  deleting_to h t b x g segment next Expire outcome h' t' w = to_same outcome h h' w.1
   deleting_to h t b x g segment next other outcome h' t' w = elim w [ ]
 
   rebuilding_to : (p : PartitionId) (h : Held D) (t : Tier S M) (b : ℕ) (x : Node D) (side : Side) (g : Begun) (next : Rebuild) (command : Command) (outcome : Outcome) (h' : Held D) (t' : Tier S M)
       → slice_get h.nodes b ≡ Some x → RebuildingRow disk store p h t b x side g next command outcome h' t' → StopsTo outcome h h'
-  rebuilding_to p h t b x side g Epochs Join outcome h' t' at w = to_same _ h h' w.1
+  rebuilding_to p h t b x side g Epochs Join outcome h' t' at w = to_same outcome h h' w.1
   rebuilding_to p h t b x side g (Restart line) Join outcome h' t' at w = to_as h h' outcome (Answers w.0.0) w.0.1 (row_stops disk.content disk.control h b x (Some (with_line g line)) Join (turned.Answers w.0.0) h' at w.0.2)
   rebuilding_to p h t b x side g next other outcome h' t' at w = elim w [ ]
 

@@ -52,6 +52,11 @@ pub err_two : {T E P Q R : Type 0} (r : Result T E) → (P → Q → R) → OnEr
 err_two (Ok x) f p q = tt
 err_two (Err e) f p q = f p q
 
+-- a fact that holds anyway
+pub on_err : {T E P : Type 0} (r : Result T E) → P → OnErr r P
+on_err (Ok x) p = tt
+on_err (Err e) p = p
+
 -- a log's interval, where the broker is up
 pub interval_up : {D : Type 0} (kept : Kept D) (n : ℕ) (s : Settings) → is_up kept ≡ true → Some s ≡ settings_in kept → n ≡ s.index_interval → WhileUp kept (λ log. n ≡ log.settings.index_interval)
 interval_up (Up log) n s up is e = let same : s ≡ log.settings = cc in e ∙ ap (λ (k : Settings). k.index_interval) same

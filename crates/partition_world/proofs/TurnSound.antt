@@ -1,5 +1,5 @@
 -- Each turn keeps what the turns need, over any devices.
-use Rattle.std.proofs.Common.{◌≡◌, ◌∙◌, inl, inr, sym, ap, subst, refl, ℕ, List, [], length, slice_get, slice_set, Some, Option, Bool, true, false}
+use Rattle.std.proofs.Common.{◌≡◌, ◌∙◌, inl, inr, sym, ap, subst, refl, ℕ, List, [], length, slice_get, slice_set, Some, Option, Bool, true, false, arith}
 use Rattle.std.specs.Prelude.{unwrap_or, ℤ}
 use Rattle.disk_model.specs.declared.disk.Disk.{Ghosts as DiskGhosts}
 use Rattle.object_store.specs.declared.store.Store.{Ghosts as StoreGhosts}

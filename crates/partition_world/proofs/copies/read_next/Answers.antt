@@ -11,7 +11,7 @@ use Rattle.tier_safe.specs.Views.{IsIdOf}
 use Rattle.partition_world.specs.Tier.{next_of, counted}
 use Rattle.partition_turns.proofs.Writes.{never}
 use Rattle.partition_world.proofs.Counts.{next_low}
-use Rattle.partition_world.proofs.Dispatch.{interval_up, has_read}
+use Rattle.partition_world.proofs.Dispatch.{interval_up, has_read, on_err}
 use Rattle.partition_world.proofs.copies.read_next.Goals as goal
 
 pub returns-in_ok-copying-in-Ok-Some-clause-row : goal.returns-in_ok-copying-in-Ok-Some-clause-row
@@ -64,3 +64,16 @@ returns-in-Err-Damaged-clause-row g c =
       record { reads = record { kept = kept; stays = c.closed_from.ensures.stays; lasts = c.closed_from.ensures.control; after = refl }; ran = ran; bad = bad; unseen = whole; quiet = c.closed_from.ensures.quiet (never (e.is ∙ ap (λ (k : ReadRefusal). Err k) e.field-0-is) (λ no. cc)) },
       refl,
     )
+
+pub returns-in_err-copying-in-Ok-Some-clause-err : goal.returns-in_err-copying-in-Ok-Some-clause-err
+returns-in_err-copying-in-Ok-Some-clause-err g c =
+    on_err c.from_residual.result (record {
+      reads = record { kept = c.closed_from.new.self; stays = c.closed_from.ensures.stays; lasts = c.closed_from.ensures.control; after = refl };
+      quiet = c.closed_from.ensures.quiet (never c.in-Ok-Some.is (λ no. cc));
+    })
+
+pub returns-in-Err-NoMemory-clause-err : goal.returns-in-Err-NoMemory-clause-err
+returns-in-Err-NoMemory-clause-err g c = record {
+  reads = record { kept = c.closed_from.new.self; stays = c.closed_from.ensures.stays; lasts = c.closed_from.ensures.control; after = refl };
+  quiet = c.closed_from.ensures.quiet (never (c.in-Err-NoMemory.is ∙ ap (λ (e : ReadRefusal). Err e) c.in-Err-NoMemory.field-0-is) (λ no. cc));
+}
