@@ -40,10 +40,16 @@ begins_low : (lists : List ActorList) → Begins 0 lists
 begins_low [] = tt
 begins_low (l ∷ lists) = omega arith
 
+are_few : (config : Config) (lists : List ActorList) → AreListsFor config lists → AreFew lists
+are_few config lists fit i l at =
+    let one = all_at (IsListFor config) lists i l fit.each at in
+    let lt = one.actor in
+    let less = one.few in
+    (lt, omega (arith, less))
+
 pub most_entries : (config : Config) (lists : List ActorList) → AreListsFor config lists → turns_left lists [] ≤ 549755813888
 most_entries config lists fit =
-    let few = λ i l at. let one = all_at (IsListFor config) lists i l fit.each at in (one.actor, one.few) in
-    let most = left_from lists 0 (omega arith) fit.rising (begins_low lists) few in
+    let most = left_from lists 0 (omega arith) fit.rising (begins_low lists) (are_few config lists fit) in
     omega (arith, most)
 
 pub few_entries : (config : Config) (lists : List ActorList) → AreListsFor config lists → turns_left lists [] < 2 ^ 64

@@ -42,7 +42,7 @@ fresh_works lists n desk is = λ i l seat order at to next.
 -- no seat waits, and no broker has tried a copy
 none_wait : (n : ℕ) → waiting (replicate n fresh_seat) ≡ 0
 none_wait zero = refl
-none_wait (suc n) = none_wait n
+none_wait (suc n) = let h = none_wait n in omega (arith, h)
 
 pub fresh_counted : {D : Type 0} (config : Config) (lists : List ActorList) (h : Held D) (sides : List Side) (desk : List Seat) (entered n brokers : ℕ) → AreListsFor config lists → HaveStopped 0 h.nodes
     → sides ≡ replicate brokers fresh_side → desk ≡ replicate n fresh_seat → entered ≡ 0 → AreCounted lists h sides desk entered
