@@ -128,7 +128,12 @@ module _ {D S M : Type 0} where
 
   -- the disks of no broker
   pub keeps_none : (p : PartitionId) (h : Held D S M) → KeepsDisks p [] h h
-  keeps_none p h = record { only = only_none p h; here = λ t b disk is. absurd (none-some is) }
+  keeps_none p h = record {
+    only = only_none p h;
+    here = λ t b disk is. absurd (none-some is);
+    past = λ t b above. refl;
+    rest = λ t. record { store = refl; log = refl; registry = refl };
+  }
     where
       none-some : {d : D} → ◌≡◌ {A = Option D} None (Some d) → ⊥
       none-some is = cc
@@ -144,6 +149,14 @@ module _ {D S M : Type 0} where
           | inl old ↦ (is t').others p j (inr (λ same. absurd (get_within done j.0 disk old (ap (λ (x : BrokerId). x.0) same ∙ at)))) ∙ so.here t j disk old
           | inr new ↦ ap (λ (x : BrokerId). c.disks p x) (one_broker j k (new.0 ∙ sym at)) ∙ ((is t').there ∙ ap Some (sym new.1))
         ];
+    past = λ t j above.
+        let t' : IsTrue b.tells = subst IsTrue (sym so.only.tells) t in
+        let far = length_snoc done d in
+        (is t').others p j (inr (λ same. absurd (let no = ap (λ (x : BrokerId). x.0) same in omega (arith, above, far, at, no)))) ∙ so.past t j (omega (arith, above, far));
+    rest = λ t.
+        let t' : IsTrue b.tells = subst IsTrue (sym so.only.tells) t in
+        let was = so.rest t in
+        record { store = (is t').stores p ∙ was.store; log = (is t').logs p ∙ was.log; registry = (is t').registries p ∙ was.registry };
   }
 
   pub keeps_all : (p : PartitionId) (done all : List D) (a b : Held D S M) → done ≡ all → KeepsDisks p done a b → KeepsDisks p all a b
@@ -175,6 +188,14 @@ module _ {D S M : Type 0} where
           store = (logs t'').stores p ∙ ((store t').there ∙ ap Some (sym its));
           log = (logs t'').there ∙ ap Some (sym log);
         };
+    past = λ t j above.
+        let t' : IsTrue b.tells = subst IsTrue (sym keeps.only.tells) t in
+        let t'' : IsTrue c.tells = subst IsTrue (sym stored) t' in
+        (logs t'').disks p j ∙ ((store t').disks p j ∙ keeps.past t j (subst (λ (l : List D). length l ≤ j.0) items above));
+    registry = λ t.
+        let t' : IsTrue b.tells = subst IsTrue (sym keeps.only.tells) t in
+        let t'' : IsTrue c.tells = subst IsTrue (sym stored) t' in
+        (logs t'').registries p ∙ ((store t').registries p ∙ (keeps.rest t).registry);
   }
 
 -- a registry's disk is a device that comes back

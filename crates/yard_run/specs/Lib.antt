@@ -5,3 +5,4 @@ pub mod Reading
 pub mod Refusals
 pub mod Runs
 pub mod Yard
+pub mod Stopped

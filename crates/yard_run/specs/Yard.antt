@@ -79,10 +79,16 @@ module _ {D S M : Type 0} where
     pub log : new.logs partition ≡ old.logs partition
     pub registry : new.registries partition ≡ old.registries partition
 
-  -- the disks of the partition's first so many brokers are back
+  -- of the disks of the partition those of its brokers from this number on are where they were
+  abbrev pub KeepsFrom : PartitionId → ℕ → Held D S M → Held D S M → Type 0
+  KeepsFrom partition n old new = (b : BrokerId) → n ≤ b.0 → new.disks partition b ≡ old.disks partition b
+
+  -- the disks of the partition's first so many brokers are back, and nothing else has changed
   pub record KeepsDisks (partition : PartitionId) (disks : List D) (old new : Held D S M) : Type 0 where
     pub only : OnlyOf partition old new
     pub here : IsTrue old.tells → (b : BrokerId) (disk : D) → slice_get disks b.0 ≡ Some disk → new.disks partition b ≡ Some disk
+    pub past : IsTrue old.tells → KeepsFrom partition (length disks) old new
+    pub rest : IsTrue old.tells → KeepsRest partition old new
 
   -- the yard holds these devices of the partition, but for the disk of its registry
   pub record Holds (partition : PartitionId) (devices : Devices D S M) (held : Held D S M) : Type 0 where
@@ -93,6 +99,8 @@ module _ {D S M : Type 0} where
   pub record KeepsDevices (partition : PartitionId) (devices : Devices D S M) (old new : Held D S M) : Type 0 where
     pub only : OnlyOf partition old new
     pub here : IsTrue old.tells → Holds partition devices new
+    pub past : IsTrue old.tells → KeepsFrom partition (length devices.disks.items) old new
+    pub registry : IsTrue old.tells → new.registries partition ≡ old.registries partition
 
 module _ {D S M : Type 0} (files : D → disk.Content) where
   -- it holds all of them

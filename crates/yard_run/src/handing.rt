@@ -6,8 +6,9 @@ ghost use Rattle.std.specs.Prelude.{◌≡◌, ◌+◌, ◌≤◌, List, length,
 ghost use Rattle.tier_base.specs.Counts.{Rose};
 ghost use Rattle.tier_base.specs.declared.fault.Trouble.TheVariants.{Failed};
 ghost use Rattle.device_yard.specs.declared.came.Came.{Came};
-ghost use Rattle.yard_run.specs.Yard.{OnlyOf, HandedOut, KeepsRest, Uses};
+ghost use Rattle.yard_run.specs.Yard.{OnlyOf, HandedOut, KeepsRest, KeepsFrom, Uses};
 ghost use Rattle.yard_run.specs.Handed.{AreHandedDisks, AreHanded, AreAllHanded};
+ghost use Rattle.yard_run.specs.Stopped.{AllRest};
 
 use crate::keeping::{keep, keep_disks};
 use device_yard::Yard;
@@ -26,10 +27,13 @@ fn hand_disks<Y: Yard>(
     ensures disks { IfOk result (λ disks. AreHandedDisks Y.D.Disk Y.S.Store Y.M.MetaLog partition count disks.items (Y.held yard.old)) }
     ensures control { OnOk result (HandedOut count (Y.control yard.old) (Y.control yard.new)) }
     ensures rest { OnOk result (IsTrue (Y.held yard.old).tells → KeepsRest partition (Y.held yard.old) (Y.held yard.new)) }
+    ensures past { OnOk result (IsTrue (Y.held yard.old).tells → KeepsFrom partition count (Y.held yard.old) (Y.held yard.new)) }
     ensures only { OnOk result (OnlyOf partition (Y.held yard.old) (Y.held yard.new)) }
     ensures tells { (Y.held yard.new).tells ≡ (Y.held yard.old).tells }
     ensures unread { (Y.control yard.new).registries ≡ (Y.control yard.old).registries }
     ensures err { OnErr result ((came : List Came) × Uses came (Y.control yard.old) (Y.control yard.new)) }
+    ensures same { OnErr result (IsTrue (Y.held yard.old).tells
+        → AllRest Y.D.Disk Y.S.Store Y.M.MetaLog (Y.held yard.old) (Y.held yard.new)) }
     ensures cause { IsErrOf result Failed → Rose (Y.control yard.old).faults (Y.control yard.new).faults }
 {
     let mut disks = Vec::with_capacity(alloc, count as usize)?;
@@ -57,10 +61,13 @@ fn hand_devices<Y: Yard>(
     ensures control { OnOk result (HandedOut (count + 2) (Y.control yard.old) (Y.control yard.new)) }
     ensures registry { OnOk result (IsTrue (Y.held yard.old).tells
         → (Y.held yard.new).registries partition ≡ (Y.held yard.old).registries partition) }
+    ensures past { OnOk result (IsTrue (Y.held yard.old).tells → KeepsFrom partition count (Y.held yard.old) (Y.held yard.new)) }
     ensures only { OnOk result (OnlyOf partition (Y.held yard.old) (Y.held yard.new)) }
     ensures tells { (Y.held yard.new).tells ≡ (Y.held yard.old).tells }
     ensures unread { (Y.control yard.new).registries ≡ (Y.control yard.old).registries }
     ensures err { OnErr result ((came : List Came) × Uses came (Y.control yard.old) (Y.control yard.new)) }
+    ensures same { OnErr result (IsTrue (Y.held yard.old).tells
+        → AllRest Y.D.Disk Y.S.Store Y.M.MetaLog (Y.held yard.old) (Y.held yard.new)) }
     ensures cause { IsErrOf result Failed → Rose (Y.control yard.old).faults (Y.control yard.new).faults }
 {
     let disks = hand_disks(alloc, yard, partition, count)?;
@@ -95,6 +102,8 @@ pub(crate) fn hand_out<Y: Yard>(
     ensures tells { (Y.held yard.new).tells ≡ (Y.held yard.old).tells }
     ensures unread { (Y.control yard.new).registries ≡ (Y.control yard.old).registries }
     ensures err { OnErr result ((came : List Came) × Uses came (Y.control yard.old) (Y.control yard.new)) }
+    ensures same { OnErr result (IsTrue (Y.held yard.old).tells
+        → AllRest Y.D.Disk Y.S.Store Y.M.MetaLog (Y.held yard.old) (Y.held yard.new)) }
     ensures cause { IsErrOf result Failed → Rose (Y.control yard.old).faults (Y.control yard.new).faults }
 {
     let devices = hand_devices(alloc, yard, partition, count)?;

@@ -1,6 +1,6 @@
 //! Runs over a yard: of a partition, and of a whole script.
 
-ghost use Rattle.std.specs.Prelude.{◌≡◌, ◌++◌, All, IfOk, IfErr, OnOk, OnErr, IsTrue};
+ghost use Rattle.std.specs.Prelude.{◌≡◌, ◌⊎◌, ◌++◌, All, IfOk, IfErr, OnOk, OnErr, IsTrue};
 ghost use Rattle.tier_base.specs.declared.names.PartitionId.{PartitionId as Id};
 ghost use Rattle.plain_log.specs.Orders.{AreListsFor, IsConfig};
 ghost use Rattle.script_lang.specs.Fit.{StepsToEnds, AreNumbered};
@@ -8,6 +8,7 @@ ghost use Rattle.device_yard.specs.Held.{IsBare};
 ghost use Rattle.yard_run.specs.Reading.{IsReady, ReadsMore, IsRefusedSo};
 ghost use Rattle.yard_run.specs.Refusals.{IsOfDevices};
 ghost use Rattle.yard_run.specs.Runs.{RunsIn, IsRunText, IsReadAndRun};
+ghost use Rattle.yard_run.specs.Stopped.{AllRest, IsStoppedIn, AreStopped, IsStoppedSo};
 ghost use Rattle.yard_run.specs.Yard.{OnlyOf, IsUsed};
 
 use crate::checking::check_all;
@@ -38,6 +39,9 @@ fn run_part<Y: Yard>(
     ensures refused { IfErr result (IsRefusedSo Y.D.content Y.S.content Y.M.content config.brokers (Y.held yard.old) (Y.held yard.new)
         (Y.control yard.old) (Y.control yard.new)) }
     ensures plain { IfErr result (λ why. IsTrue (Y.held yard.old).tells → IsOfDevices why) }
+    ensures stopped { OnErr result (IsTrue (Y.held yard.old).tells
+        → AllRest Y.D.Disk Y.S.Store Y.M.MetaLog (Y.held yard.old) (Y.held yard.new)
+        ⊎ IsStoppedIn Y.D.Disk Y.S.Store Y.M.MetaLog config part (Y.held yard.old) (Y.held yard.new)) }
     ensures err { OnErr result (IsUsed (Y.control yard.old) (Y.control yard.new)) }
     ensures more { ReadsMore (Y.control yard.old) (Y.control yard.new) }
     ensures tells { (Y.held yard.new).tells ≡ (Y.held yard.old).tells }
@@ -84,6 +88,8 @@ fn run_parts<Y: Yard>(
     ensures text { IfOk result (λ text. IsRunText Y.D.Disk Y.S.Store Y.M.MetaLog config parts (Y.held yard.old) (Y.held yard.new) text.items (Y.control yard.old) (Y.control yard.new)) }
     ensures refused { IfErr result (IsRefusedSo Y.D.content Y.S.content Y.M.content config.brokers (Y.held yard.old) (Y.held yard.new)
         (Y.control yard.old) (Y.control yard.new)) }
+    ensures stopped { OnErr result (IsTrue (Y.held yard.old).tells
+        → AreStopped Y.D.Disk Y.S.Store Y.M.MetaLog config parts (Y.held yard.old) (Y.held yard.new)) }
     ensures err { OnErr result (IsUsed (Y.control yard.old) (Y.control yard.new)) }
     ensures tells { (Y.held yard.new).tells ≡ (Y.held yard.old).tells }
 {
@@ -121,6 +127,10 @@ pub fn run_in_yard<Y: Yard>(
     // Each refusal has its cause: a fault the yard has counted, another count of brokers or a damaged file was read.
     ensures refused { IfErr result (IsRefusedSo Y.D.content Y.S.content Y.M.content config.brokers (Y.held yard.old) (Y.held yard.new)
         (Y.control yard.old) (Y.control yard.new)) }
+
+    // A refusal leaves each partition as it was, as a whole run leaves it, or as a run that was refused on its way.
+    ensures stopped { OnErr result (IsTrue (Y.held yard.old).tells
+        → IsStoppedSo Y.D.Disk Y.S.Store Y.M.MetaLog config parts (Y.held yard.old) (Y.held yard.new)) }
     ensures err { OnErr result (IsUsed (Y.control yard.old) (Y.control yard.new)) }
     ensures tells { (Y.held yard.new).tells ≡ (Y.held yard.old).tells }
 {

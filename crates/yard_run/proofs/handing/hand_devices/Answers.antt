@@ -1,8 +1,9 @@
-use Rattle.std.proofs.Common.{◌∙◌, sym, subst, IsTrue, [], ◌∷◌, ◌++◌, map, None}
+use Rattle.std.proofs.Common.{◌≤◌, ◌∙◌, sym, subst, ℕ, IsTrue, [], ◌∷◌, ◌++◌, map, None}
 use Rattle.tier_base.specs.Device.{fate_of_trouble}
 use Rattle.yard_run.specs.Yard.{came_of}
 use Rattle.yard_run.proofs.Back.{came_then, came_one, only_then, store_only, log_only}
 use Rattle.yard_run.proofs.Out.{all_out, all_so_many, back_again, back_risen, gone_wrong, as_fault, came_more_out}
+use Rattle.yard_run.proofs.Stopped.{disks_again, store_again}
 use Rattle.yard_run.proofs.handing.hand_devices.Goals as goal
 
 pub returns-in-Err-clause-err : goal.returns-in-Err-clause-err
@@ -64,3 +65,23 @@ returns-in-Ok-meta-clause-registry g c = λ t.
     let t1 : IsTrue (g.Y.Yard.held c.hand_disks.new.yard).tells = subst IsTrue (sym c.in_ok-disks.ensures.only.tells) t in
     let t2 : IsTrue (g.Y.Yard.held c.store.new.self).tells = subst IsTrue (sym c.in-Ok.ensures.tells) t1 in
     (c.in-Ok-meta.ensures.out t2).registries c.args.partition ∙ ((c.in-Ok.ensures.out t1).registries c.args.partition ∙ (c.in_ok-disks.ensures.rest t).registry)
+
+pub returns-in-Err-clause-same : goal.returns-in-Err-clause-same
+returns-in-Err-clause-same g c = λ t.
+    let disks = c.in_ok-disks.ensures in
+    disks_again g.Y.D.Disk g.Y.S.Store g.Y.M.MetaLog c.args.partition c.in_ok-disks.disks.items (g.Y.Yard.held c.args.yard.now) (g.Y.Yard.held c.hand_disks.new.yard) (g.Y.Yard.held c.store.new.self) (g.Y.Yard.held c.keep_disks.new.yard)
+    (disks.disks.hands t) disks.only (λ b far. disks.past t b (subst (λ (n : ℕ). n ≤ b.0) disks.disks.count_is far)) (disks.rest t) c.in-Err.ensures.err c.keep_disks.ensures.held t
+
+pub returns-in-Err-meta-clause-same : goal.returns-in-Err-meta-clause-same
+returns-in-Err-meta-clause-same g c = λ t.
+    let disks = c.in_ok-disks.ensures in
+    store_again g.Y.D.Disk g.Y.S.Store g.Y.M.MetaLog c.args.partition c.in_ok-disks.disks.items c.in-Ok.store (g.Y.Yard.held c.args.yard.now) (g.Y.Yard.held c.hand_disks.new.yard) (g.Y.Yard.held c.store.new.self)
+    (g.Y.Yard.held c.meta.new.self) (g.Y.Yard.held c.keep_disks-in-Err-meta.new.yard) (g.Y.Yard.held c.keep_store.new.self)
+    (disks.disks.hands t) disks.only (λ b far. disks.past t b (subst (λ (n : ℕ). n ≤ b.0) disks.disks.count_is far)) (disks.rest t) c.in-Ok.ensures.tells c.in-Ok.ensures.out c.in-Ok.ensures.content
+    c.in-Err-meta.ensures.err c.keep_disks-in-Err-meta.ensures.held c.keep_store.ensures.tells c.keep_store.ensures.held t
+
+pub returns-in-Ok-meta-clause-past : goal.returns-in-Ok-meta-clause-past
+returns-in-Ok-meta-clause-past g c = λ t b far.
+    let t1 : IsTrue (g.Y.Yard.held c.hand_disks.new.yard).tells = subst IsTrue (sym c.in_ok-disks.ensures.only.tells) t in
+    let t2 : IsTrue (g.Y.Yard.held c.store.new.self).tells = subst IsTrue (sym c.in-Ok.ensures.tells) t1 in
+    (c.in-Ok-meta.ensures.out t2).disks c.args.partition b ∙ ((c.in-Ok.ensures.out t1).disks c.args.partition b ∙ c.in_ok-disks.ensures.past t b far)

@@ -3,6 +3,7 @@ use Rattle.tier_base.specs.Device.{fate_of_trouble}
 use Rattle.yard_run.specs.Yard.{came_of}
 use Rattle.yard_run.proofs.Back.{length_snoc}
 use Rattle.yard_run.proofs.Out.{SoFar, so_far_more, back_again, back_risen, as_many, gone_wrong, as_fault}
+use Rattle.yard_run.proofs.Stopped.{disks_again}
 use Rattle.yard_run.proofs.handing.hand_disks.Goals as goal
 
 pub returns-in-Err-clause-err : goal.returns-in-Err-clause-err
@@ -36,3 +37,9 @@ loop-broker-preserved g c =
           (g.Y.Yard.control c.args.yard.now) (g.Y.Yard.control c.loop-broker.yard) (g.Y.Yard.control c.disk.new.self) c.loop-broker.disks.items d at.at at.so_far
           said.control said.tells said.fresh said.told said.content said.out);
     }
+
+pub returns-in-Err-clause-same : goal.returns-in-Err-clause-same
+returns-in-Err-clause-same g c = λ t.
+    let so = c.loop-broker.invariant.so_far in
+    disks_again g.Y.D.Disk g.Y.S.Store g.Y.M.MetaLog c.args.partition c.loop-broker.disks.items (g.Y.Yard.held c.args.yard.now) (g.Y.Yard.held c.loop-broker.yard) (g.Y.Yard.held c.disk.new.self) (g.Y.Yard.held c.keep_disks.new.yard)
+    (so.hands t) so.only (so.rest t) (record { store = so.stores t; log = so.logs t; registry = so.registries t }) c.in-Err.ensures.err c.keep_disks.ensures.held t

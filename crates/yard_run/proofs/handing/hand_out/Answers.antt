@@ -4,6 +4,7 @@ use Rattle.device_yard.specs.Held.{IsOut}
 use Rattle.yard_run.specs.Yard.{came_of}
 use Rattle.yard_run.proofs.Back.{only_then, registry_only}
 use Rattle.yard_run.proofs.Out.{all_handed, so_many_devices, back_again, back_risen, gone_wrong, as_fault}
+use Rattle.yard_run.proofs.Stopped.{devices_again}
 use Rattle.yard_run.proofs.handing.hand_out.Goals as goal
 
 pub returns-in-Ok-clause-devices : goal.returns-in-Ok-clause-devices
@@ -35,3 +36,9 @@ returns-in-Err-clause-cause g c = λ failed.
     back_risen came (g.Y.Yard.control c.args.yard.now) (g.Y.Yard.control c.hand_devices.new.yard) (g.Y.Yard.control c.registry.new.self) (g.Y.Yard.control c.keep.new.yard)
     (so_many_devices g.Y.D.Disk g.Y.S.Store g.Y.M.MetaLog d c.args.count (g.Y.Yard.control c.args.yard.now) (g.Y.Yard.control c.hand_devices.new.yard) c.in_ok-devices.ensures.devices.disks.count_is c.in_ok-devices.ensures.control)
     (as_fault c.in-Err.trouble (g.Y.Yard.control c.hand_devices.new.yard) (g.Y.Yard.control c.registry.new.self) failed c.in-Err.ensures.control) c.keep.ensures.control
+
+pub returns-in-Err-clause-same : goal.returns-in-Err-clause-same
+returns-in-Err-clause-same g c =
+    let all = c.in_ok-devices.ensures in
+    devices_again g.Y.D.Disk g.Y.S.Store g.Y.M.MetaLog c.args.partition c.args.count c.in_ok-devices.devices (g.Y.Yard.held c.args.yard.now) (g.Y.Yard.held c.hand_devices.new.yard) (g.Y.Yard.held c.registry.new.self) (g.Y.Yard.held c.keep.new.yard)
+    all.devices all.only all.past all.registry c.in-Err.ensures.err c.keep.ensures.held

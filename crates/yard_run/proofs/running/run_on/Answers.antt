@@ -3,6 +3,7 @@ use Rattle.plain_log.specs.declared.command.Config.{Config}
 use Rattle.plain_log.specs.declared.command.Pace.{Pace}
 use Rattle.partition_world.specs.Reaches.{Reaches}
 use Rattle.yard_run.proofs.Ended.{is_run, ok_more, opened_config, refused_run}
+use Rattle.yard_run.proofs.Stopped.{stopped_run, stopped_open}
 use Rattle.yard_run.proofs.running.run_on.Goals as goal
 
 pub returns-in-Ok-clause-text : goal.returns-in-Ok-clause-text
@@ -25,3 +26,13 @@ pub returns-in-Ok-clause-refused : goal.returns-in-Ok-clause-refused
 returns-in-Ok-clause-refused g c =
     refused_run g.D.Disk g.S.Store g.M.MetaLog c.args.config.brokers c.args.devices c.args.registry c.close-devices.result.0 c.close-devices.result.1 c.in-Ok.opened c.trace-text.new.cold c.trace-text.result
     c.close-devices.ensures.reg c.trace-text.ensures.err
+
+pub returns-in-Ok-clause-stopped : goal.returns-in-Ok-clause-stopped
+returns-in-Ok-clause-stopped g c =
+    stopped_run g.D.Disk g.S.Store g.M.MetaLog c.closed_disks_are_left.ensures c.args.config c.args.part c.args.devices c.close-devices.result.0 c.args.registry c.close-devices.result.1 c.in-Ok.opened c.trace-text.new.cold c.trace-text.result
+    c.in-Ok.ensures.opened c.in-Ok.ensures.new c.in-Ok.ensures.central c.in-Ok.ensures.blank (c.trace-text.ensures.told ∙ c.in-Ok.ensures.tells) c.trace-text.ensures.later
+    c.close-devices.ensures.disks c.close-devices.ensures.again c.close-devices.ensures.store c.close-devices.ensures.meta c.close-devices.ensures.reg c.close-devices.ensures.cold c.trace-text.ensures.err
+
+pub returns-in-Err-clause-stopped : goal.returns-in-Err-clause-stopped
+returns-in-Err-clause-stopped g c =
+    stopped_open g.D.Disk g.S.Store g.M.MetaLog c.fresh_is_safe.ensures c.args.config c.args.part c.args.devices c.in-Err.devices c.args.registry c.in-Err.registry c.in-Err.ensures.stand c.in-Err.ensures.begun

@@ -1,4 +1,4 @@
-use Rattle.std.proofs.Common.{◌+◌, sym, subst, IsTrue}
+use Rattle.std.proofs.Common.{◌+◌, inl, sym, subst, IsTrue}
 use Rattle.yard_run.specs.Reading.{IsRefusedSo}
 use Rattle.yard_run.specs.Refusals.{IsOfDevices}
 use Rattle.yard_run.specs.Yard.{cames_of}
@@ -6,6 +6,7 @@ use Rattle.yard_run.specs.declared.refusal.YardRefusal.{YardRefusal}
 use Rattle.yard_run.proofs.Back.{only_then}
 use Rattle.yard_run.proofs.Ran.{unarmed_disks, ran, refused_of, cames_many, ok_is, err_is}
 use Rattle.yard_run.proofs.UsesOf.{uses_all}
+use Rattle.yard_run.proofs.Stopped.{on_err, stopped_in}
 use Rattle.yard_run.proofs.runs.run_part.Goals as goal
 
 pub run_on-devices-requires-clause-disks : goal.run_on-devices-requires-clause-disks
@@ -47,3 +48,12 @@ returns-in-Err-text-clause-err g c =
       uses = uses_all (c.args.config.brokers + 3) came (g.Y.Yard.control c.args.yard.now) (g.Y.Yard.control c.hand_out.new.yard) (g.Y.Yard.control c.keep_all.new.yard)
           (cames_many g.Y.D.Disk g.Y.S.Store g.Y.M.MetaLog c.run_on-devices.result.0 c.run_on-devices.result.1 c.args.config.brokers c.run_on-devices.ensures.count) c.in-Ok.ensures.control c.keep_all.ensures.control;
     }
+
+pub returns-in-Err-clause-stopped : goal.returns-in-Err-clause-stopped
+returns-in-Err-clause-stopped g c = λ t. inl (c.in-Err.ensures.same t)
+
+pub returns-in-Err-text-clause-stopped : goal.returns-in-Err-text-clause-stopped
+returns-in-Err-text-clause-stopped g c =
+    stopped_in g.Y.D.Disk g.Y.S.Store g.Y.M.MetaLog c.args.config c.args.part c.in-Ok.devices c.run_on-devices.result.0 c.in-Ok.registry c.run_on-devices.result.1
+    (g.Y.Yard.held c.args.yard.now) (g.Y.Yard.held c.hand_out.new.yard) (g.Y.Yard.held c.keep_all.new.yard) c.requires.ready c.in-Ok.ensures.devices c.in-Ok.ensures.only
+    (on_err c.run_on-devices.result.2 c.in-Err-text.why _ c.in-Err-text.is c.run_on-devices.ensures.stopped) c.keep_all.ensures.held

@@ -1,0 +1,118 @@
+-- What a refused run leaves: of one partition over its devices, and of a script over a yard.
+--
+--   form                        says
+--   IsStill .. p                the devices stand for the state p, or still hold nothing of a partition
+--   IsLedFrom .. p              they stand for what is left of a state to which commands lead from p
+--   IsStoppedAt .. p            one of these
+--   RestsIn held, AllRest       a partition's devices read as they did, and so do those of all
+--   IsStoppedIn part was held   the partition's run was refused over its devices, which are held again
+--   AreStopped parts was held   the first partitions have their runs, and a refusal came then
+--   IsStoppedSo parts was held  that, once the registries were read, or nothing was run
+use Rattle.std.specs.Prelude.{◌≡◌, ◌≤◌, ◌⊎◌, ℕ, List, ◌∷◌, ◌++◌, Option, Some, None, length}
+use Rattle.tier_base.specs.declared.names.BrokerId.{BrokerId}
+use Rattle.tier_base.specs.declared.names.PartitionId.{PartitionId}
+use Rattle.disk_model.specs.declared.disk.Disk.{Ghosts as DiskGhosts}
+use Rattle.object_store.specs.Content as stored
+use Rattle.object_store.specs.Memory.{IsEmptyStore}
+use Rattle.object_store.specs.declared.store.Store.{Ghosts as StoreGhosts}
+use Rattle.meta_log.specs.Content as noted
+use Rattle.meta_log.specs.declared.log.MetaLog.{Ghosts as MetaGhosts}
+use Rattle.plain_log.specs.declared.command.ActorList.{ActorList}
+use Rattle.plain_log.specs.declared.command.Config.{Config}
+use Rattle.plain_log.specs.declared.journal.JournalEntry.{JournalEntry}
+use Rattle.plain_log.specs.declared.state.State.{State}
+use Rattle.plain_log.specs.Fresh.{fresh}
+use Rattle.plain_log.specs.Runs.{replay}
+use Rattle.plain_log.specs.Safe.{PlainSafe}
+use Rattle.device_yard.specs.declared.came.Came.{Came}
+use Rattle.device_yard.specs.Held.{Held, IsEmptyLog}
+use Rattle.partition_world.specs.declared.tier.Devices.{Devices}
+use Rattle.script_lang.specs.declared.script.PartScript.{PartScript}
+use Rattle.cold_state.specs.Cold.{cold_of}
+use Rattle.cold_start.specs.Stands.{StandsFor, IsBlank}
+use Rattle.yard_run.specs.Handed.{HandsDevices}
+use Rattle.yard_run.specs.Opens.{OpensAt, OpensFresh}
+use Rattle.yard_run.specs.Reading.{AreRead, RestsOn, file_in}
+use Rattle.yard_run.specs.Runs.{AreRunsIn}
+use Rattle.yard_run.specs.Yard.{SameOf, OnlyOf, HoldsAll}
+
+-- what is held of a store reads as it did; where there was none, one without objects may be
+abbrev pub StoreRests : {S : Type 0} → (S → stored.Content) → Option S → Option S → Type 0
+StoreRests store None None = Unit {0}
+StoreRests store None (Some t) = IsEmptyStore (store t)
+StoreRests store (Some s) (Some t) = stored.Keeps (store s) (store t)
+StoreRests store (Some s) None = ⊥
+
+-- and of a metadata log, one without notes
+abbrev pub LogRests : {M : Type 0} → (M → noted.Content) → Option M → Option M → Type 0
+LogRests meta None None = Unit {0}
+LogRests meta None (Some n) = IsEmptyLog (meta n)
+LogRests meta (Some m) (Some n) = noted.Keeps (meta m) (meta n)
+LogRests meta (Some m) None = ⊥
+
+module _ {D S M : Type 0} (disk : DiskGhosts D) (store : StoreGhosts S) (meta : MetaGhosts M) where
+  -- the devices stand for this state, or hold nothing of a partition, and it is the fresh one
+  abbrev pub IsStill : PartitionId → Config → Devices D S M → D → State → Type 0
+  IsStill partition config devices registry p =
+      StandsFor disk store meta partition devices.disks.items devices.store devices.meta registry p
+      ⊎ ((p ≡ fresh config) × IsBlank disk store meta devices.store devices.meta registry)
+
+  -- the devices stand for what is left of a state with the safety rules, to which entries of the lists lead from p
+  pub record IsLedFrom (partition : PartitionId) (lists : List ActorList) (devices : Devices D S M) (registry : D) (p : State)
+      : Type 0 where
+    pub journal : List JournalEntry
+    pub last : State
+    pub replays : replay lists p journal ≡ Some last
+    pub safe : PlainSafe last
+    pub stand : StandsFor disk store meta partition devices.disks.items devices.store devices.meta registry (cold_of last)
+
+  -- a run from p that stopped, before its first turn or after one, left these devices
+  abbrev pub IsStoppedAt : Config → PartScript → Devices D S M → D → State → Type 0
+  IsStoppedAt config part devices registry p =
+      IsStill part.partition config devices registry p ⊎ IsLedFrom part.partition part.lists devices registry p
+
+  -- what is held of the partition reads as it did
+  pub record RestsIn (p : PartitionId) (old new : Held D S M) : Type 0 where
+    pub disks : (b : BrokerId) → RestsOn disk.content (old.disks p b) (new.disks p b)
+    pub objects : StoreRests store.content (old.stores p) (new.stores p)
+    pub notes : LogRests meta.content (old.logs p) (new.logs p)
+    pub file : RestsOn disk.content (old.registries p) (new.registries p)
+
+  -- and of each
+  abbrev pub AllRest : Held D S M → Held D S M → Type 0
+  AllRest old new = (p : PartitionId) → RestsIn p old new
+
+  -- A partition's run was refused once its devices were out: they had what the yard held before, and it holds now what
+  -- came back. From each state in which the run may begin they are as a run leaves them that stopped.
+  pub record IsStoppedIn (config : Config) (part : PartScript) (was held : Held D S M) : Type 0 where
+    pub devices : Devices D S M
+    pub registry : D
+    pub back : Devices D S M
+    pub kept : D
+    pub handed : HandsDevices disk store meta part.partition devices registry was
+    pub begun : file_in disk.content (was.registries part.partition) ≡ None
+        → OpensFresh disk store meta config devices registry (fresh config)
+    pub stopped : (p : State) → OpensAt disk store meta part.partition config devices registry p
+        → IsStoppedAt config part back kept p
+    pub holds : HoldsAll disk.content part.partition back kept held
+    pub only : OnlyOf part.partition was held
+
+  -- The first partitions have their runs, and of the others nothing had changed. Then nothing changed any more, or the next
+  -- partition's run was refused.
+  pub record AreStopped (config : Config) (parts : List PartScript) (was held : Held D S M) : Type 0 where
+    pub front : List PartScript
+    pub rest : List PartScript
+    pub parts_are : front ++ rest ≡ parts
+    pub mid : Held D S M
+    pub runs : List (ℕ × List JournalEntry)
+    pub came : List Came
+    pub are : AreRunsIn disk store meta config was mid front runs came
+    pub others : (p : PartitionId) → length front ≤ p.0 → SameOf p was mid
+    pub end : AllRest mid held
+        ⊎ ((part : PartScript) × (more : List PartScript) × (rest ≡ part ∷ more) × IsStoppedIn config part mid held)
+
+  -- nothing was run; or no registry refused the run, and the partitions were run so far
+  abbrev pub IsStoppedSo : Config → List PartScript → Held D S M → Held D S M → Type 0
+  IsStoppedSo config parts was held =
+      AreRead disk.content store.content meta.content was held
+      ⊎ ((found : Held D S M) × AreRead disk.content store.content meta.content was found × AreStopped config parts found held)
