@@ -35,13 +35,13 @@ use Rattle.cold_start.specs.declared.refusal.ColdRefusal.{ColdRefusal}
 use Rattle.cold_start.proofs.Leaving.{uncut, all_uncut}
 use Rattle.yard_run.specs.Handed.{HandsDisks, AreHanded, AreAllHanded}
 use Rattle.yard_run.specs.Opens.{OpensAt}
-use Rattle.yard_run.specs.Reading.{RestsOn, AreRead, IsReady, ReadsMore}
+use Rattle.yard_run.specs.Reading.{AreRead, IsReady, ReadsMore}
 use Rattle.yard_run.specs.Runs.{RunsIn}
-use Rattle.yard_run.specs.Stopped.{StoreRests, LogRests, RestsIn, AllRest, IsLedFrom, IsStoppedAt, IsStoppedIn, AreStopped, IsStoppedSo}
+use Rattle.yard_run.specs.Stopped.{DiskRests, StoreRests, LogRests, RestsIn, AllRest, IsLedFrom, IsStoppedAt, IsStoppedIn, AreStopped, IsStoppedSo}
 use Rattle.yard_run.specs.Yard.{SameOf, OnlyOf, KeepsRest, KeepsFrom, KeepsDisks, KeepsDevices, KeepsAll}
 use Rattle.yard_run.proofs.Back.{only_then, store_only}
 use Rattle.yard_run.proofs.Ended.{opened_there, opens_told, opens_central}
-use Rattle.yard_run.proofs.Looks.{is_or_not, keeps_rests, rests_same}
+use Rattle.yard_run.proofs.Looks.{is_or_not}
 use Rattle.yard_run.proofs.Ran.{SoFar, goes_behind, opens_fresh}
 
 -- what is said of a refusal
@@ -135,12 +135,12 @@ module _ {D S M : Type 0} (disk : DiskGhosts D) (store : StoreGhosts S) (meta : 
       ]
 
   -- a device that went out is back with what was held
-  disk_handed : (a b : Option D) (d : D) → HandsDisk disk.content a (disk.content d) → b ≡ Some d → RestsOn disk.content a b
-  disk_handed a b d gives is = subst (λ (k : Option D). RestsOn disk.content a k) (sym is) (by a gives)
+  disk_handed : (a b : Option D) (d : D) → HandsDisk disk.content a (disk.content d) → b ≡ Some d → DiskRests disk.content a b
+  disk_handed a b d gives is = subst (λ (k : Option D). DiskRests disk.content a k) (sym is) (by a gives)
     where
-      by : (o : Option D) → HandsDisk disk.content o (disk.content d) → RestsOn disk.content o (Some d)
+      by : (o : Option D) → HandsDisk disk.content o (disk.content d) → DiskRests disk.content o (Some d)
       by None gives = gives
-      by (Some e) gives = record { tells = gives.tells; files = gives.files; images = gives.images }
+      by (Some e) gives = gives
 
   store_handed : (a b : Option S) (s : S) → HandsStore store.content a (store.content s) → b ≡ Some s → StoreRests store.content a b
   store_handed a b s gives is = subst (λ (k : Option S). StoreRests store.content a k) (sym is) (by a gives)
@@ -156,7 +156,13 @@ module _ {D S M : Type 0} (disk : DiskGhosts D) (store : StoreGhosts S) (meta : 
       by None gives = gives
       by (Some e) gives = gives
 
-  -- one that stayed reads as it did
+  -- one that stayed is as it was
+  disk_kept : (a b : Option D) → Both (λ x y. files.Keeps (disk.content x) (disk.content y)) a b → DiskRests disk.content a b
+  disk_kept None None k = tt
+  disk_kept None (Some e) k = absurd k
+  disk_kept (Some d) None k = absurd k
+  disk_kept (Some d) (Some e) k = k
+
   store_kept : (a b : Option S) → Both (λ s t. stored.Keeps (store.content s) (store.content t)) a b → StoreRests store.content a b
   store_kept None None k = tt
   store_kept None (Some t) k = absurd k
@@ -169,8 +175,8 @@ module _ {D S M : Type 0} (disk : DiskGhosts D) (store : StoreGhosts S) (meta : 
   log_kept (Some m) None k = absurd k
   log_kept (Some m) (Some n) k = k
 
-  disk_through : (a b c e : Option D) → b ≡ a → Both (λ x y. files.Keeps (disk.content x) (disk.content y)) b c → e ≡ c → RestsOn disk.content a e
-  disk_through a b c e one both two = subst (λ (k : Option D). RestsOn disk.content a k) (sym two) (subst (λ (k : Option D). RestsOn disk.content k c) one (keeps_rests disk.content b c both))
+  disk_through : (a b c e : Option D) → b ≡ a → Both (λ x y. files.Keeps (disk.content x) (disk.content y)) b c → e ≡ c → DiskRests disk.content a e
+  disk_through a b c e one both two = subst (λ (k : Option D). DiskRests disk.content a k) (sym two) (subst (λ (k : Option D). DiskRests disk.content k c) one (disk_kept b c both))
 
   store_through : (a b c e : Option S) → b ≡ a → Both (λ s t. stored.Keeps (store.content s) (store.content t)) b c → e ≡ c → StoreRests store.content a e
   store_through a b c e one both two = subst (λ (k : Option S). StoreRests store.content a k) (sym two) (subst (λ (k : Option S). StoreRests store.content k c) one (store_kept b c both))
@@ -181,16 +187,16 @@ module _ {D S M : Type 0} (disk : DiskGhosts D) (store : StoreGhosts S) (meta : 
   -- the disks of the first brokers went out and are back
   disks_back : (p : PartitionId) (disks : List D) (h0 h1 h2 h3 : Held D S M) → HandsDisks disk store meta p disks h0 → KeepsFrom p (length disks) h0 h1
       → ((b : BrokerId) → Both (λ x y. files.Keeps (disk.content x) (disk.content y)) (h1.disks p b) (h2.disks p b))
-      → ((b : BrokerId) (d : D) → slice_get disks b.0 ≡ Some d → h3.disks p b ≡ Some d) → KeepsFrom p (length disks) h2 h3 → (b : BrokerId) → RestsOn disk.content (h0.disks p b) (h3.disks p b)
+      → ((b : BrokerId) (d : D) → slice_get disks b.0 ≡ Some d → h3.disks p b ≡ Some d) → KeepsFrom p (length disks) h2 h3 → (b : BrokerId) → DiskRests disk.content (h0.disks p b) (h3.disks p b)
   disks_back p disks h0 h1 h2 h3 hands past same here still b = by (slice_get disks b.0) refl
     where
-      by : (o : Option D) → slice_get disks b.0 ≡ o → RestsOn disk.content (h0.disks p b) (h3.disks p b)
+      by : (o : Option D) → slice_get disks b.0 ≡ o → DiskRests disk.content (h0.disks p b) (h3.disks p b)
       by (Some d) at = disk_handed (h0.disks p b) (h3.disks p b) d (hands b d at) (here b d at)
       by None at =
           let far = none_past disks b.0 at in
           disk_through (h0.disks p b) (h1.disks p b) (h2.disks p b) (h3.disks p b) (past b far) (same b) (still b far)
 
-  -- what is held of another partition reads as it did
+  -- what is held of another partition is as it was
   rests_other : (q : PartitionId) (h0 h1 h2 h3 : Held D S M) → SameOf q h0 h1 → Same disk.content store.content meta.content h1 h2 → SameOf q h2 h3 → RestsIn disk store meta q h0 h3
   rests_other q h0 h1 h2 h3 f s g = record {
     disks = λ b. disk_through (h0.disks q b) (h1.disks q b) (h2.disks q b) (h3.disks q b) (f.disks b) (s.disks q b) (g.disks b);
@@ -255,15 +261,19 @@ module _ {D S M : Type 0} (disk : DiskGhosts D) (store : StoreGhosts S) (meta : 
         file = disk_through (h0.registries p) (h1.registries p) (h2.registries p) (h3.registries p) (kept t) (same.registries p) (back.registry told);
       })
 
-  -- where nothing happened all reads as it did
+  -- where nothing happened all is as it was
   all_rest : (h : Held D S M) → AllRest disk store meta h h
   all_rest h p = record {
-    disks = λ b. rests_same disk.content (h.disks p b) (h.disks p b) refl;
+    disks = λ b. disks (h.disks p b);
     objects = stores (h.stores p);
     notes = logs (h.logs p);
-    file = rests_same disk.content (h.registries p) (h.registries p) refl;
+    file = disks (h.registries p);
   }
     where
+      disks : (o : Option D) → DiskRests disk.content o o
+      disks None = tt
+      disks (Some d) = record { tells = refl; files = λ n. refl; images = λ c at. at; time = record { later = omega arith; nothing_else = λ t c early at. inl at; keeps = λ t c early at. at } }
+
       stores : (o : Option S) → StoreRests store.content o o
       stores None = tt
       stores (Some s) = record { tells = refl; objects = λ k. refl }
@@ -274,14 +284,16 @@ module _ {D S M : Type 0} (disk : DiskGhosts D) (store : StoreGhosts S) (meta : 
 
   -- the partition's devices were out, and its run was refused
   pub stopped_in : (config : Config) (part : PartScript) (given back : Devices D S M) (reg kept : D) (h0 h1 h2 : Held D S M) → (IsTrue h0.tells → IsReady disk.content store.content meta.content config.brokers h0 part.partition)
-      → AreAllHanded disk store meta part.partition config.brokers given reg h0 → OnlyOf part.partition h0 h1
+      → AreAllHanded disk store meta part.partition config.brokers given reg h0 → OnlyOf part.partition h0 h1 → length back.disks.items ≡ config.brokers
       → ((p : State) → OpensAt disk store meta part.partition config given reg p → IsStoppedAt disk store meta config part back kept p) → KeepsAll disk.content part.partition back kept h1 h2
       → IsTrue h0.tells → AllRest disk store meta h0 h2 ⊎ IsStoppedIn disk store meta config part h0 h2
-  stopped_in config part given back reg kept h0 h1 h2 ready handed only stopped keeps t = inr (record {
+  stopped_in config part given back reg kept h0 h1 h2 ready handed only many stopped keeps t = inr (record {
     devices = given;
     registry = reg;
     back = back;
     kept = kept;
+    given = handed.others.disks.count_is;
+    count = many;
     handed = handed.hands t;
     begun = λ none. opens_fresh disk store meta config part.partition config.brokers h0 given reg t (ready t).bare none handed;
     stopped = stopped;

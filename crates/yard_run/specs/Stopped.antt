@@ -4,13 +4,15 @@
 --   IsStill .. p                the devices stand for the state p, or still hold nothing of a partition
 --   IsLedFrom .. p              they stand for what is left of a state to which commands lead from p
 --   IsStoppedAt .. p            one of these
---   RestsIn held, AllRest       a partition's devices read as they did, and so do those of all
+--   RestsIn p, AllRest          what is held of a partition is as it was, and of all
 --   IsStoppedIn part was held   the partition's run was refused over its devices, which are held again
 --   AreStopped parts was held   the first partitions have their runs, and a refusal came then
 --   IsStoppedSo parts was held  that, once the registries were read, or nothing was run
 use Rattle.std.specs.Prelude.{◌≡◌, ◌≤◌, ◌⊎◌, ℕ, List, ◌∷◌, ◌++◌, Option, Some, None, length}
 use Rattle.tier_base.specs.declared.names.BrokerId.{BrokerId}
 use Rattle.tier_base.specs.declared.names.PartitionId.{PartitionId}
+use Rattle.disk_model.specs.Content as files
+use Rattle.disk_model.specs.Memory.{IsEmptyDisk}
 use Rattle.disk_model.specs.declared.disk.Disk.{Ghosts as DiskGhosts}
 use Rattle.object_store.specs.Content as stored
 use Rattle.object_store.specs.Memory.{IsEmptyStore}
@@ -32,18 +34,25 @@ use Rattle.cold_state.specs.Cold.{cold_of}
 use Rattle.cold_start.specs.Stands.{StandsFor, IsBlank}
 use Rattle.yard_run.specs.Handed.{HandsDevices}
 use Rattle.yard_run.specs.Opens.{OpensAt, OpensFresh}
-use Rattle.yard_run.specs.Reading.{AreRead, RestsOn, file_in}
+use Rattle.yard_run.specs.Reading.{AreRead, file_in}
 use Rattle.yard_run.specs.Runs.{AreRunsIn}
 use Rattle.yard_run.specs.Yard.{SameOf, OnlyOf, HoldsAll}
 
--- what is held of a store reads as it did; where there was none, one without objects may be
+-- what is held of a disk is as it was; where there was none, one without files may be
+abbrev pub DiskRests : {D : Type 0} → (D → files.Content) → Option D → Option D → Type 0
+DiskRests disk None None = Unit {0}
+DiskRests disk None (Some e) = IsEmptyDisk (disk e)
+DiskRests disk (Some d) (Some e) = files.Keeps (disk d) (disk e)
+DiskRests disk (Some d) None = ⊥
+
+-- of a store, one without objects
 abbrev pub StoreRests : {S : Type 0} → (S → stored.Content) → Option S → Option S → Type 0
 StoreRests store None None = Unit {0}
 StoreRests store None (Some t) = IsEmptyStore (store t)
 StoreRests store (Some s) (Some t) = stored.Keeps (store s) (store t)
 StoreRests store (Some s) None = ⊥
 
--- and of a metadata log, one without notes
+-- of a metadata log, one without notes
 abbrev pub LogRests : {M : Type 0} → (M → noted.Content) → Option M → Option M → Type 0
 LogRests meta None None = Unit {0}
 LogRests meta None (Some n) = IsEmptyLog (meta n)
@@ -71,12 +80,12 @@ module _ {D S M : Type 0} (disk : DiskGhosts D) (store : StoreGhosts S) (meta : 
   IsStoppedAt config part devices registry p =
       IsStill part.partition config devices registry p ⊎ IsLedFrom part.partition part.lists devices registry p
 
-  -- what is held of the partition reads as it did
+  -- what is held of the partition is as it was
   pub record RestsIn (p : PartitionId) (old new : Held D S M) : Type 0 where
-    pub disks : (b : BrokerId) → RestsOn disk.content (old.disks p b) (new.disks p b)
+    pub disks : (b : BrokerId) → DiskRests disk.content (old.disks p b) (new.disks p b)
     pub objects : StoreRests store.content (old.stores p) (new.stores p)
     pub notes : LogRests meta.content (old.logs p) (new.logs p)
-    pub file : RestsOn disk.content (old.registries p) (new.registries p)
+    pub file : DiskRests disk.content (old.registries p) (new.registries p)
 
   -- and of each
   abbrev pub AllRest : Held D S M → Held D S M → Type 0
@@ -89,6 +98,8 @@ module _ {D S M : Type 0} (disk : DiskGhosts D) (store : StoreGhosts S) (meta : 
     pub registry : D
     pub back : Devices D S M
     pub kept : D
+    pub given : length devices.disks.items ≡ config.brokers
+    pub count : length back.disks.items ≡ config.brokers
     pub handed : HandsDevices disk store meta part.partition devices registry was
     pub begun : file_in disk.content (was.registries part.partition) ≡ None
         → OpensFresh disk store meta config devices registry (fresh config)

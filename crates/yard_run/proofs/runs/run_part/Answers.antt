@@ -55,5 +55,5 @@ returns-in-Err-clause-stopped g c = λ t. inl (c.in-Err.ensures.same t)
 pub returns-in-Err-text-clause-stopped : goal.returns-in-Err-text-clause-stopped
 returns-in-Err-text-clause-stopped g c =
     stopped_in g.Y.D.Disk g.Y.S.Store g.Y.M.MetaLog c.args.config c.args.part c.in-Ok.devices c.run_on-devices.result.0 c.in-Ok.registry c.run_on-devices.result.1
-    (g.Y.Yard.held c.args.yard.now) (g.Y.Yard.held c.hand_out.new.yard) (g.Y.Yard.held c.keep_all.new.yard) c.requires.ready c.in-Ok.ensures.devices c.in-Ok.ensures.only
+    (g.Y.Yard.held c.args.yard.now) (g.Y.Yard.held c.hand_out.new.yard) (g.Y.Yard.held c.keep_all.new.yard) c.requires.ready c.in-Ok.ensures.devices c.in-Ok.ensures.only c.run_on-devices.ensures.count
     (on_err c.run_on-devices.result.2 c.in-Err-text.why _ c.in-Err-text.is c.run_on-devices.ensures.stopped) c.keep_all.ensures.held
