@@ -57,7 +57,7 @@ module _ {D : Type 0} (content : D → disk_content.Content) where
 
 module _ {D S M : Type 0} (disk : DiskGhosts D) (store : StoreGhosts S) (meta : MetaGhosts M) where
   -- what a run left stands for a state, and so does what is handed out next
-  next_stands : (count : ℕ) (p : PartitionId) (held : Held D S M) (back : Devices D S M) (kept : D) (q : State) → length back.disks.items ≡ count → HoldsAll disk.content p back kept held
+  pub next_stands : (count : ℕ) (p : PartitionId) (held : Held D S M) (back : Devices D S M) (kept : D) (q : State) → length back.disks.items ≡ count → HoldsAll disk.content p back kept held
       → StandsFor disk store meta p back.disks.items back.store back.meta kept q → StandsIn disk store meta count held p q
   next_stands count p held back kept q many holds stands = λ devices registry so hands.
       let kept_store : store_content.Keeps (store.content back.store) (store.content devices.store) =

@@ -4,7 +4,9 @@
 --   StandsIn n held p q  whatever the yard hands out of the partition, with so many disks, stands for the plain state q
 --   GoesOn .. q journal  the journal is a run of the plain log from q, and the yard holds what is left of the state it leads to
 --   RunsContinue         each run over a yard is so from each state that what the yard held stands for
-use Rattle.std.specs.Prelude.{◌≡◌, ℕ, List, None, length, IsTrue}
+--   IsLedOn .. q         the yard holds what is left of a state to which commands lead from q
+--   RefusalsContinue     a refused run leaves what stands for the same state, or is so
+use Rattle.std.specs.Prelude.{◌≡◌, ◌⊎◌, ℕ, List, None, Some, length, IsTrue}
 use Rattle.tier_base.specs.declared.names.PartitionId.{PartitionId}
 use Rattle.disk_model.specs.declared.disk.Disk.{Ghosts as DiskGhosts}
 use Rattle.object_store.specs.declared.store.Store.{Ghosts as StoreGhosts}
@@ -13,8 +15,10 @@ use Rattle.plain_log.specs.declared.command.Config.{Config}
 use Rattle.plain_log.specs.declared.journal.JournalEntry.{JournalEntry}
 use Rattle.plain_log.specs.declared.state.State.{State}
 use Rattle.plain_log.specs.Fresh.{fresh}
+use Rattle.plain_log.specs.Runs.{replay}
+use Rattle.plain_log.specs.Safe.{PlainSafe}
 use Rattle.device_yard.specs.declared.came.Came.{Came}
-use Rattle.device_yard.specs.Held.{Held}
+use Rattle.device_yard.specs.Held.{Held, HasTier}
 use Rattle.partition_world.specs.declared.tier.Devices.{Devices}
 use Rattle.script_lang.specs.declared.script.PartScript.{PartScript}
 use Rattle.cold_state.specs.Cold.{cold_of}
@@ -23,6 +27,7 @@ use Rattle.yard_run.specs.Handed.{HandsDevices}
 use Rattle.yard_run.specs.Reading.{file_in}
 use Rattle.yard_run.specs.Run.{IsLogRun}
 use Rattle.yard_run.specs.Runs.{IsRunIn}
+use Rattle.yard_run.specs.Stopped.{RestsIn, IsStoppedIn}
 
 module _ {D S M : Type 0} (disk : DiskGhosts D) (store : StoreGhosts S) (meta : MetaGhosts M) where
   -- whatever devices, so many disks among them, have what the yard holds of the partition, they stand for this plain state
@@ -44,3 +49,29 @@ module _ {D S M : Type 0} (disk : DiskGhosts D) (store : StoreGhosts S) (meta : 
   abbrev pub RunsContinue : Type 0
   RunsContinue = (config : Config) (part : PartScript) (was held : Held D S M) (run : ℕ × List JournalEntry) (came : List Came)
       → IsRunIn disk store meta config part was held run came → IsTrue was.tells → IsTrue held.tells → Continues config part was held run.1
+
+  -- the yard holds what is left of a state with the safety rules, to which entries of the lists lead from this one
+  pub record IsLedOn (config : Config) (part : PartScript) (held : Held D S M) (q : State) : Type 0 where
+    pub journal : List JournalEntry
+    pub last : State
+    pub replays : replay part.lists q journal ≡ Some last
+    pub safe : PlainSafe last
+    pub stand : StandsIn config.brokers held part.partition (cold_of last)
+
+  -- the partition has no registry, and no object and no note: a run begins in the fresh state
+  pub record IsUnbegun (held : Held D S M) (p : PartitionId) : Type 0 where
+    pub file : file_in disk.content (held.registries p) ≡ None
+    pub tierless : HasTier disk.content store.content meta.content held p → ⊥
+
+  -- what the yard held of the partition stands for a state: it does still, or it is led on from there
+  pub record StaysOrIsLed (config : Config) (part : PartScript) (was held : Held D S M) : Type 0 where
+    pub from : (q : State) → StandsIn config.brokers was part.partition q
+        → StandsIn config.brokers held part.partition q ⊎ IsLedOn config part held q
+    pub begun : IsUnbegun was part.partition → IsUnbegun held part.partition ⊎ IsLedOn config part held (fresh config)
+
+  -- so it is with the partition at which a refused run stopped, and with each of which it left what is held as it was
+  pub record RefusalsContinue : Type 0 where
+    pub stopped : (config : Config) (part : PartScript) (was held : Held D S M)
+        → IsStoppedIn disk store meta config part was held → StaysOrIsLed config part was held
+    pub rests : (config : Config) (part : PartScript) (was held : Held D S M)
+        → RestsIn disk store meta part.partition was held → StaysOrIsLed config part was held

@@ -131,11 +131,11 @@ module _ {D S M : Type 0} (disk : DiskGhosts D) (store : StoreGhosts S) (meta : 
   opens_safe config partition devices reg p opens (inl stands) = (stands.stand (meta.content devices.meta).notes (inl refl)).safe
   opens_safe config partition devices reg p opens (inr blank) = subst PlainSafe (sym blank.state) (opens config)
 
-  pub opens_told : (config : Config) (partition : PartitionId) (devices : Devices D S M) (reg : D) (p : State) → OpensAt disk store meta partition config devices reg p → IsTrue (disk.content reg).tells
+  opens_told : (config : Config) (partition : PartitionId) (devices : Devices D S M) (reg : D) (p : State) → OpensAt disk store meta partition config devices reg p → IsTrue (disk.content reg).tells
   opens_told config partition devices reg p (inl stands) = stands.file_tells
   opens_told config partition devices reg p (inr blank) = blank.blank.file_tells
 
-  pub opens_central : (config : Config) (partition : PartitionId) (devices : Devices D S M) (reg : D) (w : Whole D S M) (p : State)
+  opens_central : (config : Config) (partition : PartitionId) (devices : Devices D S M) (reg : D) (w : Whole D S M) (p : State)
       → ((q : State) → StandsFor disk store meta partition devices.disks.items devices.store devices.meta reg q → IsCentralLeft disk store meta q w)
       → (DisksTell disk.content devices.disks.items → IsBlank disk store meta devices.store devices.meta reg → IsCentralLeft disk store meta (fresh config) w)
       → OpensAt disk store meta partition config devices reg p → IsCentralLeft disk store meta p w

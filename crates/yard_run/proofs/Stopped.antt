@@ -34,13 +34,12 @@ use Rattle.cold_start.specs.Stepping.{Halts}
 use Rattle.cold_start.specs.declared.refusal.ColdRefusal.{ColdRefusal}
 use Rattle.cold_start.proofs.Leaving.{uncut, all_uncut}
 use Rattle.yard_run.specs.Handed.{HandsDisks, AreHanded, AreAllHanded}
-use Rattle.yard_run.specs.Opens.{OpensAt}
 use Rattle.yard_run.specs.Reading.{AreRead, IsReady, ReadsMore}
 use Rattle.yard_run.specs.Runs.{RunsIn}
-use Rattle.yard_run.specs.Stopped.{DiskRests, StoreRests, LogRests, RestsIn, AllRest, IsLedFrom, IsStoppedAt, IsStoppedIn, AreStopped, IsStoppedSo}
+use Rattle.yard_run.specs.Stopped.{DiskRests, StoreRests, LogRests, RestsIn, AllRest, IsLedFrom, IsStopped, IsStoppedIn, AreStopped, IsStoppedSo}
 use Rattle.yard_run.specs.Yard.{SameOf, OnlyOf, KeepsRest, KeepsFrom, KeepsDisks, KeepsDevices, KeepsAll}
 use Rattle.yard_run.proofs.Back.{only_then, store_only}
-use Rattle.yard_run.proofs.Ended.{opened_there, opens_told, opens_central}
+use Rattle.yard_run.proofs.Ended.{opened_there}
 use Rattle.yard_run.proofs.Looks.{is_or_not}
 use Rattle.yard_run.proofs.Ran.{SoFar, goes_behind, opens_fresh}
 
@@ -82,32 +81,26 @@ module _ {D S M : Type 0} (disk : DiskGhosts D) (store : StoreGhosts S) (meta : 
     file = subst (λ (k : D). IsCutDisk (disk.content reg) (disk.content k)) (sym same) (uncut (disk.content reg));
   }
 
-  -- a run that was refused on its way
-  stopped_at : ClosedAreLeft disk → (config : Config) (part : PartScript) (devices back : Devices D S M) (reg kept : D) (t t' : Running D S M) (why : ColdRefusal)
-      → IsOpened disk store meta part.partition config part.lists devices.disks.items devices.store devices.meta reg t → IsNew part.lists t.world
-      → ((p : State) → StandsFor disk store meta part.partition devices.disks.items devices.store devices.meta reg p → IsCentralLeft disk store meta p t.world)
-      → (DisksTell disk.content devices.disks.items → IsBlank disk store meta devices.store devices.meta reg → IsCentralLeft disk store meta (fresh config) t.world)
-      → (disk.content t'.reg).tells ≡ (disk.content reg).tells → IsLater disk store meta t.world t'.world
-      → AreDisksOf t'.world.held.nodes back.disks.items → DisksReopen disk.content t'.world.held.nodes back.disks.items → back.store ≡ t'.world.tier.store → back.meta ≡ t'.world.tier.meta → kept ≡ t'.reg
+  -- steps that didn't come to their end left what stands for what is left of a state to which they led
+  halted : ClosedAreLeft disk → (config : Config) (part : PartScript) (back : Devices D S M) (kept : D) (t t' : Running D S M) (why : ColdRefusal) → t.world.partition ≡ part.partition → IsNew part.lists t.world
+      → IsLater disk store meta t.world t'.world → AreDisksOf t'.world.held.nodes back.disks.items → DisksReopen disk.content t'.world.held.nodes back.disks.items → back.store ≡ t'.world.tier.store
+      → back.meta ≡ t'.world.tier.meta → kept ≡ t'.reg
       → (t'.ended ≡ false → IsTrue (disk.content t'.reg).tells → (opening : State) (c : IsCentralLeft disk store meta opening t'.world)
       → StandsFor disk store meta t'.world.partition back.disks.items back.store back.meta kept (cold_of (plain_in disk store meta opening t'.world c)))
-      → Halts disk store meta t t' why → (p : State) → OpensAt disk store meta part.partition config devices reg p → IsStoppedAt disk store meta config part back kept p
-  stopped_at law config part devices back reg kept t t' why is new central blank tells later are again stores notes same closing (inl dry) p at =
-      let told : IsTrue (disk.content t'.reg).tells = subst IsTrue (sym tells) (opens_told disk store meta config part.partition devices reg p at) in
-      let c : IsCentralLeft disk store meta p t'.world = later.left p (opens_central disk store meta config part.partition devices reg t.world p central blank at) in
-      inr (led config part t'.world back kept t'.world.partition p c (later.lists ∙ new.lists_are)
-      (later.partition ∙ opened_there disk store meta part.partition config part.lists devices.disks.items devices.store devices.meta reg t is) (closing dry.1 told p c))
-  stopped_at law config part devices back reg kept t t' why is new central blank tells later are again stores notes same closing (inr (w, before, ends, either)) p at =
-      let told : IsTrue (disk.content t'.reg).tells = subst IsTrue (sym tells) (opens_told disk store meta config part.partition devices reg p at) in
-      let first : IsCentralLeft disk store meta p t.world = opens_central disk store meta config part.partition devices reg t.world p central blank at in
+      → Halts disk store meta t t' why → IsTrue (disk.content t'.reg).tells → (p : State) → IsCentralLeft disk store meta p t.world → IsLedFrom disk store meta part.partition part.lists back kept p
+  halted law config part back kept t t' why there new later are again stores notes same closing (inl dry) told p first =
+      let c : IsCentralLeft disk store meta p t'.world = later.left p first in
+      led config part t'.world back kept t'.world.partition p c (later.lists ∙ new.lists_are) (later.partition ∙ there) (closing dry.1 told p c)
+  halted law config part back kept t t' why there new later are again stores notes same closing (inr (w, before, ends, either)) told p first =
       let b : IsCentralLeft disk store meta p w = before.left p first in
       let c : IsCentralLeft disk store meta p t'.world = later.left p first in
-      let there : t'.world.partition ≡ part.partition = later.partition ∙ opened_there disk store meta part.partition config part.lists devices.disks.items devices.store devices.meta reg t is in
+      let here : t'.world.partition ≡ part.partition = later.partition ∙ there in
       elim (either told p b c back.disks.items back.store back.meta kept (left_all law t'.world t'.reg back kept are again stores notes same)) [
-        | inl old ↦ inr (led config part w back kept t'.world.partition p b (before.lists ∙ new.lists_are) there old)
-        | inr now ↦ inr (led config part t'.world back kept t'.world.partition p c (later.lists ∙ new.lists_are) there now)
+        | inl old ↦ led config part w back kept t'.world.partition p b (before.lists ∙ new.lists_are) here old
+        | inr now ↦ led config part t'.world back kept t'.world.partition p c (later.lists ∙ new.lists_are) here now
       ]
 
+  -- a run that was refused on its way
   pub stopped_run : {T : Type 0} → ClosedAreLeft disk → (config : Config) (part : PartScript) (devices back : Devices D S M) (reg kept : D) (t t' : Running D S M) (r : Result T ColdRefusal)
       → IsOpened disk store meta part.partition config part.lists devices.disks.items devices.store devices.meta reg t → IsNew part.lists t.world
       → ((p : State) → StandsFor disk store meta part.partition devices.disks.items devices.store devices.meta reg p → IsCentralLeft disk store meta p t.world)
@@ -116,23 +109,29 @@ module _ {D S M : Type 0} (disk : DiskGhosts D) (store : StoreGhosts S) (meta : 
       → AreDisksOf t'.world.held.nodes back.disks.items → DisksReopen disk.content t'.world.held.nodes back.disks.items → back.store ≡ t'.world.tier.store → back.meta ≡ t'.world.tier.meta → kept ≡ t'.reg
       → (t'.ended ≡ false → IsTrue (disk.content t'.reg).tells → (opening : State) (c : IsCentralLeft disk store meta opening t'.world)
       → StandsFor disk store meta t'.world.partition back.disks.items back.store back.meta kept (cold_of (plain_in disk store meta opening t'.world c)))
-      → IfErr r (λ why. Halts disk store meta t t' why) → OnErr r ((p : State) → OpensAt disk store meta part.partition config devices reg p → IsStoppedAt disk store meta config part back kept p)
+      → IfErr r (λ why. Halts disk store meta t t' why) → OnErr r (IsStopped disk store meta config part devices reg back kept)
   stopped_run law config part devices back reg kept t t' (Ok x) is new central blank tells later are again stores notes same closing h = tt
   stopped_run law config part devices back reg kept t t' (Err why) is new central blank tells later are again stores notes same closing h =
-      stopped_at law config part devices back reg kept t t' why is new central blank tells later are again stores notes same closing h
+      let there = opened_there disk store meta part.partition config part.lists devices.disks.items devices.store devices.meta reg t is in
+      record {
+        from = λ p stands. inr (halted law config part back kept t t' why there new later are again stores notes same closing h (subst IsTrue (sym tells) stands.file_tells) p (central p stands));
+        begun = λ tell empty. inr (halted law config part back kept t t' why there new later are again stores notes same closing h (subst IsTrue (sym tells) empty.file_tells) (fresh config) (blank tell empty));
+      }
 
   -- or that wasn't opened
   pub stopped_open : FreshIsSafe → (config : Config) (part : PartScript) (devices back : Devices D S M) (reg kept : D)
       → ((p : State) → StandsFor disk store meta part.partition devices.disks.items devices.store devices.meta reg p → StandsFor disk store meta part.partition back.disks.items back.store back.meta kept p)
       → (DisksTell disk.content devices.disks.items → IsBlank disk store meta devices.store devices.meta reg
       → IsBlank disk store meta back.store back.meta kept ⊎ StandsFor disk store meta part.partition back.disks.items back.store back.meta kept (cold_of (fresh config)))
-      → (p : State) → OpensAt disk store meta part.partition config devices reg p → IsStoppedAt disk store meta config part back kept p
-  stopped_open safe config part devices back reg kept stand begun p (inl stands) = inl (inl (stand p stands))
-  stopped_open safe config part devices back reg kept stand begun p (inr none) =
-      elim (begun none.disks_tell none.blank) [
-        | inl blank ↦ inl (inr (none.state, blank))
-        | inr stands ↦ inr (subst (λ (q : State). IsLedFrom disk store meta part.partition part.lists back kept q) (sym none.state) (record { journal = []; last = fresh config; replays = refl; safe = safe config; stand = stands }))
-      ]
+      → IsStopped disk store meta config part devices reg back kept
+  stopped_open safe config part devices back reg kept stand begun = record {
+    from = λ p stands. inl (stand p stands);
+    begun = λ tell empty.
+        elim (begun tell empty) [
+          | inl blank ↦ inl blank
+          | inr stands ↦ inr (record { journal = []; last = fresh config; replays = refl; safe = safe config; stand = stands })
+        ];
+  }
 
   -- a device that went out is back with what was held
   disk_handed : (a b : Option D) (d : D) → HandsDisk disk.content a (disk.content d) → b ≡ Some d → DiskRests disk.content a b
@@ -285,7 +284,7 @@ module _ {D S M : Type 0} (disk : DiskGhosts D) (store : StoreGhosts S) (meta : 
   -- the partition's devices were out, and its run was refused
   pub stopped_in : (config : Config) (part : PartScript) (given back : Devices D S M) (reg kept : D) (h0 h1 h2 : Held D S M) → (IsTrue h0.tells → IsReady disk.content store.content meta.content config.brokers h0 part.partition)
       → AreAllHanded disk store meta part.partition config.brokers given reg h0 → OnlyOf part.partition h0 h1 → length back.disks.items ≡ config.brokers
-      → ((p : State) → OpensAt disk store meta part.partition config given reg p → IsStoppedAt disk store meta config part back kept p) → KeepsAll disk.content part.partition back kept h1 h2
+      → IsStopped disk store meta config part given reg back kept → KeepsAll disk.content part.partition back kept h1 h2
       → IsTrue h0.tells → AllRest disk store meta h0 h2 ⊎ IsStoppedIn disk store meta config part h0 h2
   stopped_in config part given back reg kept h0 h1 h2 ready handed only many stopped keeps t = inr (record {
     devices = given;

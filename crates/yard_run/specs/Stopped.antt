@@ -1,9 +1,8 @@
 -- What a refused run leaves: of one partition over its devices, and of a script over a yard.
 --
 --   form                        says
---   IsStill .. p                the devices stand for the state p, or still hold nothing of a partition
---   IsLedFrom .. p              they stand for what is left of a state to which commands lead from p
---   IsStoppedAt .. p            one of these
+--   IsLedFrom .. p              devices stand for what is left of a state to which commands lead from p
+--   IsStopped d r back kept     a run over these devices stopped, and left those
 --   RestsIn p, AllRest          what is held of a partition is as it was, and of all
 --   IsStoppedIn part was held   the partition's run was refused over its devices, which are held again
 --   AreStopped parts was held   the first partitions have their runs, and a refusal came then
@@ -28,12 +27,13 @@ use Rattle.plain_log.specs.Runs.{replay}
 use Rattle.plain_log.specs.Safe.{PlainSafe}
 use Rattle.device_yard.specs.declared.came.Came.{Came}
 use Rattle.device_yard.specs.Held.{Held, IsEmptyLog}
+use Rattle.partition_turns.specs.Fresh.{DisksTell}
 use Rattle.partition_world.specs.declared.tier.Devices.{Devices}
 use Rattle.script_lang.specs.declared.script.PartScript.{PartScript}
 use Rattle.cold_state.specs.Cold.{cold_of}
 use Rattle.cold_start.specs.Stands.{StandsFor, IsBlank}
 use Rattle.yard_run.specs.Handed.{HandsDevices}
-use Rattle.yard_run.specs.Opens.{OpensAt, OpensFresh}
+use Rattle.yard_run.specs.Opens.{OpensFresh}
 use Rattle.yard_run.specs.Reading.{AreRead, file_in}
 use Rattle.yard_run.specs.Runs.{AreRunsIn}
 use Rattle.yard_run.specs.Yard.{SameOf, OnlyOf, HoldsAll}
@@ -60,25 +60,30 @@ LogRests meta (Some m) (Some n) = noted.Keeps (meta m) (meta n)
 LogRests meta (Some m) None = ⊥
 
 module _ {D S M : Type 0} (disk : DiskGhosts D) (store : StoreGhosts S) (meta : MetaGhosts M) where
-  -- the devices stand for this state, or hold nothing of a partition, and it is the fresh one
-  abbrev pub IsStill : PartitionId → Config → Devices D S M → D → State → Type 0
-  IsStill partition config devices registry p =
+  -- a partition's devices stand for this state
+  abbrev pub StandAs : PartitionId → Devices D S M → D → State → Type 0
+  StandAs partition devices registry p =
       StandsFor disk store meta partition devices.disks.items devices.store devices.meta registry p
-      ⊎ ((p ≡ fresh config) × IsBlank disk store meta devices.store devices.meta registry)
 
-  -- the devices stand for what is left of a state with the safety rules, to which entries of the lists lead from p
-  pub record IsLedFrom (partition : PartitionId) (lists : List ActorList) (devices : Devices D S M) (registry : D) (p : State)
-      : Type 0 where
+  -- they stand for what is left of a state with the safety rules, to which entries of the lists lead from p
+  pub record IsLedFrom (partition : PartitionId) (lists : List ActorList) (devices : Devices D S M) (registry : D)
+      (p : State) : Type 0 where
     pub journal : List JournalEntry
     pub last : State
     pub replays : replay lists p journal ≡ Some last
     pub safe : PlainSafe last
-    pub stand : StandsFor disk store meta partition devices.disks.items devices.store devices.meta registry (cold_of last)
+    pub stand : StandAs partition devices registry (cold_of last)
 
-  -- a run from p that stopped, before its first turn or after one, left these devices
-  abbrev pub IsStoppedAt : Config → PartScript → Devices D S M → D → State → Type 0
-  IsStoppedAt config part devices registry p =
-      IsStill part.partition config devices registry p ⊎ IsLedFrom part.partition part.lists devices registry p
+  -- A run over these devices stopped, before its first turn or after one, and left those. They stand for each state that the
+  -- devices stood for, or for what is left of one to which commands lead from there. Where the devices held nothing, they still
+  -- do, or the run began in the fresh state.
+  pub record IsStopped (config : Config) (part : PartScript) (devices : Devices D S M) (registry : D)
+      (back : Devices D S M) (kept : D) : Type 0 where
+    pub from : (p : State) → StandAs part.partition devices registry p
+        → StandAs part.partition back kept p ⊎ IsLedFrom part.partition part.lists back kept p
+    pub begun : DisksTell disk.content devices.disks.items → IsBlank disk store meta devices.store devices.meta registry
+        → IsBlank disk store meta back.store back.meta kept
+        ⊎ IsLedFrom part.partition part.lists back kept (fresh config)
 
   -- what is held of the partition is as it was
   pub record RestsIn (p : PartitionId) (old new : Held D S M) : Type 0 where
@@ -92,7 +97,7 @@ module _ {D S M : Type 0} (disk : DiskGhosts D) (store : StoreGhosts S) (meta : 
   AllRest old new = (p : PartitionId) → RestsIn p old new
 
   -- A partition's run was refused once its devices were out: they had what the yard held before, and it holds now what
-  -- came back. From each state in which the run may begin they are as a run leaves them that stopped.
+  -- came back.
   pub record IsStoppedIn (config : Config) (part : PartScript) (was held : Held D S M) : Type 0 where
     pub devices : Devices D S M
     pub registry : D
@@ -103,13 +108,12 @@ module _ {D S M : Type 0} (disk : DiskGhosts D) (store : StoreGhosts S) (meta : 
     pub handed : HandsDevices disk store meta part.partition devices registry was
     pub begun : file_in disk.content (was.registries part.partition) ≡ None
         → OpensFresh disk store meta config devices registry (fresh config)
-    pub stopped : (p : State) → OpensAt disk store meta part.partition config devices registry p
-        → IsStoppedAt config part back kept p
+    pub stopped : IsStopped config part devices registry back kept
     pub holds : HoldsAll disk.content part.partition back kept held
     pub only : OnlyOf part.partition was held
 
-  -- The first partitions have their runs, and of the others nothing had changed. Then nothing changed any more, or the next
-  -- partition's run was refused.
+  -- The first partitions have their runs, and of the others nothing had changed. Then nothing changed any more, or the
+  -- next partition's run was refused.
   pub record AreStopped (config : Config) (parts : List PartScript) (was held : Held D S M) : Type 0 where
     pub front : List PartScript
     pub rest : List PartScript
@@ -126,4 +130,5 @@ module _ {D S M : Type 0} (disk : DiskGhosts D) (store : StoreGhosts S) (meta : 
   abbrev pub IsStoppedSo : Config → List PartScript → Held D S M → Held D S M → Type 0
   IsStoppedSo config parts was held =
       AreRead disk.content store.content meta.content was held
-      ⊎ ((found : Held D S M) × AreRead disk.content store.content meta.content was found × AreStopped config parts found held)
+      ⊎ ((found : Held D S M) × AreRead disk.content store.content meta.content was found
+      × AreStopped config parts found held)

@@ -3,7 +3,6 @@
 ghost use Rattle.std.specs.Prelude.{◌≡◌, ◌⊎◌, false, length, All, IfOk, IfErr, OnOk, OnErr};
 ghost use Rattle.tier_base.specs.Device.{IsFresh, Lasts};
 ghost use Rattle.plain_log.specs.Orders.{AreListsFor, IsConfig};
-ghost use Rattle.plain_log.specs.declared.state.State.{State};
 ghost use Rattle.script_lang.specs.Fit.{StepsToEnds};
 ghost use Rattle.partition_world.specs.Later.{IsLater};
 ghost use Rattle.partition_world.specs.Reaches.{Reaches};
@@ -12,9 +11,8 @@ ghost use Rattle.cold_start.specs.Opening.{AreUnarmed};
 ghost use Rattle.cold_start.specs.Stepping.{Halts};
 ghost use Rattle.cold_start.specs.declared.refusal.ColdRefusal.TheVariants as refusal;
 ghost use Rattle.yard_run.specs.Run.{IsRunText};
-ghost use Rattle.yard_run.specs.Opens.{OpensAt};
 ghost use Rattle.yard_run.specs.Refusals.{IsRefused};
-ghost use Rattle.yard_run.specs.Stopped.{IsStoppedAt};
+ghost use Rattle.yard_run.specs.Stopped.{IsStopped};
 
 use cold_start::{Cold, ColdRefusal, closed_disks_are_left, run_cold};
 use command_answers::{reaches_counted, runs_meet_no_damage};
@@ -74,9 +72,9 @@ pub fn run_on<D: Disk, S: Store, M: MetaLog>(
         result.0 result.1) }
     ensures refused { IfErr result.2 (λ why. IsRefused D.Disk M.MetaLog config.brokers devices registry result.0 result.1 why) }
 
-    // A refusal leaves devices that stand for the state before the run, or for what is left of one to which its commands led.
-    ensures stopped { OnErr result.2 ((p : State) → OpensAt D.Disk S.Store M.MetaLog part.partition config devices registry p
-        → IsStoppedAt D.Disk S.Store M.MetaLog config part result.0 result.1 p) }
+    // A refusal leaves devices that stand for the state before the run, or for what is left of one to which commands led.
+    ensures stopped { OnErr result.2 (IsStopped D.Disk S.Store M.MetaLog config part devices registry
+        result.0 result.1) }
 
     // Whatever it answers.
     ensures count { length result.0.disks.items ≡ config.brokers }
