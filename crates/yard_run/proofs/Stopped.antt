@@ -261,7 +261,7 @@ module _ {D S M : Type 0} (disk : DiskGhosts D) (store : StoreGhosts S) (meta : 
       })
 
   -- where nothing happened all is as it was
-  all_rest : (h : Held D S M) → AllRest disk store meta h h
+  pub all_rest : (h : Held D S M) → AllRest disk store meta h h
   all_rest h p = record {
     disks = λ b. disks (h.disks p b);
     objects = stores (h.stores p);
