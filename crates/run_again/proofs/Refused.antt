@@ -38,7 +38,7 @@ keeps_then a b c lawful f g =
       time = record {
         later = omega (arith, first, second);
         nothing_else = λ t k early at. elim (g.time.nothing_else t k (omega (arith, early, first)) at) [
-          | inl mid ↦ elim (f.time.nothing_else t k early mid) [ | inl old ↦ inl old | inr image ↦ inl (lawful.earlier t a.moment k early (f.images k image)) ]
+          | inl mid ↦ elim (f.time.nothing_else t k early mid) [ inl old ↦ inl old | inr image ↦ inl (lawful.earlier t a.moment k early (f.images k image)) ]
           | inr now ↦ inr now
         ];
         keeps = λ t k early at. g.time.keeps t k (omega (arith, early, first)) (f.time.keeps t k early at);

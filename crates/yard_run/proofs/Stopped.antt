@@ -312,7 +312,7 @@ module _ {D S M : Type 0} (disk : DiskGhosts D) (store : StoreGhosts S) (meta : 
     came = so.text_is.came;
     are = so.text_is.are;
     others = so.same t;
-    end = elim (stopped (subst IsTrue (sym so.tells) t)) [ | inl same ↦ inl same | inr one ↦ inr (part, after, steps, one) ];
+    end = elim (stopped (subst IsTrue (sym so.tells) t)) [ inl same ↦ inl same | inr one ↦ inr (part, after, steps, one) ];
   }
 
   -- it was run, and there was no memory for its trace behind the others
