@@ -37,8 +37,8 @@ returns-in-Err-clause-stopped g c =
     stopped_next g.Y.D.Disk g.Y.S.Store g.Y.M.MetaLog c.args.config c.args.parts c.loop-part.part-iterator.rest.items c.next.new.self.rest.items c.in-Some.part (g.Y.Yard.held c.args.yard.now) (g.Y.Yard.held c.loop-part.yard)
     (g.Y.Yard.held c.run_part.new.yard) (g.Y.Yard.control c.args.yard.now) (g.Y.Yard.control c.loop-part.yard) c.loop-part.text.items c.in-Some.ensures.steps.0 c.loop-part.invariant c.in-Err.ensures.stopped
 
-pub returns-in-Ok-joined-clause-stopped : goal.returns-in-Ok-joined-clause-stopped
-returns-in-Ok-joined-clause-stopped g c =
+pub returns-in_default-clause-stopped : goal.returns-in_default-clause-stopped
+returns-in_default-clause-stopped g c =
     stopped_behind g.Y.D.Disk g.Y.S.Store g.Y.M.MetaLog c.args.config c.args.parts c.loop-part.part-iterator.rest.items c.next.new.self.rest.items c.in-Some.part (g.Y.Yard.held c.args.yard.now) (g.Y.Yard.held c.loop-part.yard)
     (g.Y.Yard.held c.run_part.new.yard) (g.Y.Yard.control c.args.yard.now) (g.Y.Yard.control c.loop-part.yard) (g.Y.Yard.control c.run_part.new.yard) c.loop-part.text.items c.in-Ok.printed.items
     c.in-Some.ensures.steps.0 c.loop-part.invariant c.in-Ok.ensures.only c.in-Ok.ensures.more c.in-Ok.ensures.text
