@@ -33,6 +33,6 @@ returns-in-Ok-clause-stopped g c =
     c.in-Ok.ensures.opened c.in-Ok.ensures.new c.in-Ok.ensures.central c.in-Ok.ensures.blank (c.trace-text.ensures.told ∙ c.in-Ok.ensures.tells) c.trace-text.ensures.later
     c.close-devices.ensures.disks c.close-devices.ensures.again c.close-devices.ensures.store c.close-devices.ensures.meta c.close-devices.ensures.reg c.close-devices.ensures.cold c.trace-text.ensures.err
 
-pub returns-in-Err-clause-stopped : goal.returns-in-Err-clause-stopped
-returns-in-Err-clause-stopped g c =
+pub returns-clause-stopped : goal.returns-clause-stopped
+returns-clause-stopped g c =
     stopped_open g.D.Disk g.S.Store g.M.MetaLog c.fresh_is_safe.ensures c.args.config c.args.part c.args.devices c.in-Err.devices c.args.registry c.in-Err.registry c.in-Err.ensures.stand c.in-Err.ensures.begun
