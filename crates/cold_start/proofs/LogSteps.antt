@@ -286,7 +286,7 @@ module _ {D S M : Type 0} (disk : DiskGhosts D) (store : StoreGhosts S) (meta : 
 
       reads : (to : TimeTurn) → RunRow disk.content disk.control x.log asked (passed_over asked.ts cursor (closed_in x.log)) to w.kept → OneLog disk.content h h'
       reads (dating.Ends DiskFault) row = one_put disk.content h b x y h' at row.0.between w.after
-      reads (dating.Ends (Damaged (File name) place)) row = one_put disk.content h b x y h' at row.0.stays.between w.after
+      reads (dating.Ends (Damaged (File name) place)) row = one_put disk.content h b x y h' at row.misreads.stays.between w.after
       reads to row = one_put disk.content h b x y h' at row.reads.stays.between w.after
 
       by : OwnRow disk.content disk.control x.log asked cursor turn w.kept → OneLog disk.content h h'
